@@ -3,12 +3,10 @@ ghost use Rattle.std.specs.Prelude.{◌≡◌, [], false, true};
 ghost use Rattle.error_path.specs.Handler.{IsAnyValue};
 
 use crate::steps::{Level, Steps};
-use jsonb_parse::{Failed, Handler, Mode, OpenObject};
+use jsonb_parse::{Failed, Handler, Mode, OpenObject, Scalar, Text, Wants};
 use jsonb_scan::util::check_contents;
 use jsonb_value::error::Error;
-use jsonb_value::number::Number;
 use std::alloc::{AllocError, Global};
-use std::borrow::CowStr;
 
 /// A value of the text.
 #[derive(Drop)]
@@ -25,6 +23,8 @@ impl<'a> Handler<'a> for PassedPart {
 
     ghost sees = { IsAnyValue };
 
+    ghost is_kept = { λ v. Unit {0} };
+
     // Nothing is promised of what is made, since only the steps are asked for where the text is rejected.
     ghost stands = { λ text room due fs cs. ⊥ };
 
@@ -40,19 +40,16 @@ impl<'a> Handler<'a> for PassedPart {
 
     ghost keeps = { true };
 
-    fn null() -> Self {
-        PassedPart
+    fn wants() -> Wants
+        ensures { result.kept ≡ true }
+    {
+        Wants {
+            plain: false,
+            kept: true,
+        }
     }
 
-    fn boolean(value: bool) -> Self {
-        PassedPart
-    }
-
-    fn number(value: Number) -> Self {
-        PassedPart
-    }
-
-    fn string(text: CowStr<'a>) -> Self {
+    fn scalar(value: Scalar<'a>) -> Self {
         PassedPart
     }
 
@@ -66,21 +63,7 @@ impl<'a> Handler<'a> for PassedPart {
         Ok(PassedPart)
     }
 
-    fn tells_plain() -> bool {
-        false
-    }
-
-    fn plain_string(text: &'a str) -> Self {
-        PassedPart
-    }
-
-    fn keeps_integers() -> bool
-        ensures { result ≡ true }
-    {
-        true
-    }
-
-    fn root(room: &mut Steps, value: &Self, from: usize, to: usize) -> Result<(), AllocError> {
+    fn root(room: &mut Steps, value: &Self) -> Result<(), AllocError> {
         Ok(())
     }
 
@@ -97,17 +80,6 @@ impl<'a> Handler<'a> for PassedPart {
         room: &mut Steps,
         items: &mut (),
         value: Self,
-        from: usize,
-        to: usize,
-    ) -> Result<(), AllocError> {
-        room.begin_element();
-        room.end_part();
-        Ok(())
-    }
-
-    fn push_kept(
-        room: &mut Steps,
-        items: &mut (),
         from: usize,
         to: usize,
     ) -> Result<(), AllocError> {
@@ -134,60 +106,38 @@ impl<'a> Handler<'a> for PassedPart {
         PassedPart
     }
 
-    fn members(room: &mut Steps, alloc: Global, at: usize) -> Result<(), AllocError> {
-        room.open(Level::Object(None))
-    }
-
-    fn borrowed_key(
+    fn members(
         room: &mut Steps,
-        object: &mut OpenObject<(), ()>,
         alloc: Global,
-        text: &'a str,
-        from: usize,
-        after: usize,
-    ) -> Result<(), AllocError> {
-        room.begin_member(alloc, text)
-    }
-
-    fn plain_key(
-        room: &mut Steps,
-        object: &mut OpenObject<(), ()>,
-        alloc: Global,
-        text: &'a str,
-        from: usize,
-        after: usize,
-    ) -> Result<(), AllocError> {
-        room.begin_member(alloc, text)
+        at: usize,
+    ) -> Result<OpenObject<(), ()>, AllocError> {
+        room.open(Level::Object(None))?;
+        Ok(OpenObject {
+            members: (),
+            key: (),
+        })
     }
 
     fn key(
         room: &mut Steps,
         object: &mut OpenObject<(), ()>,
         alloc: Global,
-        text: CowStr<'a>,
+        text: Text<'a>,
+        from: usize,
         after: usize,
     ) -> Result<(), AllocError> {
-        room.begin_member(alloc, text.as_str())
+        match text {
+            Text::Plain(text) => room.begin_member(alloc, text),
+            Text::Borrowed(text) => room.begin_member(alloc, text),
+            Text::Decoded(text) => room.begin_member(alloc, text.as_str()),
+        }
     }
-
-    fn no_key(alloc: Global) {}
 
     fn insert(
         room: &mut Steps,
         object: &mut OpenObject<(), ()>,
         key: (),
         value: Self,
-        from: usize,
-        to: usize,
-    ) -> Result<bool, AllocError> {
-        room.end_part();
-        Ok(true)
-    }
-
-    fn insert_kept(
-        room: &mut Steps,
-        object: &mut OpenObject<(), ()>,
-        key: (),
         from: usize,
         to: usize,
     ) -> Result<bool, AllocError> {
@@ -220,8 +170,4 @@ impl<'a> Handler<'a> for PassedPart {
     }
 
     fn dismantle(self) {}
-
-    fn dismantle_items(items: ()) {}
-
-    fn dismantle_members(members: ()) {}
 }

@@ -2,6 +2,7 @@ pub mod Children
 pub mod Containers
 pub mod Documents
 pub mod Errors
+pub mod Given
 pub mod Places
 pub mod Rows
 pub mod Spelled

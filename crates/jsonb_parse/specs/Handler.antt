@@ -104,12 +104,11 @@ module _ {R I M K : Type 0} (Stands : List ℕ → R → Bool → List (Frame I 
       → Stands text old false (variants.Array before ∷ fs) (elements_so_far ss ∷ cs) → Is text s
       → Stands text new false (variants.Array after ∷ fs) (elements_so_far (ss ++ s ∷ []) ∷ cs)
 
-  -- An object is opened where a value was due, whatever its key.
-  abbrev pub OpensObject : R → R → M → Type 0
-  OpensObject old new members =
-      (text : List ℕ) → (key : K) → (fs : List (Frame I M K)) → (cs : List Open) → Stands text old true fs cs
-      → Stands text new false (variants.Object (record { members = members; key = key }) ∷ fs)
-      (members_so_far [] (plain, []) 0 ∷ cs)
+  -- An object is opened where a value was due.
+  abbrev pub OpensObject : R → R → OpenObject M K → Type 0
+  OpensObject old new object =
+      (text : List ℕ) → (fs : List (Frame I M K)) → (cs : List Open) → Stands text old true fs cs
+      → Stands text new false (variants.Object object ∷ fs) (members_so_far [] (plain, []) 0 ∷ cs)
 
   -- A source of which this holds becomes the value of the innermost object's member that this key waits for.
   abbrev pub TakesMember : (List ℕ → Source → Type 0) → R → OpenObject M K → K → R → OpenObject M K → Type 0

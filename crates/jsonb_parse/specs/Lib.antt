@@ -2,6 +2,7 @@ pub mod Frames
 pub mod Handler
 pub mod Literals
 pub mod Parser
+pub mod Scalars
 pub mod Slots
 pub mod Stack
 pub mod Start

@@ -3,5 +3,5 @@
 
 mod parser;
 
-pub use parser::handler::{Failed, Handler};
-pub use parser::{Frame, Mode, OpenObject, parse_text};
+pub use parser::handler::{Failed, Handler, Wants};
+pub use parser::{Frame, Mode, OpenObject, Scalar, Text, parse_text};

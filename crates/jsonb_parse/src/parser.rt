@@ -19,6 +19,7 @@ mod scalar;
 mod slot;
 mod start;
 mod string;
+mod text;
 mod value;
 mod whitespace;
 
@@ -28,6 +29,7 @@ use handler::{Failed, Handler};
 pub use jsonb_scan::parser::Mode;
 use jsonb_value::error::{Error, ParseErrorCode, Result};
 use std::alloc::{AllocError, Global};
+pub use text::{Scalar, Text};
 
 /// Parses a whole text: what a handler makes of it, or what is wrong with it.
 ///
@@ -213,14 +215,14 @@ impl<'a> Parser<'a> {
                 Mode::Standard => {
                     Err(self.fail(Error::Syntax(ParseErrorCode::InvalidEOF, self.buf.len())))
                 }
-                Mode::Extended => self.put_root::<V>(room, V::null()),
+                Mode::Extended => self.put_root::<V>(room, V::scalar(Scalar::Null)),
             };
         }
         if self.opens_comment() {
             if let Err(error) = self.end_in_comment() {
                 return Err(self.fail(error));
             }
-            return self.put_root::<V>(room, V::null());
+            return self.put_root::<V>(room, V::scalar(Scalar::Null));
         }
         if self.begins_container() {
             let value = self.parse_container::<V>(room, text)?;
@@ -259,7 +261,7 @@ impl<'a> Parser<'a> {
         ensures memory { IfErr result (λ _. (self.new.told ≡ Some Error.OutOfMemory) × (V.writes ≡ true)) }
         ensures base { V.base room.new ≡ V.base room.old }
     {
-        let Ok(()) = V::root(room, &value, 0, 0) else {
+        let Ok(()) = V::root(room, &value) else {
             return Err(self.out_of_memory());
         };
         Ok(value)

@@ -131,11 +131,6 @@ pub key_begun : {K A : Type 0} (Stands : List ℕ → Type 0) (Begun : List ℕ 
 key_begun Stands Begun (Ok key) h bytes stands = h bytes stands
 key_begun Stands Begun (Err e) h bytes stands = tt
 
--- and of one that is plain too
-pub plain_key_begun : {K A P : Type 0} (Stands : List ℕ → Type 0) (Begun : List ℕ → K → Type 0) (made : Result K A) → IfOk made (λ key. (bytes : List ℕ) → Stands bytes → P → Begun bytes key) → P → (bytes : List ℕ) → Stands bytes → IfOk made (Begun bytes)
-plain_key_begun Stands Begun (Ok key) h is_plain bytes stands = h bytes stands is_plain
-plain_key_begun Stands Begun (Err e) h is_plain bytes stands = tt
-
 -- a key that a handler made of what was parsed
 pub key_kept : {K A F : Type 0} (silent : Bool) (Names : K → Mark × List ℕ → ℕ → Type 0) (made : Result K A) (result : Result K F) (size : ℕ) (p q : Parser) (k : Mark × List ℕ) (read : Parse (Mark × List ℕ)) → size ≡ size_of p → IfOk made (λ key. Names key k p.offset)
     → IfOk result (λ x. (made ≡ Ok x) × (q ≡ p)) → IfErr result (λ _. q.told ≡ Some OutOfMemory) → read ≡ Ok (k, rest_of p) → Builds silent q.told (AsKey Names size (rest_of q)) result read (rest_of q)

@@ -1,11 +1,9 @@
 //! What is made of a text while it is parsed: the parser sends the events of the text's value to a handler.
 ghost use Rattle.std.specs.Prelude.{◌≡◌, ◌+◌, ◌^◌, ◌<◌, ℕ, Bool, List, [], ◌∷◌, length, MatchBool, Ok, IfOk, IfErr, OnOk, Option, true, false};
-ghost use Rattle.std.specs.Cow.{cow_str_bytes};
 ghost use Rattle.jsonb_value.specs.declared.error.Error.{Error};
 ghost use Rattle.jsonb_spec.specs.Tree.{Mark};
-ghost use Rattle.jsonb_spec.specs.Tree.Mark.{plain};
-ghost use Rattle.jsonb_value.specs.View.{mark_view, number_view};
 ghost use Rattle.jsonb_parse.specs.Handler.{AwaitsElement, Begins, ElseFails, EndsArray, OpensArray, OpensObject, SeesContents, TakesElement, TakesInner, TakesInnerMember, TakesMember};
+ghost use Rattle.jsonb_parse.specs.Scalars.{IsGiven, IsKeyAt, SeesScalar, text_view};
 ghost use Rattle.jsonb_parse.specs.Stack.{object_end};
 ghost use Rattle.jsonb_parse.specs.declared.parser.frame.Frame.{Frame};
 ghost use Rattle.jsonb_parse.specs.declared.parser.frame.Frame.TheVariants.{Array, Object};
@@ -13,21 +11,27 @@ ghost use Rattle.jsonb_scan.specs.Answer.{mode_of};
 ghost use Rattle.jsonb_scan.specs.Decoding.{TellsBackslash};
 ghost use Rattle.jsonb_scan.specs.Open.{Open, members_so_far};
 ghost use Rattle.jsonb_scan.specs.Parsing.String.{body_of};
-ghost use Rattle.jsonb_spec.specs.Source.{Source, Found, null_source, boolean_source, string_source, number_source};
-ghost use Rattle.jsonb_scan.specs.Spelled.{IsSpelledAt, KeyStandsAt};
-ghost use Rattle.text_common.specs.KeptNumber.{IsKeptAt};
-ghost use Rattle.jsonb_spec.specs.Text.StringText.{ArePlain};
+ghost use Rattle.jsonb_spec.specs.Source.{Source, Found};
+ghost use Rattle.jsonb_scan.specs.Spelled.{IsSpelledAt};
 
 use super::Mode;
-use super::frame::OpenObject;
+use super::frame::{Frame, OpenObject};
+use super::text::{Scalar, Text};
 use jsonb_value::error::Error;
-use jsonb_value::number::Number;
 use std::alloc::{AllocError, Global};
-use std::borrow::CowStr;
 
 /// Parsing failed. The error is kept by the parser, unless the handler is silent about it.
 #[derive(Drop)]
 pub struct Failed;
+
+/// Which strings, keys and numbers a handler wants to be told apart from others.
+#[derive(Clone, Copy)]
+pub struct Wants {
+    /// Strings and keys that are written without an escape, as `Text::Plain`.
+    pub plain: bool,
+    /// Integers whose serialized form is their own text, as `Scalar::Kept`.
+    pub kept: bool,
+}
 
 /// What is made of one text: a value of this type for each scalar and each container that ended, with the elements,
 /// members and keys of the containers that are open, and the room that all of them are written to.
@@ -35,11 +39,10 @@ pub struct Failed;
 /// A scalar is made first and put in then, with the indices of the text between which it stands, where these are
 /// known.
 ///
-/// Of an array the parser calls `items`; for each element `push` or `push_kept`, or `next_item` before a container
-/// and `push_inner` after it; then `end_items` and `array`. Of an object it calls `members`; for each member
-/// `borrowed_key`, `plain_key` or `key`, and `insert` or `insert_kept`, or `insert_inner` after a container; then
-/// `finish` and `object`. A text that is one scalar ends with `root`. After a failure, `dismantle` and its kin drop
-/// what was made so far.
+/// Of an array the parser calls `items`; for each element `push`, or `next_item` before a container and `push_inner`
+/// after it; then `end_items` and `array`. Of an object it calls `members`; for each member `key`, and `insert`, or
+/// `insert_inner` after a container; then `finish` and `object`. A text that is one scalar ends with `root`. After a
+/// failure, what is open becomes a value by `array` and `object` too, and `dismantle` drops it.
 pub trait Handler<'a>: Drop + Sized {
     /// What is written of all values.
     type Room: Drop;
@@ -55,6 +58,9 @@ pub trait Handler<'a>: Drop + Sized {
 
     /// The scalar is of this source, and isn't put in yet.
     ghost sees: { Self → Source → Type 0 };
+
+    /// The scalar is kept as it is written, and isn't put in yet.
+    ghost is_kept: { Self → Type 0 };
 
     /// Of this text, the room and the open containers, the innermost first, hold what was parsed so far. A value is due
     /// (true), or the innermost was opened or one of its parts ended (false).
@@ -75,24 +81,16 @@ pub trait Handler<'a>: Drop + Sized {
     /// Whether a scalar takes memory.
     ghost writes: { Bool };
 
-    /// Whether scalars are kept that stand in the text as they are written.
+    /// Whether integers are kept that stand in the text as they are written.
     ghost keeps: { Bool };
 
-    /// A `null`, also where an element is left out, or the text has no value.
-    fn null() -> Self
-        ensures { sees result null_source };
+    /// What the handler wants.
+    fn wants() -> Wants
+        ensures { result.kept ≡ keeps };
 
-    /// A `true` or a `false`.
-    fn boolean(value: bool) -> Self
-        ensures { sees result (boolean_source value) };
-
-    /// A number.
-    fn number(value: Number) -> Self
-        ensures { sees result (number_source (number_view value)) };
-
-    /// A string, borrowed from the text or owned.
-    fn string(text: CowStr<'a>) -> Self
-        ensures { sees result (string_source (mark_view text.entry) (cow_str_bytes text.entry)) };
+    /// A scalar. It is a `null` also where an element is left out, or the text has no value.
+    fn scalar(value: Scalar<'a>) -> Self
+        ensures { SeesScalar sees is_kept keeps result value.entry };
 
     /// A string that has escapes, given its contents. An error counts from `offset`: the index after the opening quote,
     /// and one more.
@@ -106,26 +104,10 @@ pub trait Handler<'a>: Drop + Sized {
         requires room { offset + length body.now < 2 ^ 64 }
         ensures { SeesContents sees offset result (body_of (mode_of mode) body.now) };
 
-    /// Whether strings and keys that are written without an escape come as `plain_string` and `plain_key`.
-    fn tells_plain() -> bool;
-
-    /// A string that is written without an escape.
-    fn plain_string(text: &'a str) -> Self
-        ensures { ArePlain text.now → sees result (string_source plain text.now) };
-
-    /// Whether an integer whose serialized form is its own text comes by `push_kept` and `insert_kept`.
-    fn keeps_integers() -> bool
-        ensures { result ≡ keeps };
-
     /// The whole text is this scalar.
-    fn root(
-        room: &mut Self::Room,
-        value: &Self,
-        from: usize,
-        to: usize,
-    ) -> std::result::Result<(), AllocError>
+    fn root(room: &mut Self::Room, value: &Self) -> std::result::Result<(), AllocError>
         ensures filled { OnOk result ((text : List ℕ) → (s : Source) → stands text room.old true [] []
-            → sees value.now s → IsSpelledAt text from to s → filled text room.new value.now s [] []) }
+            → sees value.now s → filled text room.new value.now s [] []) }
         ensures memory { IfErr result (λ _. writes ≡ true) }
         ensures base { base room.new ≡ base room.old };
 
@@ -146,7 +128,7 @@ pub trait Handler<'a>: Drop + Sized {
         ensures due { OnOk result (AwaitsElement stands room.old items.old room.new items.new) }
         ensures base { base room.new ≡ base room.old };
 
-    /// Puts in an element that is a scalar.
+    /// Puts in an element that is a scalar. Of one that is kept, this range of the text is the serialized form.
     fn push(
         room: &mut Self::Room,
         items: &mut Self::Items,
@@ -154,20 +136,8 @@ pub trait Handler<'a>: Drop + Sized {
         from: usize,
         to: usize,
     ) -> std::result::Result<(), AllocError>
-        ensures put { OnOk result (TakesElement stands (λ text s. sees value s × IsSpelledAt text from to s)
-            room.old items.old room.new items.new) }
-        ensures base { base room.new ≡ base room.old };
-
-    /// Puts in an integer that stands in this range of the text, and is serialized as it stands. A handler that keeps
-    /// none isn't asked to.
-    fn push_kept(
-        room: &mut Self::Room,
-        items: &mut Self::Items,
-        from: usize,
-        to: usize,
-    ) -> std::result::Result<(), AllocError>
-        ensures put { OnOk result (keeps ≡ true → TakesElement stands
-            (λ text s. IsKeptAt text from to s) room.old items.old room.new items.new) }
+        ensures put { OnOk result (TakesElement stands (IsGiven sees is_kept value from to) room.old items.old room.new
+            items.new) }
         ensures base { base room.new ≡ base room.old };
 
     /// Puts in an element that is a container. Where it is the last one, no other follows.
@@ -190,64 +160,37 @@ pub trait Handler<'a>: Drop + Sized {
         ensures ended { OnOk result (EndsArray stands (λ text. completes text room.new) room.old items.old items.new) }
         ensures base { base room.new ≡ base room.old };
 
-    /// The array of elements that ended.
+    /// The array of elements that ended, or is dropped.
     fn array(room: &Self::Room, items: Self::Items) -> Self
         ensures { (text : List ℕ) → (s : Source) → (fs : List (Frame Self.Items Self.Members Self.Key))
             → (cs : List Open) → completes text room.now (Array items) s fs cs
             → filled text room.now result s fs cs };
 
-    /// An object is opened. Its brace stands in the text at an index.
+    /// An object is opened. Its brace stands in the text at an index. No key waits for its value yet.
     fn members(
         room: &mut Self::Room,
         alloc: Global,
         at: usize,
-    ) -> std::result::Result<Self::Members, AllocError>
+    ) -> std::result::Result<OpenObject<Self::Members, Self::Key>, AllocError>
         ensures opened { IfOk result (OpensObject stands room.old room.new) }
         ensures base { base room.new ≡ base room.old };
 
-    /// A member begins with a key that was cut out of the text at an index, and the index after it.
-    fn borrowed_key(
-        room: &mut Self::Room,
-        object: &mut OpenObject<Self::Members, Self::Key>,
-        alloc: Global,
-        text: &'a str,
-        from: usize,
-        after: usize,
-    ) -> std::result::Result<Self::Key, AllocError>
-        ensures begun { IfOk result (λ key. (bytes : List ℕ) → KeyStandsAt bytes text.now from after
-            → Begins (stands bytes) room.old object.old room.new object.new key (plain, text.now) after) }
-        ensures base { base room.new ≡ base room.old };
-
-    /// A member begins with a key as of `borrowed_key`, which is written without an escape.
-    fn plain_key(
-        room: &mut Self::Room,
-        object: &mut OpenObject<Self::Members, Self::Key>,
-        alloc: Global,
-        text: &'a str,
-        from: usize,
-        after: usize,
-    ) -> std::result::Result<Self::Key, AllocError>
-        ensures begun { IfOk result (λ key. (bytes : List ℕ) → KeyStandsAt bytes text.now from after → ArePlain text.now
-            → Begins (stands bytes) room.old object.old room.new object.new key (plain, text.now) after) }
-        ensures base { base room.new ≡ base room.old };
-
-    /// A member begins with any other key.
+    /// A member begins with a key. Where it was cut out of the text, it stands there from an index on, after its opening
+    /// quote. Behind it the text goes on at `after`.
     fn key(
         room: &mut Self::Room,
         object: &mut OpenObject<Self::Members, Self::Key>,
         alloc: Global,
-        text: CowStr<'a>,
+        text: Text<'a>,
+        from: usize,
         after: usize,
     ) -> std::result::Result<Self::Key, AllocError>
-        ensures begun { IfOk result (λ key. (bytes : List ℕ) → Begins (stands bytes) room.old object.old room.new
-            object.new key (mark_view text.entry, cow_str_bytes text.entry) after) }
+        ensures begun { IfOk result (λ key. (bytes : List ℕ) → IsKeyAt bytes text.entry from after
+            → Begins (stands bytes) room.old object.old room.new object.new key (text_view text.entry) after) }
         ensures base { base room.new ≡ base room.old };
 
-    /// The key of an object that waits for no value.
-    fn no_key(alloc: Global) -> Self::Key;
-
-    /// Puts in a member whose value is a scalar. False where its key is there already, and the handler is silent about
-    /// it.
+    /// Puts in a member whose value is a scalar, as by `push`. False where its key is there already, and the handler is
+    /// silent about it.
     fn insert(
         room: &mut Self::Room,
         object: &mut OpenObject<Self::Members, Self::Key>,
@@ -256,23 +199,8 @@ pub trait Handler<'a>: Drop + Sized {
         from: usize,
         to: usize,
     ) -> std::result::Result<bool, AllocError>
-        ensures put { IfOk result (λ is_new. MatchBool is_new (TakesMember stands
-            (λ text s. sees value s × IsSpelledAt text from to s) room.old object.old key room.new object.new)
-            (silent ≡ true)) }
-        ensures base { base room.new ≡ base room.old };
-
-    /// Puts in a member whose value is an integer that stands in this range of the text, and is serialized as it
-    /// stands. A handler that keeps none isn't asked to.
-    fn insert_kept(
-        room: &mut Self::Room,
-        object: &mut OpenObject<Self::Members, Self::Key>,
-        key: Self::Key,
-        from: usize,
-        to: usize,
-    ) -> std::result::Result<bool, AllocError>
-        ensures put { IfOk result (λ is_new. MatchBool is_new (keeps ≡ true → TakesMember stands
-            (λ text s. IsKeptAt text from to s) room.old object.old key room.new object.new)
-            (silent ≡ true)) }
+        ensures put { IfOk result (λ is_new. MatchBool is_new (TakesMember stands (IsGiven sees is_kept value from to)
+            room.old object.old key room.new object.new) (silent ≡ true)) }
         ensures base { base room.new ≡ base room.old };
 
     /// Puts in a member whose value is a container, under the key that waits for it.
@@ -303,7 +231,7 @@ pub trait Handler<'a>: Drop + Sized {
             × (object_end front rest ≡ Ok (s, rest))) }
         ensures base { base room.new ≡ base room.old };
 
-    /// The object of members that ended.
+    /// The object of members that ended, or is dropped.
     fn object(room: &Self::Room, members: Self::Members) -> Self
         ensures { (text : List ℕ) → (s : Source) → (key : Self.Key)
             → (fs : List (Frame Self.Items Self.Members Self.Key)) → (cs : List Open)
@@ -312,10 +240,4 @@ pub trait Handler<'a>: Drop + Sized {
 
     /// Drops a value that may nest deep.
     fn dismantle(self);
-
-    /// Drops elements whose values may nest deep.
-    fn dismantle_items(items: Self::Items);
-
-    /// Drops members whose values may nest deep.
-    fn dismantle_members(members: Self::Members);
 }

@@ -14,6 +14,7 @@ ghost use Rattle.jsonb_parse.specs.Steps.{BeginsWith};
 
 use super::frame::OpenObject;
 use super::handler::{Failed, Handler};
+use super::text::Text;
 use super::{Mode, Parser};
 use jsonb_scan::parser::key::{KeyEnd, find_key_end};
 use jsonb_value::error::{Error, ParseErrorCode, Result};
@@ -62,12 +63,14 @@ impl<'a> Parser<'a> {
             return self.other_key::<V>(room, object);
         }
         let from = self.offset;
-        if let Some(cut) = self.cut_string(V::tells_plain(), text) {
+        if let Some(cut) = self.cut_string(V::wants().plain, text) {
             if cut.is_plain {
-                let key = V::plain_key(room, object, self.alloc, cut.body, from, self.offset);
+                let text = Text::Plain(cut.body);
+                let key = V::key(room, object, self.alloc, text, from, self.offset);
                 return self.or_out_of_memory(key);
             }
-            let key = V::borrowed_key(room, object, self.alloc, cut.body, from, self.offset);
+            let text = Text::Borrowed(cut.body);
+            let key = V::key(room, object, self.alloc, text, from, self.offset);
             return self.or_out_of_memory(key);
         }
         self.escaped_key::<V>(room, object)
@@ -83,11 +86,12 @@ impl<'a> Parser<'a> {
         ensures { BeginsWith V.Handler (λ size mode. string_at size mode ascii.quote) result
             self.old self.new room.old room.new object.old object.new }
     {
+        let from = self.offset;
         let key = match self.parse_quoted(b'"') {
-            Ok(key) => key,
+            Ok(key) => Text::Decoded(key),
             Err(error) => return Err(self.fail(error)),
         };
-        let key = V::key(room, object, self.alloc, key, self.offset);
+        let key = V::key(room, object, self.alloc, key, from, self.offset);
         self.or_out_of_memory(key)
     }
 
@@ -100,11 +104,12 @@ impl<'a> Parser<'a> {
     ) -> std::result::Result<V::Key, Failed>
         ensures { BeginsWith V.Handler key_at result self.old self.new room.old room.new object.old object.new }
     {
+        let from = self.offset;
         let key = match self.parse_key() {
-            Ok(key) => key,
+            Ok(key) => Text::Decoded(key),
             Err(error) => return Err(self.fail(error)),
         };
-        let key = V::key(room, object, self.alloc, key, self.offset);
+        let key = V::key(room, object, self.alloc, key, from, self.offset);
         self.or_out_of_memory(key)
     }
 

@@ -4,12 +4,12 @@ ghost use Rattle.jsonb_spec.specs.Ascii as ascii;
 ghost use Rattle.jsonb_spec.specs.Mode.{standard, extended};
 ghost use Rattle.jsonb_value.specs.View.{number_view};
 ghost use Rattle.jsonb_scan.specs.Answer.{mode_of, Gives};
+ghost use Rattle.jsonb_parse.specs.Scalars.{IsGiven};
 ghost use Rattle.jsonb_parse.specs.Literals.{literal_text, literal_tree};
 ghost use Rattle.jsonb_spec.specs.Tree.{boolean, int64};
 ghost use Rattle.jsonb_spec.specs.Tree.Mark.{plain};
 ghost use Rattle.jsonb_spec.specs.Source.{string_source};
 ghost use Rattle.jsonb_scan.specs.Spelled.{IsSpelledAt};
-ghost use Rattle.text_common.specs.KeptNumber.{IsKeptAt};
 ghost use Rattle.jsonb_spec.specs.Text.StringText.{ArePlain};
 ghost use Rattle.jsonb_parse.specs.Parser.{Advances, Finds, IsAfterQuote, IsBehind, IsTextOf, ParsesInPlace, TakesByte, rest_of, size_of};
 ghost use Rattle.jsonb_scan.specs.Parsing.{begins};
@@ -20,10 +20,10 @@ use super::handler::{Failed, Handler};
 use super::slot::Slot;
 use super::start::Start;
 use super::string::Cut;
+use super::text::{Scalar, Text};
 use super::{Mode, Parser};
 use jsonb_value::error::{Error, ParseErrorCode};
 use jsonb_value::number::Number;
-use std::borrow::CowStr;
 
 // A letter as words have it: in extended mode in lower case.
 #[inline(always)]
@@ -61,7 +61,7 @@ fn negative_number(magnitude: u64) -> Number
 }
 
 impl<'a> Parser<'a> {
-    // Puts in a scalar that stands in the text from an index up to here.
+    // Puts in a scalar that stands in the text from an index up to here, or one that is kept as it stands there.
     #[inline(always)]
     pub(super) fn put<V: Handler<'a>, S: Slot<'a, V>>(
         &mut self,
@@ -71,8 +71,8 @@ impl<'a> Parser<'a> {
         value: V,
         from: usize,
     ) -> Result<(), Failed>
-        ensures { PutsIn V.Handler (λ text s. V.sees value s × IsSpelledAt text from self.old.offset s) result
-            self.old self.new room.old room.new (S.before container.old slot) (S.after container.new) }
+        ensures { PutsIn V.Handler (IsGiven V.sees V.is_kept value from self.old.offset) result self.old self.new room.old
+            room.new (S.before container.old slot) (S.after container.new) }
     {
         let put = slot.put(room, container, value, from, self.offset);
         self.put_result(put)
@@ -94,15 +94,11 @@ impl<'a> Parser<'a> {
             result self.old self.new room.old room.new (S.before container.old slot) (S.after container.new) }
     {
         if cut.is_plain {
-            return self.put::<V, S>(room, container, slot, V::plain_string(cut.body), from);
+            let string = Scalar::String(Text::Plain(cut.body));
+            return self.put::<V, S>(room, container, slot, V::scalar(string), from);
         }
-        self.put::<V, S>(
-            room,
-            container,
-            slot,
-            V::string(CowStr::Borrowed(cut.body)),
-            from,
-        )
+        let string = Scalar::String(Text::Borrowed(cut.body));
+        self.put::<V, S>(room, container, slot, V::scalar(string), from)
     }
 
     // Puts in a scalar. Strings and numbers are put in where they are made, since a value that comes from several arms
@@ -121,35 +117,18 @@ impl<'a> Parser<'a> {
     {
         let from = self.offset;
         if self.take_byte(b'"') {
-            if let Some(cut) = self.cut_string(V::tells_plain(), text) {
+            if let Some(cut) = self.cut_string(V::wants().plain, text) {
                 return self.put_cut::<V, S>(room, container, slot, cut, from);
             }
             return self.put_escaped::<V, S>(room, container, slot, text);
         }
         match self.mode {
             Mode::Standard => self.put_standard_value::<V, S>(room, container, slot, text),
-            Mode::Extended if V::keeps_integers() => {
+            Mode::Extended if V::wants().kept => {
                 self.put_extended_value::<V, S>(room, container, slot, text)
             }
             Mode::Extended => self.put_other_scalar::<V, S>(room, container, slot, text),
         }
-    }
-
-    // Puts in a value that stands in the text from an index up to here as it is written.
-    #[inline(always)]
-    fn put_kept<V: Handler<'a>, S: Slot<'a, V>>(
-        &mut self,
-        room: &mut V::Room,
-        container: &mut S::Container,
-        slot: S,
-        from: usize,
-    ) -> Result<(), Failed>
-        requires kept { V.keeps ≡ true }
-        ensures { PutsIn V.Handler (λ text s. IsKeptAt text from self.old.offset s) result
-            self.old self.new room.old room.new (S.before container.old slot) (S.after container.new) }
-    {
-        let put = slot.put_kept(room, container, from, self.offset);
-        self.put_result(put)
     }
 
     // Puts in a scalar of a standard text that is no string. Many are integers that are written by the same bytes
@@ -168,8 +147,8 @@ impl<'a> Parser<'a> {
             (S.after container.new) }
     {
         let from = self.offset;
-        if self.kept_integer(V::keeps_integers()) {
-            return self.put_kept::<V, S>(room, container, slot, from);
+        if self.kept_integer(V::wants().kept) {
+            return self.put::<V, S>(room, container, slot, V::scalar(Scalar::Kept), from);
         }
         self.put_standard_scalar::<V, S>(room, container, slot, text)
     }
@@ -189,8 +168,8 @@ impl<'a> Parser<'a> {
             (S.after container.new) }
     {
         let from = self.offset;
-        if self.kept_extended_integer(V::keeps_integers()) {
-            return self.put_kept::<V, S>(room, container, slot, from);
+        if self.kept_extended_integer(V::wants().kept) {
+            return self.put::<V, S>(room, container, slot, V::scalar(Scalar::Kept), from);
         }
         if self.may_begin_word() {
             return self.put_word::<V, S>(room, container, slot, text);
@@ -215,16 +194,11 @@ impl<'a> Parser<'a> {
         let from = self.offset;
         if let Some(read) = self.short_integer() {
             if read.negative {
-                let number = negative_number(read.magnitude);
-                return self.put::<V, S>(room, container, slot, V::number(number), from);
+                let number = Scalar::Number(negative_number(read.magnitude));
+                return self.put::<V, S>(room, container, slot, V::scalar(number), from);
             }
-            return self.put::<V, S>(
-                room,
-                container,
-                slot,
-                V::number(Number::UInt64(read.magnitude)),
-                from,
-            );
+            let number = Scalar::Number(Number::UInt64(read.magnitude));
+            return self.put::<V, S>(room, container, slot, V::scalar(number), from);
         }
         self.put_word::<V, S>(room, container, slot, text)
     }
@@ -244,14 +218,14 @@ impl<'a> Parser<'a> {
     {
         let from = self.offset;
         match self.short_literal() {
-            Some(Literal::Null) => self.put::<V, S>(room, container, slot, V::null(), from),
-            Some(Literal::Bool(value)) => self.put::<V, S>(
-                room,
-                container,
-                slot,
-                V::boolean(value),
-                from,
-            ),
+            Some(Literal::Null) => {
+                let null = V::scalar(Scalar::Null);
+                self.put::<V, S>(room, container, slot, null, from)
+            }
+            Some(Literal::Bool(value)) => {
+                let boolean = V::scalar(Scalar::Bool(value));
+                self.put::<V, S>(room, container, slot, boolean, from)
+            }
             None => self.put_other_scalar::<V, S>(room, container, slot, text),
         }
     }
@@ -319,7 +293,7 @@ impl<'a> Parser<'a> {
             self.new }
     {
         match self.parse_word(word) {
-            Ok(()) => Ok(V::boolean(value)),
+            Ok(()) => Ok(V::scalar(Scalar::Bool(value))),
             Err(error) => Err(self.fail(error)),
         }
     }
@@ -331,7 +305,7 @@ impl<'a> Parser<'a> {
     {
         let start = self.offset;
         let error = match self.parse_word(b"null") {
-            Ok(()) => return Ok(V::null()),
+            Ok(()) => return Ok(V::scalar(Scalar::Null)),
             Err(error) => error,
         };
         match self.mode {
@@ -349,7 +323,7 @@ impl<'a> Parser<'a> {
         ensures { MakesScalar V.Handler number_value_at result self.old self.new }
     {
         match self.parse_number() {
-            Ok(number) => Ok(V::number(number)),
+            Ok(number) => Ok(V::scalar(Scalar::Number(number))),
             Err(error) => Err(self.fail(error)),
         }
     }
@@ -366,7 +340,7 @@ impl<'a> Parser<'a> {
     {
         self.offset += 1;
         if let Some(body) = self.borrowed_string(quote, text) {
-            return Ok(V::string(CowStr::Borrowed(body)));
+            return Ok(V::scalar(Scalar::String(Text::Borrowed(body))));
         }
         self.parse_escaped_string(quote, text)
     }
@@ -385,7 +359,7 @@ impl<'a> Parser<'a> {
         let from = self.offset;
         let Some(body) = self.escaped_contents(quote, text) else {
             return match self.parse_escaped(quote) {
-                Ok(string) => Ok(V::string(string)),
+                Ok(string) => Ok(V::scalar(Scalar::String(Text::Decoded(string)))),
                 Err(error) => Err(self.fail(error)),
             };
         };

@@ -1,7 +1,6 @@
 //! Where a value goes: an element of an array, or a member of an object.
 ghost use Rattle.std.specs.Prelude.{◌≡◌, MatchBool, true, IfOk};
-ghost use Rattle.jsonb_scan.specs.Spelled.{IsSpelledAt};
-ghost use Rattle.text_common.specs.KeptNumber.{IsKeptAt};
+ghost use Rattle.jsonb_parse.specs.Scalars.{IsGiven};
 ghost use Rattle.jsonb_parse.specs.Slots.{Takes};
 ghost use Rattle.jsonb_parse.specs.declared.parser.frame.Frame.{Frame};
 ghost use Rattle.jsonb_parse.specs.declared.parser.frame.Frame.TheVariants.{Array, Object};
@@ -21,8 +20,8 @@ pub(super) trait Slot<'a, V: Handler<'a>>: Drop + Sized {
     // The container with the value in it.
     ghost after: { Self.Container → Frame V.Items V.Members V.Key };
 
-    // Puts in a value that stands in the text between two indices. False where its key is there already, and the
-    // handler is silent about it.
+    // Puts in a value that stands in the text between two indices, or one that is kept. False where its key is there
+    // already, and the handler is silent about it.
     fn put(
         self,
         room: &mut V::Room,
@@ -31,22 +30,8 @@ pub(super) trait Slot<'a, V: Handler<'a>>: Drop + Sized {
         from: usize,
         to: usize,
     ) -> Result<bool, AllocError>
-        ensures put { IfOk result (λ is_new. MatchBool is_new (Takes V.stands
-            (λ text s. V.sees value s × IsSpelledAt text from to s) room.old (before container.old self) room.new
-            (after container.new)) (V.silent ≡ true)) }
-        ensures base { V.base room.new ≡ V.base room.old };
-
-    // Puts in a value whose serialized form is this range of the text.
-    fn put_kept(
-        self,
-        room: &mut V::Room,
-        container: &mut Self::Container,
-        from: usize,
-        to: usize,
-    ) -> Result<bool, AllocError>
-        ensures put { IfOk result (λ is_new. MatchBool is_new (V.keeps ≡ true → Takes V.stands
-            (λ text s. IsKeptAt text from to s) room.old (before container.old self) room.new
-            (after container.new)) (V.silent ≡ true)) }
+        ensures put { IfOk result (λ is_new. MatchBool is_new (Takes V.stands (IsGiven V.sees V.is_kept value from to)
+            room.old (before container.old self) room.new (after container.new)) (V.silent ≡ true)) }
         ensures base { V.base room.new ≡ V.base room.old };
 }
 
@@ -81,20 +66,6 @@ impl<'a, V: Handler<'a>> Slot<'a, V> for Element {
             Err(failed) => Err(failed),
         }
     }
-
-    #[inline(always)]
-    fn put_kept(
-        self,
-        room: &mut V::Room,
-        items: &mut V::Items,
-        from: usize,
-        to: usize,
-    ) -> Result<bool, AllocError> {
-        match V::push_kept(room, items, from, to) {
-            Ok(()) => Ok(true),
-            Err(failed) => Err(failed),
-        }
-    }
 }
 
 impl<'a, V: Handler<'a>> Slot<'a, V> for Member<V::Key> {
@@ -114,16 +85,5 @@ impl<'a, V: Handler<'a>> Slot<'a, V> for Member<V::Key> {
         to: usize,
     ) -> Result<bool, AllocError> {
         V::insert(room, object, self.key, value, from, to)
-    }
-
-    #[inline(always)]
-    fn put_kept(
-        self,
-        room: &mut V::Room,
-        object: &mut OpenObject<V::Members, V::Key>,
-        from: usize,
-        to: usize,
-    ) -> Result<bool, AllocError> {
-        V::insert_kept(room, object, self.key, from, to)
     }
 }

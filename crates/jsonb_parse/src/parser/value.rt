@@ -23,6 +23,7 @@ ghost use Rattle.jsonb_parse.specs.Steps.{EndsPart, FillsFrame, Puts, Turns};
 use super::frame::{Frame, OpenObject};
 use super::handler::{Failed, Handler};
 use super::slot::{Element, Member};
+use super::text::Scalar;
 use super::{Mode, Parser};
 use jsonb_value::error::{Error, ParseErrorCode};
 use std::alloc::{AllocError, Global};
@@ -59,7 +60,7 @@ impl<'a> Parser<'a> {
             return Err(self.out_of_memory());
         };
         if let Err(failed) = self.parse_open_containers::<V>(room, &mut stack, text) {
-            dismantle_all::<V>(stack);
+            dismantle_all::<V>(room, stack);
             return Err(failed);
         }
         let Some(mut frame) = stack.pop() else {
@@ -129,11 +130,10 @@ impl<'a> Parser<'a> {
             return Ok(self.take_byte(b']'));
         }
         self.offset += 1;
-        let Ok(members) = V::members(room, self.alloc, at) else {
+        let Ok(object) = V::members(room, self.alloc, at) else {
             return Err(self.out_of_memory());
         };
-        let key = V::no_key(self.alloc);
-        let Ok(()) = stack.push(Frame::Object(OpenObject { members, key })) else {
+        let Ok(()) = stack.push(Frame::Object(object)) else {
             return Err(self.out_of_memory());
         };
         self.skip_whitespace();
@@ -229,7 +229,8 @@ impl<'a> Parser<'a> {
         if !self.is_left_out() {
             return self.put_scalar::<V, Element>(room, items, Element, text);
         }
-        self.put::<V, Element>(room, items, Element, V::null(), self.offset)
+        let null = V::scalar(Scalar::Null);
+        self.put::<V, Element>(room, items, Element, null, self.offset)
     }
 
     // Whether an element is left out here.
@@ -394,7 +395,7 @@ fn finish<'a, V: Handler<'a>>(
     }
 }
 
-// The value of a container that ended.
+// The value of a container that ended; or after a failure of one that is open, to be dismantled.
 #[inline(always)]
 fn frame_value<'a, V: Handler<'a>>(room: &V::Room, frame: FrameOf<'a, V>) -> V
     ensures { (text : List ℕ) → (s : Source) → (fs : List (Frame V.Items V.Members V.Key)) → (cs : List Open)
@@ -409,11 +410,8 @@ fn frame_value<'a, V: Handler<'a>>(room: &V::Room, frame: FrameOf<'a, V>) -> V
 // Drops the containers that are open. What they hold may nest deep.
 #[cold]
 #[inline(never)]
-fn dismantle_all<'a, V: Handler<'a>>(stack: Vec<FrameOf<'a, V>>) {
+fn dismantle_all<'a, V: Handler<'a>>(room: &V::Room, stack: Vec<FrameOf<'a, V>>) {
     'frames: for frame in stack {
-        match frame {
-            Frame::Array(items) => V::dismantle_items(items),
-            Frame::Object(object) => V::dismantle_members(object.members),
-        }
+        frame_value::<V>(room, frame).dismantle();
     }
 }

@@ -9,10 +9,9 @@ ghost use Rattle.jsonb_spec.specs.Source.{object_source, source_members_of};
 use super::value::{make_room, push_scalar};
 use crate::parser::members::{Member, settle_members};
 use crate::parser::{JsonAst, Mode};
-use jsonb_parse::{Failed, Handler, OpenObject};
+use jsonb_parse::{Failed, Handler, OpenObject, Scalar, Text, Wants};
 use jsonb_scan::parser::string::decode_contents;
 use jsonb_value::error::Error;
-use jsonb_value::number::Number;
 use std::alloc::{AllocError, Global};
 use std::borrow::CowStr;
 use std::mem;
@@ -28,6 +27,9 @@ impl<'a> Handler<'a> for JsonAst<'a> {
 
     ghost sees = { λ v s. source_view v ≡ s };
 
+    // Nothing is kept.
+    ghost is_kept = { λ v. ⊥ };
+
     ghost stands = { λ text room due fs cs. FramesHold (λ v s. source_view v ≡ s) (λ key k place. ((mark_view key.0, cow_str_bytes key.0) ≡ k) × (key.1 ≡ place)) (λ ms found. map found_of ms.items ≡ found) due fs cs };
 
     ghost completes = { λ text room f s fs cs. Completes (λ v s. source_view v ≡ s) (λ ms s. object_source (source_members_of (map found_of ms.items)) ≡ s) f s × FramesHold (λ v s. source_view v ≡ s) (λ key k place. ((mark_view key.0, cow_str_bytes key.0) ≡ k) × (key.1 ≡ place)) (λ ms found. map found_of ms.items ≡ found) true fs cs };
@@ -42,20 +44,27 @@ impl<'a> Handler<'a> for JsonAst<'a> {
 
     ghost keeps = { false };
 
-    fn null() -> Self {
-        JsonAst::Null
+    #[inline(always)]
+    fn wants() -> Wants
+        ensures { result.kept ≡ false }
+    {
+        Wants {
+            plain: false,
+            kept: false,
+        }
     }
 
-    fn boolean(value: bool) -> Self {
-        JsonAst::Bool(value)
-    }
-
-    fn number(value: Number) -> Self {
-        JsonAst::Number(value)
-    }
-
-    fn string(text: CowStr<'a>) -> Self {
-        JsonAst::String(text)
+    #[inline(always)]
+    fn scalar(value: Scalar<'a>) -> Self {
+        match value {
+            Scalar::Null => JsonAst::Null,
+            Scalar::Bool(value) => JsonAst::Bool(value),
+            Scalar::Number(value) => JsonAst::Number(value),
+            Scalar::String(Text::Plain(text)) => JsonAst::String(CowStr::Borrowed(text)),
+            Scalar::String(Text::Borrowed(text)) => JsonAst::String(CowStr::Borrowed(text)),
+            Scalar::String(Text::Decoded(text)) => JsonAst::String(text),
+            Scalar::Kept => JsonAst::Null,
+        }
     }
 
     #[inline(always)]
@@ -70,24 +79,7 @@ impl<'a> Handler<'a> for JsonAst<'a> {
     }
 
     #[inline(always)]
-    fn tells_plain() -> bool {
-        false
-    }
-
-    #[inline(always)]
-    fn plain_string(text: &'a str) -> Self {
-        JsonAst::String(CowStr::Borrowed(text))
-    }
-
-    #[inline(always)]
-    fn keeps_integers() -> bool
-        ensures { result ≡ false }
-    {
-        false
-    }
-
-    #[inline(always)]
-    fn root(room: &mut (), value: &Self, from: usize, to: usize) -> Result<(), AllocError> {
+    fn root(room: &mut (), value: &Self) -> Result<(), AllocError> {
         Ok(())
     }
 
@@ -113,16 +105,6 @@ impl<'a> Handler<'a> for JsonAst<'a> {
     }
 
     #[inline(always)]
-    fn push_kept(
-        room: &mut (),
-        items: &mut Vec<Self>,
-        from: usize,
-        to: usize,
-    ) -> Result<(), AllocError> {
-        Ok(())
-    }
-
-    #[inline(always)]
     fn push_inner(
         room: &mut (),
         items: &mut Vec<Self>,
@@ -144,32 +126,15 @@ impl<'a> Handler<'a> for JsonAst<'a> {
     }
 
     #[inline(always)]
-    fn members(room: &mut (), alloc: Global, at: usize) -> Result<Vec<Member<'a>>, AllocError> {
-        Ok(Vec::new(alloc))
-    }
-
-    #[inline(always)]
-    fn borrowed_key(
+    fn members(
         room: &mut (),
-        object: &mut OpenObject<Vec<Member<'a>>, (CowStr<'a>, usize)>,
         alloc: Global,
-        text: &'a str,
-        from: usize,
-        after: usize,
-    ) -> Result<(CowStr<'a>, usize), AllocError> {
-        Ok((CowStr::Borrowed(text), after))
-    }
-
-    #[inline(always)]
-    fn plain_key(
-        room: &mut (),
-        object: &mut OpenObject<Vec<Member<'a>>, (CowStr<'a>, usize)>,
-        alloc: Global,
-        text: &'a str,
-        from: usize,
-        after: usize,
-    ) -> Result<(CowStr<'a>, usize), AllocError> {
-        Ok((CowStr::Borrowed(text), after))
+        at: usize,
+    ) -> Result<OpenObject<Vec<Member<'a>>, (CowStr<'a>, usize)>, AllocError> {
+        Ok(OpenObject {
+            members: Vec::new(alloc),
+            key: (CowStr::Borrowed(""), 0),
+        })
     }
 
     #[inline(always)]
@@ -177,15 +142,15 @@ impl<'a> Handler<'a> for JsonAst<'a> {
         room: &mut (),
         object: &mut OpenObject<Vec<Member<'a>>, (CowStr<'a>, usize)>,
         alloc: Global,
-        text: CowStr<'a>,
+        text: Text<'a>,
+        from: usize,
         after: usize,
     ) -> Result<(CowStr<'a>, usize), AllocError> {
-        Ok((text, after))
-    }
-
-    #[inline(always)]
-    fn no_key(alloc: Global) -> (CowStr<'a>, usize) {
-        (CowStr::Borrowed(""), 0)
+        match text {
+            Text::Plain(text) => Ok((CowStr::Borrowed(text), after)),
+            Text::Borrowed(text) => Ok((CowStr::Borrowed(text), after)),
+            Text::Decoded(text) => Ok((text, after)),
+        }
     }
 
     #[inline(always)]
@@ -199,17 +164,6 @@ impl<'a> Handler<'a> for JsonAst<'a> {
     ) -> Result<bool, AllocError> {
         let (text, after) = key;
         push_scalar(&mut object.members, (text, value, after))?;
-        Ok(true)
-    }
-
-    #[inline(always)]
-    fn insert_kept(
-        room: &mut (),
-        object: &mut OpenObject<Vec<Member<'a>>, (CowStr<'a>, usize)>,
-        key: (CowStr<'a>, usize),
-        from: usize,
-        to: usize,
-    ) -> Result<bool, AllocError> {
         Ok(true)
     }
 
@@ -246,8 +200,4 @@ impl<'a> Handler<'a> for JsonAst<'a> {
     }
 
     fn dismantle(self) {}
-
-    fn dismantle_items(items: Vec<Self>) {}
-
-    fn dismantle_members(members: Vec<Member<'a>>) {}
 }

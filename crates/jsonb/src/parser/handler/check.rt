@@ -8,13 +8,11 @@ ghost use Rattle.jsonb_write.specs.CheckRoom.{CheckFilled, CheckStands};
 
 use super::repeat::tell_repeat;
 use crate::parser::Mode;
-use jsonb_parse::{Failed, Handler, OpenObject};
+use jsonb_parse::{Failed, Handler, OpenObject, Scalar, Text, Wants};
 use jsonb_scan::util::check_contents;
 use jsonb_value::error::Error;
-use jsonb_value::number::Number;
 use jsonb_write::check::CheckRoom;
 use std::alloc::{AllocError, Global};
-use std::borrow::CowStr;
 
 // A value of the text.
 #[derive(Drop)]
@@ -33,6 +31,8 @@ impl<'a> Handler<'a> for CheckedPart {
 
     ghost sees = { IsAnyValue };
 
+    ghost is_kept = { λ v. Unit {0} };
+
     ghost stands = { λ text room due fs cs. CheckStands text room due (map key_held fs) cs };
 
     ghost completes = { λ text room f s fs cs. CheckFilled text room (map key_held fs) cs };
@@ -48,28 +48,17 @@ impl<'a> Handler<'a> for CheckedPart {
     ghost keeps = { true };
 
     #[inline(always)]
-    fn null() -> Self
-        ensures { IsAnyValue result null_source }
+    fn wants() -> Wants
+        ensures { result.kept ≡ true }
     {
-        CheckedPart
+        Wants {
+            plain: false,
+            kept: true,
+        }
     }
 
     #[inline(always)]
-    fn boolean(value: bool) -> Self
-        ensures { IsAnyValue result (boolean_source value) }
-    {
-        CheckedPart
-    }
-
-    #[inline(always)]
-    fn number(value: Number) -> Self
-        ensures { IsAnyValue result (number_source (number_view value)) }
-    {
-        CheckedPart
-    }
-
-    #[inline(always)]
-    fn string(text: CowStr<'a>) -> Self {
+    fn scalar(value: Scalar<'a>) -> Self {
         CheckedPart
     }
 
@@ -85,29 +74,7 @@ impl<'a> Handler<'a> for CheckedPart {
     }
 
     #[inline(always)]
-    fn tells_plain() -> bool {
-        false
-    }
-
-    #[inline(always)]
-    fn plain_string(text: &'a str) -> Self {
-        CheckedPart
-    }
-
-    #[inline(always)]
-    fn keeps_integers() -> bool
-        ensures { result ≡ true }
-    {
-        true
-    }
-
-    #[inline(always)]
-    fn root(
-        room: &mut CheckRoom<'a>,
-        value: &Self,
-        from: usize,
-        to: usize,
-    ) -> Result<(), AllocError> {
+    fn root(room: &mut CheckRoom<'a>, value: &Self) -> Result<(), AllocError> {
         Ok(())
     }
 
@@ -126,16 +93,6 @@ impl<'a> Handler<'a> for CheckedPart {
         room: &mut CheckRoom<'a>,
         items: &mut (),
         value: Self,
-        from: usize,
-        to: usize,
-    ) -> Result<(), AllocError> {
-        Ok(())
-    }
-
-    #[inline(always)]
-    fn push_kept(
-        room: &mut CheckRoom<'a>,
-        items: &mut (),
         from: usize,
         to: usize,
     ) -> Result<(), AllocError> {
@@ -163,32 +120,13 @@ impl<'a> Handler<'a> for CheckedPart {
     }
 
     #[inline(always)]
-    fn members(room: &mut CheckRoom<'a>, alloc: Global, at: usize) -> Result<usize, AllocError> {
-        Ok(room.begin_object())
-    }
-
-    #[inline(always)]
-    fn borrowed_key(
+    fn members(
         room: &mut CheckRoom<'a>,
-        object: &mut OpenObject<usize, ()>,
         alloc: Global,
-        text: &'a str,
-        from: usize,
-        after: usize,
-    ) -> Result<(), AllocError> {
-        room.borrowed_key(object.members, text, from, after)
-    }
-
-    #[inline(always)]
-    fn plain_key(
-        room: &mut CheckRoom<'a>,
-        object: &mut OpenObject<usize, ()>,
-        alloc: Global,
-        text: &'a str,
-        from: usize,
-        after: usize,
-    ) -> Result<(), AllocError> {
-        room.borrowed_key(object.members, text, from, after)
+        at: usize,
+    ) -> Result<OpenObject<usize, ()>, AllocError> {
+        let members = room.begin_object();
+        Ok(OpenObject { members, key: () })
     }
 
     #[inline(always)]
@@ -196,14 +134,16 @@ impl<'a> Handler<'a> for CheckedPart {
         room: &mut CheckRoom<'a>,
         object: &mut OpenObject<usize, ()>,
         alloc: Global,
-        text: CowStr<'a>,
+        text: Text<'a>,
+        from: usize,
         after: usize,
     ) -> Result<(), AllocError> {
-        room.key(object.members, text, after)
+        match text {
+            Text::Plain(text) => room.borrowed_key(object.members, text, from, after),
+            Text::Borrowed(text) => room.borrowed_key(object.members, text, from, after),
+            Text::Decoded(text) => room.key(object.members, text, after),
+        }
     }
-
-    #[inline(always)]
-    fn no_key(alloc: Global) {}
 
     #[inline(always)]
     fn insert(
@@ -211,17 +151,6 @@ impl<'a> Handler<'a> for CheckedPart {
         object: &mut OpenObject<usize, ()>,
         key: (),
         value: Self,
-        from: usize,
-        to: usize,
-    ) -> Result<bool, AllocError> {
-        Ok(true)
-    }
-
-    #[inline(always)]
-    fn insert_kept(
-        room: &mut CheckRoom<'a>,
-        object: &mut OpenObject<usize, ()>,
-        key: (),
         from: usize,
         to: usize,
     ) -> Result<bool, AllocError> {
@@ -266,8 +195,4 @@ impl<'a> Handler<'a> for CheckedPart {
     }
 
     fn dismantle(self) {}
-
-    fn dismantle_items(items: ()) {}
-
-    fn dismantle_members(members: usize) {}
 }

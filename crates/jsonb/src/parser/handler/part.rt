@@ -6,9 +6,8 @@ ghost use Rattle.jsonb_write.specs.TextRoom.{SeesPart};
 
 use super::repeat::tell_repeat;
 use crate::parser::Mode;
-use jsonb_parse::{Failed, Handler, OpenObject};
+use jsonb_parse::{Failed, Handler, OpenObject, Scalar, Text, Wants};
 use jsonb_value::error::Error;
-use jsonb_value::number::Number;
 use jsonb_write::contents::Contents;
 use jsonb_write::part::{PartItems, PartMembers, PartRoom};
 use jsonb_write::text::Part;
@@ -32,6 +31,9 @@ impl<'a> Handler<'a> for SoughtPart<'a> {
 
     ghost sees = { λ v s. SeesPart v.part s };
 
+    // Nothing is kept.
+    ghost is_kept = { λ v. ⊥ };
+
     ghost stands = { λ text room due fs cs. PartStands text room due (map part_held fs) cs };
 
     ghost completes = { λ text room f s fs cs. PartFilled text room s (map part_held fs) cs };
@@ -47,29 +49,27 @@ impl<'a> Handler<'a> for SoughtPart<'a> {
     ghost keeps = { false };
 
     #[inline(always)]
-    fn null() -> Self {
-        SoughtPart { part: Part::Null }
-    }
-
-    #[inline(always)]
-    fn boolean(value: bool) -> Self {
-        SoughtPart {
-            part: Part::Bool(value),
+    fn wants() -> Wants
+        ensures { result.kept ≡ false }
+    {
+        Wants {
+            plain: true,
+            kept: false,
         }
     }
 
     #[inline(always)]
-    fn number(value: Number) -> Self {
-        SoughtPart {
-            part: Part::Number(value),
-        }
-    }
-
-    #[inline(always)]
-    fn string(text: CowStr<'a>) -> Self {
-        SoughtPart {
-            part: Part::String(text),
-        }
+    fn scalar(value: Scalar<'a>) -> Self {
+        let part = match value {
+            Scalar::Null => Part::Null,
+            Scalar::Bool(value) => Part::Bool(value),
+            Scalar::Number(value) => Part::Number(value),
+            Scalar::String(Text::Plain(text)) => Part::Plain(text),
+            Scalar::String(Text::Borrowed(text)) => Part::String(CowStr::Borrowed(text)),
+            Scalar::String(Text::Decoded(text)) => Part::String(text),
+            Scalar::Kept => Part::Null,
+        };
+        SoughtPart { part }
     }
 
     #[inline(always)]
@@ -86,32 +86,8 @@ impl<'a> Handler<'a> for SoughtPart<'a> {
     }
 
     #[inline(always)]
-    fn tells_plain() -> bool {
-        true
-    }
-
-    #[inline(always)]
-    fn plain_string(text: &'a str) -> Self {
-        SoughtPart {
-            part: Part::Plain(text),
-        }
-    }
-
-    #[inline(always)]
-    fn keeps_integers() -> bool
-        ensures { result ≡ false }
-    {
-        false
-    }
-
-    #[inline(always)]
-    fn root(
-        room: &mut PartRoom<'a>,
-        value: &Self,
-        from: usize,
-        to: usize,
-    ) -> Result<(), AllocError> {
-        room.root(&value.part, from, to)
+    fn root(room: &mut PartRoom<'a>, value: &Self) -> Result<(), AllocError> {
+        room.root(&value.part, 0, 0)
     }
 
     #[inline(always)]
@@ -133,16 +109,6 @@ impl<'a> Handler<'a> for SoughtPart<'a> {
         to: usize,
     ) -> Result<(), AllocError> {
         room.push(items, value.part, from, to)
-    }
-
-    #[inline(always)]
-    fn push_kept(
-        room: &mut PartRoom<'a>,
-        items: &mut PartItems,
-        from: usize,
-        to: usize,
-    ) -> Result<(), AllocError> {
-        Ok(())
     }
 
     #[inline(always)]
@@ -177,32 +143,9 @@ impl<'a> Handler<'a> for SoughtPart<'a> {
         room: &mut PartRoom<'a>,
         alloc: Global,
         at: usize,
-    ) -> Result<PartMembers, AllocError> {
-        room.begin_object(at)
-    }
-
-    #[inline(always)]
-    fn borrowed_key(
-        room: &mut PartRoom<'a>,
-        object: &mut OpenObject<PartMembers, ()>,
-        alloc: Global,
-        text: &'a str,
-        from: usize,
-        after: usize,
-    ) -> Result<(), AllocError> {
-        room.borrowed_key(&object.members, text, from, after)
-    }
-
-    #[inline(always)]
-    fn plain_key(
-        room: &mut PartRoom<'a>,
-        object: &mut OpenObject<PartMembers, ()>,
-        alloc: Global,
-        text: &'a str,
-        from: usize,
-        after: usize,
-    ) -> Result<(), AllocError> {
-        room.plain_key(&object.members, text, from, after)
+    ) -> Result<OpenObject<PartMembers, ()>, AllocError> {
+        let members = room.begin_object(at)?;
+        Ok(OpenObject { members, key: () })
     }
 
     #[inline(always)]
@@ -210,14 +153,16 @@ impl<'a> Handler<'a> for SoughtPart<'a> {
         room: &mut PartRoom<'a>,
         object: &mut OpenObject<PartMembers, ()>,
         alloc: Global,
-        text: CowStr<'a>,
+        text: Text<'a>,
+        from: usize,
         after: usize,
     ) -> Result<(), AllocError> {
-        room.key(&object.members, text, after)
+        match text {
+            Text::Plain(text) => room.plain_key(&object.members, text, from, after),
+            Text::Borrowed(text) => room.borrowed_key(&object.members, text, from, after),
+            Text::Decoded(text) => room.key(&object.members, text, after),
+        }
     }
-
-    #[inline(always)]
-    fn no_key(alloc: Global) {}
 
     #[inline(always)]
     fn insert(
@@ -228,20 +173,7 @@ impl<'a> Handler<'a> for SoughtPart<'a> {
         from: usize,
         to: usize,
     ) -> Result<bool, AllocError> {
-        match room.insert(&object.members, value.part, from, to) {
-            Ok(()) => Ok(true),
-            Err(failed) => Err(failed),
-        }
-    }
-
-    #[inline(always)]
-    fn insert_kept(
-        room: &mut PartRoom<'a>,
-        object: &mut OpenObject<PartMembers, ()>,
-        key: (),
-        from: usize,
-        to: usize,
-    ) -> Result<bool, AllocError> {
+        room.insert(&object.members, value.part, from, to)?;
         Ok(true)
     }
 
@@ -289,8 +221,4 @@ impl<'a> Handler<'a> for SoughtPart<'a> {
     }
 
     fn dismantle(self) {}
-
-    fn dismantle_items(items: PartItems) {}
-
-    fn dismantle_members(members: PartMembers) {}
 }

@@ -6,9 +6,8 @@ ghost use Rattle.jsonb_write.specs.TextRoom.{SeesPart};
 
 use super::repeat::tell_repeat;
 use crate::parser::Mode;
-use jsonb_parse::{Failed, Handler, OpenObject};
+use jsonb_parse::{Failed, Handler, OpenObject, Scalar, Text, Wants};
 use jsonb_value::error::Error;
-use jsonb_value::number::Number;
 use jsonb_write::contents::Contents;
 use jsonb_write::key::KeyRoom;
 use jsonb_write::text::Part;
@@ -19,6 +18,8 @@ use std::borrow::CowStr;
 #[derive(Drop)]
 pub(in crate::parser) struct KeyPart<'a> {
     part: Part<'a>,
+    // It is an integer that stands in the text.
+    is_kept: bool,
 }
 
 impl<'a> Handler<'a> for KeyPart<'a> {
@@ -32,7 +33,9 @@ impl<'a> Handler<'a> for KeyPart<'a> {
 
     type Key = ();
 
-    ghost sees = { λ v s. SeesPart v.part s };
+    ghost sees = { λ v s. (v.is_kept ≡ false) × SeesPart v.part s };
+
+    ghost is_kept = { λ v. v.is_kept ≡ true };
 
     ghost stands = { λ text room due fs cs. KeyStands text room due (map key_held fs) cs };
 
@@ -49,29 +52,28 @@ impl<'a> Handler<'a> for KeyPart<'a> {
     ghost keeps = { true };
 
     #[inline(always)]
-    fn null() -> Self {
-        KeyPart { part: Part::Null }
-    }
-
-    #[inline(always)]
-    fn boolean(value: bool) -> Self {
-        KeyPart {
-            part: Part::Bool(value),
+    fn wants() -> Wants
+        ensures { result.kept ≡ true }
+    {
+        Wants {
+            plain: true,
+            kept: true,
         }
     }
 
     #[inline(always)]
-    fn number(value: Number) -> Self {
-        KeyPart {
-            part: Part::Number(value),
-        }
-    }
-
-    #[inline(always)]
-    fn string(text: CowStr<'a>) -> Self {
-        KeyPart {
-            part: Part::String(text),
-        }
+    fn scalar(value: Scalar<'a>) -> Self {
+        let is_kept = matches!(value, Scalar::Kept);
+        let part = match value {
+            Scalar::Null => Part::Null,
+            Scalar::Bool(value) => Part::Bool(value),
+            Scalar::Number(value) => Part::Number(value),
+            Scalar::String(Text::Plain(text)) => Part::Plain(text),
+            Scalar::String(Text::Borrowed(text)) => Part::String(CowStr::Borrowed(text)),
+            Scalar::String(Text::Decoded(text)) => Part::String(text),
+            Scalar::Kept => Part::Null,
+        };
+        KeyPart { part, is_kept }
     }
 
     #[inline(always)]
@@ -84,36 +86,13 @@ impl<'a> Handler<'a> for KeyPart<'a> {
         let contents = Contents::for_key(body, mode, offset)?;
         Ok(KeyPart {
             part: Part::Contents(contents),
+            is_kept: false,
         })
     }
 
     #[inline(always)]
-    fn tells_plain() -> bool {
-        true
-    }
-
-    #[inline(always)]
-    fn plain_string(text: &'a str) -> Self {
-        KeyPart {
-            part: Part::Plain(text),
-        }
-    }
-
-    #[inline(always)]
-    fn keeps_integers() -> bool
-        ensures { result ≡ true }
-    {
-        true
-    }
-
-    #[inline(always)]
-    fn root(
-        room: &mut KeyRoom<'a>,
-        value: &Self,
-        from: usize,
-        to: usize,
-    ) -> Result<(), AllocError> {
-        room.root(&value.part, from, to)
+    fn root(room: &mut KeyRoom<'a>, value: &Self) -> Result<(), AllocError> {
+        room.root(&value.part, 0, 0)
     }
 
     #[inline(always)]
@@ -134,17 +113,10 @@ impl<'a> Handler<'a> for KeyPart<'a> {
         from: usize,
         to: usize,
     ) -> Result<(), AllocError> {
+        if value.is_kept {
+            return room.push_integer(from, to);
+        }
         room.push(value.part, from, to)
-    }
-
-    #[inline(always)]
-    fn push_kept(
-        room: &mut KeyRoom<'a>,
-        items: &mut (),
-        from: usize,
-        to: usize,
-    ) -> Result<(), AllocError> {
-        room.push_integer(from, to)
     }
 
     #[inline(always)]
@@ -167,36 +139,18 @@ impl<'a> Handler<'a> for KeyPart<'a> {
     fn array(room: &KeyRoom<'a>, items: ()) -> Self {
         KeyPart {
             part: Part::Written,
+            is_kept: false,
         }
     }
 
     #[inline(always)]
-    fn members(room: &mut KeyRoom<'a>, alloc: Global, at: usize) -> Result<usize, AllocError> {
-        room.begin_object()
-    }
-
-    #[inline(always)]
-    fn borrowed_key(
+    fn members(
         room: &mut KeyRoom<'a>,
-        object: &mut OpenObject<usize, ()>,
         alloc: Global,
-        text: &'a str,
-        from: usize,
-        after: usize,
-    ) -> Result<(), AllocError> {
-        room.borrowed_key(object.members, text, from, after)
-    }
-
-    #[inline(always)]
-    fn plain_key(
-        room: &mut KeyRoom<'a>,
-        object: &mut OpenObject<usize, ()>,
-        alloc: Global,
-        text: &'a str,
-        from: usize,
-        after: usize,
-    ) -> Result<(), AllocError> {
-        room.plain_key(object.members, text, from, after)
+        at: usize,
+    ) -> Result<OpenObject<usize, ()>, AllocError> {
+        let members = room.begin_object()?;
+        Ok(OpenObject { members, key: () })
     }
 
     #[inline(always)]
@@ -204,14 +158,16 @@ impl<'a> Handler<'a> for KeyPart<'a> {
         room: &mut KeyRoom<'a>,
         object: &mut OpenObject<usize, ()>,
         alloc: Global,
-        text: CowStr<'a>,
+        text: Text<'a>,
+        from: usize,
         after: usize,
     ) -> Result<(), AllocError> {
-        room.key(object.members, text, after)
+        match text {
+            Text::Plain(text) => room.plain_key(object.members, text, from, after),
+            Text::Borrowed(text) => room.borrowed_key(object.members, text, from, after),
+            Text::Decoded(text) => room.key(object.members, text, after),
+        }
     }
-
-    #[inline(always)]
-    fn no_key(alloc: Global) {}
 
     #[inline(always)]
     fn insert(
@@ -222,24 +178,12 @@ impl<'a> Handler<'a> for KeyPart<'a> {
         from: usize,
         to: usize,
     ) -> Result<bool, AllocError> {
-        match room.insert(object.members, value.part, from, to) {
-            Ok(()) => Ok(true),
-            Err(failed) => Err(failed),
+        if value.is_kept {
+            room.insert_integer(object.members, from, to)?;
+            return Ok(true);
         }
-    }
-
-    #[inline(always)]
-    fn insert_kept(
-        room: &mut KeyRoom<'a>,
-        object: &mut OpenObject<usize, ()>,
-        key: (),
-        from: usize,
-        to: usize,
-    ) -> Result<bool, AllocError> {
-        match room.insert_integer(object.members, from, to) {
-            Ok(()) => Ok(true),
-            Err(failed) => Err(failed),
-        }
+        room.insert(object.members, value.part, from, to)?;
+        Ok(true)
     }
 
     #[inline(always)]
@@ -283,12 +227,9 @@ impl<'a> Handler<'a> for KeyPart<'a> {
     fn object(room: &KeyRoom<'a>, members: usize) -> Self {
         KeyPart {
             part: Part::Written,
+            is_kept: false,
         }
     }
 
     fn dismantle(self) {}
-
-    fn dismantle_items(items: ()) {}
-
-    fn dismantle_members(members: usize) {}
 }

@@ -5,9 +5,8 @@ ghost use Rattle.jsonb_write.specs.TextRoom.{SeesPart, TextFilled, TextStands, b
 
 use super::repeat::tell_repeat;
 use crate::parser::Mode;
-use jsonb_parse::{Failed, Handler, OpenObject};
+use jsonb_parse::{Failed, Handler, OpenObject, Scalar, Text, Wants};
 use jsonb_value::error::Error;
-use jsonb_value::number::Number;
 use jsonb_write::contents::Contents;
 use jsonb_write::text::{Part, TextRoom};
 use std::alloc::{AllocError, Global};
@@ -17,6 +16,8 @@ use std::borrow::CowStr;
 #[derive(Drop)]
 pub(in crate::parser) struct TextPart<'a> {
     part: Part<'a>,
+    // It is kept as it stands in the text.
+    is_kept: bool,
 }
 
 impl<'a> Handler<'a> for TextPart<'a> {
@@ -30,7 +31,9 @@ impl<'a> Handler<'a> for TextPart<'a> {
 
     type Key = ();
 
-    ghost sees = { λ v s. SeesPart v.part s };
+    ghost sees = { λ v s. (v.is_kept ≡ false) × SeesPart v.part s };
+
+    ghost is_kept = { λ v. v.is_kept ≡ true };
 
     ghost stands = { λ text room due fs cs. TextStands text room due (map text_held fs) cs };
 
@@ -47,29 +50,28 @@ impl<'a> Handler<'a> for TextPart<'a> {
     ghost keeps = { true };
 
     #[inline(always)]
-    fn null() -> Self {
-        TextPart { part: Part::Null }
-    }
-
-    #[inline(always)]
-    fn boolean(value: bool) -> Self {
-        TextPart {
-            part: Part::Bool(value),
+    fn wants() -> Wants
+        ensures { result.kept ≡ true }
+    {
+        Wants {
+            plain: true,
+            kept: true,
         }
     }
 
     #[inline(always)]
-    fn number(value: Number) -> Self {
-        TextPart {
-            part: Part::Number(value),
-        }
-    }
-
-    #[inline(always)]
-    fn string(text: CowStr<'a>) -> Self {
-        TextPart {
-            part: Part::String(text),
-        }
+    fn scalar(value: Scalar<'a>) -> Self {
+        let is_kept = matches!(value, Scalar::Kept);
+        let part = match value {
+            Scalar::Null => Part::Null,
+            Scalar::Bool(value) => Part::Bool(value),
+            Scalar::Number(value) => Part::Number(value),
+            Scalar::String(Text::Plain(text)) => Part::Plain(text),
+            Scalar::String(Text::Borrowed(text)) => Part::String(CowStr::Borrowed(text)),
+            Scalar::String(Text::Decoded(text)) => Part::String(text),
+            Scalar::Kept => Part::Null,
+        };
+        TextPart { part, is_kept }
     }
 
     #[inline(always)]
@@ -82,36 +84,13 @@ impl<'a> Handler<'a> for TextPart<'a> {
         let contents = Contents::for_text(body, mode, offset)?;
         Ok(TextPart {
             part: Part::Contents(contents),
+            is_kept: false,
         })
     }
 
     #[inline(always)]
-    fn tells_plain() -> bool {
-        true
-    }
-
-    #[inline(always)]
-    fn plain_string(text: &'a str) -> Self {
-        TextPart {
-            part: Part::Plain(text),
-        }
-    }
-
-    #[inline(always)]
-    fn keeps_integers() -> bool
-        ensures { result ≡ true }
-    {
-        true
-    }
-
-    #[inline(always)]
-    fn root(
-        room: &mut TextRoom<'a>,
-        value: &Self,
-        from: usize,
-        to: usize,
-    ) -> Result<(), AllocError> {
-        room.root(&value.part, from, to)
+    fn root(room: &mut TextRoom<'a>, value: &Self) -> Result<(), AllocError> {
+        room.root(&value.part, 0, 0)
     }
 
     #[inline(always)]
@@ -132,17 +111,10 @@ impl<'a> Handler<'a> for TextPart<'a> {
         from: usize,
         to: usize,
     ) -> Result<(), AllocError> {
+        if value.is_kept {
+            return room.push_range(items, from, to);
+        }
         room.push(items, value.part, from, to)
-    }
-
-    #[inline(always)]
-    fn push_kept(
-        room: &mut TextRoom<'a>,
-        items: &mut bool,
-        from: usize,
-        to: usize,
-    ) -> Result<(), AllocError> {
-        room.push_range(items, from, to)
     }
 
     #[inline(always)]
@@ -165,36 +137,18 @@ impl<'a> Handler<'a> for TextPart<'a> {
     fn array(room: &TextRoom<'a>, items: bool) -> Self {
         TextPart {
             part: Part::Written,
+            is_kept: false,
         }
     }
 
     #[inline(always)]
-    fn members(room: &mut TextRoom<'a>, alloc: Global, at: usize) -> Result<usize, AllocError> {
-        room.begin_object(at)
-    }
-
-    #[inline(always)]
-    fn borrowed_key(
+    fn members(
         room: &mut TextRoom<'a>,
-        object: &mut OpenObject<usize, ()>,
         alloc: Global,
-        text: &'a str,
-        from: usize,
-        after: usize,
-    ) -> Result<(), AllocError> {
-        room.borrowed_key(object.members, text, from, after)
-    }
-
-    #[inline(always)]
-    fn plain_key(
-        room: &mut TextRoom<'a>,
-        object: &mut OpenObject<usize, ()>,
-        alloc: Global,
-        text: &'a str,
-        from: usize,
-        after: usize,
-    ) -> Result<(), AllocError> {
-        room.plain_key(object.members, text, from, after)
+        at: usize,
+    ) -> Result<OpenObject<usize, ()>, AllocError> {
+        let members = room.begin_object(at)?;
+        Ok(OpenObject { members, key: () })
     }
 
     #[inline(always)]
@@ -202,14 +156,16 @@ impl<'a> Handler<'a> for TextPart<'a> {
         room: &mut TextRoom<'a>,
         object: &mut OpenObject<usize, ()>,
         alloc: Global,
-        text: CowStr<'a>,
+        text: Text<'a>,
+        from: usize,
         after: usize,
     ) -> Result<(), AllocError> {
-        room.key(object.members, text, after)
+        match text {
+            Text::Plain(text) => room.plain_key(object.members, text, from, after),
+            Text::Borrowed(text) => room.borrowed_key(object.members, text, from, after),
+            Text::Decoded(text) => room.key(object.members, text, after),
+        }
     }
-
-    #[inline(always)]
-    fn no_key(alloc: Global) {}
 
     #[inline(always)]
     fn insert(
@@ -220,24 +176,12 @@ impl<'a> Handler<'a> for TextPart<'a> {
         from: usize,
         to: usize,
     ) -> Result<bool, AllocError> {
-        match room.insert(object.members, value.part, from, to) {
-            Ok(()) => Ok(true),
-            Err(failed) => Err(failed),
+        if value.is_kept {
+            room.insert_range(object.members, from, to)?;
+            return Ok(true);
         }
-    }
-
-    #[inline(always)]
-    fn insert_kept(
-        room: &mut TextRoom<'a>,
-        object: &mut OpenObject<usize, ()>,
-        key: (),
-        from: usize,
-        to: usize,
-    ) -> Result<bool, AllocError> {
-        match room.insert_range(object.members, from, to) {
-            Ok(()) => Ok(true),
-            Err(failed) => Err(failed),
-        }
+        room.insert(object.members, value.part, from, to)?;
+        Ok(true)
     }
 
     #[inline(always)]
@@ -281,12 +225,9 @@ impl<'a> Handler<'a> for TextPart<'a> {
     fn object(room: &TextRoom<'a>, members: usize) -> Self {
         TextPart {
             part: Part::Written,
+            is_kept: false,
         }
     }
 
     fn dismantle(self) {}
-
-    fn dismantle_items(items: bool) {}
-
-    fn dismantle_members(members: usize) {}
 }

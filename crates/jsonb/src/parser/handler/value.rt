@@ -10,10 +10,9 @@ ghost use Rattle.jsonb.specs.FrameContents.{Completes, FramesHold, MapHolds};
 ghost use Rattle.jsonb_spec.specs.Source.{tree_of_source};
 
 use crate::parser::Mode;
-use jsonb_parse::{Failed, Handler, OpenObject};
+use jsonb_parse::{Failed, Handler, OpenObject, Scalar, Text, Wants};
 use jsonb_scan::parser::string::decode_contents;
 use jsonb_value::error::Error;
-use jsonb_value::number::Number;
 use jsonb_value::value::{Object, Value};
 use std::alloc::{AllocError, AllocFailed, Global};
 use std::borrow::CowStr;
@@ -36,6 +35,9 @@ impl<'a> Handler<'a> for ValuePart<'a> {
 
     ghost sees = { λ v s. view v.value ≡ tree_of_source s };
 
+    // Nothing is kept.
+    ghost is_kept = { λ v. ⊥ };
+
     ghost stands = { λ text room due fs cs. FramesHold (λ v s. view v ≡ tree_of_source s) (λ key k place. string_bytes key ≡ k.1) (λ ms found. MapHolds found ms.entries) due fs cs };
 
     ghost completes = { λ text room f s fs cs. Completes (λ v s. view v ≡ tree_of_source s) (λ ms s. object (members_view ms.entries) ≡ tree_of_source s) f s × FramesHold (λ v s. view v ≡ tree_of_source s) (λ key k place. string_bytes key ≡ k.1) (λ ms found. MapHolds found ms.entries) true fs cs };
@@ -51,28 +53,35 @@ impl<'a> Handler<'a> for ValuePart<'a> {
     ghost keeps = { false };
 
     #[inline(always)]
-    fn null() -> Self {
-        ValuePart { value: Value::Null }
-    }
-
-    #[inline(always)]
-    fn boolean(value: bool) -> Self {
-        ValuePart {
-            value: Value::Bool(value),
+    fn wants() -> Wants
+        ensures { result.kept ≡ false }
+    {
+        Wants {
+            plain: false,
+            kept: false,
         }
     }
 
     #[inline(always)]
-    fn number(value: Number) -> Self {
-        ValuePart {
-            value: Value::Number(value),
-        }
-    }
-
-    #[inline(always)]
-    fn string(text: CowStr<'a>) -> Self {
-        ValuePart {
-            value: Value::String(text),
+    fn scalar(value: Scalar<'a>) -> Self {
+        match value {
+            Scalar::Null => ValuePart { value: Value::Null },
+            Scalar::Bool(value) => ValuePart {
+                value: Value::Bool(value),
+            },
+            Scalar::Number(value) => ValuePart {
+                value: Value::Number(value),
+            },
+            Scalar::String(Text::Plain(text)) => ValuePart {
+                value: Value::String(CowStr::Borrowed(text)),
+            },
+            Scalar::String(Text::Borrowed(text)) => ValuePart {
+                value: Value::String(CowStr::Borrowed(text)),
+            },
+            Scalar::String(Text::Decoded(text)) => ValuePart {
+                value: Value::String(text),
+            },
+            Scalar::Kept => ValuePart { value: Value::Null },
         }
     }
 
@@ -90,26 +99,7 @@ impl<'a> Handler<'a> for ValuePart<'a> {
     }
 
     #[inline(always)]
-    fn tells_plain() -> bool {
-        false
-    }
-
-    #[inline(always)]
-    fn plain_string(text: &'a str) -> Self {
-        ValuePart {
-            value: Value::String(CowStr::Borrowed(text)),
-        }
-    }
-
-    #[inline(always)]
-    fn keeps_integers() -> bool
-        ensures { result ≡ false }
-    {
-        false
-    }
-
-    #[inline(always)]
-    fn root(room: &mut (), value: &Self, from: usize, to: usize) -> Result<(), AllocError> {
+    fn root(room: &mut (), value: &Self) -> Result<(), AllocError> {
         Ok(())
     }
 
@@ -132,16 +122,6 @@ impl<'a> Handler<'a> for ValuePart<'a> {
         to: usize,
     ) -> Result<(), AllocError> {
         push_scalar(items, value.value)
-    }
-
-    #[inline(always)]
-    fn push_kept(
-        room: &mut (),
-        items: &mut Vec<Value<'a>>,
-        from: usize,
-        to: usize,
-    ) -> Result<(), AllocError> {
-        Ok(())
     }
 
     #[inline(always)]
@@ -173,32 +153,15 @@ impl<'a> Handler<'a> for ValuePart<'a> {
     }
 
     #[inline(always)]
-    fn members(room: &mut (), alloc: Global, at: usize) -> Result<Object<'a>, AllocError> {
-        Ok(Object::new(alloc))
-    }
-
-    #[inline(always)]
-    fn borrowed_key(
+    fn members(
         room: &mut (),
-        object: &mut OpenObject<Object<'a>, String>,
         alloc: Global,
-        text: &'a str,
-        from: usize,
-        after: usize,
-    ) -> Result<String, AllocError> {
-        String::from_str(alloc, text)
-    }
-
-    #[inline(always)]
-    fn plain_key(
-        room: &mut (),
-        object: &mut OpenObject<Object<'a>, String>,
-        alloc: Global,
-        text: &'a str,
-        from: usize,
-        after: usize,
-    ) -> Result<String, AllocError> {
-        String::from_str(alloc, text)
+        at: usize,
+    ) -> Result<OpenObject<Object<'a>, String>, AllocError> {
+        Ok(OpenObject {
+            members: Object::new(alloc),
+            key: String::new(alloc),
+        })
     }
 
     #[inline(always)]
@@ -206,15 +169,15 @@ impl<'a> Handler<'a> for ValuePart<'a> {
         room: &mut (),
         object: &mut OpenObject<Object<'a>, String>,
         alloc: Global,
-        text: CowStr<'a>,
+        text: Text<'a>,
+        from: usize,
         after: usize,
     ) -> Result<String, AllocError> {
-        text.into_owned(alloc)
-    }
-
-    #[inline(always)]
-    fn no_key(alloc: Global) -> String {
-        String::new(alloc)
+        match text {
+            Text::Plain(text) => String::from_str(alloc, text),
+            Text::Borrowed(text) => String::from_str(alloc, text),
+            Text::Decoded(text) => text.into_owned(alloc),
+        }
     }
 
     #[inline(always)]
@@ -227,17 +190,6 @@ impl<'a> Handler<'a> for ValuePart<'a> {
         to: usize,
     ) -> Result<bool, AllocError> {
         put_member(&mut object.members, key, value.value)
-    }
-
-    #[inline(always)]
-    fn insert_kept(
-        room: &mut (),
-        object: &mut OpenObject<Object<'a>, String>,
-        key: String,
-        from: usize,
-        to: usize,
-    ) -> Result<bool, AllocError> {
-        Ok(true)
     }
 
     #[inline(always)]
@@ -272,16 +224,6 @@ impl<'a> Handler<'a> for ValuePart<'a> {
     #[inline(always)]
     fn dismantle(self) {
         self.value.dismantle();
-    }
-
-    #[inline(always)]
-    fn dismantle_items(items: Vec<Value<'a>>) {
-        Value::Array(items).dismantle();
-    }
-
-    #[inline(always)]
-    fn dismantle_members(members: Object<'a>) {
-        Value::Object(members).dismantle();
     }
 }
 

@@ -2,7 +2,6 @@ use Rattle.std.proofs.Common.{◌≡◌, subst, ◌+◌, ◌∷◌, [], refl, ap
 use Rattle.jsonb_scan.specs.Answer.{Fails}
 use Rattle.jsonb_spec.specs.Tree.Mark.{plain}
 use Rattle.jsonb_parse.specs.declared.parser.Parser.{Parser}
-use Rattle.jsonb_parse.specs.declared.parser.frame.OpenObject.{OpenObject}
 use Rattle.jsonb_parse.specs.Parser.{Advances, size_of}
 use Rattle.jsonb_parse.proofs.Containers.Frames.{after_brace, array_opened, object_opened, too_many}
 use Rattle.jsonb_parse.proofs.Steps.Advancing.{goes_on}
@@ -57,9 +56,8 @@ returns g c =
           let a = goes_on p n o c.take_byte.ensures.advances past in
           let h = g.V.Handler in
           let fs = c.args.stack.now.items in
-          let v : OpenObject g.row.V-Members.Denot g.row.V-Key.Denot = record { members = c.in-Ok-members.members; key = c.no_key-key.result } in
-          object_opened (h.stands p.buf.now c.args.room.now) (h.stands p.buf.now c.members.new.room) p o s q fs c.push-2.new.self.items v (plain, []) 0 c.take_byte-2.result whole a (goes_on p o q a (record { buf = more.buf; mode = more.mode; onward = more.onward }))
-          brace c.skip_whitespace-2.ensures.rest c.take_byte-2.ensures.found c.take_byte-2.ensures.rest (λ cs. c.in-Ok-members.ensures.opened p.buf.now c.no_key-key.result (reverse fs) cs) c.in-Ok-push-2.ensures.items (omega arith) due;
+          object_opened (h.stands p.buf.now c.args.room.now) (h.stands p.buf.now c.members.new.room) p o s q fs c.push-2.new.self.items c.in-Ok-members.object (plain, []) 0 c.take_byte-2.result whole a (goes_on p o q a (record { buf = more.buf; mode = more.mode; onward = more.onward }))
+          brace c.skip_whitespace-2.ensures.rest c.take_byte-2.ensures.found c.take_byte-2.ensures.rest (λ cs. c.in-Ok-members.ensures.opened p.buf.now (reverse fs) cs) c.in-Ok-push-2.ensures.items (omega arith) due;
       onward = search rules;
       depth = search rules;
       some = search rules;

@@ -20,7 +20,7 @@ returns-in-Ok g c =
           let q = c.escaped_contents.new.self in
           let s = c.in-Ok.string in (
             string (mark_view s) (cow_str_bytes s),
-            c.string.ensures,
+            c.scalar.ensures,
             unmoved p q c.in_default.ensures.stays (λ o. quoted_at (size_of o) (mode_of o.mode) c.args.quote (rest_of o))
                 ∙ string_read (size_of q) (mode_of q.mode) c.args.quote (rest_of q) (mark_view s, cow_str_bytes s) _ c.in-Ok.ensures.parses,
           );

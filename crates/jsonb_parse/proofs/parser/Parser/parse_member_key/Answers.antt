@@ -6,7 +6,8 @@ use Rattle.jsonb_scan.specs.Parsing.String.{string_at}
 use Rattle.jsonb_parse.specs.Handler.{AsKey, Begins, Builds}
 use Rattle.jsonb_parse.specs.Parser.{Advances, rest_of, size_of}
 use Rattle.jsonb_scan.specs.Spelled.{KeyStandsAt}
-use Rattle.jsonb_parse.proofs.Scalars.Built.{key_begun, plain_key_begun, key_kept, key_same, key_stands}
+use Rattle.jsonb_spec.specs.Text.StringText.{ArePlain}
+use Rattle.jsonb_parse.proofs.Scalars.Built.{key_begun, key_kept, key_same, key_stands}
 use Rattle.jsonb_parse.proofs.Steps.Advancing.{goes_on}
 use Rattle.jsonb_parse.proofs.Steps.Outcomes.{key_quoted, same_size}
 use Rattle.jsonb_parse.proofs.parser.Parser.parse_member_key.Goals as goal
@@ -22,7 +23,7 @@ returns-in-Some g c =
           let all = goes_on p q r on c.cut_string.ensures.cuts.advances in
           let body = c.in-Some.cut.body.now in
           let stands : KeyStandsAt p.buf.now body q.offset r.offset = λ some. key_stands p q r body some on c.cut_string.ensures.cuts.advances c.if-not-take_after_whitespace.ensures.behind c.in-Some.ensures.cuts.spelled in
-          key_kept g.V.Handler.silent (Begins (g.V.Handler.stands p.buf.now) c.args.room.now c.args.object.now c.borrowed_key-key.new.room c.borrowed_key-key.new.object) c.borrowed_key-key.result c.or_out_of_memory-in-Some.result (size_of p) r c.or_out_of_memory-in-Some.new.self (plain, c.in-Some.cut.body.now) _ (sym (same_size p r all)) (key_begun (λ bytes. KeyStandsAt bytes body q.offset r.offset) (λ bytes key. Begins (g.V.Handler.stands bytes) c.args.room.now c.args.object.now c.borrowed_key-key.new.room c.borrowed_key-key.new.object key (plain, body) r.offset) c.borrowed_key-key.result c.borrowed_key-key.ensures.begun p.buf.now stands) c.or_out_of_memory-in-Some.ensures.same c.or_out_of_memory-in-Some.ensures.memory
+          key_kept g.V.Handler.silent (Begins (g.V.Handler.stands p.buf.now) c.args.room.now c.args.object.now c.key-key-in-Some.new.room c.key-key-in-Some.new.object) c.key-key-in-Some.result c.or_out_of_memory-in-Some.result (size_of p) r c.or_out_of_memory-in-Some.new.self (plain, c.in-Some.cut.body.now) _ (sym (same_size p r all)) (key_begun (λ bytes. KeyStandsAt bytes body q.offset r.offset) (λ bytes key. Begins (g.V.Handler.stands bytes) c.args.room.now c.args.object.now c.key-key-in-Some.new.room c.key-key-in-Some.new.object key (plain, body) r.offset) c.key-key-in-Some.result c.key-key-in-Some.ensures.begun p.buf.now stands) c.or_out_of_memory-in-Some.ensures.same c.or_out_of_memory-in-Some.ensures.memory
           (key_quoted p q on c.if-not-take_after_whitespace.ensures.rest ∙ c.in-Some.ensures.cuts.parses);
       advances = search rules;
     }
@@ -38,7 +39,7 @@ returns-then-cut g c =
           let all = goes_on p q r on c.cut_string.ensures.cuts.advances in
           let body = c.in-Some.cut.body.now in
           let stands : KeyStandsAt p.buf.now body q.offset r.offset = λ some. key_stands p q r body some on c.cut_string.ensures.cuts.advances c.if-not-take_after_whitespace.ensures.behind c.in-Some.ensures.cuts.spelled in
-          key_kept g.V.Handler.silent (Begins (g.V.Handler.stands p.buf.now) c.args.room.now c.args.object.now c.plain_key-key.new.room c.plain_key-key.new.object) c.plain_key-key.result c.or_out_of_memory.result (size_of p) r c.or_out_of_memory.new.self (plain, c.in-Some.cut.body.now) _ (sym (same_size p r all)) (plain_key_begun (λ bytes. KeyStandsAt bytes body q.offset r.offset) (λ bytes key. Begins (g.V.Handler.stands bytes) c.args.room.now c.args.object.now c.plain_key-key.new.room c.plain_key-key.new.object key (plain, body) r.offset) c.plain_key-key.result c.plain_key-key.ensures.begun (c.in-Some.ensures.plain c.if-cut.true) p.buf.now stands) c.or_out_of_memory.ensures.same c.or_out_of_memory.ensures.memory
+          key_kept g.V.Handler.silent (Begins (g.V.Handler.stands p.buf.now) c.args.room.now c.args.object.now c.key-key.new.room c.key-key.new.object) c.key-key.result c.or_out_of_memory.result (size_of p) r c.or_out_of_memory.new.self (plain, c.in-Some.cut.body.now) _ (sym (same_size p r all)) (key_begun (λ bytes. KeyStandsAt bytes body q.offset r.offset × ArePlain body) (λ bytes key. Begins (g.V.Handler.stands bytes) c.args.room.now c.args.object.now c.key-key.new.room c.key-key.new.object key (plain, body) r.offset) c.key-key.result c.key-key.ensures.begun p.buf.now (stands, c.in-Some.ensures.plain c.if-cut.true)) c.or_out_of_memory.ensures.same c.or_out_of_memory.ensures.memory
           (key_quoted p q on c.if-not-take_after_whitespace.ensures.rest ∙ c.in-Some.ensures.cuts.parses);
       advances = search rules;
     }

@@ -12,7 +12,7 @@ pub returns-in-Ok : goal.returns-in-Ok
 returns-in-Ok g c =
     record {
       parses =
-          let p = c.args.self.now in (null, c.null.ensures, null_read (size_of p) (mode_of p.mode) (rest_of p) _ c.in-Ok.ensures.parses);
+          let p = c.args.self.now in (null, c.scalar.ensures, null_read (size_of p) (mode_of p.mode) (rest_of p) _ c.in-Ok.ensures.parses);
       memory = search rules;
       advances = search rules;
     }

@@ -7,7 +7,7 @@ use Rattle.jsonb_parse.proofs.parser.Parser.parse_number_value.Goals as goal
 pub returns-in-Ok : goal.returns-in-Ok
 returns-in-Ok g c =
     record {
-      parses = (number (number_view c.in-Ok.number), c.number.ensures, ap (λ (r : Parse Num). r >>= λ x. Ok (number x.0, x.1)) c.in-Ok.ensures.parses);
+      parses = (number (number_view c.in-Ok.number), c.scalar.ensures, ap (λ (r : Parse Num). r >>= λ x. Ok (number x.0, x.1)) c.in-Ok.ensures.parses);
       memory = search rules;
       advances = search rules;
     }

@@ -16,7 +16,7 @@ returns-in-Some g c =
           let p = c.args.self.now in
           let body = c.in-Some.body.now in (
             string plain body,
-            c.string.ensures,
+            c.scalar.ensures,
             ap (quoted_at (size_of p) (mode_of p.mode) c.args.quote) (drop-drop 1 p.offset p.buf.now)
                 ∙ string_read (size_of p) (mode_of p.mode) c.args.quote (drop (p.offset + 1) p.buf.now) (plain, body) _ c.in-Some.ensures.parses,
           );

@@ -1,4 +1,4 @@
-use Rattle.std.proofs.Common.{Ok, sym, rules}
+use Rattle.std.proofs.Common.{Ok, inl, sym, rules}
 use Rattle.std.proofs.lemmas.Bool.{cond-true}
 use Rattle.jsonb_spec.specs.Tree.{null}
 use Rattle.jsonb_scan.specs.Answer.{mode_of}
@@ -17,7 +17,7 @@ returns g c =
           let p = c.args.self.now in
           let h = g.V.Handler in
           let mode = mode_of p.mode in
-          put_so h.silent h.stands _ p.buf.now p c.put.new.self c.args.room.now c.put.new.room c.put.result (variants.Array c.args.items.now) null _ (variants.Array c.put.new.container) c.put.ensures.put c.put.ensures.same c.put.ensures.told (c.null.ensures, not_spelled p.buf.now p.offset null_source)
+          put_so h.silent h.stands _ p.buf.now p c.put.new.self c.args.room.now c.put.new.room c.put.result (variants.Array c.args.items.now) null _ (variants.Array c.put.new.container) c.put.ensures.put c.put.ensures.same c.put.ensures.told (inl (c.scalar-null.ensures, not_spelled p.buf.now p.offset null_source))
           (cond-true (is_left_out mode (rest_of p)) (Ok (null, rest_of p)) (scalar_at (size_of p) mode (rest_of p)) (sym c.if-not-is_left_out.ensures));
       advances = search rules;
     }

@@ -1,4 +1,4 @@
-use Rattle.std.proofs.Common.{ap, sym, rules}
+use Rattle.std.proofs.Common.{ap, inr, sym, ◌∙◌, rules}
 use Rattle.jsonb_spec.specs.Tree.{number}
 use Rattle.jsonb_parse.proofs.Scalars.Built.{put_so, scalar_still}
 use Rattle.jsonb_parse.proofs.Steps.Failures.{puts_same}
@@ -12,7 +12,7 @@ returns-then-kept_extended_integer g c =
           let q = c.kept_extended_integer.new.self in
           let h = g.V.Handler in
           let passed = c.if-kept_extended_integer.ensures.passes in
-          put_so h.silent h.stands _ p.buf.now q c.put_kept.new.self c.args.room.now c.put_kept.new.room c.put_kept.result (g.S.Slot.before c.args.container.now c.args.slot) (number passed.value) _ (g.S.Slot.after c.put_kept.new.container) c.put_kept.ensures.put c.put_kept.ensures.same c.put_kept.ensures.told passed.stands passed.parses;
+          put_so h.silent h.stands _ p.buf.now q c.put.new.self c.args.room.now c.put.new.room c.put.result (g.S.Slot.before c.args.container.now c.args.slot) (number passed.value) _ (g.S.Slot.after c.put.new.container) c.put.ensures.put c.put.ensures.same c.put.ensures.told (inr (c.scalar.ensures (sym c.wants.ensures ∙ c.if-kept_extended_integer.ensures.asked), passed.stands)) passed.parses;
       advances = search rules;
     }
 

@@ -1,4 +1,4 @@
-use Rattle.std.proofs.Common.{◌≡◌, Bool, cond, ap, subst, sym, ◌∙◌, rules}
+use Rattle.std.proofs.Common.{◌≡◌, Bool, cond, ap, subst, inl, sym, ◌∙◌, rules}
 use Rattle.jsonb_scan.specs.ShortInteger.{short_view}
 use Rattle.jsonb_spec.specs.Source.{number_source}
 use Rattle.jsonb_spec.specs.Tree.{number}
@@ -25,9 +25,9 @@ returns-then-read g c =
           let h = g.V.Handler in
           let read = c.in-Some.read in
           let n = short_view read in
-          let same : n ≡ number_view c.negative_number-number.result = ap (λ (b : Bool). cond b (negative_of read) (positive_of read)) c.if-read.true ∙ sym c.negative_number-number.ensures in
+          let same : n ≡ number_view c.negative_number.result = ap (λ (b : Bool). cond b (negative_of read) (positive_of read)) c.if-read.true ∙ sym c.negative_number.ensures in
           put_so h.silent h.stands _ p.buf.now q c.put.new.self c.args.room.now c.put.new.room c.put.result (g.S.Slot.before c.args.container.now c.args.slot) (number n) _ (g.S.Slot.after c.put.new.container) c.put.ensures.put c.put.ensures.same c.put.ensures.told
-          (subst (λ m. h.sees c.number.result (number_source m)) (sym same) c.number.ensures, integer_stands p q n c.short_integer.ensures.finds.advances c.in-Some.ensures.spelled) c.in-Some.ensures.finds.parses;
+          (inl (subst (λ m. h.sees c.scalar.result (number_source m)) (sym same) c.scalar.ensures, integer_stands p q n c.short_integer.ensures.finds.advances c.in-Some.ensures.spelled)) c.in-Some.ensures.finds.parses;
       advances = search rules;
     }
 
@@ -42,6 +42,6 @@ returns-in-Some g c =
           let n = short_view read in
           let same : n ≡ positive_of read = ap (λ (b : Bool). cond b (negative_of read) (positive_of read)) c.if-read.false in
           put_so h.silent h.stands _ p.buf.now q c.put-in-Some.new.self c.args.room.now c.put-in-Some.new.room c.put-in-Some.result (g.S.Slot.before c.args.container.now c.args.slot) (number n) _ (g.S.Slot.after c.put-in-Some.new.container) c.put-in-Some.ensures.put c.put-in-Some.ensures.same c.put-in-Some.ensures.told
-          (subst (λ m. h.sees c.number-in-Some.result (number_source m)) (sym same) c.number-in-Some.ensures, integer_stands p q n c.short_integer.ensures.finds.advances c.in-Some.ensures.spelled) c.in-Some.ensures.finds.parses;
+          (inl (subst (λ m. h.sees c.scalar-in-Some.result (number_source m)) (sym same) c.scalar-in-Some.ensures, integer_stands p q n c.short_integer.ensures.finds.advances c.in-Some.ensures.spelled)) c.in-Some.ensures.finds.parses;
       advances = search rules;
     }

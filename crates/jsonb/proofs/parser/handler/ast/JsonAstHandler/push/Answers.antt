@@ -1,13 +1,14 @@
 use Rattle.std.proofs.Common.{◌≡◌, [], ◌∷◌, ◌++◌, sym, subst}
 use Rattle.jsonb.specs.Source.{source_view}
 use Rattle.jsonb.specs.FrameContents.{AreSeen}
+use Rattle.jsonb.proofs.Given.{all_made}
 use Rattle.jsonb.proofs.Containers.Built.{on_ok, seen-snoc}
 use Rattle.jsonb.proofs.parser.handler.ast.JsonAstHandler.push.Goals as goal
 
 pub returns-clause-put : goal.returns-clause-put
 returns-clause-put c = on_ok c.push_scalar.result
     (λ put text s ss fs cs held is. (
-      subst (λ vs. AreSeen (λ v s. source_view v ≡ s) vs (ss ++ s ∷ [])) (sym put) (seen-snoc (λ v s. source_view v ≡ s) c.args.items.now.items ss c.args.value s held.0 is.0),
+      subst (λ vs. AreSeen (λ v s. source_view v ≡ s) vs (ss ++ s ∷ [])) (sym put) (seen-snoc (λ v s. source_view v ≡ s) c.args.items.now.items ss c.args.value s held.0 (all_made is).0),
       held.1,
     ))
     c.push_scalar.ensures

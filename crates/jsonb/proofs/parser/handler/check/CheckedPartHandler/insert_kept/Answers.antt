@@ -1,7 +1,0 @@
-use Rattle.std.proofs.Common.{[]}
-use Rattle.jsonb_spec.specs.Tree.Mark.{plain}
-use Rattle.jsonb_write.proofs.Checks.{value_ended}
-use Rattle.jsonb.proofs.parser.handler.check.CheckedPartHandler.insert_kept.Goals as goal
-
-pub returns-clause-put : goal.returns-clause-put
-returns-clause-put c = λ is text s front k place fs cs held same. value_ended s (plain, []) 0 held

@@ -1,7 +1,0 @@
-use Rattle.std.proofs.Common.{map}
-use Rattle.jsonb.specs.Held.{part_held}
-use Rattle.jsonb_parse.proofs.Steps.Failures.{ok_if}
-use Rattle.jsonb.proofs.parser.handler.part.SoughtPartHandler.plain_key.Goals as goal
-
-pub returns-clause-begun : goal.returns-clause-begun
-returns-clause-begun c = ok_if c.plain_key.result (λ key h text stands_at is_plain front other other_place fs cs held. h text (map part_held fs) front other other_place cs held stands_at is_plain) c.plain_key.ensures.stands

@@ -1,0 +1,26 @@
+//! Scalars and keys, as a handler is given them.
+
+use jsonb_value::number::Number;
+use std::borrow::CowStr;
+
+/// A string or a key.
+#[derive(Drop)]
+pub enum Text<'a> {
+    /// It was cut out of the text, and none of its bytes is written as an escape.
+    Plain(&'a str),
+    /// It was cut out of the text.
+    Borrowed(&'a str),
+    /// Any other, which was decoded or stands in no quotes.
+    Decoded(CowStr<'a>),
+}
+
+/// A value that holds no others.
+#[derive(Drop)]
+pub enum Scalar<'a> {
+    Null,
+    Bool(bool),
+    Number(Number),
+    String(Text<'a>),
+    /// An integer whose serialized form is its own text, where the handler wants these told apart.
+    Kept,
+}
