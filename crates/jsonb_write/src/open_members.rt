@@ -3,7 +3,7 @@ ghost use Rattle.std.specs.Prelude.{◌≡◌, ◌≤◌, [], ℕ, Bool, List, t
 ghost use Rattle.std.specs.Option.{is_some};
 ghost use Rattle.std.specs.Str.{IsUtf8};
 
-use crate::members::{Member, Spare, ascend, find_repeat, key_at, prefix_within, put_in_order};
+use crate::members::{Member, Spare, ascend, key_at, prefix_within, put_in_order, search_repeat};
 use crate::object::{Keys, Site};
 use std::alloc::{AllocError, Global};
 
@@ -153,9 +153,23 @@ impl<'a> OpenMembers<'a> {
         ensures repeat { IfOk result (λ found. (commas : Bool) → (bytes : Found → List ℕ) → (start : ℕ)
             → (fs : List Found) → EndIn commas bytes self.old first start fs → FindsRepeat self.new first fs found) }
     {
+        if self.ascend(first) {
+            return Ok(None);
+        }
+        self.search_repeat(first)
+    }
+
+    // Finds it where the keys don't ascend.
+    #[cold]
+    #[inline(never)]
+    fn search_repeat(&mut self, first: usize) -> Result<Option<usize>, AllocError>
+        ensures same { AreSame self.old self.new }
+        ensures repeat { IfOk result (λ found. (commas : Bool) → (bytes : Found → List ℕ) → (start : ℕ)
+            → (fs : List Found) → EndIn commas bytes self.old first start fs → FindsRepeat self.new first fs found) }
+    {
         let members = members_from(&self.entries, first);
         let keys = Keys::new(self.text, &self.decoded, members);
-        find_repeat(&keys, &mut self.spare.ranks)
+        search_repeat(&keys, &mut self.spare.ranks)
     }
 
     /// The key of a member, by its index among those from another index on, and the index after it in the text.

@@ -1,11 +1,8 @@
-use Rattle.std.proofs.Common.{IfOk, refl, ap, subst, ◌∙◌}
-use Rattle.jsonb_write.specs.Members.{AreKeyed, TellsRepeat}
-use Rattle.jsonb_write.proofs.OpenMembers.{found}
+use Rattle.std.proofs.Common.{map, refl}
+use Rattle.jsonb_spec.specs.Source.{spot_of}
+use Rattle.jsonb_write.proofs.Objects.Ascending.{ascending_new}
+use Rattle.jsonb_write.proofs.OpenMembers.{ascending}
 use Rattle.jsonb_write.proofs.open_members.OpenMembers.find_repeat.Goals as goal
 
-pub returns-clause-repeat : goal.returns-clause-repeat
-returns-clause-repeat c =
-    let keys = c.new-keys.result in
-    found c.args.self.now _ c.args.first keys.decoded.now keys.members.now c.find_repeat.result (ap (λ d. d.now) c.new-keys.ensures.decoded ∙ c.deref.ensures.value) (ap (λ m. m.now) c.new-keys.ensures.members ∙ c.members_from-members.ensures)
-    (record { text = refl; entries = refl; decoded = refl })
-    (subst (λ t. AreKeyed t keys.decoded.now keys.members.now → IfOk c.find_repeat.result (TellsRepeat t keys.decoded.now keys.members.now)) (ap (λ t. t.now) c.new-keys.ensures.text) c.find_repeat.ensures)
+pub returns-then-ascend-clause-repeat : goal.returns-then-ascend-clause-repeat
+returns-then-ascend-clause-repeat c = λ commas bytes start fs own. ascending_new (map spot_of fs) (ascending commas bytes c.args.self.now c.args.first start fs own (c.if-ascend.ensures refl))
