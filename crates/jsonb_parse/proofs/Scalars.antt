@@ -1,6 +1,7 @@
 -- Values that hold no others, and keys.
 pub mod Built
 pub mod Contents
+pub mod Elements
 pub mod FirstBytes
 pub mod KeptIntegers
 pub mod Spellings

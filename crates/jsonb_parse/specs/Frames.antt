@@ -53,15 +53,21 @@ resume_stack size mode depth closed (c ∷ cs) rest =
 
 -- ---- what a step leaves
 
+-- A scalar becomes the next part of the innermost container.
+abbrev pub TakesTree : {R I M K : Type 0} → (List ℕ → R → Bool → List (Frame I M K) → List Open → Type 0) → List ℕ
+    → Tree → R → Frame I M K → R → Frame I M K → Type 0
+TakesTree {R} {I} {M} {K} Stands text t old before new after =
+    (c : Open) → (fs : List (Frame I M K)) → (cs : List Open) → Fits before c
+    → Stands text old (is_due before) (before ∷ fs) (c ∷ cs)
+    → Stands text new false (after ∷ fs) (add_part c (source_alone t) ∷ cs)
+
 -- A scalar was put into the innermost container, and is what is parsed.
 abbrev pub IsPut : {R I M K X F : Type 0} → Bool → Option Error
     → (List ℕ → R → Bool → List (Frame I M K) → List Open → Type 0) → List ℕ → Result X F → R → Frame I M K
     → Parse Tree → R → Frame I M K → List ℕ → Type 0
-IsPut {R} {I} {M} {K} silent told Stands text result old before read new after rest =
-    ElseFails silent told result read (λ _. (t : Tree) × (read ≡ Ok (t, rest)) × ((c : Open)
-    → (fs : List (Frame I M K)) → (cs : List Open) → Fits before c
-    → Stands text old (is_due before) (before ∷ fs) (c ∷ cs)
-    → Stands text new false (after ∷ fs) (add_part c (source_alone t) ∷ cs)))
+IsPut silent told Stands text result old before read new after rest =
+    ElseFails silent told result read
+    (λ _. (t : Tree) × (read ≡ Ok (t, rest)) × TakesTree Stands text t old before new after)
 
 -- ---- the containers that are open
 

@@ -1,5 +1,5 @@
 -- What a call of the parser leaves, and what a handler made of it.
-use Rattle.std.specs.Prelude.{◌≡◌, ℕ, ◌<◌, ◌≤◌, Bool, false, List, ◌∷◌, length, Contains, MatchBool, Some, Result, IfErr, IfOk, OnOk}
+use Rattle.std.specs.Prelude.{◌≡◌, ℕ, ◌<◌, ◌≤◌, Bool, false, List, ◌∷◌, length, Contains, MatchBool, Ok, Some, Result, IfErr, IfOk, OnOk}
 use Rattle.jsonb_spec.specs.Ascii as ascii
 use Rattle.jsonb_spec.specs.Code.{Code}
 use Rattle.jsonb_spec.specs.Grammar.{max_depth}
@@ -9,11 +9,12 @@ use Rattle.jsonb_spec.specs.Source.{Source}
 use Rattle.jsonb_value.specs.declared.error.Error.TheVariants.{OutOfMemory}
 use Rattle.jsonb_scan.specs.Answer.{mode_of}
 use Rattle.jsonb_scan.specs.Open.{Open}
-use Rattle.jsonb_scan.specs.Parsing.{Parse}
+use Rattle.jsonb_scan.specs.Parsing.{Parse, begins}
+use Rattle.jsonb_scan.specs.Parsing.Container.{is_left_out}
 use Rattle.jsonb_scan.specs.Parsing.Whitespace.{skip_whitespace}
-use Rattle.jsonb_parse.specs.Frames.{AtPart, IsPut, OpensContainer, ParsesParts}
-use Rattle.jsonb_parse.specs.Handler.{AsKey, AsScalar, Begins, Builds, ElseFails, IsUntold}
-use Rattle.jsonb_parse.specs.Parser.{Advances, AdvancesOver, parse_at, rest_of, size_of}
+use Rattle.jsonb_parse.specs.Frames.{AtPart, IsPut, OpensContainer, ParsesParts, TakesTree, scalar_or_null}
+use Rattle.jsonb_parse.specs.Handler.{AsKey, AsScalar, Begins, Builds, ElseFails, IsUntold, Misses}
+use Rattle.jsonb_parse.specs.Parser.{Advances, AdvancesOver, Skips, parse_at, rest_of, size_of}
 use Rattle.jsonb_parse.specs.Slots.{Fits, Takes}
 use Rattle.jsonb_parse.specs.Stack.{next_part_at, part_end}
 use Rattle.jsonb_parse.specs.declared.parser.Parser.{Parser}
@@ -30,6 +31,10 @@ pub record EndsPart {F : Type 0} (code : Code) (close : ℕ) (result : Result Bo
   pub onward : IfOk result (λ closed. old.offset < new.offset)
   -- the parser has gone on in its input
   pub advances : Advances old new
+
+-- No container begins here.
+abbrev pub NoneOpens : Parser → Type 0
+NoneOpens p = (begins ascii.open_bracket (rest_of p) ≡ false) × (begins ascii.open_brace (rest_of p) ≡ false)
 
 module _ {V R I M K : Type 0} (h : Ghosts V R I M K) where
   -- ---- scalars
@@ -63,6 +68,41 @@ module _ {V R I M K : Type 0} (h : Ghosts V R I M K) where
     -- the scalar is the last part of the innermost container, or what was told is its fault
     pub parses : IsPut h.silent new.told h.stands old.buf.now result room before (parse_at read old) filled after
         (rest_of new)
+    -- the parser has gone on, and what was in the room before the text stays
+    pub advances : AdvancesOver h.base old new room filled
+
+  -- A container begins here, and nothing was put in.
+  pub record StopsAt (start new : Parser) (room filled : R) (before after : Frame I M K) : Type 0 where
+    pub stays : new ≡ start
+    pub same_room : filled ≡ room
+    pub same_frame : after ≡ before
+    pub opens : OpensContainer (rest_of start)
+    pub is_there : is_left_out (mode_of start.mode) (rest_of start) ≡ false
+
+  -- A scalar that this function parses here was put in.
+  pub record PutsThere (read : ℕ → Mode → List ℕ → Parse Tree) (start new : Parser) (room filled : R)
+      (before after : Frame I M K) : Type 0 where
+    pub none_opens : NoneOpens start
+    pub tree : Tree
+    pub parses : parse_at read start ≡ Ok (tree, rest_of new)
+    pub put : TakesTree h.stands start.buf.now tree room before filled after
+
+  -- A scalar that this function parses was put in, or the parser stops where a container begins (true).
+  pub record PutsOrStops {F : Type 0} (read : ℕ → Mode → List ℕ → Parse Tree) (result : Result Bool F)
+      (start new : Parser) (room filled : R) (before after : Frame I M K) : Type 0 where
+    pub puts : IfOk result (λ is_inner. MatchBool is_inner (StopsAt start new room filled before after)
+        (PutsThere read start new room filled before after))
+    -- what was told is the fault of a value that is no container
+    pub fails : IfErr result (λ _. NoneOpens start × Misses h.silent new.told (parse_at read start))
+
+  -- The next element of an array was put in, behind whitespace; or the parser stops where a container begins (true).
+  pub record PutsNext {F : Type 0} (result : Result Bool F) (old new : Parser) (room filled : R)
+      (before after : Frame I M K) : Type 0 where
+    -- the parser behind the whitespace
+    pub start : Parser
+    pub skips : Skips skip_whitespace old start
+    -- the element is what is parsed there
+    pub element : PutsOrStops scalar_or_null result start new room filled before after
     -- the parser has gone on, and what was in the room before the text stays
     pub advances : AdvancesOver h.base old new room filled
 

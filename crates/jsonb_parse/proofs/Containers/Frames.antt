@@ -5,7 +5,7 @@ use Rattle.std.proofs.lemmas.List.{reverse-append}
 use Rattle.jsonb_spec.specs.Code.{Code}
 use Rattle.jsonb_spec.specs.Code.Code.{depth_limit_exceeded, expected_array_comma_or_end, expected_object_comma_or_end}
 use Rattle.jsonb_spec.specs.Grammar.{max_depth}
-use Rattle.jsonb_spec.specs.Mode.{Mode}
+use Rattle.jsonb_spec.specs.Mode.{Mode, standard, extended}
 use Rattle.jsonb_spec.specs.Tree.{Mark, Tree}
 use Rattle.jsonb_spec.specs.Tree.Mark.{plain}
 use Rattle.jsonb_spec.specs.Tree.Tree.{null}
@@ -30,11 +30,12 @@ use Rattle.jsonb_scan.specs.Open.{Open, add_part}
 use Rattle.jsonb_scan.specs.Open.{elements_so_far, members_so_far}
 use Rattle.jsonb_parse.proofs.Containers.OpenOnLists.{array-begun, array-value, element-due, elements-turn, members-turn, object-begun, object-value, on_byte-then, resume-none, resume-part, then-same, then-then, value_plain}
 use Rattle.text_common.proofs.Repeats.{no_repeat}
-use Rattle.jsonb_parse.proofs.Steps.Advancing.{contains_next, goes_on}
+use Rattle.jsonb_parse.proofs.Steps.Advancing.{contains_next, goes_on, stays}
 use Rattle.jsonb_parse.proofs.Steps.Failures.{misses_same, misses_through}
 use Rattle.jsonb_parse.proofs.Steps.Outcomes.{same_size}
 use Rattle.jsonb_scan.proofs.Containers.JoinedParts.{on_byte-found}
 use Rattle.jsonb_scan.proofs.Steps.Tests.{chosen}
+use Rattle.jsonb_scan.proofs.Text.Whitespace.{skip-stop}
 
 -- ---- what is returned after a first step
 
@@ -507,3 +508,24 @@ pub put_new : {A P : Type 0} (Q : Type 0) (r : Result Bool A) → r ≡ Ok true 
 put_new Q (Ok true) e h = h
 put_new Q (Ok false) e h = cc
 put_new Q (Err f) e h = cc
+
+-- ---- an array whose next element is an array
+
+bracket-there : (mode : Mode) (rest : List ℕ) → is_left_out mode (91 ∷ rest) ≡ false
+bracket-there standard rest = refl
+bracket-there extended rest = refl
+
+-- it waits for that
+pub array_awaits : {I M K : Type 0} (Before After : Bool → List (Frame I M K) → List Open → Type 0) (p : Parser) (items more : I) → begins 91 (rest_of p) ≡ true → (depth : ℕ) (o : Open) (fs : List (Frame I M K)) (cs : List Open) → ((ss : List Source) → Before false (variants.Array items ∷ fs) (elements_so_far ss ∷ cs) → After true (variants.Array more ∷ fs) (elements_so_far ss ∷ cs)) → IsArray o → Before false (variants.Array items ∷ fs) (o ∷ cs)
+    → ParsesParts After (size_of p) (mode_of p.mode) depth (next_part_at (size_of p) (mode_of p.mode) depth o (rest_of p)) false (variants.Array more) fs cs (rest_of p)
+array_awaits Before After p items more next depth (elements_so_far ss) fs cs due fits held =
+    let e = next_found 91 p next in
+    let mode = mode_of p.mode in
+    let rest = drop (p.offset + 1) p.buf.now in
+    record {
+      so_far = elements_so_far ss;
+      fits = tt;
+      held = due ss held;
+      parses = element_stops p p p depth ss (stays p) (stays p) (e ∙ sym (ap (skip_whitespace mode) e ∙ skip-stop mode 91 rest refl)) (ap (is_left_out mode) e ∙ bracket-there mode rest);
+    }
+array_awaits Before After p items more next depth (members_so_far ms k place) fs cs due fits held = absurd fits

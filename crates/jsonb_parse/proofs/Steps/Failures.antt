@@ -1,5 +1,5 @@
 -- A failure that tells its fault, or tells nothing.
-use Rattle.std.proofs.Common.{◌≡◌, Bool, true, false, List, ℕ, Option, None, Some, Result, Ok, Err, IfOk, IfErr, OnOk, ◌⊎◌, inr, sym, subst, true≢false}
+use Rattle.std.proofs.Common.{◌≡◌, Bool, MatchBool, true, false, List, ℕ, Option, None, Some, Result, Ok, Err, IfOk, IfErr, OnOk, ◌⊎◌, inr, sym, subst, true≢false}
 use Rattle.jsonb_value.specs.declared.error.Error.{Error}
 use Rattle.jsonb_value.specs.declared.error.Error.TheVariants.{OutOfMemory}
 use Rattle.jsonb_scan.specs.Answer.{Fails}
@@ -55,6 +55,13 @@ written_memory P T A writes (Err f) read s e h = λ t. inr (h.1, (s, e))
 pub root_put : {V F : Type 0} (Q : Type 0) (silent : Bool) (told : Option Error) (Filled : V → Source → Type 0) (r : Result V F) (read : Result Source Fault) (s : Source) → read ≡ Ok s → IfOk r (λ v. Filled v s) → IfErr r (λ _. (told ≡ Some OutOfMemory) × Q) → ElseFails silent told r read (λ v. (s : Source) × Filled v s × (read ≡ Ok s))
 root_put Q silent told Filled (Ok v) read s e put memory = (s, put, e)
 root_put Q silent told Filled (Err f) read s e put memory = memory_misses silent told read memory.0
+
+-- what is so of a call that was asked whether it stops
+pub stops_if : (P Q : Type 0) (b : Bool) → b ≡ true → MatchBool b P Q → P
+stops_if P Q b is h = subst (λ c. MatchBool c P Q) is h
+
+pub puts_if : (P Q : Type 0) (b : Bool) → b ≡ false → MatchBool b P Q → Q
+puts_if P Q b is h = subst (λ c. MatchBool c P Q) is h
 
 -- what is built of one parsing is built of one that is the same
 pub builds_same : {X F Y : Type 0} (silent : Bool) (told : Option Error) (Sees : X → Y → Type 0) (result : Result X F) (read other : Parse Y) (rest : List ℕ) → other ≡ read

@@ -101,6 +101,45 @@ impl<'a> Parser<'a> {
         self.put::<V, S>(room, container, slot, V::scalar(string), from)
     }
 
+    // Puts in a string in double quotes, from the byte after its opening quote on.
+    #[inline(always)]
+    pub(super) fn put_quoted<V: Handler<'a>, S: Slot<'a, V>>(
+        &mut self,
+        room: &mut V::Room,
+        container: &mut S::Container,
+        slot: S,
+        text: &'a str,
+    ) -> Result<(), Failed>
+        requires opened { IsBehind ascii.quote self.old }
+        requires same { IsTextOf text.now self.old }
+        ensures { Puts V.Handler (λ size mode. quoted_at size mode ascii.quote) result
+            self.old self.new room.old room.new (S.before container.old slot) (S.after container.new) }
+    {
+        let from = self.offset - 1;
+        if let Some(cut) = self.cut_string(V::wants().plain, text) {
+            return self.put_cut::<V, S>(room, container, slot, cut, from);
+        }
+        self.put_escaped::<V, S>(room, container, slot, text)
+    }
+
+    // The same, where whitespace stands before the string. It stands apart, so that the loop over elements has the code
+    // for strings once.
+    #[inline(never)]
+    fn put_later_quoted<V: Handler<'a>, S: Slot<'a, V>>(
+        &mut self,
+        room: &mut V::Room,
+        container: &mut S::Container,
+        slot: S,
+        text: &'a str,
+    ) -> Result<(), Failed>
+        requires opened { IsBehind ascii.quote self.old }
+        requires same { IsTextOf text.now self.old }
+        ensures { Puts V.Handler (λ size mode. quoted_at size mode ascii.quote) result
+            self.old self.new room.old room.new (S.before container.old slot) (S.after container.new) }
+    {
+        self.put_quoted::<V, S>(room, container, slot, text)
+    }
+
     // Puts in a scalar. Strings and numbers are put in where they are made, since a value that comes from several arms
     // is copied more than once.
     #[inline(always)]
@@ -115,12 +154,8 @@ impl<'a> Parser<'a> {
         ensures { Puts V.Handler scalar_at result self.old self.new room.old room.new (S.before container.old slot)
             (S.after container.new) }
     {
-        let from = self.offset;
         if self.take_byte(b'"') {
-            if let Some(cut) = self.cut_string(V::wants().plain, text) {
-                return self.put_cut::<V, S>(room, container, slot, cut, from);
-            }
-            return self.put_escaped::<V, S>(room, container, slot, text);
+            return self.put_later_quoted::<V, S>(room, container, slot, text);
         }
         match self.mode {
             Mode::Standard => self.put_standard_value::<V, S>(room, container, slot, text),

@@ -15,10 +15,11 @@ ghost use Rattle.jsonb_scan.specs.Parsing.{begins};
 ghost use Rattle.jsonb_scan.specs.Parsing.Whitespace.{is_whitespace_start, skip_whitespace};
 ghost use Rattle.jsonb_scan.specs.Parsing.Container.{is_left_out};
 ghost use Rattle.jsonb_scan.specs.Parsing.Document.{value_at};
+ghost use Rattle.jsonb_scan.specs.Parsing.Scalar.{scalar_at};
 ghost use Rattle.jsonb_spec.specs.Source.{Source};
 ghost use Rattle.jsonb_scan.specs.Open.{Open};
 ghost use Rattle.jsonb_parse.specs.Slots.{Fits};
-ghost use Rattle.jsonb_parse.specs.Steps.{EndsPart, FillsFrame, Puts, Turns};
+ghost use Rattle.jsonb_parse.specs.Steps.{EndsPart, FillsFrame, Puts, PutsNext, PutsOrStops, Turns};
 
 use super::frame::{Frame, OpenObject};
 use super::handler::{Failed, Handler};
@@ -172,7 +173,8 @@ impl<'a> Parser<'a> {
         self.open_container::<V>(room, stack)
     }
 
-    // Parses parts of a container, up to one that is a container, or up to its end. True at the end.
+    // Parses parts of a container, up to one that is a container, or up to its end. True at the end. Where texts nest
+    // deep, most arrays begin with an array.
     #[inline(always)]
     fn fill<V: Handler<'a>>(
         &mut self,
@@ -184,6 +186,12 @@ impl<'a> Parser<'a> {
         ensures { FillsFrame V.Handler result self.old self.new room.old room.new frame.old frame.new }
     {
         match frame {
+            Frame::Array(items) if self.next_is(b'[') => {
+                let Ok(()) = V::next_item(room, items) else {
+                    return Err(self.out_of_memory());
+                };
+                Ok(false)
+            }
             Frame::Array(items) => self.parse_elements::<V>(room, items, text),
             Frame::Object(object) => self.parse_members::<V>(room, object, text),
         }
@@ -200,18 +208,40 @@ impl<'a> Parser<'a> {
         ensures { FillsFrame V.Handler result self.old self.new room.old room.new (Array items.old) (Array items.new) }
     {
         'elements: loop {
-            self.skip_whitespace();
-            if self.begins_container() {
+            if self.put_next::<V>(room, items, text)? {
                 let Ok(()) = V::next_item(room, items) else {
                     return Err(self.out_of_memory());
                 };
                 return Ok(false);
             }
-            self.put_element::<V>(room, items, text)?;
             if self.end_element()? {
                 return Ok(true);
             }
         }
+    }
+
+    // Puts in the next element, behind whitespace. True where it is a container, which isn't put in. A string is looked
+    // for first.
+    #[inline(always)]
+    fn put_next<V: Handler<'a>>(
+        &mut self,
+        room: &mut V::Room,
+        items: &mut V::Items,
+        text: &'a str,
+    ) -> Result<bool, Failed>
+        requires same { IsTextOf text.now self.old }
+        ensures { PutsNext V.Handler result self.old self.new room.old room.new (Array items.old) (Array items.new) }
+    {
+        if self.take_byte(b'"') {
+            self.put_quoted::<V, Element>(room, items, Element, text)?;
+            return Ok(false);
+        }
+        self.skip_whitespace();
+        if self.begins_container() {
+            return Ok(true);
+        }
+        self.put_element::<V>(room, items, text)?;
+        Ok(false)
     }
 
     // Puts in an element that is no container: a scalar, or null where it is left out.
@@ -257,23 +287,55 @@ impl<'a> Parser<'a> {
     {
         'members: loop {
             let key = self.begin_member::<V>(room, object, text)?;
-            if self.begins_container() {
-                object.key = key;
+            if self.put_member::<V>(room, object, key, text)? {
                 return Ok(false);
             }
-            self.put_scalar::<V, Member<V::Key>>(room, object, Member { key }, text)?;
             if self.end_member()? {
                 return Ok(true);
             }
         }
     }
 
-    // Passes the comma or the bracket after an element. True where it is the bracket.
+    // Puts in the value of a member. True where it is a container, which isn't put in, and for which the key is kept.
+    #[inline(always)]
+    fn put_member<V: Handler<'a>>(
+        &mut self,
+        room: &mut V::Room,
+        object: &mut ObjectOf<'a, V>,
+        key: V::Key,
+        text: &'a str,
+    ) -> Result<bool, Failed>
+        requires same { IsTextOf text.now self.old }
+        ensures puts { PutsOrStops V.Handler scalar_at result self.old self.new room.old room.new
+            (Object (record { members = object.old.members; key = key })) (Object object.new) }
+        ensures advances { AdvancesOver V.base self.old self.new room.old room.new }
+    {
+        if self.take_byte(b'"') {
+            self.put_quoted::<V, Member<V::Key>>(room, object, Member { key }, text)?;
+            return Ok(false);
+        }
+        if self.begins_container() {
+            object.key = key;
+            return Ok(true);
+        }
+        self.put_scalar::<V, Member<V::Key>>(room, object, Member { key }, text)?;
+        Ok(false)
+    }
+
+    // Passes the comma or the bracket after an element. True where it is the bracket. Most often no whitespace stands
+    // before it.
     #[inline(always)]
     fn end_element(&mut self) -> Result<bool, Failed>
         ensures { EndsPart expected_array_comma_or_end ascii.close_bracket result self.old self.new }
     {
-        if self.take_after_whitespace(b',') {
+        if self.take_byte(b',') {
+            return Ok(false);
+        }
+        if self.take_byte(b']') {
+            return Ok(true);
+        }
+        self.skip_whitespace();
+        if self.take_byte(b',') {
             return Ok(false);
         }
         if self.take_byte(b']') {
@@ -283,12 +345,20 @@ impl<'a> Parser<'a> {
         Err(self.fail(error))
     }
 
-    // Passes the comma or the brace after a member. True where it is the brace.
+    // Passes the comma or the brace after a member. True where it is the brace. Most often no whitespace stands before
+    // it.
     #[inline(always)]
     fn end_member(&mut self) -> Result<bool, Failed>
         ensures { EndsPart expected_object_comma_or_end ascii.close_brace result self.old self.new }
     {
-        if self.take_after_whitespace(b',') {
+        if self.take_byte(b',') {
+            return Ok(false);
+        }
+        if self.take_byte(b'}') {
+            return Ok(true);
+        }
+        self.skip_whitespace();
+        if self.take_byte(b',') {
             return Ok(false);
         }
         if self.take_byte(b'}') {

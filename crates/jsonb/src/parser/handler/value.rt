@@ -64,25 +64,16 @@ impl<'a> Handler<'a> for ValuePart<'a> {
 
     #[inline(always)]
     fn scalar(value: Scalar<'a>) -> Self {
-        match value {
-            Scalar::Null => ValuePart { value: Value::Null },
-            Scalar::Bool(value) => ValuePart {
-                value: Value::Bool(value),
-            },
-            Scalar::Number(value) => ValuePart {
-                value: Value::Number(value),
-            },
-            Scalar::String(Text::Plain(text)) => ValuePart {
-                value: Value::String(CowStr::Borrowed(text)),
-            },
-            Scalar::String(Text::Borrowed(text)) => ValuePart {
-                value: Value::String(CowStr::Borrowed(text)),
-            },
-            Scalar::String(Text::Decoded(text)) => ValuePart {
-                value: Value::String(text),
-            },
-            Scalar::Kept => ValuePart { value: Value::Null },
-        }
+        let value = match value {
+            Scalar::Null => Value::Null,
+            Scalar::Bool(value) => Value::Bool(value),
+            Scalar::Number(value) => Value::Number(value),
+            Scalar::String(Text::Plain(text)) => Value::String(CowStr::Borrowed(text)),
+            Scalar::String(Text::Borrowed(text)) => Value::String(CowStr::Borrowed(text)),
+            Scalar::String(Text::Decoded(text)) => Value::String(text),
+            Scalar::Kept => Value::Null,
+        };
+        ValuePart { value }
     }
 
     #[inline(always)]

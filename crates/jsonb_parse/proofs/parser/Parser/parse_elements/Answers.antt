@@ -1,6 +1,6 @@
 use Rattle.std.proofs.Common.{◌≡◌, ℕ, List, [], ◌∷◌, ◌++◌, false, refl, sym, ap, subst, ◌∙◌, rules}
 use Rattle.std.proofs.lemmas.Result.{err_from_is_err_and}
-use Rattle.jsonb_parse.specs.Frames.{resume_part, scalar_or_null}
+use Rattle.jsonb_parse.specs.Frames.{OpensContainer, resume_part, resume_value, scalar_or_null}
 use Rattle.jsonb_parse.specs.Slots.{IsArray}
 use Rattle.jsonb_parse.specs.declared.parser.frame.Frame.TheVariants as variants
 use Rattle.jsonb_spec.specs.Code.Code.{expected_array_comma_or_end}
@@ -14,40 +14,48 @@ use Rattle.jsonb_parse.specs.declared.parser.frame.Frame.{Frame}
 use Rattle.jsonb_scan.specs.Open.{Open, elements_so_far, members_so_far}
 use Rattle.jsonb_parse.proofs.Containers.Frames.{after_element, element_stops, element_turn, same_end}
 use Rattle.jsonb_parse.proofs.Steps.Advancing.{goes_on, stays}
-use Rattle.jsonb_parse.proofs.Steps.Failures.{misses_same, misses_through, tells_always}
+use Rattle.jsonb_parse.proofs.Steps.Failures.{misses_same, misses_through, puts_if, stops_if, tells_always}
 use Rattle.jsonb_parse.proofs.parser.Parser.parse_elements.Goals as goal
 
-pub returns-then-begins_container : goal.returns-then-begins_container
-returns-then-begins_container g c =
+pub returns-then-branch : goal.returns-then-branch
+returns-then-branch g c =
+    let n = c.in_ok-put_next.ensures in
+    let s = n.start in
+    let stop = stops_if _ _ _ c.if-branch.true n.element.puts in
+    let p = c.args.self.now in
+    let h = g.V.Handler in
+    let text = p.buf.now in
     record {
       parses = λ depth o fs cs fits held.
           let i = c.elements.invariant in
           let so_far = i.parses depth o fs cs fits held in
+          let here = elements_so_far so_far.0 in
           record {
-            so_far = elements_so_far so_far.0;
+            so_far = here;
             fits = tt;
-            held = c.in-Ok.ensures.due c.args.self.now.buf.now so_far.0 fs cs so_far.1;
-            parses = so_far.2 ∙ element_stops c.args.self.now c.elements.self c.skip_whitespace.new.self depth so_far.0 i.advances c.skip_whitespace.ensures.advances c.skip_whitespace.ensures.rest c.if-begins_container.ensures.other;
+            held = c.in-Ok.ensures.due text so_far.0 fs cs (subst (λ f. h.stands text c.put_next.new.room false (f ∷ fs) (here ∷ cs)) (sym stop.same_frame) (subst (λ r. h.stands text r false (variants.Array c.elements.items ∷ fs) (here ∷ cs)) (sym stop.same_room) so_far.1));
+            parses = so_far.2 ∙ element_stops p c.elements.self s depth so_far.0 i.advances n.skips.advances n.skips.rest stop.is_there ∙ ap (λ q. resume_value (size_of p) (mode_of p.mode) depth false here (rest_of q)) (sym stop.stays);
           };
       onward = search rules;
-      opens = search rules;
+      opens = subst (λ q. OpensContainer (rest_of q)) (sym stop.stays) stop.opens;
       advances = search rules;
     }
 
-pub returns-in_err-put_element : goal.returns-in_err-put_element
-returns-in_err-put_element g c =
+pub returns-in_err-put_next : goal.returns-in_err-put_next
+returns-in_err-put_next g c =
     record {
       parses = λ depth o fs cs fits held.
           let p = c.args.self.now in
-          let s = c.skip_whitespace.new.self in
+          let n = c.in_err-put_next.ensures in
+          let s = n.start in
           let i = c.elements.invariant in
           let so_far = i.parses depth o fs cs fits held in
           let silent = g.V.Handler.silent in
-          let t = c.put_element.new.self.told in
+          let t = c.put_next.new.self.told in
           let residual = err_from_is_err_and c.from_residual.result c.from_residual.ensures.1 in
           rw (residual.1) (misses_same silent t (parse_at scalar_or_null s >>= after_element p depth so_far.0) (next_part_at (size_of p) (mode_of p.mode) depth o (rest_of p))
-          (so_far.2 ∙ element_turn p c.elements.self s depth so_far.0 i.advances c.skip_whitespace.ensures.advances c.skip_whitespace.ensures.rest c.if-begins_container.ensures.other.0 c.if-begins_container.ensures.other.1)
-          (misses_through silent t (parse_at scalar_or_null s) (after_element p depth so_far.0) c.in_err-put_element.ensures.parses));
+          (so_far.2 ∙ element_turn p c.elements.self s depth so_far.0 i.advances n.skips.advances n.skips.rest n.element.fails.0.0 n.element.fails.0.1)
+          (misses_through silent t (parse_at scalar_or_null s) (after_element p depth so_far.0) n.element.fails.1));
       onward = search rules;
       opens = search rules;
       advances = search rules;
@@ -59,52 +67,54 @@ returns-in_err-end_element g c =
       parses = λ depth o fs cs fits held.
           let p = c.args.self.now in
           let l = c.elements.self in
-          let s = c.skip_whitespace.new.self in
-          let q = c.put_element.new.self in
+          let n = c.in_ok-put_next.ensures in
+          let s = n.start in
+          let put = puts_if _ _ _ c.if-branch.false n.element.puts in
+          let q = c.put_next.new.self in
           let i = c.elements.invariant in
           let so_far = i.parses depth o fs cs fits held in
-          let pushed = c.in_ok-put_element.ensures.parses in
           let silent = g.V.Handler.silent in
           let t = c.end_element.new.self.told in
-          let on = goes_on p s q (goes_on p l s i.advances c.skip_whitespace.ensures.advances) c.put_element.ensures.advances.parser in
+          let on = goes_on p l q i.advances c.put_next.ensures.advances.parser in
           let ends = part_end (size_of q) expected_array_comma_or_end 93 (skip_whitespace (mode_of q.mode) (rest_of q)) in
           let residual = err_from_is_err_and c.from_residual-in_err-end_element.result c.from_residual-in_err-end_element.ensures.1 in
-          rw (residual.1) (misses_same silent t (ends >>= λ y. resume_part (size_of p) (mode_of p.mode) depth y.0 (elements_so_far (so_far.0 ++ source_alone pushed.0 ∷ [])) y.1) (next_part_at (size_of p) (mode_of p.mode) depth o (rest_of p))
-          (so_far.2 ∙ element_turn p l s depth so_far.0 i.advances c.skip_whitespace.ensures.advances c.skip_whitespace.ensures.rest c.if-begins_container.ensures.other.0 c.if-begins_container.ensures.other.1
-          ∙ ap (λ r. r >>= after_element p depth so_far.0) pushed.1
-          ∙ ap (λ r. r >>= λ y. resume_part (size_of p) (mode_of p.mode) depth y.0 (elements_so_far (so_far.0 ++ source_alone pushed.0 ∷ [])) y.1) (sym (same_end p q expected_array_comma_or_end 93 on)))
-          (misses_through silent t ends (λ y. resume_part (size_of p) (mode_of p.mode) depth y.0 (elements_so_far (so_far.0 ++ source_alone pushed.0 ∷ [])) y.1) (tells_always silent t ends c.in_err-end_element.ensures.parses)));
+          rw (residual.1) (misses_same silent t (ends >>= λ y. resume_part (size_of p) (mode_of p.mode) depth y.0 (elements_so_far (so_far.0 ++ source_alone put.tree ∷ [])) y.1) (next_part_at (size_of p) (mode_of p.mode) depth o (rest_of p))
+          (so_far.2 ∙ element_turn p l s depth so_far.0 i.advances n.skips.advances n.skips.rest put.none_opens.0 put.none_opens.1
+          ∙ ap (λ r. r >>= after_element p depth so_far.0) put.parses
+          ∙ ap (λ r. r >>= λ y. resume_part (size_of p) (mode_of p.mode) depth y.0 (elements_so_far (so_far.0 ++ source_alone put.tree ∷ [])) y.1) (sym (same_end p q expected_array_comma_or_end 93 on)))
+          (misses_through silent t ends (λ y. resume_part (size_of p) (mode_of p.mode) depth y.0 (elements_so_far (so_far.0 ++ source_alone put.tree ∷ [])) y.1) (tells_always silent t ends c.in_err-end_element.ensures.parses)));
       onward = search rules;
       opens = search rules;
       advances = search rules;
     }
 
-pub returns-then-branch : goal.returns-then-branch
-returns-then-branch g c =
+pub returns-then-branch-2 : goal.returns-then-branch-2
+returns-then-branch-2 g c =
     record {
       parses = λ depth o fs cs fits held.
           let p = c.args.self.now in
           let l = c.elements.self in
-          let s = c.skip_whitespace.new.self in
-          let q = c.put_element.new.self in
+          let n = c.in_ok-put_next.ensures in
+          let s = n.start in
+          let put = puts_if _ _ _ c.if-branch.false n.element.puts in
+          let q = c.put_next.new.self in
           let r = c.end_element.new.self in
           let i = c.elements.invariant in
           let so_far = i.parses depth o fs cs fits held in
-          let pushed = c.in_ok-put_element.ensures.parses in
           let ended = c.in_ok-end_element.ensures.parses in
-          let more = elements_so_far (so_far.0 ++ source_alone pushed.0 ∷ []) in
+          let more = elements_so_far (so_far.0 ++ source_alone put.tree ∷ []) in
           let h = g.V.Handler in
-          let before = goes_on p l s i.advances c.skip_whitespace.ensures.advances in
-          let on = goes_on p s q before c.put_element.ensures.advances.parser in
+          let before = goes_on p l s i.advances n.skips.advances in
+          let on = goes_on p l q i.advances c.put_next.ensures.advances.parser in
           record {
             so_far = more;
             fits = tt;
-            held = subst (λ b. h.stands b.now c.elements.room false (variants.Array c.elements.items ∷ fs) (elements_so_far so_far.0 ∷ cs) → h.stands b.now c.put_element.new.room false (variants.Array c.put_element.new.items ∷ fs) (more ∷ cs)) before.buf (pushed.2 (elements_so_far so_far.0) fs cs tt) so_far.1;
+            held = subst (λ b. h.stands b.now c.elements.room false (variants.Array c.elements.items ∷ fs) (elements_so_far so_far.0 ∷ cs) → h.stands b.now c.put_next.new.room false (variants.Array c.put_next.new.items ∷ fs) (more ∷ cs)) before.buf (put.put (elements_so_far so_far.0) fs cs tt) so_far.1;
             parses =
-                so_far.2 ∙ element_turn p l s depth so_far.0 i.advances c.skip_whitespace.ensures.advances c.skip_whitespace.ensures.rest c.if-begins_container.ensures.other.0 c.if-begins_container.ensures.other.1
-                ∙ ap (λ x. x >>= after_element p depth so_far.0) pushed.1
+                so_far.2 ∙ element_turn p l s depth so_far.0 i.advances n.skips.advances n.skips.rest put.none_opens.0 put.none_opens.1
+                ∙ ap (λ x. x >>= after_element p depth so_far.0) put.parses
                 ∙ ap (λ x. x >>= λ y. resume_part (size_of p) (mode_of p.mode) depth y.0 more y.1) (sym (same_end p q expected_array_comma_or_end 93 on) ∙ ended.2)
-                ∙ ap (λ closed. resume_part (size_of p) (mode_of p.mode) depth closed more (rest_of r)) (sym ended.1 ∙ c.if-branch.true);
+                ∙ ap (λ closed. resume_part (size_of p) (mode_of p.mode) depth closed more (rest_of r)) (sym ended.1 ∙ c.if-branch-2.true);
           };
       onward = search rules;
       opens = search rules;
@@ -124,27 +134,28 @@ pub elements-preserved : goal.elements-preserved
 elements-preserved g c =
     let p = c.args.self.now in
     let l = c.elements.self in
-    let s = c.skip_whitespace.new.self in
-    let q = c.put_element.new.self in
+    let n = c.in_ok-put_next.ensures in
+    let s = n.start in
+    let put = puts_if _ _ _ c.if-branch.false n.element.puts in
+    let q = c.put_next.new.self in
     let r = c.end_element.new.self in
     let i = c.elements.invariant in
-    let pushed = c.in_ok-put_element.ensures.parses in
     let ended = c.in_ok-end_element.ensures.parses in
     let h = g.V.Handler in
-    let before = goes_on p l s i.advances c.skip_whitespace.ensures.advances in
-    let on = goes_on p s q before c.put_element.ensures.advances.parser in
+    let before = goes_on p l s i.advances n.skips.advances in
+    let on = goes_on p l q i.advances c.put_next.ensures.advances.parser in
     let onto = goes_on p q r on c.end_element.ensures.advances in
     record {
       advances = onto;
-      base = c.put_element.ensures.advances.base ∙ i.base;
+      base = c.put_next.ensures.advances.base ∙ i.base;
       parses = λ depth o fs cs fits held.
           let so_far = i.parses depth o fs cs fits held in
-          let more = elements_so_far (so_far.0 ++ source_alone pushed.0 ∷ []) in (
-            so_far.0 ++ source_alone pushed.0 ∷ [],
-            subst (λ b. h.stands b.now c.elements.room false (variants.Array c.elements.items ∷ fs) (elements_so_far so_far.0 ∷ cs) → h.stands b.now c.put_element.new.room false (variants.Array c.put_element.new.items ∷ fs) (more ∷ cs)) before.buf (pushed.2 (elements_so_far so_far.0) fs cs tt) so_far.1,
-            so_far.2 ∙ element_turn p l s depth so_far.0 i.advances c.skip_whitespace.ensures.advances c.skip_whitespace.ensures.rest c.if-begins_container.ensures.other.0 c.if-begins_container.ensures.other.1
-                ∙ ap (λ x. x >>= after_element p depth so_far.0) pushed.1
+          let more = elements_so_far (so_far.0 ++ source_alone put.tree ∷ []) in (
+            so_far.0 ++ source_alone put.tree ∷ [],
+            subst (λ b. h.stands b.now c.elements.room false (variants.Array c.elements.items ∷ fs) (elements_so_far so_far.0 ∷ cs) → h.stands b.now c.put_next.new.room false (variants.Array c.put_next.new.items ∷ fs) (more ∷ cs)) before.buf (put.put (elements_so_far so_far.0) fs cs tt) so_far.1,
+            so_far.2 ∙ element_turn p l s depth so_far.0 i.advances n.skips.advances n.skips.rest put.none_opens.0 put.none_opens.1
+                ∙ ap (λ x. x >>= after_element p depth so_far.0) put.parses
                 ∙ ap (λ x. x >>= λ y. resume_part (size_of p) (mode_of p.mode) depth y.0 more y.1) (sym (same_end p q expected_array_comma_or_end 93 on) ∙ ended.2)
-                ∙ ap (λ closed. resume_part (size_of p) (mode_of p.mode) depth closed more (rest_of r)) (sym ended.1 ∙ c.if-branch.false),
+                ∙ ap (λ closed. resume_part (size_of p) (mode_of p.mode) depth closed more (rest_of r)) (sym ended.1 ∙ c.if-branch-2.false),
           );
     }
