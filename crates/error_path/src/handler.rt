@@ -23,7 +23,7 @@ impl<'a> Handler<'a> for PassedPart {
 
     ghost sees = { IsAnyValue };
 
-    ghost is_kept = { λ v. Unit {0} };
+    ghost is_kept = { λ k v. Unit {0} };
 
     // Nothing is promised of what is made, since only the steps are asked for where the text is rejected.
     ghost stands = { λ text room due fs cs. ⊥ };

@@ -4,5 +4,6 @@ pub mod Contents
 pub mod Elements
 pub mod FirstBytes
 pub mod KeptIntegers
+pub mod ShortStrings
 pub mod Spellings
 pub mod Starts

@@ -5,7 +5,7 @@ use Rattle.jsonb_spec.specs.Mode.{Mode}
 use Rattle.jsonb_spec.specs.Tree.{Mark, Num, number}
 use Rattle.jsonb_spec.specs.Tree.Mark.{plain}
 use Rattle.jsonb_spec.specs.Source.{Source, number_source}
-use Rattle.text_common.specs.KeptNumber.{IsKeptAt}
+use Rattle.text_common.specs.KeptScalar.{IsIntegerAt}
 use Rattle.jsonb_value.specs.declared.error.Error.{Error}
 use Rattle.jsonb_value.specs.declared.error.Error.TheVariants.{OutOfMemory}
 use Rattle.jsonb_parse.specs.declared.parser.Parser.{Parser}
@@ -166,7 +166,7 @@ pub record PassesContents (quote : ℕ) (old new : Parser) (body : List ℕ) : T
 pub record PassesInteger (old new : Parser) : Type 0 where
   pub value : Num
   pub parses : parse_at scalar_at old ≡ Ok (number value, rest_of new)
-  pub stands : IsKeptAt old.buf.now old.offset new.offset (number_source value)
+  pub stands : IsIntegerAt old.buf.now old.offset new.offset (number_source value)
 
 -- Such an integer is passed, where that is asked and one is found; else the parser stays.
 pub record KeepsInteger (is_asked result : Bool) (old new : Parser) : Type 0 where

@@ -16,6 +16,7 @@ pub mod handler;
 mod key;
 mod number;
 mod scalar;
+mod short_string;
 mod slot;
 mod start;
 mod string;

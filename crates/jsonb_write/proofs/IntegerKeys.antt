@@ -6,6 +6,7 @@ use Rattle.std.specs.Char.{digit_value}
 use Rattle.std.specs.Int.{is_negative, w64}
 use Rattle.std.specs.Str.Parse.{AllDigits, IsNumeral, digits_value, digits_value_after}
 use Rattle.std.proofs.Math.Nat.{pow-suc}
+use Rattle.std.proofs.Math.Seq.{take-add, take-length}
 use Rattle.std.proofs.lemmas.Nat.{div-mul-add, mod-mul-add, mul-add-lt}
 use Rattle.std.proofs.lemmas.Str.{digit_value_digit}
 use Rattle.std.proofs.lemmas.Str.Parse.{digit_from_value}
@@ -16,19 +17,18 @@ use Rattle.jsonb_value.proofs.SortKeys.Pairs.{single_digit}
 use Rattle.jsonb_value.proofs.SortKeys.Counts.{digit_count-is, far, power_le}
 use Rattle.jsonb_value.proofs.SortKeys.Numbers.{key_of_some, key_of_zero, magnitude_split}
 use Rattle.jsonb_value.proofs.Numbers.DecimalTexts.{digits-take}
-use Rattle.std.proofs.lemmas.Bool.{cases_lt, ne_eqb}
+use Rattle.std.proofs.lemmas.Bool.{cases_eq, cases_lt, ne_eqb}
 use Rattle.std.proofs.lemmas.Int.{ints}
 use Rattle.jsonb_spec.specs.Grammar.StandardNumber.{IsStandardNumber}
 use Rattle.jsonb_spec.specs.Tree.{Num}
 use Rattle.jsonb_value.proofs.Numbers.Pointed.{is_negative-pos}
 use Rattle.std.proofs.lemmas.Bool.Decides.{eqb_tells}
-use Rattle.std.proofs.lemmas.List.{drop-take, drop_all, drop_more, get_or-drop, get_or-take, length-drop, length-take-le, take-append-drop, take-map, take-take, take_rest}
-use Rattle.jsonb_scan.specs.Open.{Open}
+use Rattle.std.proofs.lemmas.List.{map-append, drop-take, drop_all, drop_more, get_or-drop, get_or-take, length-drop, length-take-le, take-append-drop, take-map, take-take, take_rest}
 use Rattle.jsonb_spec.specs.Source.{Source}
-use Rattle.jsonb_write.specs.KeyRoom.{Held, IsRoomWith, Writes}
+use Rattle.jsonb_write.specs.KeyRoom.{Writes}
 use Rattle.jsonb_write.specs.Members.{source_key}
 use Rattle.jsonb_write.specs.declared.key.KeyRoom.{KeyRoom}
-use Rattle.text_common.specs.KeptNumber.{IsKeptAt}
+use Rattle.text_common.specs.KeptScalar.{IsIntegerAt}
 use Rattle.jsonb_write.specs.IntegerKey.{digit_bytes, last_byte, more_byte, more_bytes}
 
 -- ---- what digits are worth
@@ -404,6 +404,53 @@ behind_len bytes len start inside some =
 pub behind_first : (bytes : List ℕ) (len start : ℕ) → start < len → get_or (behind_sign bytes len start) 0 0 ≡ get_or (take (length bytes - start) (drop start bytes)) 0 0
 behind_first bytes len start some = get_or-take (len - start) (take (length bytes - start) (drop start bytes)) 0 0 (omega (arith, some))
 
+-- one digit or two
+pub few_bytes : (negative : Bool) (digits : List ℕ) (count place byte second : ℕ) → 0 < count → count ≤ 2 → count ≤ length digits → get_or digits 0 0 ≢ 48
+    → place ≡ invert_if negative (160 + count) → byte ≡ invert_if negative (last_byte (get_or digits 0 0) second) → (count ≡ 2 → second ≡ get_or digits 1 0) → (count ≢ 2 → second ≡ 48)
+    → AllDigits 10 (take count digits) → place ∷ byte ∷ [] ≡ map (invert_if negative) (magnitude_key 0 (digits_value 10 (take count digits)))
+few_bytes negative digits zero place byte second some few inside leads p b two one all = absurd (omega (arith, some))
+few_bytes negative [] (suc count) place byte second some few inside leads p b two one all = absurd (omega (arith, inside))
+few_bytes negative (d ∷ ds) (suc zero) place byte second some few inside leads p b two one all =
+    let cut : IsCut (d ∷ []) 1 = record { some = omega arith; within = omega arith; zeros = λ k low high. absurd (omega (arith, low, high)); last = λ l. absurd (omega (arith, l)) } in
+    ap₂ (λ x y. x ∷ y ∷ []) p (b ∙ ap (λ e. invert_if negative (last_byte d e)) (one (λ z. absurd (omega (arith, z)))))
+    ∙ sym (number_bytes negative (d ∷ []) 1 all (omega arith) leads cut)
+few_bytes negative (d ∷ []) (suc (suc count)) place byte second some few inside leads p b two one all = absurd (omega (arith, inside))
+few_bytes negative (d ∷ e ∷ ds) (suc (suc zero)) place byte second some few inside leads p b two one all =
+    elim (cases_eq e 48) [
+      | inl z ↦
+          let cut : IsCut (d ∷ e ∷ []) 1 = record { some = omega arith; within = omega arith; zeros = λ k low high. ap (λ n. get_or (d ∷ e ∷ []) n 0) {x = k} {y = 1} (omega (arith, low, high)) ∙ z; last = λ l. absurd (omega (arith, l)) } in
+          ap₂ (λ x y. x ∷ y ∷ []) p (b ∙ ap (λ y. invert_if negative (last_byte d y)) (two refl ∙ z))
+          ∙ sym (number_bytes negative (d ∷ e ∷ []) 1 all (omega arith) leads cut)
+      | inr n ↦
+          let cut : IsCut (d ∷ e ∷ []) 2 = record { some = omega arith; within = omega arith; zeros = λ k low high. absurd (omega (arith, low, high)); last = λ l. n } in
+          ap₂ (λ x y. x ∷ y ∷ []) p (b ∙ ap (λ y. invert_if negative (last_byte d y)) (two refl))
+          ∙ sym (number_bytes negative (d ∷ e ∷ []) 2 all (omega arith) leads cut)
+    ]
+few_bytes negative (d ∷ e ∷ ds) (suc (suc (suc count))) place byte second some few inside leads p b two one all = absurd (omega (arith, few))
+
+-- eight pairs, and what stands behind them
+pairs_before : (xs ys : List ℕ) → Paired xs → 0 < length ys → digit_bytes (xs ++ ys) ≡ row_of xs ++ digit_bytes ys
+pairs_before [] ys p some = refl
+pairs_before (d ∷ []) ys p some = absurd p
+pairs_before (d ∷ e ∷ []) [] p some = absurd (omega (arith, some))
+pairs_before (d ∷ e ∷ []) (y ∷ ys) p some = refl
+pairs_before (d ∷ e ∷ f ∷ xs) ys p some = ap (λ bs. more_byte d e ∷ bs) (pairs_before (f ∷ xs) ys p some)
+
+pub row_before : (negative : Bool) (digits chunk row front after mid : List ℕ) (len : ℕ) → 16 < len → len ≤ length digits → chunk ≡ take 16 digits → row ≡ map (invert_if negative) (more_bytes 8 0 chunk)
+    → mid ≡ front ++ take 8 row → after ≡ mid ++ map (invert_if negative) (digit_bytes (take (len - 16) (drop 16 digits)))
+    → after ≡ front ++ map (invert_if negative) (digit_bytes (take len digits))
+row_before negative digits chunk row front after mid len more inside c r m a =
+    let long : length chunk ≡ 16 = ap length c ∙ length-take-le 16 digits (omega (arith, more, inside)) in
+    let pairs : row ≡ map (invert_if negative) (row_of chunk) = r ∙ ap (map (invert_if negative)) (row_from 8 0 chunk long) in
+    let count : length row ≡ 8 = ap length r in
+    let all : take 8 row ≡ row = ap (λ n. take n row) (sym count) ∙ take-length row in
+    let rest = take (len - 16) (drop 16 digits) in
+    let some : 0 < length rest = omega (arith, length-take-le (len - 16) (drop 16 digits) (omega (arith, length-drop 16 digits, inside)), more) in
+    let whole : take len digits ≡ chunk ++ rest = ap (λ n. take n digits) {x = len} {y = 16 + (len - 16)} (omega (arith, more)) ∙ take-add 16 (len - 16) digits ∙ ap (λ xs. xs ++ rest) (sym c) in
+    let back = map (invert_if negative) (digit_bytes rest) in
+    a ∙ ap (λ xs. xs ++ back) (m ∙ ap (λ xs. front ++ xs) (all ∙ pairs)) ∙ append_assoc front (map (invert_if negative) (row_of chunk)) back
+    ∙ ap (λ xs. front ++ xs) (sym (map-append (invert_if negative) (row_of chunk) (digit_bytes rest)) ∙ ap (map (invert_if negative)) (sym (ap digit_bytes whole ∙ pairs_before chunk rest (paired 8 chunk long) some)))
+
 -- ---- in a room
 
 -- the form of a number is no part of its key
@@ -412,10 +459,8 @@ unfolding number_key
 same_key m n scale whole =
     ap₂ (λ s w. if unsigned_abs w == 0 then 128 ∷ [] else map (invert_if (is_negative w)) (magnitude_key s (unsigned_abs w))) scale whole
 
-pub integer_written : {text written : List ℕ} {r s : KeyRoom} {due : Bool} {held : List Held} {cs : List Open} (v : Source) (from to : ℕ) → IsRoomWith text r written due held cs → IsKeptAt text from to v
+pub integer_written : {r s : KeyRoom} (v : Source) (from to : ℕ) → IsIntegerAt r.members.text.now from to v
     → ((n : Num) → to ≤ length r.members.text.now → IsStandardNumber (slice_range r.members.text.now from to) n → Writes (number_key n) r s) → Writes (source_key v) r s
-integer_written {r = r} {s = s} v from to room kept wrote =
-    let same = sym room.members.text_is in
-    let written = wrote kept.integer (subst (λ xs. to ≤ length xs) same kept.inside) (subst (λ xs. IsStandardNumber (slice_range xs from to) kept.integer) same kept.digits) in
-    subst (λ (u : Source). Writes (source_key u) r s) (sym kept.is)
-    (subst (λ bytes. Writes bytes r s) (sym (same_key kept.value kept.integer kept.scale kept.whole)) written)
+integer_written {r = r} {s = s} v from to at wrote =
+    subst (λ (u : Source). Writes (source_key u) r s) (sym at.is)
+    (subst (λ bytes. Writes bytes r s) (sym (same_key at.value at.integer at.scale at.whole)) (wrote at.integer at.inside at.digits))

@@ -10,7 +10,10 @@ use Rattle.jsonb_spec.specs.Tree.{Mark, Tree}
 use Rattle.jsonb_spec.specs.Tree.Mark.{plain}
 use Rattle.jsonb_scan.specs.Open.{Open, elements_so_far, members_so_far}
 use Rattle.jsonb_spec.specs.Source.{Found, Source, array_source_of, first_repeat, found_member, object_source_of, spot_of, tree_of_source}
+use Rattle.text_common.specs.KeptScalar.{IsKeptAt}
 use Rattle.text_common.specs.SourceText.{source_text}
+use Rattle.text_common.specs.declared.kept.Kept.{Kept}
+use Rattle.text_common.specs.declared.kept.Kept.TheVariants as kept
 use Rattle.jsonb_spec.specs.PartAt.{index_named, part_at}
 use Rattle.jsonb_write.specs.CheckRoom as check
 use Rattle.jsonb_write.specs.CheckRoom.{CheckStands, unwritten}
@@ -165,7 +168,7 @@ follow_members fs k place (Some (key ∷ keys)) = refl
 
 -- ---- a value that holds no others
 
-alone : (p : Part) (s : Source) → SeesPart p s → (rest : List (List ℕ)) → part_inside s rest ≡ None
+pub alone : (p : Part) (s : Source) → SeesPart p s → (rest : List (List ℕ)) → part_inside s rest ≡ None
 alone p s sees [] = refl
 alone part.Null s sees (key ∷ keys) = ap (λ v. part_inside v (key ∷ keys)) sees
 alone (part.Bool b) s sees (key ∷ keys) = ap (λ v. part_inside v (key ∷ keys)) sees
@@ -174,6 +177,13 @@ alone (part.String t) s sees (key ∷ keys) = ap (λ v. part_inside v (key ∷ k
 alone (part.Plain t) s sees (key ∷ keys) = ap (λ v. part_inside v (key ∷ keys)) sees.0
 alone (part.Contents c) s sees (key ∷ keys) = ap (λ v. part_inside v (key ∷ keys)) sees
 alone part.Written s sees (key ∷ keys) = absurd sees
+
+-- nor is there a part inside of a scalar that stands in the text
+pub kept_alone : (kind : Kept) (text : List ℕ) (from to : ℕ) (s : Source) → IsKeptAt kind text from to s → (rest : List (List ℕ)) → part_inside s rest ≡ None
+kept_alone kind text from to s at [] = refl
+kept_alone kept.Integer text from to s at (key ∷ keys) = ap (λ v. part_inside v (key ∷ keys)) at.is
+kept_alone kept.Same text from to s at (key ∷ keys) = ap (λ v. part_inside v (key ∷ keys)) at.0.is
+kept_alone kept.Short text from to s at (key ∷ keys) = ap (λ v. part_inside v (key ∷ keys)) at.is
 
 -- ---- one part more
 
@@ -412,8 +422,8 @@ member_due {document = document} {r = r} {k = k} {held = held} {cs = cs} f fs be
     }
 
 -- a value that holds no others, and isn't the part
-pub alone_around : {document : List ℕ} {r : PartRoom} {held : List PartHeld} {cs : List Open} (p : Part) (s : Source) → IsAround r → SeesPart p s → PartStands document r true held cs → PartFilled document r s held cs
-alone_around {document = document} {r = r} {held = held} {cs = cs} p s away sees room =
+pub alone_around : {document : List ℕ} {r : PartRoom} {held : List PartHeld} {cs : List Open} (s : Source) → IsAround r → ((rest : List (List ℕ)) → part_inside s rest ≡ None) → PartStands document r true held cs → PartFilled document r s held cs
+alone_around {document = document} {r = r} {held = held} {cs = cs} s away nothing room =
     let keys = keys_of r in
     let stands = around away.0 room in
     record {
@@ -422,7 +432,7 @@ alone_around {document = document} {r = r} {held = held} {cs = cs} p s away sees
         record {
           stands = stands.0.stands;
           fits = stands.0.fits;
-          part_is = ends_outside keys r.found r.text.written.out.items r.due s cs (outside r away stands r.due refl) (stands.0.part_is ∙ ap (option_map tree_text) (picked-alone keys s cs (alone p s sees)));
+          part_is = ends_outside keys r.found r.text.written.out.items r.due s cs (outside r away stands r.due refl) (stands.0.part_is ∙ ap (option_map tree_text) (picked-alone keys s cs nothing));
         },
         stands.1,
       );

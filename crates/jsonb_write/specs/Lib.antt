@@ -11,5 +11,6 @@ pub mod OpenMembers
 pub mod OpenText
 pub mod PartRoom
 pub mod Places
+pub mod ShortString
 pub mod TextRoom
 pub mod Written

@@ -21,7 +21,7 @@ use std::alloc::AllocError;
 
 // Whether an escape of this letter is written as it stands.
 #[inline(always)]
-fn is_kept_letter(letter: u8) -> bool
+pub(crate) fn is_kept_letter(letter: u8) -> bool
     ensures { MatchBool result (IsKeptLetter letter) (Unit {0}) }
 {
     matches!(letter, b'"' | b'\\' | b'n' | b'r' | b't')

@@ -138,6 +138,73 @@ fn append_long(negative: bool, digits: &[u8], out: &mut Vec<u8>) -> Result<(), A
     }
 }
 
+// Appends the bytes of more than 16 digits, of which the first 16 come as a row.
+#[inline(never)]
+fn append_many(
+    negative: bool,
+    digits: &[u8],
+    chunk: &[u8; 16],
+    len: usize,
+    out: &mut Vec<u8>,
+) -> Result<(), AllocError>
+    requires many { 16 < len }
+    requires inside { len ≤ length digits.now }
+    requires first { chunk.now ≡ take 16 digits.now }
+    ensures bytes { OnOk result (out.new.items
+        ≡ out.old.items ++ map (invert_if negative) (digit_bytes (take len digits.now))) }
+    ensures kept { Extends out.old.items out.new.items }
+{
+    append_part(&inverted_if(negative, more_bytes(chunk)), 8, out)?;
+    append_long(negative, &digits[16..len], out)
+}
+
+// Appends the bytes of the first digits.
+#[inline(always)]
+fn append_pairs(
+    negative: bool,
+    digits: &[u8],
+    len: usize,
+    out: &mut Vec<u8>,
+) -> Result<(), AllocError>
+    requires some { 0 < len }
+    requires inside { len ≤ length digits.now }
+    ensures bytes { OnOk result (out.new.items
+        ≡ out.old.items ++ map (invert_if negative) (digit_bytes (take len digits.now))) }
+    ensures kept { Extends out.old.items out.new.items }
+{
+    let Some(chunk) = digits.first_chunk::<16>() else {
+        return append_long(negative, &digits[..len], out);
+    };
+    if len <= 16 {
+        return append_short(negative, chunk, len, out);
+    }
+    append_many(negative, digits, chunk, len, out)
+}
+
+// Appends the key of an integer of one or two digits above or below 0.
+#[inline(always)]
+fn append_few(
+    negative: bool,
+    digits: &[u8],
+    count: usize,
+    out: &mut Vec<u8>,
+) -> Result<(), AllocError>
+    requires some { (0 < count) × (count ≤ 2) }
+    requires inside { count ≤ length digits.now }
+    requires leads { slice_index digits.now 0 ≢ ascii.digit_zero }
+    ensures bytes { OnOk result (AllDigits 10 (take count digits.now) → out.new.items ≡ out.old.items
+        ++ map (invert_if negative) (magnitude_key 0 (digits_value 10 (take count digits.now)))) }
+    ensures kept { Extends out.old.items out.new.items }
+{
+    let second = if count == 2 { digits[1] } else { b'0' };
+    let place = invert_if(negative, 0xA0 + count as u8);
+    let byte = invert_if(negative, last_byte(digits[0], second));
+    out.try_reserve(2)?;
+    out.push_reserved(place);
+    out.push_reserved(byte);
+    Ok(())
+}
+
 // Appends the key of an integer above or below 0, given its digits, and what stands behind them.
 #[inline(always)]
 fn append_digits(
@@ -153,15 +220,13 @@ fn append_digits(
         ++ map (invert_if negative) (magnitude_key 0 (digits_value 10 (take count digits.now)))) }
     ensures kept { Extends out.old.items out.new.items }
 {
+    if count <= 2 {
+        return append_few(negative, digits, count, out);
+    }
     let len = significant_len(&digits[..count]);
     out.try_reserve(16)?;
     out.push_reserved(invert_if(negative, 0xA0 + count as u8));
-    if len <= 16 {
-        if let Some(chunk) = digits.first_chunk::<16>() {
-            return append_short(negative, chunk, len, out);
-        }
-    }
-    append_long(negative, &digits[..len], out)
+    append_pairs(negative, digits, len, out)
 }
 
 // Appends the key of the integer that the first bytes of a text are.
@@ -194,16 +259,11 @@ pub(crate) fn append_integer_key(
 }
 
 impl<'a> KeyRoom<'a> {
-    ghost use Rattle.jsonb_scan.specs.Open.{Open};
-    ghost use Rattle.jsonb_scan.specs.Open.{elements_so_far, members_so_far};
-    ghost use Rattle.jsonb_spec.specs.Source.{Found, Source, found_member};
-    ghost use Rattle.jsonb_spec.specs.Tree.{Mark};
-    ghost use Rattle.jsonb_write.specs.KeyRoom.{Held, KeyStands, Writes, base_of, items, members};
-    ghost use Rattle.text_common.specs.KeptNumber.{IsKeptAt};
+    ghost use Rattle.jsonb_write.specs.KeyRoom.{Writes, base_of};
 
     // Writes an integer that stands there in the text.
     #[inline(always)]
-    fn integer(&mut self, from: usize, to: usize) -> Result<(), AllocError>
+    pub(crate) fn integer(&mut self, from: usize, to: usize) -> Result<(), AllocError>
         ensures bytes { OnOk result ((n : Num) → to ≤ length self.old.members.text.now
             → IsStandardNumber (slice_range self.old.members.text.now from to) n
             → Writes (number_key n) self.old self.new) }
@@ -216,31 +276,5 @@ impl<'a> KeyRoom<'a> {
             return Ok(());
         }
         append_integer_key(&self.members.text[from..], to - from, &mut self.out)
-    }
-
-    /// An item that is an integer, which stands in the text.
-    #[inline(always)]
-    pub fn push_integer(&mut self, from: usize, to: usize) -> Result<(), AllocError>
-        ensures stands { OnOk result ((text : List ℕ) → (s : Source) → (held : List Held) → (ss : List Source)
-            → (cs : List Open) → KeyStands text self.old false (items ∷ held) (elements_so_far ss ∷ cs)
-            → IsKeptAt text from to s
-            → KeyStands text self.new false (items ∷ held) (elements_so_far (ss ++ s ∷ []) ∷ cs)) }
-        ensures base { base_of self.new ≡ base_of self.old }
-    {
-        self.integer(from, to)
-    }
-
-    /// A member's value that is an integer, which stands in the text.
-    #[inline(always)]
-    pub fn insert_integer(&mut self, first: usize, from: usize, to: usize) -> Result<(), AllocError>
-        ensures stands { OnOk result ((text : List ℕ) → (s : Source) → (held : List Held) → (fs : List Found)
-            → (k : Mark × List ℕ) → (place : ℕ) → (cs : List Open) → (next : Mark × List ℕ) → (other : ℕ)
-            → KeyStands text self.old true (members first ∷ held) (members_so_far fs k place ∷ cs)
-            → IsKeptAt text from to s
-            → KeyStands text self.new false (members first ∷ held)
-            (members_so_far (fs ++ found_member k s place ∷ []) next other ∷ cs)) }
-        ensures base { base_of self.new ≡ base_of self.old }
-    {
-        self.integer(from, to)
     }
 }

@@ -127,7 +127,7 @@ impl<'a> PartRoom<'a> {
 
     // Whether the value that is due is written: it is the part, or stands in it.
     #[inline(always)]
-    fn is_written(&self) -> bool
+    pub(crate) fn is_written(&self) -> bool
         ensures { MatchBool result (IsWritten self.now) (IsAround self.now) }
     {
         if self.inside > 0 {
@@ -141,7 +141,7 @@ impl<'a> PartRoom<'a> {
 
     // How many of the containers that are open are written, and one more.
     #[inline(always)]
-    fn one_more(&self) -> Result<usize, AllocError>
+    pub(crate) fn one_more(&self) -> Result<usize, AllocError>
         ensures { IfOk result (λ inside. inside ≡ self.now.inside + 1) }
     {
         match self.inside.checked_add(1) {
@@ -163,7 +163,7 @@ impl<'a> PartRoom<'a> {
     }
 
     // A container that is written ended.
-    fn end_inner(&mut self) -> Result<(), AllocError>
+    pub(crate) fn end_inner(&mut self) -> Result<(), AllocError>
         requires { 0 < self.old.inside }
         ensures stands { OnOk result ((text : List ℕ) → (s : Source) → (held : List PartHeld) → (cs : List Open)
             → InnerEnds text self.old s held cs → PartFilled text self.new s held cs) }

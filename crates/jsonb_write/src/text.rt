@@ -134,7 +134,7 @@ impl<'a> TextRoom<'a> {
 
     // Keeps bytes of the text, as far as there are any.
     #[inline(always)]
-    fn keep_range(&mut self, from: usize, to: usize) -> Result<(), AllocError>
+    pub(crate) fn keep_range(&mut self, from: usize, to: usize) -> Result<(), AllocError>
         ensures bytes { OnOk result (Writes (slice_range self.old.written.text.now from to) self.old self.new) }
         ensures base { base_of self.new ≡ base_of self.old }
     {
@@ -249,24 +249,6 @@ impl<'a> TextRoom<'a> {
     {
         self.next_item(is_first)?;
         self.part(&part, from, to)
-    }
-
-    /// An item that stands in the text as it is to be written.
-    #[inline(always)]
-    pub fn push_range(
-        &mut self,
-        is_first: &mut bool,
-        from: usize,
-        to: usize,
-    ) -> Result<(), AllocError>
-        ensures stands { OnOk result ((text : List ℕ) → (s : Source) → (held : List Held) → (ss : List Source)
-            → (cs : List Open) → TextStands text self.old false (items is_first.old ∷ held) (elements_so_far ss ∷ cs)
-            → slice_range text from to ≡ source_text s
-            → TextStands text self.new false (items is_first.new ∷ held) (elements_so_far (ss ++ s ∷ []) ∷ cs)) }
-        ensures base { base_of self.new ≡ base_of self.old }
-    {
-        self.next_item(is_first)?;
-        self.keep_range(from, to)
     }
 
     /// An item that is written.
@@ -421,20 +403,6 @@ impl<'a> TextRoom<'a> {
         ensures base { base_of self.new ≡ base_of self.old }
     {
         self.part(&part, from, to)
-    }
-
-    /// A member's value that stands in the text as it is to be written.
-    #[inline(always)]
-    pub fn insert_range(&mut self, first: usize, from: usize, to: usize) -> Result<(), AllocError>
-        ensures stands { OnOk result ((text : List ℕ) → (s : Source) → (held : List Held) → (fs : List Found)
-            → (k : Mark × List ℕ) → (place : ℕ) → (cs : List Open) → (next : Mark × List ℕ) → (other : ℕ)
-            → TextStands text self.old true (members first ∷ held) (members_so_far fs k place ∷ cs)
-            → slice_range text from to ≡ source_text s
-            → TextStands text self.new false (members first ∷ held)
-            (members_so_far (fs ++ found_member k s place ∷ []) next other ∷ cs)) }
-        ensures base { base_of self.new ≡ base_of self.old }
-    {
-        self.keep_range(from, to)
     }
 
     /// A member's value that is written.

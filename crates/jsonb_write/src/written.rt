@@ -154,7 +154,7 @@ impl<'a> Written<'a> {
 
     // Goes on at an index of the text, where all that is written is in the buffer.
     #[inline(always)]
-    fn go_on(&mut self, at: usize)
+    pub(crate) fn go_on(&mut self, at: usize)
         requires { slice_range self.old.text.now self.old.from self.old.end ≡ [] }
         ensures bytes { bytes_of self.new ≡ bytes_of self.old }
         ensures text { self.new.text ≡ self.old.text }

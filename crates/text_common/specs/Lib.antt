@@ -1,3 +1,4 @@
-pub mod KeptNumber
+pub mod KeptScalar
+pub mod ShortString
 pub mod SourceText
 pub mod SpelledNumber

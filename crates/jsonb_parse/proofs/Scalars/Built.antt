@@ -30,7 +30,8 @@ use Rattle.jsonb_parse.specs.Parser.{Advances, IsBehind, rest_of, size_of}
 use Rattle.jsonb_spec.specs.Text.{in_quotes}
 use Rattle.jsonb_spec.specs.Text.NumberText.{number_text}
 use Rattle.std.proofs.lemmas.List.{drop_more}
-use Rattle.text_common.specs.KeptNumber.{IsKeptAt}
+use Rattle.text_common.specs.KeptScalar.{IsIntegerAt, IsKeptAt}
+use Rattle.text_common.specs.declared.kept.Kept.{Kept}
 use Rattle.jsonb_parse.proofs.Scalars.FirstBytes.{extended_number, standard_number}
 use Rattle.jsonb_scan.proofs.Containers.JoinedParts.{on_byte-none}
 use Rattle.jsonb_parse.proofs.Steps.Failures.{memory_misses, misses_through, untold_misses}
@@ -84,7 +85,7 @@ between p q bytes a e =
 
 -- where an integer stands that is written as it stands
 pub kept_at : (p q : Parser) (core : List ℕ) (value integer : Num) → Advances p q → rest_of p ≡ core ++ rest_of q → IsStandardNumber core integer → value.scale ≡ integer.scale → value.whole ≡ integer.whole
-    → core ≡ number_text value → IsKeptAt p.buf.now p.offset q.offset (number_source value)
+    → core ≡ number_text value → IsIntegerAt p.buf.now p.offset q.offset (number_source value)
 kept_at p q core value integer on joined digits scale whole text =
     let there = between p q core on joined in
     record {

@@ -13,6 +13,7 @@ ghost use Rattle.jsonb_scan.specs.Open.{Open, members_so_far};
 ghost use Rattle.jsonb_scan.specs.Parsing.String.{body_of};
 ghost use Rattle.jsonb_spec.specs.Source.{Source, Found};
 ghost use Rattle.jsonb_scan.specs.Spelled.{IsSpelledAt};
+ghost use Rattle.text_common.specs.declared.kept.Kept.{Kept};
 
 use super::Mode;
 use super::frame::{Frame, OpenObject};
@@ -24,12 +25,12 @@ use std::alloc::{AllocError, Global};
 #[derive(Drop)]
 pub struct Failed;
 
-/// Which strings, keys and numbers a handler wants to be told apart from others.
+/// Which scalars and keys a handler wants to be told apart from others.
 #[derive(Clone, Copy)]
 pub struct Wants {
     /// Strings and keys that are written without an escape, as `Text::Plain`.
     pub plain: bool,
-    /// Integers whose serialized form is their own text, as `Scalar::Kept`.
+    /// Integers whose serialized form is their own text, and strings whose escapes are of one letter, as `Scalar::Kept`.
     pub kept: bool,
 }
 
@@ -59,8 +60,8 @@ pub trait Handler<'a>: Drop + Sized {
     /// The scalar is of this source, and isn't put in yet.
     ghost sees: { Self → Source → Type 0 };
 
-    /// The scalar is kept as it is written, and isn't put in yet.
-    ghost is_kept: { Self → Type 0 };
+    /// The scalar is one of this kind that stands in the text, and isn't put in yet.
+    ghost is_kept: { Kept → Self → Type 0 };
 
     /// Of this text, the room and the open containers, the innermost first, hold what was parsed so far. A value is due
     /// (true), or the innermost was opened or one of its parts ended (false).
@@ -81,7 +82,7 @@ pub trait Handler<'a>: Drop + Sized {
     /// Whether a scalar takes memory.
     ghost writes: { Bool };
 
-    /// Whether integers are kept that stand in the text as they are written.
+    /// Whether scalars are put in from where they stand in the text.
     ghost keeps: { Bool };
 
     /// What the handler wants.

@@ -24,6 +24,7 @@ use super::text::{Scalar, Text};
 use super::{Mode, Parser};
 use jsonb_value::error::{Error, ParseErrorCode};
 use jsonb_value::number::Number;
+use text_common::kept::Kept;
 
 // A letter as words have it: in extended mode in lower case.
 #[inline(always)]
@@ -183,7 +184,13 @@ impl<'a> Parser<'a> {
     {
         let from = self.offset;
         if self.kept_integer(V::wants().kept) {
-            return self.put::<V, S>(room, container, slot, V::scalar(Scalar::Kept), from);
+            return self.put::<V, S>(
+                room,
+                container,
+                slot,
+                V::scalar(Scalar::Kept(Kept::Integer)),
+                from,
+            );
         }
         self.put_standard_scalar::<V, S>(room, container, slot, text)
     }
@@ -204,7 +211,13 @@ impl<'a> Parser<'a> {
     {
         let from = self.offset;
         if self.kept_extended_integer(V::wants().kept) {
-            return self.put::<V, S>(room, container, slot, V::scalar(Scalar::Kept), from);
+            return self.put::<V, S>(
+                room,
+                container,
+                slot,
+                V::scalar(Scalar::Kept(Kept::Integer)),
+                from,
+            );
         }
         if self.may_begin_word() {
             return self.put_word::<V, S>(room, container, slot, text);
@@ -280,6 +293,10 @@ impl<'a> Parser<'a> {
         ensures { Puts V.Handler (λ size mode. quoted_at size mode ascii.quote) result
             self.old self.new room.old room.new (S.before container.old slot) (S.after container.new) }
     {
+        let from = self.offset - 1;
+        if let Some(kept) = self.short_string(V::wants().kept, text) {
+            return self.put::<V, S>(room, container, slot, V::scalar(Scalar::Kept(kept)), from);
+        }
         let value = self.parse_escaped_string::<V>(b'"', text)?;
         self.put::<V, S>(room, container, slot, value, self.offset)
     }

@@ -2,6 +2,7 @@
 
 use jsonb_value::number::Number;
 use std::borrow::CowStr;
+use text_common::kept::Kept;
 
 /// A string or a key.
 #[derive(Drop)]
@@ -21,6 +22,6 @@ pub enum Scalar<'a> {
     Bool(bool),
     Number(Number),
     String(Text<'a>),
-    /// An integer whose serialized form is its own text, where the handler wants these told apart.
-    Kept,
+    /// It is put in from where it stands in the text, where the handler wants that.
+    Kept(Kept),
 }

@@ -34,13 +34,13 @@ fewer_plain bytes n m h less =
     let split : take n bytes ≡ take m bytes ++ take (n - m) (drop m bytes) = ap (λ k. take k bytes) sum ∙ take-add m (n - m) bytes in
     front_plain (take m bytes) (take (n - m) (drop m bytes)) (subst (λ xs. ArePlain xs) split h)
 
-one_plain : (b : ℕ) (bytes : List ℕ) → ArePlain (b ∷ bytes) → byte_text b ≡ b ∷ []
+pub one_plain : (b : ℕ) (bytes : List ℕ) → ArePlain (b ∷ bytes) → byte_text b ≡ b ∷ []
 one_plain b bytes h = sym (append-nil (byte_text b)) ∙ front_plain (b ∷ []) bytes h
 
-rest_plain : (b : ℕ) (bytes : List ℕ) → ArePlain (b ∷ bytes) → ArePlain bytes
+pub rest_plain : (b : ℕ) (bytes : List ℕ) → ArePlain (b ∷ bytes) → ArePlain bytes
 rest_plain b bytes h = ap (drop 1) (ap (λ xs. xs ++ flat_map byte_text bytes) (sym (one_plain b bytes h)) ∙ h)
 
-no_mark : (mark b : ℕ) → 1 < length (byte_text mark) → byte_text b ≡ b ∷ [] → b ≢ mark
+pub no_mark : (mark b : ℕ) → 1 < length (byte_text mark) → byte_text b ≡ b ∷ [] → b ≢ mark
 no_mark mark b long h e = absurd (omega (arith, long, ap length (subst (λ x. byte_text x ≡ x ∷ []) e h)))
 
 -- there is no quote among such bytes, and no backslash

@@ -28,7 +28,7 @@ impl<'a> Handler<'a> for JsonAst<'a> {
     ghost sees = { λ v s. source_view v ≡ s };
 
     // Nothing is kept.
-    ghost is_kept = { λ v. ⊥ };
+    ghost is_kept = { λ k v. ⊥ };
 
     ghost stands = { λ text room due fs cs. FramesHold (λ v s. source_view v ≡ s) (λ key k place. ((mark_view key.0, cow_str_bytes key.0) ≡ k) × (key.1 ≡ place)) (λ ms found. map found_of ms.items ≡ found) due fs cs };
 
@@ -63,7 +63,7 @@ impl<'a> Handler<'a> for JsonAst<'a> {
             Scalar::String(Text::Plain(text)) => JsonAst::String(CowStr::Borrowed(text)),
             Scalar::String(Text::Borrowed(text)) => JsonAst::String(CowStr::Borrowed(text)),
             Scalar::String(Text::Decoded(text)) => JsonAst::String(text),
-            Scalar::Kept => JsonAst::Null,
+            Scalar::Kept(_) => JsonAst::Null,
         }
     }
 

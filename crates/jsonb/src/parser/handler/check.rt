@@ -31,7 +31,7 @@ impl<'a> Handler<'a> for CheckedPart {
 
     ghost sees = { IsAnyValue };
 
-    ghost is_kept = { λ v. Unit {0} };
+    ghost is_kept = { λ k v. Unit {0} };
 
     ghost stands = { λ text room due fs cs. CheckStands text room due (map key_held fs) cs };
 

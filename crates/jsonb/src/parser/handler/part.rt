@@ -1,12 +1,12 @@
 //! The text of one part of a document is copied while the document is parsed, and no value is made.
-ghost use Rattle.std.specs.Prelude.{◌≡◌, ℕ, List, true, false, map};
+ghost use Rattle.std.specs.Prelude.{◌≡◌, ℕ, List, None, Some, true, false, map};
 ghost use Rattle.jsonb.specs.Held.{part_held};
 ghost use Rattle.jsonb_write.specs.PartRoom.{PartFilled, PartStands, keys_of};
 ghost use Rattle.jsonb_write.specs.TextRoom.{SeesPart};
 
 use super::repeat::tell_repeat;
 use crate::parser::Mode;
-use jsonb_parse::{Failed, Handler, OpenObject, Scalar, Text, Wants};
+use jsonb_parse::{Failed, Handler, Kept, OpenObject, Scalar, Text, Wants};
 use jsonb_value::error::Error;
 use jsonb_write::contents::Contents;
 use jsonb_write::part::{PartItems, PartMembers, PartRoom};
@@ -18,6 +18,8 @@ use std::borrow::CowStr;
 #[derive(Drop)]
 pub(in crate::parser) struct SoughtPart<'a> {
     part: Part<'a>,
+    // It is put in from where it stands in the text.
+    kept: Option<Kept>,
 }
 
 impl<'a> Handler<'a> for SoughtPart<'a> {
@@ -29,10 +31,9 @@ impl<'a> Handler<'a> for SoughtPart<'a> {
 
     type Key = ();
 
-    ghost sees = { λ v s. SeesPart v.part s };
+    ghost sees = { λ v s. (v.kept ≡ None) × SeesPart v.part s };
 
-    // Nothing is kept.
-    ghost is_kept = { λ v. ⊥ };
+    ghost is_kept = { λ k v. v.kept ≡ Some k };
 
     ghost stands = { λ text room due fs cs. PartStands text room due (map part_held fs) cs };
 
@@ -46,20 +47,24 @@ impl<'a> Handler<'a> for SoughtPart<'a> {
 
     ghost writes = { true };
 
-    ghost keeps = { false };
+    ghost keeps = { true };
 
     #[inline(always)]
     fn wants() -> Wants
-        ensures { result.kept ≡ false }
+        ensures { result.kept ≡ true }
     {
         Wants {
             plain: true,
-            kept: false,
+            kept: true,
         }
     }
 
     #[inline(always)]
     fn scalar(value: Scalar<'a>) -> Self {
+        let kept = match value {
+            Scalar::Kept(kept) => Some(kept),
+            _ => None,
+        };
         let part = match value {
             Scalar::Null => Part::Null,
             Scalar::Bool(value) => Part::Bool(value),
@@ -67,9 +72,9 @@ impl<'a> Handler<'a> for SoughtPart<'a> {
             Scalar::String(Text::Plain(text)) => Part::Plain(text),
             Scalar::String(Text::Borrowed(text)) => Part::String(CowStr::Borrowed(text)),
             Scalar::String(Text::Decoded(text)) => Part::String(text),
-            Scalar::Kept => Part::Null,
+            Scalar::Kept(_) => Part::Null,
         };
-        SoughtPart { part }
+        SoughtPart { part, kept }
     }
 
     #[inline(always)]
@@ -82,6 +87,7 @@ impl<'a> Handler<'a> for SoughtPart<'a> {
         let contents = Contents::for_text(body, mode, offset)?;
         Ok(SoughtPart {
             part: Part::Contents(contents),
+            kept: None,
         })
     }
 
@@ -108,6 +114,9 @@ impl<'a> Handler<'a> for SoughtPart<'a> {
         from: usize,
         to: usize,
     ) -> Result<(), AllocError> {
+        if let Some(kept) = value.kept {
+            return room.push_kept(items, kept, from, to);
+        }
         room.push(items, value.part, from, to)
     }
 
@@ -135,6 +144,7 @@ impl<'a> Handler<'a> for SoughtPart<'a> {
     fn array(room: &PartRoom<'a>, items: PartItems) -> Self {
         SoughtPart {
             part: Part::Written,
+            kept: None,
         }
     }
 
@@ -173,6 +183,10 @@ impl<'a> Handler<'a> for SoughtPart<'a> {
         from: usize,
         to: usize,
     ) -> Result<bool, AllocError> {
+        if let Some(kept) = value.kept {
+            room.insert_kept(&object.members, kept, from, to)?;
+            return Ok(true);
+        }
         room.insert(&object.members, value.part, from, to)?;
         Ok(true)
     }
@@ -217,6 +231,7 @@ impl<'a> Handler<'a> for SoughtPart<'a> {
     fn object(room: &PartRoom<'a>, members: PartMembers) -> Self {
         SoughtPart {
             part: Part::Written,
+            kept: None,
         }
     }
 

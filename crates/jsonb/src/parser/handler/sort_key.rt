@@ -1,12 +1,12 @@
 //! A sort key is written while a text is parsed, and no value is made.
-ghost use Rattle.std.specs.Prelude.{◌≡◌, ◌∷◌, [], ℕ, List, true, false, map};
+ghost use Rattle.std.specs.Prelude.{◌≡◌, ◌∷◌, [], ℕ, List, None, Some, true, false, map};
 ghost use Rattle.jsonb.specs.Held.{key_held};
 ghost use Rattle.jsonb_write.specs.KeyRoom.{KeyFilled, KeyStands, base_of};
 ghost use Rattle.jsonb_write.specs.TextRoom.{SeesPart};
 
 use super::repeat::tell_repeat;
 use crate::parser::Mode;
-use jsonb_parse::{Failed, Handler, OpenObject, Scalar, Text, Wants};
+use jsonb_parse::{Failed, Handler, Kept, OpenObject, Scalar, Text, Wants};
 use jsonb_value::error::Error;
 use jsonb_write::contents::Contents;
 use jsonb_write::key::KeyRoom;
@@ -18,8 +18,8 @@ use std::borrow::CowStr;
 #[derive(Drop)]
 pub(in crate::parser) struct KeyPart<'a> {
     part: Part<'a>,
-    // It is an integer that stands in the text.
-    is_kept: bool,
+    // It is put in from where it stands in the text.
+    kept: Option<Kept>,
 }
 
 impl<'a> Handler<'a> for KeyPart<'a> {
@@ -33,9 +33,9 @@ impl<'a> Handler<'a> for KeyPart<'a> {
 
     type Key = ();
 
-    ghost sees = { λ v s. (v.is_kept ≡ false) × SeesPart v.part s };
+    ghost sees = { λ v s. (v.kept ≡ None) × SeesPart v.part s };
 
-    ghost is_kept = { λ v. v.is_kept ≡ true };
+    ghost is_kept = { λ k v. v.kept ≡ Some k };
 
     ghost stands = { λ text room due fs cs. KeyStands text room due (map key_held fs) cs };
 
@@ -63,7 +63,10 @@ impl<'a> Handler<'a> for KeyPart<'a> {
 
     #[inline(always)]
     fn scalar(value: Scalar<'a>) -> Self {
-        let is_kept = matches!(value, Scalar::Kept);
+        let kept = match value {
+            Scalar::Kept(kept) => Some(kept),
+            _ => None,
+        };
         let part = match value {
             Scalar::Null => Part::Null,
             Scalar::Bool(value) => Part::Bool(value),
@@ -71,9 +74,9 @@ impl<'a> Handler<'a> for KeyPart<'a> {
             Scalar::String(Text::Plain(text)) => Part::Plain(text),
             Scalar::String(Text::Borrowed(text)) => Part::String(CowStr::Borrowed(text)),
             Scalar::String(Text::Decoded(text)) => Part::String(text),
-            Scalar::Kept => Part::Null,
+            Scalar::Kept(_) => Part::Null,
         };
-        KeyPart { part, is_kept }
+        KeyPart { part, kept }
     }
 
     #[inline(always)]
@@ -86,7 +89,7 @@ impl<'a> Handler<'a> for KeyPart<'a> {
         let contents = Contents::for_key(body, mode, offset)?;
         Ok(KeyPart {
             part: Part::Contents(contents),
-            is_kept: false,
+            kept: None,
         })
     }
 
@@ -113,8 +116,8 @@ impl<'a> Handler<'a> for KeyPart<'a> {
         from: usize,
         to: usize,
     ) -> Result<(), AllocError> {
-        if value.is_kept {
-            return room.push_integer(from, to);
+        if let Some(kept) = value.kept {
+            return room.push_kept(kept, from, to);
         }
         room.push(value.part, from, to)
     }
@@ -139,7 +142,7 @@ impl<'a> Handler<'a> for KeyPart<'a> {
     fn array(room: &KeyRoom<'a>, items: ()) -> Self {
         KeyPart {
             part: Part::Written,
-            is_kept: false,
+            kept: None,
         }
     }
 
@@ -178,8 +181,8 @@ impl<'a> Handler<'a> for KeyPart<'a> {
         from: usize,
         to: usize,
     ) -> Result<bool, AllocError> {
-        if value.is_kept {
-            room.insert_integer(object.members, from, to)?;
+        if let Some(kept) = value.kept {
+            room.insert_kept(object.members, kept, from, to)?;
             return Ok(true);
         }
         room.insert(object.members, value.part, from, to)?;
@@ -227,7 +230,7 @@ impl<'a> Handler<'a> for KeyPart<'a> {
     fn object(room: &KeyRoom<'a>, members: usize) -> Self {
         KeyPart {
             part: Part::Written,
-            is_kept: false,
+            kept: None,
         }
     }
 

@@ -1,11 +1,11 @@
 //! Serialized text is written while a text is parsed, and no value is made.
-ghost use Rattle.std.specs.Prelude.{◌≡◌, ◌∷◌, [], ℕ, List, true, false, map};
+ghost use Rattle.std.specs.Prelude.{◌≡◌, ◌∷◌, [], ℕ, List, None, Some, true, false, map};
 ghost use Rattle.jsonb.specs.Held.{text_held};
 ghost use Rattle.jsonb_write.specs.TextRoom.{SeesPart, TextFilled, TextStands, base_of};
 
 use super::repeat::tell_repeat;
 use crate::parser::Mode;
-use jsonb_parse::{Failed, Handler, OpenObject, Scalar, Text, Wants};
+use jsonb_parse::{Failed, Handler, Kept, OpenObject, Scalar, Text, Wants};
 use jsonb_value::error::Error;
 use jsonb_write::contents::Contents;
 use jsonb_write::text::{Part, TextRoom};
@@ -16,8 +16,8 @@ use std::borrow::CowStr;
 #[derive(Drop)]
 pub(in crate::parser) struct TextPart<'a> {
     part: Part<'a>,
-    // It is kept as it stands in the text.
-    is_kept: bool,
+    // It is put in from where it stands in the text.
+    kept: Option<Kept>,
 }
 
 impl<'a> Handler<'a> for TextPart<'a> {
@@ -31,9 +31,9 @@ impl<'a> Handler<'a> for TextPart<'a> {
 
     type Key = ();
 
-    ghost sees = { λ v s. (v.is_kept ≡ false) × SeesPart v.part s };
+    ghost sees = { λ v s. (v.kept ≡ None) × SeesPart v.part s };
 
-    ghost is_kept = { λ v. v.is_kept ≡ true };
+    ghost is_kept = { λ k v. v.kept ≡ Some k };
 
     ghost stands = { λ text room due fs cs. TextStands text room due (map text_held fs) cs };
 
@@ -61,7 +61,10 @@ impl<'a> Handler<'a> for TextPart<'a> {
 
     #[inline(always)]
     fn scalar(value: Scalar<'a>) -> Self {
-        let is_kept = matches!(value, Scalar::Kept);
+        let kept = match value {
+            Scalar::Kept(kept) => Some(kept),
+            _ => None,
+        };
         let part = match value {
             Scalar::Null => Part::Null,
             Scalar::Bool(value) => Part::Bool(value),
@@ -69,9 +72,9 @@ impl<'a> Handler<'a> for TextPart<'a> {
             Scalar::String(Text::Plain(text)) => Part::Plain(text),
             Scalar::String(Text::Borrowed(text)) => Part::String(CowStr::Borrowed(text)),
             Scalar::String(Text::Decoded(text)) => Part::String(text),
-            Scalar::Kept => Part::Null,
+            Scalar::Kept(_) => Part::Null,
         };
-        TextPart { part, is_kept }
+        TextPart { part, kept }
     }
 
     #[inline(always)]
@@ -84,7 +87,7 @@ impl<'a> Handler<'a> for TextPart<'a> {
         let contents = Contents::for_text(body, mode, offset)?;
         Ok(TextPart {
             part: Part::Contents(contents),
-            is_kept: false,
+            kept: None,
         })
     }
 
@@ -111,8 +114,8 @@ impl<'a> Handler<'a> for TextPart<'a> {
         from: usize,
         to: usize,
     ) -> Result<(), AllocError> {
-        if value.is_kept {
-            return room.push_range(items, from, to);
+        if let Some(kept) = value.kept {
+            return room.push_kept(items, kept, from, to);
         }
         room.push(items, value.part, from, to)
     }
@@ -137,7 +140,7 @@ impl<'a> Handler<'a> for TextPart<'a> {
     fn array(room: &TextRoom<'a>, items: bool) -> Self {
         TextPart {
             part: Part::Written,
-            is_kept: false,
+            kept: None,
         }
     }
 
@@ -176,8 +179,8 @@ impl<'a> Handler<'a> for TextPart<'a> {
         from: usize,
         to: usize,
     ) -> Result<bool, AllocError> {
-        if value.is_kept {
-            room.insert_range(object.members, from, to)?;
+        if let Some(kept) = value.kept {
+            room.insert_kept(object.members, kept, from, to)?;
             return Ok(true);
         }
         room.insert(object.members, value.part, from, to)?;
@@ -225,7 +228,7 @@ impl<'a> Handler<'a> for TextPart<'a> {
     fn object(room: &TextRoom<'a>, members: usize) -> Self {
         TextPart {
             part: Part::Written,
-            is_kept: false,
+            kept: None,
         }
     }
 

@@ -36,7 +36,7 @@ impl<'a> Handler<'a> for ValuePart<'a> {
     ghost sees = { λ v s. view v.value ≡ tree_of_source s };
 
     // Nothing is kept.
-    ghost is_kept = { λ v. ⊥ };
+    ghost is_kept = { λ k v. ⊥ };
 
     ghost stands = { λ text room due fs cs. FramesHold (λ v s. view v ≡ tree_of_source s) (λ key k place. string_bytes key ≡ k.1) (λ ms found. MapHolds found ms.entries) due fs cs };
 
@@ -71,7 +71,7 @@ impl<'a> Handler<'a> for ValuePart<'a> {
             Scalar::String(Text::Plain(text)) => Value::String(CowStr::Borrowed(text)),
             Scalar::String(Text::Borrowed(text)) => Value::String(CowStr::Borrowed(text)),
             Scalar::String(Text::Decoded(text)) => Value::String(text),
-            Scalar::Kept => Value::Null,
+            Scalar::Kept(_) => Value::Null,
         };
         ValuePart { value }
     }

@@ -1,9 +1,9 @@
-use Rattle.jsonb_write.proofs.PartRooms.{alone_around, alone_in}
+use Rattle.jsonb_write.proofs.PartRooms.{alone, alone_around, alone_in}
 use Rattle.jsonb_write.proofs.Rooms.{on_ok}
 use Rattle.jsonb_write.proofs.part.PartRoom.fill.Goals as goal
 
 pub returns-then-not-is_written-clause-stands : goal.returns-then-not-is_written-clause-stands
-returns-then-not-is_written-clause-stands c = λ text s held cs room sees spelled. alone_around c.args.part.now s c.if-not-is_written.ensures sees room
+returns-then-not-is_written-clause-stands c = λ text s held cs room sees spelled. alone_around s c.if-not-is_written.ensures (alone c.args.part.now s sees) room
 
 pub returns-clause-stands : goal.returns-clause-stands
 returns-clause-stands c =
