@@ -310,13 +310,13 @@ impl<'a> Parser<'a> {
             (Object (record { members = object.old.members; key = key })) (Object object.new) }
         ensures advances { AdvancesOver V.base self.old self.new room.old room.new }
     {
-        if self.take_byte(b'"') {
-            self.put_quoted::<V, Member<V::Key>>(room, object, Member { key }, text)?;
-            return Ok(false);
-        }
         if self.begins_container() {
             object.key = key;
             return Ok(true);
+        }
+        if self.take_byte(b'"') {
+            self.put_quoted::<V, Member<V::Key>>(room, object, Member { key }, text)?;
+            return Ok(false);
         }
         self.put_scalar::<V, Member<V::Key>>(room, object, Member { key }, text)?;
         Ok(false)

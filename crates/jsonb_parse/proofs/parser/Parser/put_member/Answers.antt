@@ -1,14 +1,10 @@
-use Rattle.std.proofs.Common.{◌≡◌, false, refl, ap, subst, sym, ◌∙◌}
+use Rattle.std.proofs.Common.{refl, ap, subst, sym, ◌∙◌}
 use Rattle.std.proofs.lemmas.Result.{err_from_is_err_and}
 use Rattle.jsonb_scan.specs.Parsing.Scalar.{scalar_at}
-use Rattle.jsonb_scan.specs.Answer.{mode_of}
-use Rattle.jsonb_scan.specs.Parsing.Container.{is_left_out}
-use Rattle.jsonb_parse.specs.Frames.{OpensContainer, TakesTree}
+use Rattle.jsonb_parse.specs.Frames.{TakesTree}
 use Rattle.jsonb_parse.specs.Handler.{Misses}
-use Rattle.jsonb_parse.specs.Parser.{parse_at, rest_of}
-use Rattle.jsonb_parse.specs.Steps.{NoneOpens}
+use Rattle.jsonb_parse.specs.Parser.{parse_at}
 use Rattle.jsonb_parse.specs.declared.parser.frame.Frame.TheVariants as variants
-use Rattle.jsonb_parse.proofs.Scalars.Elements.{quote_no_container}
 use Rattle.jsonb_parse.proofs.Steps.Failures.{misses_same}
 use Rattle.jsonb_parse.proofs.Steps.Outcomes.{scalar_quoted}
 use Rattle.jsonb_parse.proofs.parser.Parser.put_member.Goals as goal
@@ -21,7 +17,7 @@ returns-in_err-put_quoted-clause-puts g c =
     let residual = err_from_is_err_and c.from_residual.result c.from_residual.ensures.1 in
     record {
       puts = rw (residual.1) tt;
-      fails = rw (residual.1) (quote_no_container p o e, misses_same g.V.Handler.silent c.put_quoted.new.self.told _ _ (scalar_quoted p o c.take_byte.ensures.advances e) c.in_err-put_quoted.ensures.parses);
+      fails = rw (residual.1) (c.if-begins_container.ensures.other, misses_same g.V.Handler.silent c.put_quoted.new.self.told _ _ (scalar_quoted p o c.take_byte.ensures.advances e) c.in_err-put_quoted.ensures.parses);
     }
 
 pub returns-then-take_byte-clause-puts : goal.returns-then-take_byte-clause-puts
@@ -34,7 +30,7 @@ returns-then-take_byte-clause-puts g c =
     record {
       puts =
           record {
-            none_opens = quote_no_container p o e;
+            none_opens = c.if-begins_container.ensures.other;
             tree = put.0;
             parses = scalar_quoted p o on e ∙ put.1;
             put = subst (λ b. TakesTree g.V.Handler.stands b.now put.0 c.args.room.now (variants.Object (record { members = c.args.object.now.members; key = c.args.key })) c.put_quoted.new.room (variants.Object c.put_quoted.new.container)) on.buf put.2;
@@ -44,15 +40,14 @@ returns-then-take_byte-clause-puts g c =
 
 pub returns-then-begins_container-clause-puts : goal.returns-then-begins_container-clause-puts
 returns-then-begins_container-clause-puts g c =
-    let still = c.if-take_byte.ensures.rest in
     record {
       puts =
           record {
-            stays = still;
+            stays = refl;
             same_room = refl;
             same_frame = refl;
-            opens = subst (λ q. OpensContainer (rest_of q)) still c.if-begins_container.ensures.opens;
-            is_there = subst (λ q. is_left_out (mode_of q.mode) (rest_of q) ≡ false) still c.if-begins_container.ensures.other;
+            opens = c.if-begins_container.ensures.opens;
+            is_there = c.if-begins_container.ensures.other;
           };
       fails = tt;
     }
@@ -63,7 +58,7 @@ returns-in_err-put_scalar-clause-puts g c =
     let residual = err_from_is_err_and c.from_residual-in_err-put_scalar.result c.from_residual-in_err-put_scalar.ensures.1 in
     record {
       puts = rw (residual.1) tt;
-      fails = rw (residual.1) (subst NoneOpens still c.if-begins_container.ensures.other, subst (λ q. Misses g.V.Handler.silent c.put_scalar.new.self.told (parse_at scalar_at q)) still c.in_err-put_scalar.ensures.parses);
+      fails = rw (residual.1) (c.if-begins_container.ensures.other, subst (λ q. Misses g.V.Handler.silent c.put_scalar.new.self.told (parse_at scalar_at q)) still c.in_err-put_scalar.ensures.parses);
     }
 
 pub returns-clause-puts : goal.returns-clause-puts
@@ -73,7 +68,7 @@ returns-clause-puts g c =
     record {
       puts =
           record {
-            none_opens = subst NoneOpens still c.if-begins_container.ensures.other;
+            none_opens = c.if-begins_container.ensures.other;
             tree = put.0;
             parses = ap (parse_at scalar_at) (sym still) ∙ put.1;
             put = subst (λ q. TakesTree g.V.Handler.stands q.buf.now put.0 c.args.room.now (variants.Object (record { members = c.args.object.now.members; key = c.args.key })) c.put_scalar.new.room (variants.Object c.put_scalar.new.container)) still put.2;
