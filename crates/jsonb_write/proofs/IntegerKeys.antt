@@ -6,7 +6,6 @@ use Rattle.std.specs.Char.{digit_value}
 use Rattle.std.specs.Int.{is_negative, w64}
 use Rattle.std.specs.Str.Parse.{AllDigits, IsNumeral, digits_value, digits_value_after}
 use Rattle.std.proofs.Math.Nat.{pow-suc}
-use Rattle.std.proofs.Math.Seq.{take-add, take-length}
 use Rattle.std.proofs.lemmas.Nat.{div-mul-add, mod-mul-add, mul-add-lt}
 use Rattle.std.proofs.lemmas.Str.{digit_value_digit}
 use Rattle.std.proofs.lemmas.Str.Parse.{digit_from_value}
@@ -23,7 +22,7 @@ use Rattle.jsonb_spec.specs.Grammar.StandardNumber.{IsStandardNumber}
 use Rattle.jsonb_spec.specs.Tree.{Num}
 use Rattle.jsonb_value.proofs.Numbers.Pointed.{is_negative-pos}
 use Rattle.std.proofs.lemmas.Bool.Decides.{eqb_tells}
-use Rattle.std.proofs.lemmas.List.{map-append, drop-take, drop_all, drop_more, get_or-drop, get_or-take, length-drop, length-take-le, take-append-drop, take-map, take-take, take_rest}
+use Rattle.std.proofs.lemmas.List.{drop-take, drop_all, drop_more, get_or-drop, get_or-take, length-drop, length-take-le, take-append-drop, take-map, take-take, take_rest}
 use Rattle.jsonb_spec.specs.Source.{Source}
 use Rattle.jsonb_write.specs.KeyRoom.{Writes}
 use Rattle.jsonb_write.specs.Members.{source_key}
@@ -427,29 +426,6 @@ few_bytes negative (d ∷ e ∷ ds) (suc (suc zero)) place byte second some few 
           ∙ sym (number_bytes negative (d ∷ e ∷ []) 2 all (omega arith) leads cut)
     ]
 few_bytes negative (d ∷ e ∷ ds) (suc (suc (suc count))) place byte second some few inside leads p b two one all = absurd (omega (arith, few))
-
--- eight pairs, and what stands behind them
-pairs_before : (xs ys : List ℕ) → Paired xs → 0 < length ys → digit_bytes (xs ++ ys) ≡ row_of xs ++ digit_bytes ys
-pairs_before [] ys p some = refl
-pairs_before (d ∷ []) ys p some = absurd p
-pairs_before (d ∷ e ∷ []) [] p some = absurd (omega (arith, some))
-pairs_before (d ∷ e ∷ []) (y ∷ ys) p some = refl
-pairs_before (d ∷ e ∷ f ∷ xs) ys p some = ap (λ bs. more_byte d e ∷ bs) (pairs_before (f ∷ xs) ys p some)
-
-pub row_before : (negative : Bool) (digits chunk row front after mid : List ℕ) (len : ℕ) → 16 < len → len ≤ length digits → chunk ≡ take 16 digits → row ≡ map (invert_if negative) (more_bytes 8 0 chunk)
-    → mid ≡ front ++ take 8 row → after ≡ mid ++ map (invert_if negative) (digit_bytes (take (len - 16) (drop 16 digits)))
-    → after ≡ front ++ map (invert_if negative) (digit_bytes (take len digits))
-row_before negative digits chunk row front after mid len more inside c r m a =
-    let long : length chunk ≡ 16 = ap length c ∙ length-take-le 16 digits (omega (arith, more, inside)) in
-    let pairs : row ≡ map (invert_if negative) (row_of chunk) = r ∙ ap (map (invert_if negative)) (row_from 8 0 chunk long) in
-    let count : length row ≡ 8 = ap length r in
-    let all : take 8 row ≡ row = ap (λ n. take n row) (sym count) ∙ take-length row in
-    let rest = take (len - 16) (drop 16 digits) in
-    let some : 0 < length rest = omega (arith, length-take-le (len - 16) (drop 16 digits) (omega (arith, length-drop 16 digits, inside)), more) in
-    let whole : take len digits ≡ chunk ++ rest = ap (λ n. take n digits) {x = len} {y = 16 + (len - 16)} (omega (arith, more)) ∙ take-add 16 (len - 16) digits ∙ ap (λ xs. xs ++ rest) (sym c) in
-    let back = map (invert_if negative) (digit_bytes rest) in
-    a ∙ ap (λ xs. xs ++ back) (m ∙ ap (λ xs. front ++ xs) (all ∙ pairs)) ∙ append_assoc front (map (invert_if negative) (row_of chunk)) back
-    ∙ ap (λ xs. front ++ xs) (sym (map-append (invert_if negative) (row_of chunk) (digit_bytes rest)) ∙ ap (map (invert_if negative)) (sym (ap digit_bytes whole ∙ pairs_before chunk rest (paired 8 chunk long) some)))
 
 -- ---- in a room
 

@@ -124,38 +124,20 @@ fn append_long(negative: bool, digits: &[u8], out: &mut Vec<u8>) -> Result<(), A
         ≡ out.old.items ++ map (invert_if negative) (digit_bytes digits.now)) }
     ensures kept { Extends out.old.items out.new.items }
 {
+    out.try_reserve(digits.len())?;
     let mut rest = digits;
     'pairs: while let [first, second, more @ ..] = rest {
         if more.is_empty() {
-            return out.extend_from_slice(&[invert_if(negative, last_byte(*first, *second))]);
+            out.push_reserved(invert_if(negative, last_byte(*first, *second)));
+            return Ok(());
         }
-        out.extend_from_slice(&[invert_if(negative, more_byte(*first, *second))])?;
+        out.push_reserved(invert_if(negative, more_byte(*first, *second)));
         rest = more;
     }
-    match rest {
-        [first, ..] => out.extend_from_slice(&[invert_if(negative, last_byte(*first, b'0'))]),
-        [] => Ok(()),
+    if let [first, ..] = rest {
+        out.push_reserved(invert_if(negative, last_byte(*first, b'0')));
     }
-}
-
-// Appends the bytes of more than 16 digits, of which the first 16 come as a row.
-#[inline(never)]
-fn append_many(
-    negative: bool,
-    digits: &[u8],
-    chunk: &[u8; 16],
-    len: usize,
-    out: &mut Vec<u8>,
-) -> Result<(), AllocError>
-    requires many { 16 < len }
-    requires inside { len ≤ length digits.now }
-    requires first { chunk.now ≡ take 16 digits.now }
-    ensures bytes { OnOk result (out.new.items
-        ≡ out.old.items ++ map (invert_if negative) (digit_bytes (take len digits.now))) }
-    ensures kept { Extends out.old.items out.new.items }
-{
-    append_part(&inverted_if(negative, more_bytes(chunk)), 8, out)?;
-    append_long(negative, &digits[16..len], out)
+    Ok(())
 }
 
 // Appends the bytes of the first digits.
@@ -172,13 +154,12 @@ fn append_pairs(
         ≡ out.old.items ++ map (invert_if negative) (digit_bytes (take len digits.now))) }
     ensures kept { Extends out.old.items out.new.items }
 {
-    let Some(chunk) = digits.first_chunk::<16>() else {
-        return append_long(negative, &digits[..len], out);
-    };
     if len <= 16 {
-        return append_short(negative, chunk, len, out);
+        if let Some(chunk) = digits.first_chunk::<16>() {
+            return append_short(negative, chunk, len, out);
+        }
     }
-    append_many(negative, digits, chunk, len, out)
+    append_long(negative, &digits[..len], out)
 }
 
 // Appends the key of an integer of one or two digits above or below 0.

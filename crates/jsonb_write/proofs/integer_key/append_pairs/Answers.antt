@@ -5,8 +5,8 @@ use Rattle.jsonb_write.specs.IntegerKey.{digit_bytes}
 use Rattle.jsonb_write.proofs.Rooms.{on_ok}
 use Rattle.jsonb_write.proofs.integer_key.append_pairs.Goals as goal
 
-pub returns-then-len-le16-clause-bytes : goal.returns-then-len-le16-clause-bytes
-returns-then-len-le16-clause-bytes c =
+pub returns-in-Some-clause-bytes : goal.returns-in-Some-clause-bytes
+returns-in-Some-clause-bytes c =
     let len = c.args.len in
     on_ok c.append_short.result c.append_short.ensures.bytes (λ e.
     e
