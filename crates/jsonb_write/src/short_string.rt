@@ -1,6 +1,6 @@
 //! Strings whose escapes are of one letter, written from where they stand in the text: each run is looked at and
 //! copied at once.
-ghost use Rattle.std.specs.Prelude.{◌≡◌, ◌+◌, ◌-◌, ◌≤◌, ◌<◌, ◌++◌, ◌∷◌, [], ℕ, List, true, false, length, take, slice_range, IfNone, IfOk, IfSome, OnOk};
+ghost use Rattle.std.specs.Prelude.{◌≡◌, ◌+◌, ◌-◌, ◌≤◌, ◌<◌, ◌++◌, ◌∷◌, [], ℕ, List, true, false, length, take, slice_range, IfNone, IfOk, IfSome, MatchBool, OnOk};
 ghost use Rattle.jsonb_spec.specs.Source.{Source};
 ghost use Rattle.jsonb_spec.specs.Text.Appending.{Extends};
 ghost use Rattle.jsonb_write.specs.Members.{source_key};
@@ -19,6 +19,7 @@ use crate::written::Written;
 use jsonb_value::plain::{append_byte, run_of_few, run_of_sixteen};
 use jsonb_value::sort_key::kind;
 use std::alloc::AllocError;
+use std::simd::prelude::*;
 use text_common::kept::short_byte;
 
 // How many of the first bytes are written as they are, or as many of them as are looked at.
@@ -127,6 +128,20 @@ fn put_item(bytes: &[u8], as_text: bool, row: &mut [u8], at: usize) -> Option<(u
     Some((end, 2))
 }
 
+// Puts 16 bytes into a row by one store, where there is room for them.
+#[inline(always)]
+fn put_sixteen(row: &mut [u8], at: usize, chunk: &[u8; 16]) -> bool
+    ensures within { MatchBool result (at + 16 ≤ length row.new) (Unit {0}) }
+    ensures put { MatchBool result (take (at + 16) row.new ≡ take at row.old ++ chunk.now) (Unit {0}) }
+    ensures front { (n : ℕ) → n ≤ at → take n row.new ≡ take n row.old }
+{
+    if row.len() < 16 || at > row.len() - 16 {
+        return false;
+    }
+    u8x16::from_slice(chunk).copy_to_slice(&mut row[at..]);
+    true
+}
+
 // Puts contents into a row, from an index on, and returns where they end there. They are the first bytes. Nothing
 // where they are near the end of the bytes or of the row, or may need more bytes there.
 #[inline(always)]
@@ -149,7 +164,9 @@ fn put_short(
     'items: while at < count {
         let chunk = bytes[at..].first_chunk::<16>()?;
         let run = run_of_sixteen(chunk).min(count - at);
-        put_at(row, end, chunk)?;
+        if !put_sixteen(row, end, chunk) {
+            return None;
+        }
         at += run;
         end += run;
         if run < 16 && at < count {
