@@ -31,7 +31,7 @@ impl<'a> TextRoom<'a> {
 
     /// A scalar that stands in the text, where a value is due.
     #[inline(always)]
-    pub fn fill_kept(&mut self, kept: Kept, from: usize, to: usize) -> Result<(), AllocError>
+    pub(crate) fn fill_kept(&mut self, kept: Kept, from: usize, to: usize) -> Result<(), AllocError>
         ensures stands { OnOk result ((text : List ℕ) → (s : Source) → (held : List Held) → (cs : List Open)
             → TextStands text self.old true held cs → IsKeptAt kept text from to s → TextFilled text self.new s held cs) }
         ensures base { base_of self.new ≡ base_of self.old }

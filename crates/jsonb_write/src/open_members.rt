@@ -65,7 +65,7 @@ impl<'a> OpenMembers<'a> {
     /// Begins a member whose key stands there in the text, given the index after the key, and where the member begins
     /// in what is written.
     #[inline(always)]
-    pub fn begin_within(
+    pub(crate) fn begin_within(
         &mut self,
         from: usize,
         to: usize,
@@ -88,7 +88,12 @@ impl<'a> OpenMembers<'a> {
 
     /// Begins a member whose key doesn't stand in the text, or isn't known to.
     #[inline(never)]
-    pub fn begin_decoded(&mut self, key: &str, after: usize, start: usize) -> Result<(), AllocError>
+    pub(crate) fn begin_decoded(
+        &mut self,
+        key: &str,
+        after: usize,
+        start: usize,
+    ) -> Result<(), AllocError>
         ensures { OnOk result (Begins key.now after start self.old self.new) }
     {
         let from = self.decoded.len();
@@ -117,7 +122,7 @@ impl<'a> OpenMembers<'a> {
 
     /// Whether the keys of the members from an index on ascend.
     #[inline(always)]
-    pub fn ascend(&self, first: usize) -> bool
+    pub(crate) fn ascend(&self, first: usize) -> bool
         ensures { IsTrue result → KeysAscendFrom self.now first }
     {
         ascend(&self.keys(first))
@@ -128,7 +133,7 @@ impl<'a> OpenMembers<'a> {
     /// first `floor` bytes stay.
     #[cold]
     #[inline(never)]
-    pub fn put_in_order(
+    pub(crate) fn put_in_order(
         &mut self,
         first: usize,
         out: &mut Vec<u8>,
@@ -148,7 +153,7 @@ impl<'a> OpenMembers<'a> {
     /// Finds a key that comes twice among the members from an index on, and tells it by the index, among them, of the
     /// one where the least such key comes the second time.
     #[inline(always)]
-    pub fn find_repeat(&mut self, first: usize) -> Result<Option<usize>, AllocError>
+    pub(crate) fn find_repeat(&mut self, first: usize) -> Result<Option<usize>, AllocError>
         ensures same { AreSame self.old self.new }
         ensures repeat { IfOk result (λ found. (commas : Bool) → (bytes : Found → List ℕ) → (start : ℕ)
             → (fs : List Found) → EndIn commas bytes self.old first start fs → FindsRepeat self.new first fs found) }

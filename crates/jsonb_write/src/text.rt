@@ -487,19 +487,6 @@ impl<'a> TextRoom<'a> {
     {
         self.part(part, from, to)
     }
-
-    /// Copies what is written from an index on.
-    pub fn copy_from(&mut self, start: usize, copy: &mut Vec<u8>) -> Result<(), AllocError>
-        ensures copied { OnOk result (copy.new.items ≡ drop start (bytes_of self.old.written)) }
-        ensures same { OnOk result (Writes [] self.old self.new) }
-        ensures base { base_of self.new ≡ base_of self.old }
-    {
-        self.written.flush()?;
-        copy.clear();
-        let out = self.written.out.as_slice();
-        copy.extend_from_slice(&out[start.min(out.len())..])
-    }
-
     /// The end of a whole value: all of it is in the buffer.
     pub fn finish(&mut self) -> Result<(), AllocError>
         ensures ok { OnOk result ((text : List ℕ) → (s : Source) → TextFilled text self.old s [] []

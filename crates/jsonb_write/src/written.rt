@@ -72,7 +72,7 @@ impl<'a> Written<'a> {
 
     /// Writes a byte that may stand in the text at an index, where it isn't the next one.
     #[inline(always)]
-    pub fn put_at(&mut self, byte: u8, at: usize) -> Result<(), AllocError>
+    pub(crate) fn put_at(&mut self, byte: u8, at: usize) -> Result<(), AllocError>
         ensures bytes { OnOk result (bytes_of self.new ≡ bytes_of self.old ++ byte ∷ []) }
         ensures text { self.new.text ≡ self.old.text }
         ensures kept { Extends self.old.out.items self.new.out.items }
@@ -167,7 +167,7 @@ impl<'a> Written<'a> {
 
     /// Writes what stands in the text from one index to another.
     #[inline(always)]
-    pub fn keep(&mut self, from: usize, to: usize) -> Result<(), AllocError>
+    pub(crate) fn keep(&mut self, from: usize, to: usize) -> Result<(), AllocError>
         requires ordered { from ≤ to }
         requires inside { to ≤ length self.old.text.now }
         ensures bytes { OnOk result (bytes_of self.new ≡ bytes_of self.old ++ slice_range self.old.text.now from to) }
@@ -201,7 +201,7 @@ impl<'a> Written<'a> {
     /// second time. The first `floor` bytes stay.
     #[cold]
     #[inline(never)]
-    pub fn settle(
+    pub(crate) fn settle(
         &mut self,
         members: &mut OpenMembers<'_>,
         first: usize,
