@@ -134,6 +134,7 @@ impl<'a> PartRoom<'a> {
     ghost use Rattle.jsonb_write.specs.PartRoom.{PartFilled, PartHeld, PartStands, array_held, keys_of, object_held};
 
     // A scalar that stands in the text, where a value is due.
+    #[inline(always)]
     fn fill_kept(&mut self, kept: Kept, from: usize, to: usize) -> Result<(), AllocError>
         ensures stands { OnOk result ((text : List ℕ) → (s : Source) → (held : List PartHeld) → (cs : List Open)
             → PartStands text self.old true held cs → IsKeptAt kept text from to s
@@ -149,6 +150,7 @@ impl<'a> PartRoom<'a> {
     }
 
     /// An item that stands in the text.
+    #[inline(always)]
     pub fn push_kept(
         &mut self,
         items: &mut PartItems,
@@ -169,6 +171,7 @@ impl<'a> PartRoom<'a> {
     }
 
     /// A member's value that stands in the text.
+    #[inline(always)]
     pub fn insert_kept(
         &mut self,
         members: &PartMembers,

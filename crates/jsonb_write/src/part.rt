@@ -73,6 +73,7 @@ impl<'a> PartRoom<'a> {
     }
 
     // The key of the path behind so many.
+    #[inline(always)]
     fn next_key(&self, level: Option<usize>) -> Option<&str>
         ensures { option_map (λ key. key.now) result ≡ option_and_then first_key (rest_at (keys_of self.now) level) }
     {
@@ -94,6 +95,7 @@ impl<'a> PartRoom<'a> {
     }
 
     // How many keys of the path lead to the member with this key.
+    #[inline(always)]
     fn follow(&self, level: Option<usize>, key: &str) -> Option<usize>
         ensures { rest_at (keys_of self.now) result
             ≡ option_and_then (follow_key key.now) (rest_at (keys_of self.now) level) }
@@ -115,6 +117,7 @@ impl<'a> PartRoom<'a> {
     }
 
     // Whether the whole path leads there.
+    #[inline(always)]
     fn is_part(&self, level: Option<usize>) -> bool
         ensures { MatchBool result (rest_at (keys_of self.now) level ≡ Some [])
             (rest_at (keys_of self.now) level ≡ Some [] → ⊥) }
@@ -200,6 +203,7 @@ impl<'a> PartRoom<'a> {
     }
 
     // How many keys of the path lead to the next item.
+    #[inline(always)]
     fn item_level(&self, items: &PartItems) -> Option<usize>
         ensures { (ss : List Source) → (cs : List Open) → Leads (keys_of self.now) items.now.level cs
             → IsAhead (option_and_then first_index (path_behind (keys_of self.now) cs)) items.now.ahead (length ss)
@@ -212,6 +216,7 @@ impl<'a> PartRoom<'a> {
     }
 
     /// What stands before an item.
+    #[inline(always)]
     pub fn next_item(&mut self, items: &mut PartItems) -> Result<(), AllocError>
         ensures stands { OnOk result ((text : List ℕ) → (held : List PartHeld) → (ss : List Source)
             → (cs : List Open) → PartStands text self.old false (array_held items.old ∷ held) (elements_so_far ss ∷ cs)
@@ -226,6 +231,7 @@ impl<'a> PartRoom<'a> {
     }
 
     // A value that holds no others, where one is due.
+    #[inline(always)]
     fn fill(&mut self, part: &Part<'a>, from: usize, to: usize) -> Result<(), AllocError>
         ensures stands { OnOk result ((text : List ℕ) → (s : Source) → (held : List PartHeld) → (cs : List Open)
             → PartStands text self.old true held cs → SeesPart part.now s → IsSpelled text from to part.now
@@ -241,6 +247,7 @@ impl<'a> PartRoom<'a> {
     }
 
     /// An item that ended.
+    #[inline(always)]
     pub fn push_inner(&mut self, items: &mut PartItems)
         ensures stands { (text : List ℕ) → (s : Source) → (held : List PartHeld) → (ss : List Source)
             → (cs : List Open) → PartFilled text self.old s (array_held items.old ∷ held) (elements_so_far ss ∷ cs)
@@ -255,6 +262,7 @@ impl<'a> PartRoom<'a> {
     }
 
     /// An item that holds no others, and that stands there in the text.
+    #[inline(always)]
     pub fn push(
         &mut self,
         items: &mut PartItems,
@@ -375,6 +383,7 @@ impl<'a> PartRoom<'a> {
     }
 
     /// A member's value that ended.
+    #[inline(always)]
     pub fn insert_inner(&mut self, members: &PartMembers)
         ensures stands { (text : List ℕ) → (s : Source) → (held : List PartHeld) → (fs : List Found)
             → (k : Mark × List ℕ) → (place : ℕ) → (cs : List Open) → (next : Mark × List ℕ) → (other : ℕ)
@@ -389,6 +398,7 @@ impl<'a> PartRoom<'a> {
     }
 
     /// A member's value that holds no others, and that stands there in the text.
+    #[inline(always)]
     pub fn insert(
         &mut self,
         members: &PartMembers,
@@ -473,6 +483,7 @@ impl<'a> PartRoom<'a> {
 }
 
 // One less, and none behind the one on the path.
+#[inline(always)]
 fn one_less(ahead: Option<usize>) -> Option<usize>
     ensures { result ≡ less ahead }
 {
