@@ -151,12 +151,7 @@ fn read(alloc: Global, mode: Mode, text: &[u8]) -> jsonb::Result<Value<'_>> {
 }
 
 // The order of two texts' values, or `None` where that of their sort keys is another.
-fn order(
-    alloc: Global,
-    mode: Mode,
-    left: &[u8],
-    right: &[u8],
-) -> jsonb::Result<Option<Ordering>> {
+fn order(alloc: Global, mode: Mode, left: &[u8], right: &[u8]) -> jsonb::Result<Option<Ordering>> {
     let order = read(alloc, mode, left)?.cmp(&read(alloc, mode, right)?);
     let mut first = Vec::new(alloc);
     jsonb::append_sort_key(alloc, left, mode, &mut first)?;

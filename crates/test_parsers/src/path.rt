@@ -65,7 +65,11 @@ fn expect(
     expected: &str,
 ) -> Result<(), Error> {
     let got = part(rt.alloc(), path, document)?;
-    assert_eq!(rt; got.as_slice(), expected.as_bytes(), "{path:?} of {document}");
+    assert_eq!(rt;
+        got.as_slice(),
+        expected.as_bytes(),
+        "{path:?} of {document}"
+    );
     Ok(())
 }
 
