@@ -19,10 +19,7 @@ SONAME = libvizhoniku.so.0
 VERSION = $(shell sed -n 's/^\#define VIZHONIKU_VERSION_STRING "\(.*\)"/\1/p' include/vizhoniku.h)
 
 # The functions that take bytes: packaging/empty.c stands before the proved ones.
-WITH_BYTES = check text part sort_key text_and_key key_text compare place message key_check key_kind key_count \
-    key_member key_item key_part key_begin key_next key_string key_name key_contains key_set key_remove key_put \
-    key_push key_merge key_numbers zeros_of_text zeros_of_numbers text_with_zeros plain_numbers masked_numbers \
-    error_path
+WITH_BYTES = $(shell sed -n 's/^[a-z0-9_]* vizhoniku_\([a-z_]*\)(.*/\1/p' packaging/empty.c)
 
 # What is proved, as one object.
 PROVED ?= build/proved.o

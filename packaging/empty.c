@@ -1,7 +1,9 @@
 /* The functions that take bytes. Each calls the proved one of its name, with proved_ in place of vizhoniku_.
  *
  * A slice of a proved function is never at a null pointer, and a caller may have no other for an empty text or buffer.
- * So a pointer that comes with size 0 isn't passed on: the address of a byte that nothing reads or writes is. */
+ * So a pointer that comes with size 0 isn't passed on: the address of a byte that nothing reads or writes is.
+ *
+ * packaging/calls makes this file of the header. */
 #include "vizhoniku.h"
 
 uint32_t proved_check(uint32_t mode, const unsigned char *text, size_t text_size, struct vizhoniku_refusal *refusal);
@@ -12,26 +14,11 @@ uint32_t proved_part(uint32_t mode, const unsigned char *path, size_t path_size,
                      struct vizhoniku_refusal *refusal);
 uint32_t proved_sort_key(uint32_t mode, const unsigned char *text, size_t text_size, unsigned char *buffer,
                          size_t buffer_size, size_t *size, struct vizhoniku_refusal *refusal);
+uint32_t proved_key_text(const unsigned char *key, size_t key_size, unsigned char *buffer, size_t buffer_size,
+                         size_t *size);
 uint32_t proved_text_and_key(uint32_t mode, const unsigned char *text, size_t text_size, unsigned char *buffer,
                              size_t buffer_size, size_t *size, unsigned char *key_buffer, size_t key_buffer_size,
                              size_t *key_size, struct vizhoniku_refusal *refusal);
-uint32_t proved_zeros_of_text(const unsigned char *text, size_t text_size, unsigned char *buffer, size_t buffer_size,
-                              size_t *size);
-uint32_t proved_text_with_zeros(const unsigned char *text, size_t text_size, const unsigned char *zeros,
-                                size_t zeros_size, unsigned char *buffer, size_t buffer_size, size_t *size);
-uint32_t proved_key_numbers(const unsigned char *key, size_t key_size, size_t offset, size_t size, size_t *before,
-                            size_t *numbers);
-uint32_t proved_zeros_of_numbers(const unsigned char *zeros, size_t zeros_size, size_t first, size_t numbers,
-                                 size_t *plain, unsigned char *buffer, size_t buffer_size, size_t *size);
-uint32_t proved_plain_numbers(const unsigned char *text, size_t text_size, unsigned char *buffer, size_t buffer_size,
-                              size_t *size, struct vizhoniku_refusal *refusal);
-uint32_t proved_masked_numbers(const unsigned char *text, size_t text_size, unsigned char *buffer, size_t buffer_size,
-                               size_t *size);
-uint32_t proved_error_path(uint32_t mode, const unsigned char *text, size_t text_size,
-                           const struct vizhoniku_refusal *refusal, unsigned char *buffer, size_t buffer_size,
-                           size_t *size);
-uint32_t proved_key_text(const unsigned char *key, size_t key_size, unsigned char *buffer, size_t buffer_size,
-                         size_t *size);
 uint32_t proved_compare(uint32_t mode, const unsigned char *left, size_t left_size, const unsigned char *right,
                         size_t right_size, int32_t *order, struct vizhoniku_refusal *refusal);
 void proved_place(const unsigned char *text, size_t text_size, const struct vizhoniku_refusal *refusal,
@@ -66,6 +53,21 @@ uint32_t proved_key_push(const unsigned char *key, size_t key_size, const unsign
                          unsigned char *buffer, size_t buffer_size, size_t *size);
 uint32_t proved_key_merge(const unsigned char *left, size_t left_size, const unsigned char *right, size_t right_size,
                           unsigned char *buffer, size_t buffer_size, size_t *size);
+uint32_t proved_zeros_of_text(const unsigned char *text, size_t text_size, unsigned char *buffer, size_t buffer_size,
+                              size_t *size);
+uint32_t proved_text_with_zeros(const unsigned char *text, size_t text_size, const unsigned char *zeros,
+                                size_t zeros_size, unsigned char *buffer, size_t buffer_size, size_t *size);
+uint32_t proved_key_numbers(const unsigned char *key, size_t key_size, size_t offset, size_t size, size_t *before,
+                            size_t *numbers);
+uint32_t proved_zeros_of_numbers(const unsigned char *zeros, size_t zeros_size, size_t first, size_t numbers,
+                                 size_t *plain, unsigned char *buffer, size_t buffer_size, size_t *size);
+uint32_t proved_plain_numbers(const unsigned char *text, size_t text_size, unsigned char *buffer, size_t buffer_size,
+                              size_t *size, struct vizhoniku_refusal *refusal);
+uint32_t proved_masked_numbers(const unsigned char *text, size_t text_size, unsigned char *buffer, size_t buffer_size,
+                               size_t *size);
+uint32_t proved_error_path(uint32_t mode, const unsigned char *text, size_t text_size,
+                           const struct vizhoniku_refusal *refusal, unsigned char *buffer, size_t buffer_size,
+                           size_t *size);
 
 static unsigned char none;
 
@@ -97,34 +99,16 @@ uint32_t vizhoniku_sort_key(uint32_t mode, const unsigned char *text, size_t tex
                          refusal);
 }
 
+uint32_t vizhoniku_key_text(const unsigned char *key, size_t key_size, unsigned char *buffer, size_t buffer_size,
+                            size_t *size) {
+  return proved_key_text(bytes_at(key, key_size), key_size, buffer_at(buffer, buffer_size), buffer_size, size);
+}
+
 uint32_t vizhoniku_text_and_key(uint32_t mode, const unsigned char *text, size_t text_size, unsigned char *buffer,
                                 size_t buffer_size, size_t *size, unsigned char *key_buffer, size_t key_buffer_size,
                                 size_t *key_size, struct vizhoniku_refusal *refusal) {
   return proved_text_and_key(mode, bytes_at(text, text_size), text_size, buffer_at(buffer, buffer_size), buffer_size,
                              size, buffer_at(key_buffer, key_buffer_size), key_buffer_size, key_size, refusal);
-}
-
-uint32_t vizhoniku_plain_numbers(const unsigned char *text, size_t text_size, unsigned char *buffer, size_t buffer_size,
-                                 size_t *size, struct vizhoniku_refusal *refusal) {
-  return proved_plain_numbers(bytes_at(text, text_size), text_size, buffer_at(buffer, buffer_size), buffer_size, size,
-                              refusal);
-}
-
-uint32_t vizhoniku_masked_numbers(const unsigned char *text, size_t text_size, unsigned char *buffer,
-                                  size_t buffer_size, size_t *size) {
-  return proved_masked_numbers(bytes_at(text, text_size), text_size, buffer_at(buffer, buffer_size), buffer_size, size);
-}
-
-uint32_t vizhoniku_error_path(uint32_t mode, const unsigned char *text, size_t text_size,
-                              const struct vizhoniku_refusal *refusal, unsigned char *buffer, size_t buffer_size,
-                              size_t *size) {
-  return proved_error_path(mode, bytes_at(text, text_size), text_size, refusal, buffer_at(buffer, buffer_size),
-                           buffer_size, size);
-}
-
-uint32_t vizhoniku_key_text(const unsigned char *key, size_t key_size, unsigned char *buffer, size_t buffer_size,
-                            size_t *size) {
-  return proved_key_text(bytes_at(key, key_size), key_size, buffer_at(buffer, buffer_size), buffer_size, size);
 }
 
 uint32_t vizhoniku_compare(uint32_t mode, const unsigned char *left, size_t left_size, const unsigned char *right,
@@ -246,4 +230,22 @@ uint32_t vizhoniku_zeros_of_numbers(const unsigned char *zeros, size_t zeros_siz
                                     size_t *plain, unsigned char *buffer, size_t buffer_size, size_t *size) {
   return proved_zeros_of_numbers(bytes_at(zeros, zeros_size), zeros_size, first, numbers, plain,
                                  buffer_at(buffer, buffer_size), buffer_size, size);
+}
+
+uint32_t vizhoniku_plain_numbers(const unsigned char *text, size_t text_size, unsigned char *buffer, size_t buffer_size,
+                                 size_t *size, struct vizhoniku_refusal *refusal) {
+  return proved_plain_numbers(bytes_at(text, text_size), text_size, buffer_at(buffer, buffer_size), buffer_size, size,
+                              refusal);
+}
+
+uint32_t vizhoniku_masked_numbers(const unsigned char *text, size_t text_size, unsigned char *buffer,
+                                  size_t buffer_size, size_t *size) {
+  return proved_masked_numbers(bytes_at(text, text_size), text_size, buffer_at(buffer, buffer_size), buffer_size, size);
+}
+
+uint32_t vizhoniku_error_path(uint32_t mode, const unsigned char *text, size_t text_size,
+                              const struct vizhoniku_refusal *refusal, unsigned char *buffer, size_t buffer_size,
+                              size_t *size) {
+  return proved_error_path(mode, bytes_at(text, text_size), text_size, refusal, buffer_at(buffer, buffer_size),
+                           buffer_size, size);
 }
