@@ -37,9 +37,9 @@ $(BUILT): $(SOURCES)
 	@command -v rt > /dev/null || { echo "the library has to be proved, and the command rt of the Rattle kit is" \
 	    "missing. With PROVED=FILE it is built from the build/proved.o of a folder where it was proved" >&2; exit 1; }
 	@mkdir -p build
-	@echo "proving and building the library. To follow it: tail -f $(CURDIR)/build/log"
+	@echo "proving and building the library, which takes minutes the first time. To follow it: tail -f $(CURDIR)/build/log"
 	@touch build/start
-	@(cd crates/jsonb_c && rt lib) > build/log 2>&1 || { cat build/log >&2; exit 1; }
+	@cd crates/jsonb_c && ../../packaging/follow library ../../build/log rt lib || { cat ../../build/log >&2; exit 1; }
 	@touch -r build/start $@
 
 build/proved.o: $(BUILT) Makefile

@@ -187,7 +187,7 @@ static struct file load(const char *path) {
   return file;
 }
 
-/* Does the operation on each document in turn. A refusal would make the figures worthless, so it ends the run. */
+/* Does the operation on each document in turn. A error would make the figures worthless, so it ends the run. */
 static void pass(const struct file *file, operation_t *run, size_t rounds) {
   for (size_t i = 0; i < file->count; i++) {
 #ifdef WITH_PART

@@ -7,7 +7,7 @@
  *
  * What a caller owes:
  *  - No pointer is null, but that of a text, a path, a name, a key or a buffer of size 0, which isn't dereferenced.
- *  - What a call writes to (buffer, size, order, refusal, place, offset, count, cursor, entry, before, numbers, plain)
+ *  - What a call writes to (buffer, size, order, error, location, offset, count, cursor, entry, before, numbers, plain)
  *    doesn't overlap any other argument.
  *  - No text, no key and no buffer is longer than PTRDIFF_MAX bytes.
  *  - The thread has 112 KB of stack free, where input is untrusted: no call was seen to take more, and
@@ -46,7 +46,7 @@ enum vizhoniku_mode {
 /* What a call returns. */
 enum vizhoniku_status {
   VIZHONIKU_ACCEPTED = 0,      /* success: each text is a document */
-  VIZHONIKU_REFUSED = 1,       /* a text is no document of the mode: the refusal says why */
+  VIZHONIKU_REJECTED = 1,      /* a text is no document of the mode: the error says why */
   VIZHONIKU_OUT_OF_MEMORY = 2, /* memory ran out: this doesn't say whether a text is a document */
   VIZHONIKU_UNKNOWN_MODE = 3,  /* no mode has this number */
   VIZHONIKU_TOO_SHORT = 4,     /* the buffer is shorter than the text: the size says what is needed */
@@ -56,6 +56,10 @@ enum vizhoniku_status {
   VIZHONIKU_TOO_DEEP = 8,      /* the value would have more than 512 nested arrays and objects */
   VIZHONIKU_NO_ZEROS = 9       /* the bytes aren't the text of a value, or not the zeros of one */
 };
+
+/* Names of earlier versions, which the next one drops. */
+#define VIZHONIKU_REFUSED VIZHONIKU_REJECTED
+#define vizhoniku_refusal vizhoniku_error
 
 /* What is wrong with a text. docs/GRAMMAR.md says when, and which byte the position means. */
 enum vizhoniku_code {
@@ -83,15 +87,15 @@ enum vizhoniku_code {
   VIZHONIKU_DEPTH_LIMIT_EXCEEDED = 21  /* more than 512 arrays and objects are open at once */
 };
 
-/* Which text was rejected, and why. All three are 0 where the status is not VIZHONIKU_REFUSED. */
-struct vizhoniku_refusal {
+/* Which text was rejected, and why. All three are 0 where the status is not VIZHONIKU_REJECTED. */
+struct vizhoniku_error {
   uint32_t code;   /* of enum vizhoniku_code */
   uint32_t which;  /* 1 for the only or the first text, 2 for the second */
   size_t position; /* a number of bytes: which byte it means depends on the code, and it may pass the end */
 };
 
 /* Checks whether the text is a document of the mode. The status is never VIZHONIKU_TOO_SHORT. */
-uint32_t vizhoniku_check(uint32_t mode, const unsigned char *text, size_t text_size, struct vizhoniku_refusal *refusal);
+uint32_t vizhoniku_check(uint32_t mode, const unsigned char *text, size_t text_size, struct vizhoniku_error *error);
 
 /* Writes the text's value as text to the start of the buffer: without whitespace, and the members of objects in the
  * order of their keys' bytes. What was written is a document of the same value, and is written as itself.
@@ -100,7 +104,7 @@ uint32_t vizhoniku_check(uint32_t mode, const unsigned char *text, size_t text_s
  *  - VIZHONIKU_TOO_SHORT: *size bytes are needed, and nothing was written.
  *  - any other status: *size is 0, and nothing was written. */
 uint32_t vizhoniku_text(uint32_t mode, const unsigned char *text, size_t text_size, unsigned char *buffer,
-                        size_t buffer_size, size_t *size, struct vizhoniku_refusal *refusal);
+                        size_t buffer_size, size_t *size, struct vizhoniku_error *error);
 
 /* Writes the part of the text's value at the path, as vizhoniku_text writes the whole. A path is a JSON Pointer (RFC
  * 6901): "" is the whole, and "/a/0" the first item of the member "a". In an array a step is an index: decimal digits
@@ -111,7 +115,7 @@ uint32_t vizhoniku_text(uint32_t mode, const unsigned char *text, size_t text_si
  *  - any other status: *size is 0, and nothing was written. */
 uint32_t vizhoniku_part(uint32_t mode, const unsigned char *path, size_t path_size, const unsigned char *text,
                         size_t text_size, unsigned char *buffer, size_t buffer_size, size_t *size,
-                        struct vizhoniku_refusal *refusal);
+                        struct vizhoniku_error *error);
 
 /* Writes the sort key of the text's value to the start of the buffer: bytes that compare, as memcmp does and the
  * shorter first, as vizhoniku_compare does, and that are equal exactly for equal values. No key is a prefix of another,
@@ -121,7 +125,7 @@ uint32_t vizhoniku_part(uint32_t mode, const unsigned char *path, size_t path_si
  *  - VIZHONIKU_TOO_SHORT: *size bytes are needed, and nothing was written.
  *  - any other status: *size is 0, and nothing was written. */
 uint32_t vizhoniku_sort_key(uint32_t mode, const unsigned char *text, size_t text_size, unsigned char *buffer,
-                            size_t buffer_size, size_t *size, struct vizhoniku_refusal *refusal);
+                            size_t buffer_size, size_t *size, struct vizhoniku_error *error);
 
 /* Writes the text of the value whose sort key the bytes are, as vizhoniku_text writes it, with the fewest digits in each
  * number: the key of 1.50 is that of 1.5, and gives 1.5. No value is built, and the machine stack that is taken is the
@@ -146,14 +150,14 @@ uint32_t vizhoniku_key_text(const unsigned char *key, size_t key_size, unsigned 
  *  - any other status: *size and *key_size are 0, and nothing was written. */
 uint32_t vizhoniku_text_and_key(uint32_t mode, const unsigned char *text, size_t text_size, unsigned char *buffer,
                                 size_t buffer_size, size_t *size, unsigned char *key_buffer, size_t key_buffer_size,
-                                size_t *key_size, struct vizhoniku_refusal *refusal);
+                                size_t *key_size, struct vizhoniku_error *error);
 
 /* Compares the values of two texts of one mode: *order is -1 where the first is below the second, 0 where they are the
  * same, and 1 where it is above. It is one total order; docs/VALUES.md has it. Where the status is not
  * VIZHONIKU_ACCEPTED, *order is 0. Where both texts are rejected, the first is reported. The status is never
  * VIZHONIKU_TOO_SHORT. */
 uint32_t vizhoniku_compare(uint32_t mode, const unsigned char *left, size_t left_size, const unsigned char *right,
-                           size_t right_size, int32_t *order, struct vizhoniku_refusal *refusal);
+                           size_t right_size, int32_t *order, struct vizhoniku_error *error);
 
 /* The byte to show of an error: the offset of the wrong byte, or of the last byte of the faulty number, string, key or
  * escape, or the text's size where the text ends too early; and the line and the column of that, both counted from 1,
@@ -164,21 +168,21 @@ struct vizhoniku_location {
   size_t column;
 };
 
-/* Returns the byte to show of a refusal of this text. */
-void vizhoniku_place(const unsigned char *text, size_t text_size, const struct vizhoniku_refusal *refusal,
-                     struct vizhoniku_location *place);
+/* Returns the byte to show of an error of this text. */
+void vizhoniku_place(const unsigned char *text, size_t text_size, const struct vizhoniku_error *error,
+                     struct vizhoniku_location *location);
 
 /* Writes the error message of the text to the start of the buffer, as the program jsonb_cat prints it, such as
  * `duplicate object attribute "a", pos 10`. The text is parsed for that, so no other call need check it before.
  *
- *  - VIZHONIKU_REFUSED: *size bytes were written, with no zero byte after them. The rest of the buffer is as before.
+ *  - VIZHONIKU_REJECTED: *size bytes were written, with no zero byte after them. The rest of the buffer is as before.
  *  - VIZHONIKU_TOO_SHORT: *size bytes are needed, and nothing was written.
  *  - VIZHONIKU_ACCEPTED: the text is a document. *size is 0, as with any other status, and nothing was written. */
 uint32_t vizhoniku_message(uint32_t mode, const unsigned char *text, size_t text_size, unsigned char *buffer,
                            size_t buffer_size, size_t *size);
 
 /* A sort key as a stored document. The calls below take the key of a value, as vizhoniku_sort_key wrote it, and find
- * where in it the keys of its parts stand: an offset and a size. No text is parsed, no value is made, and nothing is
+ * the keys of its parts in it: an offset and a size. No text is parsed, no value is made, and nothing is
  * kept. A part's range is the key of the part, to which each of these calls may be applied again.
  *
  * Any bytes may be passed, and a range lies within them. They aren't checked as a whole: of bytes that are the key of
@@ -231,7 +235,7 @@ struct vizhoniku_key_cursor {
   size_t offset;
 };
 
-/* Where in a key an item stands, or a member: its name, and its value. An item has no name: name_size is 0. */
+/* The range of an item in a key, or those of a member: its name, and its value. An item has no name: name_size is 0. */
 struct vizhoniku_key_entry {
   size_t name_offset;
   size_t name_size; /* with the two bytes that end a name; vizhoniku_key_name has the name itself */
@@ -242,7 +246,7 @@ struct vizhoniku_key_entry {
 /* Puts the cursor before the first item or member. VIZHONIKU_NO_PART: the value is neither an array nor an object. */
 uint32_t vizhoniku_key_begin(const unsigned char *key, size_t key_size, struct vizhoniku_key_cursor *cursor);
 
-/* Tells where the next item or member stands, in the order of the array or of the names' bytes, and moves the cursor
+/* Finds the next item or member, in the order of the array or of the names' bytes, and moves the cursor
  * behind it. The key is that of vizhoniku_key_begin. VIZHONIKU_NO_PART: there is none any more. The cursor stays where
  * it is then, and with VIZHONIKU_NO_KEY. */
 uint32_t vizhoniku_key_next(const unsigned char *key, size_t key_size, struct vizhoniku_key_cursor *cursor,
@@ -262,7 +266,7 @@ uint32_t vizhoniku_key_string(const unsigned char *key, size_t key_size, unsigne
 uint32_t vizhoniku_key_name(const unsigned char *name, size_t name_size, unsigned char *buffer, size_t buffer_size,
                             size_t *size);
 
-/* Tells whether a value contains another, from their keys, as @> of PostgreSQL's jsonb does: an object contains an
+/* Whether a value contains another, from their keys, as @> of PostgreSQL's jsonb does: an object contains an
  * object where for each member of that it has one of that name whose value contains the other's, an array an array where
  * for each item of that it has one that contains it, and a scalar an equal one. Only where the whole of the first is an
  * array, it also contains a scalar that is one of its items. VIZHONIKU_NO_PART: it doesn't contain it.
@@ -303,7 +307,7 @@ uint32_t vizhoniku_key_set(const unsigned char *key, size_t key_size, const unsi
 uint32_t vizhoniku_key_remove(const unsigned char *key, size_t key_size, const unsigned char *path, size_t path_size,
                               unsigned char *buffer, size_t buffer_size, size_t *size);
 
-/* Puts a member into an object, in place of the one of that name where there is one. The name is UTF-8 as it is, with no
+/* Puts a member into an object, instead of the one of that name where there is one. The name is UTF-8 as it is, with no
  * escapes. VIZHONIKU_NO_PART: the value is no object. VIZHONIKU_NO_PATH: the name isn't UTF-8. */
 uint32_t vizhoniku_key_put(const unsigned char *key, size_t key_size, const unsigned char *name, size_t name_size,
                            const unsigned char *value, size_t value_size, unsigned char *buffer, size_t buffer_size,
@@ -333,7 +337,7 @@ uint32_t vizhoniku_key_merge(const unsigned char *left, size_t left_size, const 
  *  - VIZHONIKU_ACCEPTED: *size bytes were written. The rest of the buffer is as before.
  *  - VIZHONIKU_TOO_SHORT: *size bytes are needed, and nothing was written.
  *  - VIZHONIKU_NO_ZEROS: the bytes aren't the text of a value, or not the zeros of one with this text. *size is 0, and
- *    nothing was written. Not all such bytes are told so: of others any bytes may be written.
+ *    nothing was written. Not all such bytes are found: of others any bytes may be written.
  *  - VIZHONIKU_OUT_OF_MEMORY: *size is 0, and nothing was written. */
 uint32_t vizhoniku_zeros_of_text(const unsigned char *text, size_t text_size, unsigned char *buffer, size_t buffer_size,
                                  size_t *size);
@@ -342,13 +346,13 @@ uint32_t vizhoniku_text_with_zeros(const unsigned char *text, size_t text_size, 
                                    size_t zeros_size, unsigned char *buffer, size_t buffer_size, size_t *size);
 
 /* Counts the numbers of a part of a value, and those before it in the value, from the value's key and the range in it
- * that is the part's key, as the calls above tell it. VIZHONIKU_NO_KEY: no part was found there; both are 0. */
+ * that is the part's key, as the calls above give it. VIZHONIKU_NO_KEY: no part was found there; both are 0. */
 uint32_t vizhoniku_key_numbers(const unsigned char *key, size_t key_size, size_t offset, size_t size, size_t *before,
                                size_t *numbers);
 
 /* Writes the entries of the numbers from index first to index first + numbers - 1, where the index of a value's first
  * number is 0. With 0 in *plain these are the zeros of a part, where first and numbers are what vizhoniku_key_numbers
- * tells of it. To put together the zeros of several parts, write those of each behind those before it: *plain is how
+ * gives for it. To put together the zeros of several parts, write those of each behind those before it: *plain is how
  * many numbers without zeros come last in what was written before, and the call changes it to how many come last then.
  * The statuses are as above, and *plain changes with VIZHONIKU_ACCEPTED alone. VIZHONIKU_NO_ZEROS: the bytes aren't the
  * zeros of so many numbers. */
@@ -363,20 +367,20 @@ uint32_t vizhoniku_zeros_of_numbers(const unsigned char *zeros, size_t zeros_siz
  *  - VIZHONIKU_ACCEPTED: *size bytes were written, with no zero byte after them. The rest of the buffer is as before.
  *    This doesn't say that the text is a document.
  *  - VIZHONIKU_TOO_SHORT: *size bytes are needed, and nothing was written. It may be more than text_size.
- *  - VIZHONIKU_REFUSED: a number with an exponent takes more than 38 digits where it is written out, before and behind
- *    the point. The refusal has VIZHONIKU_NUMBER_NOT_CARRIED and the offset after the first such number. *size is 0, and
+ *  - VIZHONIKU_REJECTED: a number with an exponent takes more than 38 digits where it is written out, before and behind
+ *    the point. The error has VIZHONIKU_NUMBER_NOT_CARRIED and the offset after the first such number. *size is 0, and
  *    nothing was written.
  *  - VIZHONIKU_OUT_OF_MEMORY: *size is 0, and nothing was written.
  *
- * Any bytes may be passed. From the first single quote, slash or backslash on that stands outside of strings in double
+ * Any bytes may be passed. From the first single quote, slash or backslash on that is outside of strings in double
  * quotes, all bytes are as they were: so nothing in a comment and in a string in single quotes changes. */
 uint32_t vizhoniku_plain_numbers(const unsigned char *text, size_t text_size, unsigned char *buffer, size_t buffer_size,
-                                 size_t *size, struct vizhoniku_refusal *refusal);
+                                 size_t *size, struct vizhoniku_error *error);
 
 /* Writes a text to the start of the buffer with each number masked that vizhoniku_plain_numbers writes out: a 0, and
  * as many spaces as the number has bytes more. A number that takes more than 38 digits stays as it is. All other bytes
  * are as they were, and each has its offset. So where VIZHONIKU_EXTENDED rejects the text with its numbers written out,
- * or a number takes too many digits, the calls over this one tell what is wrong with the place in the text.
+ * or a number takes too many digits, the calls over this one report the error with its offset in the text.
  *
  *  - VIZHONIKU_ACCEPTED: *size bytes were written, which is text_size. This doesn't say that the text is a document.
  *  - VIZHONIKU_TOO_SHORT: *size bytes are needed, and nothing was written.
@@ -389,15 +393,15 @@ uint32_t vizhoniku_masked_numbers(const unsigned char *text, size_t text_size, u
 /* Writes the path of the part of the text's value at which the text is rejected to the start of the buffer: a JSON
  * Pointer (RFC 6901), such as /values/17. It is that of the innermost item or member with the fault, and "" where that
  * is the whole. Where a key is wrong, or missing, it is that of the object, and of a repeated key that of the member.
- * The refusal is the one of this text and mode, or of the text with its numbers masked: in extended mode numbers with an
- * exponent are passed that stand before the fault. The text is parsed once more.
+ * The error is the one of this text and mode, or of the text with its numbers masked: in extended mode numbers with an
+ * exponent are passed that are before the fault. The text is parsed once more.
  *
  *  - VIZHONIKU_ACCEPTED: *size bytes were written, with no zero byte after them, which are UTF-8. The rest of the buffer
  *    is as before. Zero bytes may be among them, where a key has some.
  *  - VIZHONIKU_TOO_SHORT: *size bytes are needed, and nothing was written.
  *  - VIZHONIKU_OUT_OF_MEMORY, VIZHONIKU_UNKNOWN_MODE: *size is 0, and nothing was written. */
 uint32_t vizhoniku_error_path(uint32_t mode, const unsigned char *text, size_t text_size,
-                              const struct vizhoniku_refusal *refusal, unsigned char *buffer, size_t buffer_size,
+                              const struct vizhoniku_error *error, unsigned char *buffer, size_t buffer_size,
                               size_t *size);
 
 #ifdef __cplusplus

@@ -6,23 +6,23 @@
  * packaging/calls makes this file of the header. */
 #include "vizhoniku.h"
 
-uint32_t proved_check(uint32_t mode, const unsigned char *text, size_t text_size, struct vizhoniku_refusal *refusal);
+uint32_t proved_check(uint32_t mode, const unsigned char *text, size_t text_size, struct vizhoniku_error *error);
 uint32_t proved_text(uint32_t mode, const unsigned char *text, size_t text_size, unsigned char *buffer,
-                     size_t buffer_size, size_t *size, struct vizhoniku_refusal *refusal);
+                     size_t buffer_size, size_t *size, struct vizhoniku_error *error);
 uint32_t proved_part(uint32_t mode, const unsigned char *path, size_t path_size, const unsigned char *text,
                      size_t text_size, unsigned char *buffer, size_t buffer_size, size_t *size,
-                     struct vizhoniku_refusal *refusal);
+                     struct vizhoniku_error *error);
 uint32_t proved_sort_key(uint32_t mode, const unsigned char *text, size_t text_size, unsigned char *buffer,
-                         size_t buffer_size, size_t *size, struct vizhoniku_refusal *refusal);
+                         size_t buffer_size, size_t *size, struct vizhoniku_error *error);
 uint32_t proved_key_text(const unsigned char *key, size_t key_size, unsigned char *buffer, size_t buffer_size,
                          size_t *size);
 uint32_t proved_text_and_key(uint32_t mode, const unsigned char *text, size_t text_size, unsigned char *buffer,
                              size_t buffer_size, size_t *size, unsigned char *key_buffer, size_t key_buffer_size,
-                             size_t *key_size, struct vizhoniku_refusal *refusal);
+                             size_t *key_size, struct vizhoniku_error *error);
 uint32_t proved_compare(uint32_t mode, const unsigned char *left, size_t left_size, const unsigned char *right,
-                        size_t right_size, int32_t *order, struct vizhoniku_refusal *refusal);
-void proved_place(const unsigned char *text, size_t text_size, const struct vizhoniku_refusal *refusal,
-                  struct vizhoniku_location *place);
+                        size_t right_size, int32_t *order, struct vizhoniku_error *error);
+void proved_place(const unsigned char *text, size_t text_size, const struct vizhoniku_error *error,
+                  struct vizhoniku_location *location);
 uint32_t proved_message(uint32_t mode, const unsigned char *text, size_t text_size, unsigned char *buffer,
                         size_t buffer_size, size_t *size);
 uint32_t proved_key_check(const unsigned char *key, size_t key_size);
@@ -62,11 +62,11 @@ uint32_t proved_key_numbers(const unsigned char *key, size_t key_size, size_t of
 uint32_t proved_zeros_of_numbers(const unsigned char *zeros, size_t zeros_size, size_t first, size_t numbers,
                                  size_t *plain, unsigned char *buffer, size_t buffer_size, size_t *size);
 uint32_t proved_plain_numbers(const unsigned char *text, size_t text_size, unsigned char *buffer, size_t buffer_size,
-                              size_t *size, struct vizhoniku_refusal *refusal);
+                              size_t *size, struct vizhoniku_error *error);
 uint32_t proved_masked_numbers(const unsigned char *text, size_t text_size, unsigned char *buffer, size_t buffer_size,
                                size_t *size);
 uint32_t proved_error_path(uint32_t mode, const unsigned char *text, size_t text_size,
-                           const struct vizhoniku_refusal *refusal, unsigned char *buffer, size_t buffer_size,
+                           const struct vizhoniku_error *error, unsigned char *buffer, size_t buffer_size,
                            size_t *size);
 
 static unsigned char none;
@@ -75,28 +75,27 @@ static const unsigned char *bytes_at(const unsigned char *bytes, size_t size) { 
 
 static unsigned char *buffer_at(unsigned char *buffer, size_t size) { return size ? buffer : &none; }
 
-uint32_t vizhoniku_check(uint32_t mode, const unsigned char *text, size_t text_size,
-                         struct vizhoniku_refusal *refusal) {
-  return proved_check(mode, bytes_at(text, text_size), text_size, refusal);
+uint32_t vizhoniku_check(uint32_t mode, const unsigned char *text, size_t text_size, struct vizhoniku_error *error) {
+  return proved_check(mode, bytes_at(text, text_size), text_size, error);
 }
 
 uint32_t vizhoniku_text(uint32_t mode, const unsigned char *text, size_t text_size, unsigned char *buffer,
-                        size_t buffer_size, size_t *size, struct vizhoniku_refusal *refusal) {
+                        size_t buffer_size, size_t *size, struct vizhoniku_error *error) {
   return proved_text(mode, bytes_at(text, text_size), text_size, buffer_at(buffer, buffer_size), buffer_size, size,
-                     refusal);
+                     error);
 }
 
 uint32_t vizhoniku_part(uint32_t mode, const unsigned char *path, size_t path_size, const unsigned char *text,
                         size_t text_size, unsigned char *buffer, size_t buffer_size, size_t *size,
-                        struct vizhoniku_refusal *refusal) {
+                        struct vizhoniku_error *error) {
   return proved_part(mode, bytes_at(path, path_size), path_size, bytes_at(text, text_size), text_size,
-                     buffer_at(buffer, buffer_size), buffer_size, size, refusal);
+                     buffer_at(buffer, buffer_size), buffer_size, size, error);
 }
 
 uint32_t vizhoniku_sort_key(uint32_t mode, const unsigned char *text, size_t text_size, unsigned char *buffer,
-                            size_t buffer_size, size_t *size, struct vizhoniku_refusal *refusal) {
+                            size_t buffer_size, size_t *size, struct vizhoniku_error *error) {
   return proved_sort_key(mode, bytes_at(text, text_size), text_size, buffer_at(buffer, buffer_size), buffer_size, size,
-                         refusal);
+                         error);
 }
 
 uint32_t vizhoniku_key_text(const unsigned char *key, size_t key_size, unsigned char *buffer, size_t buffer_size,
@@ -106,20 +105,20 @@ uint32_t vizhoniku_key_text(const unsigned char *key, size_t key_size, unsigned 
 
 uint32_t vizhoniku_text_and_key(uint32_t mode, const unsigned char *text, size_t text_size, unsigned char *buffer,
                                 size_t buffer_size, size_t *size, unsigned char *key_buffer, size_t key_buffer_size,
-                                size_t *key_size, struct vizhoniku_refusal *refusal) {
+                                size_t *key_size, struct vizhoniku_error *error) {
   return proved_text_and_key(mode, bytes_at(text, text_size), text_size, buffer_at(buffer, buffer_size), buffer_size,
-                             size, buffer_at(key_buffer, key_buffer_size), key_buffer_size, key_size, refusal);
+                             size, buffer_at(key_buffer, key_buffer_size), key_buffer_size, key_size, error);
 }
 
 uint32_t vizhoniku_compare(uint32_t mode, const unsigned char *left, size_t left_size, const unsigned char *right,
-                           size_t right_size, int32_t *order, struct vizhoniku_refusal *refusal) {
+                           size_t right_size, int32_t *order, struct vizhoniku_error *error) {
   return proved_compare(mode, bytes_at(left, left_size), left_size, bytes_at(right, right_size), right_size, order,
-                        refusal);
+                        error);
 }
 
-void vizhoniku_place(const unsigned char *text, size_t text_size, const struct vizhoniku_refusal *refusal,
-                     struct vizhoniku_location *place) {
-  proved_place(bytes_at(text, text_size), text_size, refusal, place);
+void vizhoniku_place(const unsigned char *text, size_t text_size, const struct vizhoniku_error *error,
+                     struct vizhoniku_location *location) {
+  proved_place(bytes_at(text, text_size), text_size, error, location);
 }
 
 uint32_t vizhoniku_message(uint32_t mode, const unsigned char *text, size_t text_size, unsigned char *buffer,
@@ -233,9 +232,9 @@ uint32_t vizhoniku_zeros_of_numbers(const unsigned char *zeros, size_t zeros_siz
 }
 
 uint32_t vizhoniku_plain_numbers(const unsigned char *text, size_t text_size, unsigned char *buffer, size_t buffer_size,
-                                 size_t *size, struct vizhoniku_refusal *refusal) {
+                                 size_t *size, struct vizhoniku_error *error) {
   return proved_plain_numbers(bytes_at(text, text_size), text_size, buffer_at(buffer, buffer_size), buffer_size, size,
-                              refusal);
+                              error);
 }
 
 uint32_t vizhoniku_masked_numbers(const unsigned char *text, size_t text_size, unsigned char *buffer,
@@ -244,8 +243,8 @@ uint32_t vizhoniku_masked_numbers(const unsigned char *text, size_t text_size, u
 }
 
 uint32_t vizhoniku_error_path(uint32_t mode, const unsigned char *text, size_t text_size,
-                              const struct vizhoniku_refusal *refusal, unsigned char *buffer, size_t buffer_size,
+                              const struct vizhoniku_error *error, unsigned char *buffer, size_t buffer_size,
                               size_t *size) {
-  return proved_error_path(mode, bytes_at(text, text_size), text_size, refusal, buffer_at(buffer, buffer_size),
+  return proved_error_path(mode, bytes_at(text, text_size), text_size, error, buffer_at(buffer, buffer_size),
                            buffer_size, size);
 }

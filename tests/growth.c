@@ -16,17 +16,17 @@ static unsigned char text[ROOM], key[ROOM], buffer[ROOM];
 int main(int count, char **words) {
   if (count < 2) return 2;
   size_t text_size = fread(text, 1, ROOM, stdin), key_size, size;
-  struct vizhoniku_refusal refusal;
+  struct vizhoniku_error error;
   if (!strcmp(words[1], "plain_numbers"))
-    return (int)vizhoniku_plain_numbers(text, text_size, buffer, ROOM, &size, &refusal);
+    return (int)vizhoniku_plain_numbers(text, text_size, buffer, ROOM, &size, &error);
   if (!strcmp(words[1], "masked_numbers")) return (int)vizhoniku_masked_numbers(text, text_size, buffer, ROOM, &size);
   if (!strcmp(words[1], "error_path")) {
     if (vizhoniku_masked_numbers(text, text_size, key, ROOM, &key_size) ||
-        vizhoniku_check(VIZHONIKU_EXTENDED, key, key_size, &refusal) != VIZHONIKU_REFUSED)
+        vizhoniku_check(VIZHONIKU_EXTENDED, key, key_size, &error) != VIZHONIKU_REJECTED)
       return 2;
-    return (int)vizhoniku_error_path(VIZHONIKU_EXTENDED, text, text_size, &refusal, buffer, ROOM, &size);
+    return (int)vizhoniku_error_path(VIZHONIKU_EXTENDED, text, text_size, &error, buffer, ROOM, &size);
   }
-  if (vizhoniku_sort_key(VIZHONIKU_STANDARD, text, text_size, key, ROOM, &key_size, &refusal)) return 2;
+  if (vizhoniku_sort_key(VIZHONIKU_STANDARD, text, text_size, key, ROOM, &key_size, &error)) return 2;
   if (!strcmp(words[1], "count")) return (int)vizhoniku_key_count(key, key_size, &size);
   if (count < 3) return 2;
   const unsigned char *path = (const unsigned char *)words[2];

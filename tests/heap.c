@@ -234,20 +234,20 @@ static const char *const functions[] = {
 static void call(enum function function, const struct text *text, unsigned char *buffer, unsigned char *key_buffer,
                  size_t room, size_t *written, uint32_t *status) {
   const uint32_t mode = VIZHONIKU_STANDARD;
-  struct vizhoniku_refusal refusal;
+  struct vizhoniku_error error;
   size_t size = 0, key_size = 0;
   int32_t order;
   switch (function) {
-    case CHECK: *status = vizhoniku_check(mode, text->bytes, text->size, &refusal); break;
-    case TEXT: *status = vizhoniku_text(mode, text->bytes, text->size, buffer, room, &size, &refusal); break;
-    case SORT_KEY: *status = vizhoniku_sort_key(mode, text->bytes, text->size, buffer, room, &size, &refusal); break;
+    case CHECK: *status = vizhoniku_check(mode, text->bytes, text->size, &error); break;
+    case TEXT: *status = vizhoniku_text(mode, text->bytes, text->size, buffer, room, &size, &error); break;
+    case SORT_KEY: *status = vizhoniku_sort_key(mode, text->bytes, text->size, buffer, room, &size, &error); break;
     case TEXT_AND_KEY:
       *status = vizhoniku_text_and_key(mode, text->bytes, text->size, buffer, room, &size, key_buffer, room, &key_size,
-                                       &refusal);
+                                       &error);
       break;
-    case PART: *status = vizhoniku_part(mode, NULL, 0, text->bytes, text->size, buffer, room, &size, &refusal); break;
+    case PART: *status = vizhoniku_part(mode, NULL, 0, text->bytes, text->size, buffer, room, &size, &error); break;
     case COMPARE:
-      *status = vizhoniku_compare(mode, text->bytes, text->size, text->bytes, text->size, &order, &refusal);
+      *status = vizhoniku_compare(mode, text->bytes, text->size, text->bytes, text->size, &order, &error);
       break;
     default: *status = vizhoniku_message(mode, text->bytes, text->size, buffer, room, &size); break;
   }
@@ -356,7 +356,7 @@ static const char *const key_functions[] = {
 static struct text zeros, shortest;
 
 /* Why the text is rejected of which vizhoniku_error_path writes the path. */
-static struct vizhoniku_refusal why;
+static struct vizhoniku_error why;
 
 /* The last item of an array or the last member of an object, of those that documents have. */
 #define PATH (const unsigned char *)"/0"
@@ -368,7 +368,7 @@ static uint32_t call_over_key(enum key_function function, const struct text *key
   static const unsigned char null_key[] = {0xD3};
   struct vizhoniku_key_cursor cursor;
   struct vizhoniku_key_entry entry;
-  struct vizhoniku_refusal refusal;
+  struct vizhoniku_error error;
   size_t offset, part_size;
   uint32_t status;
   *size = 0;
@@ -404,7 +404,7 @@ static uint32_t call_over_key(enum key_function function, const struct text *key
     case ZEROS_OF_NUMBERS:
       part_size = 0;
       return vizhoniku_zeros_of_numbers(zeros.bytes, zeros.size, 0, zeros.size / 2, &part_size, buffer, room, size);
-    case PLAIN_NUMBERS: return vizhoniku_plain_numbers(key->bytes, key->size, buffer, room, size, &refusal);
+    case PLAIN_NUMBERS: return vizhoniku_plain_numbers(key->bytes, key->size, buffer, room, size, &error);
     case MASKED_NUMBERS: return vizhoniku_masked_numbers(key->bytes, key->size, buffer, room, size);
     case ERROR_PATH:
       return vizhoniku_error_path(VIZHONIKU_EXTENDED, key->bytes, key->size, &why, buffer, room, size);
@@ -470,7 +470,7 @@ static void measure_over_key(enum kind kind, int count, const struct text *key, 
     size_t bound = bound_over_key(function, key, written);
     calls++;
     if (status != VIZHONIKU_ACCEPTED && status != VIZHONIKU_NO_PART && status != VIZHONIKU_NO_KEY &&
-        status != VIZHONIKU_TOO_DEEP && !(kind == TOO_MANY_DIGITS && status == VIZHONIKU_REFUSED))
+        status != VIZHONIKU_TOO_DEEP && !(kind == TOO_MANY_DIGITS && status == VIZHONIKU_REJECTED))
       fault_over_key(function, kind, count, "has another status");
     if (held) fault_over_key(function, kind, count, "kept memory");
     if (bound && most * 1000 / bound > nearest[function]) nearest[function] = most * 1000 / bound;
@@ -542,10 +542,10 @@ static void measure_numbers(enum kind kind, int count) {
 
 /* The sort key of a text. */
 static struct text key_of(const struct text *text) {
-  struct vizhoniku_refusal refusal;
+  struct vizhoniku_error error;
   struct text key = {__real_malloc(2 * text->size + 64), 0, 2 * text->size + 64};
   if (!key.bytes || vizhoniku_sort_key(VIZHONIKU_STANDARD, text->bytes, text->size, key.bytes, key.room, &key.size,
-                                       &refusal) != VIZHONIKU_ACCEPTED)
+                                       &error) != VIZHONIKU_ACCEPTED)
     exit(2);
   return key;
 }
@@ -561,7 +561,7 @@ int main(void) {
       measure_over_key((enum kind)kind, counts[i], &key, KEY_CHECK, ZEROS_OF_TEXT, 1);
       __real_free(key.bytes);
       add(&text, "?"); /* a byte too much */
-      measure((enum kind)kind, counts[i], &text, VIZHONIKU_REFUSED);
+      measure((enum kind)kind, counts[i], &text, VIZHONIKU_REJECTED);
       __real_free(text.bytes);
     }
   }

@@ -222,7 +222,7 @@ struct call {
   const struct text *text, *path;
   unsigned char *buffer, *key_buffer, *key;
   size_t room, key_size; /* the key has no bytes where the text is refused */
-  const struct vizhoniku_refusal *why; /* in the call's mode */
+  const struct vizhoniku_error *why; /* in the call's mode */
   uint32_t status;
   const unsigned char *top; /* the machine stack where the call began */
 };
@@ -231,26 +231,26 @@ static void *run(void *given) {
   struct call *call = given;
   const unsigned char *bytes = call->text->bytes;
   size_t text_size = call->text->size, size, key_size;
-  struct vizhoniku_refusal refusal;
+  struct vizhoniku_error error;
   int32_t order;
   call->top = __builtin_frame_address(0);
   switch (call->function) {
-    case CHECK: call->status = vizhoniku_check(call->mode, bytes, text_size, &refusal); break;
+    case CHECK: call->status = vizhoniku_check(call->mode, bytes, text_size, &error); break;
     case TEXT:
-      call->status = vizhoniku_text(call->mode, bytes, text_size, call->buffer, call->room, &size, &refusal);
+      call->status = vizhoniku_text(call->mode, bytes, text_size, call->buffer, call->room, &size, &error);
       break;
     case SORT_KEY:
-      call->status = vizhoniku_sort_key(call->mode, bytes, text_size, call->buffer, call->room, &size, &refusal);
+      call->status = vizhoniku_sort_key(call->mode, bytes, text_size, call->buffer, call->room, &size, &error);
       break;
     case TEXT_AND_KEY:
       call->status = vizhoniku_text_and_key(call->mode, bytes, text_size, call->buffer, call->room, &size,
-                                            call->key_buffer, call->room, &key_size, &refusal);
+                                            call->key_buffer, call->room, &key_size, &error);
       break;
     case PART:
       call->status = vizhoniku_part(call->mode, call->path->bytes, call->path->size, bytes, text_size, call->buffer,
-                                    call->room, &size, &refusal);
+                                    call->room, &size, &error);
       break;
-    case COMPARE: call->status = vizhoniku_compare(call->mode, bytes, text_size, bytes, text_size, &order, &refusal); break;
+    case COMPARE: call->status = vizhoniku_compare(call->mode, bytes, text_size, bytes, text_size, &order, &error); break;
     case KEY_CHECK: call->status = vizhoniku_key_check(call->key, call->key_size); break;
     case KEY_TEXT:
       call->status = vizhoniku_key_text(call->key, call->key_size, call->buffer, call->room, &size);
@@ -284,7 +284,7 @@ static void *run(void *given) {
       call->status = vizhoniku_text_with_zeros(bytes, text_size, NULL, 0, call->buffer, call->room, &size);
       break;
     case PLAIN_NUMBERS:
-      call->status = vizhoniku_plain_numbers(bytes, text_size, call->buffer, call->room, &size, &refusal);
+      call->status = vizhoniku_plain_numbers(bytes, text_size, call->buffer, call->room, &size, &error);
       break;
     case MASKED_NUMBERS:
       call->status = vizhoniku_masked_numbers(bytes, text_size, call->buffer, call->room, &size);
@@ -339,8 +339,8 @@ static void measure(const struct shape *shape, const struct stack *stack) {
   call.buffer = checked(__real_malloc(call.room));
   call.key_buffer = checked(__real_malloc(call.room));
   call.key = checked(__real_malloc(call.room));
-  struct vizhoniku_refusal refusal, why[2];
-  vizhoniku_sort_key(VIZHONIKU_EXTENDED, text.bytes, text.size, call.key, call.room, &call.key_size, &refusal);
+  struct vizhoniku_error error, why[2];
+  vizhoniku_sort_key(VIZHONIKU_EXTENDED, text.bytes, text.size, call.key, call.room, &call.key_size, &error);
   for (uint32_t mode = 0; mode < 2; mode++) vizhoniku_check(mode, text.bytes, text.size, &why[mode]);
   for (int i = 0; i < 2 * FUNCTIONS; i++) {
     uint32_t whole = VIZHONIKU_ACCEPTED;
@@ -371,7 +371,7 @@ static void measure(const struct shape *shape, const struct stack *stack) {
     int is_read = shape->end == WHOLE || (shape->end == COMMENT && call.mode == VIZHONIKU_EXTENDED) ||
                   call.function >= PLAIN_NUMBERS;
     int is_deep = call.function == KEY_SET && whole == VIZHONIKU_TOO_DEEP;
-    if (!is_deep && whole != (is_read ? VIZHONIKU_ACCEPTED : VIZHONIKU_REFUSED)) wrong++;
+    if (!is_deep && whole != (is_read ? VIZHONIKU_ACCEPTED : VIZHONIKU_REJECTED)) wrong++;
   }
   refused = -1;
   free(call.key);

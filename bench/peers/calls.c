@@ -17,32 +17,32 @@ static void make_room(size_t len) {
 }
 
 size_t calls_bench_check(const unsigned char *text, size_t len, size_t rounds) {
-  struct vizhoniku_refusal refusal;
+  struct vizhoniku_error error;
   for (size_t round = 0; round < rounds; round++)
-    if (vizhoniku_check(VIZHONIKU_STANDARD, text, len, &refusal) != VIZHONIKU_ACCEPTED) return round;
+    if (vizhoniku_check(VIZHONIKU_STANDARD, text, len, &error) != VIZHONIKU_ACCEPTED) return round;
   return rounds;
 }
 
 /* The buffer holds numbers with exponents up to 4 times as long as they are. */
 size_t calls_bench_plain_numbers(const unsigned char *text, size_t len, size_t rounds) {
-  struct vizhoniku_refusal refusal;
+  struct vizhoniku_error error;
   size_t size;
   make_room(len);
   for (size_t round = 0; round < rounds; round++)
-    if (vizhoniku_plain_numbers(text, len, buffer, buffer_size, &size, &refusal) != VIZHONIKU_ACCEPTED) return round;
+    if (vizhoniku_plain_numbers(text, len, buffer, buffer_size, &size, &error) != VIZHONIKU_ACCEPTED) return round;
   return rounds;
 }
 
 /* What vizhoniku_text and vizhoniku_sort_key are. */
 typedef uint32_t writer_t(uint32_t mode, const unsigned char *text, size_t text_size, unsigned char *buffer,
-                          size_t buffer_size, size_t *size, struct vizhoniku_refusal *refusal);
+                          size_t buffer_size, size_t *size, struct vizhoniku_error *error);
 
 static size_t repeat(writer_t *write, const unsigned char *text, size_t len, size_t rounds) {
-  struct vizhoniku_refusal refusal;
+  struct vizhoniku_error error;
   size_t size;
   make_room(len);
   for (size_t round = 0; round < rounds; round++)
-    if (write(VIZHONIKU_STANDARD, text, len, buffer, buffer_size, &size, &refusal) != VIZHONIKU_ACCEPTED) return round;
+    if (write(VIZHONIKU_STANDARD, text, len, buffer, buffer_size, &size, &error) != VIZHONIKU_ACCEPTED) return round;
   return rounds;
 }
 
@@ -51,11 +51,11 @@ size_t calls_bench_read_write(const unsigned char *text, size_t len, size_t roun
 }
 
 size_t calls_bench_part(const unsigned char *path, size_t path_len, const unsigned char *text, size_t len, size_t rounds) {
-  struct vizhoniku_refusal refusal;
+  struct vizhoniku_error error;
   size_t size;
   make_room(len);
   for (size_t round = 0; round < rounds; round++)
-    if (vizhoniku_part(VIZHONIKU_STANDARD, path, path_len, text, len, buffer, buffer_size, &size, &refusal) !=
+    if (vizhoniku_part(VIZHONIKU_STANDARD, path, path_len, text, len, buffer, buffer_size, &size, &error) !=
         VIZHONIKU_ACCEPTED)
       return round;
   return rounds;

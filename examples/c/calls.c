@@ -8,73 +8,73 @@
 
 #define BYTES(text) (const unsigned char *)(text), strlen(text)
 
-static void print_refusal(const struct vizhoniku_refusal *refusal) {
-  printf(" code %u which %u position %zu\n", (unsigned)refusal->code, (unsigned)refusal->which, refusal->position);
+static void print_error(const struct vizhoniku_error *error) {
+  printf(" code %u which %u position %zu\n", (unsigned)error->code, (unsigned)error->which, error->position);
 }
 
 static void check(uint32_t mode, const char *text) {
-  struct vizhoniku_refusal refusal;
-  memset(&refusal, 255, sizeof refusal);
-  printf("check: status %u", (unsigned)vizhoniku_check(mode, BYTES(text), &refusal));
-  print_refusal(&refusal);
+  struct vizhoniku_error error;
+  memset(&error, 255, sizeof error);
+  printf("check: status %u", (unsigned)vizhoniku_check(mode, BYTES(text), &error));
+  print_error(&error);
 }
 
 /* The buffer holds points, and the library is told of its first bytes alone. */
 static void write_text(uint32_t mode, const char *text, size_t buffer_size) {
   unsigned char buffer[12];
   size_t size = 99;
-  struct vizhoniku_refusal refusal;
+  struct vizhoniku_error error;
   memset(buffer, '.', sizeof buffer);
-  memset(&refusal, 255, sizeof refusal);
-  uint32_t status = vizhoniku_text(mode, BYTES(text), buffer, buffer_size, &size, &refusal);
+  memset(&error, 255, sizeof error);
+  uint32_t status = vizhoniku_text(mode, BYTES(text), buffer, buffer_size, &size, &error);
   printf("text: status %u size %zu buffer %.12s", (unsigned)status, size, (char *)buffer);
-  print_refusal(&refusal);
+  print_error(&error);
 }
 
 static void compare(uint32_t mode, const char *left, const char *right) {
   int32_t order = 99;
-  struct vizhoniku_refusal refusal;
-  memset(&refusal, 255, sizeof refusal);
-  uint32_t status = vizhoniku_compare(mode, BYTES(left), BYTES(right), &order, &refusal);
+  struct vizhoniku_error error;
+  memset(&error, 255, sizeof error);
+  uint32_t status = vizhoniku_compare(mode, BYTES(left), BYTES(right), &order, &error);
   printf("compare: status %u order %d", (unsigned)status, (int)order);
-  print_refusal(&refusal);
+  print_error(&error);
 }
 
 static void write_part(uint32_t mode, const char *path, const char *text, size_t buffer_size) {
   unsigned char buffer[12];
   size_t size = 99;
-  struct vizhoniku_refusal refusal;
+  struct vizhoniku_error error;
   memset(buffer, '.', sizeof buffer);
-  memset(&refusal, 255, sizeof refusal);
-  uint32_t status = vizhoniku_part(mode, BYTES(path), BYTES(text), buffer, buffer_size, &size, &refusal);
+  memset(&error, 255, sizeof error);
+  uint32_t status = vizhoniku_part(mode, BYTES(path), BYTES(text), buffer, buffer_size, &size, &error);
   printf("part: status %u size %zu buffer %.12s", (unsigned)status, size, (char *)buffer);
-  print_refusal(&refusal);
+  print_error(&error);
 }
 
 static void write_sort_key(uint32_t mode, const char *text, size_t buffer_size) {
   unsigned char buffer[12];
   size_t size = 99;
-  struct vizhoniku_refusal refusal;
+  struct vizhoniku_error error;
   memset(buffer, 0, sizeof buffer);
-  memset(&refusal, 255, sizeof refusal);
-  uint32_t status = vizhoniku_sort_key(mode, BYTES(text), buffer, buffer_size, &size, &refusal);
+  memset(&error, 255, sizeof error);
+  uint32_t status = vizhoniku_sort_key(mode, BYTES(text), buffer, buffer_size, &size, &error);
   printf("sort key: status %u size %zu buffer ", (unsigned)status, size);
   for (size_t i = 0; i < sizeof buffer; i++) printf("%02x", (unsigned)buffer[i]);
-  print_refusal(&refusal);
+  print_error(&error);
 }
 
 static void write_both(uint32_t mode, const char *text, size_t buffer_size, size_t key_buffer_size) {
   unsigned char buffer[12], key_buffer[12];
   size_t size = 99, key_size = 99;
-  struct vizhoniku_refusal refusal;
+  struct vizhoniku_error error;
   memset(buffer, '.', sizeof buffer);
   memset(key_buffer, 0, sizeof key_buffer);
-  memset(&refusal, 255, sizeof refusal);
+  memset(&error, 255, sizeof error);
   uint32_t status = vizhoniku_text_and_key(mode, BYTES(text), buffer, buffer_size, &size, key_buffer, key_buffer_size,
-                                           &key_size, &refusal);
+                                           &key_size, &error);
   printf("text and key: status %u sizes %zu %zu buffers %.12s ", (unsigned)status, size, key_size, (char *)buffer);
   for (size_t i = 0; i < sizeof key_buffer; i++) printf("%02x", (unsigned)key_buffer[i]);
-  print_refusal(&refusal);
+  print_error(&error);
 }
 
 static void write_key_text(const unsigned char *key, size_t key_size, size_t buffer_size) {
@@ -89,10 +89,10 @@ static void write_key_text(const unsigned char *key, size_t key_size, size_t buf
 static void write_plain(const char *text, size_t buffer_size) {
   unsigned char buffer[40];
   size_t size = 99;
-  struct vizhoniku_refusal refusal;
-  uint32_t status = vizhoniku_plain_numbers(BYTES(text), buffer, buffer_size, &size, &refusal);
-  printf("plain %s: status %u size %zu code %u position %zu", text, (unsigned)status, size, (unsigned)refusal.code,
-         refusal.position);
+  struct vizhoniku_error error;
+  uint32_t status = vizhoniku_plain_numbers(BYTES(text), buffer, buffer_size, &size, &error);
+  printf("plain %s: status %u size %zu code %u position %zu", text, (unsigned)status, size, (unsigned)error.code,
+         error.position);
   if (status == VIZHONIKU_ACCEPTED) printf(" %.*s", (int)size, (const char *)buffer);
   printf("\n");
 }
@@ -111,9 +111,9 @@ static void write_masked(const char *text, size_t buffer_size) {
 static void write_path(uint32_t mode, const char *text, size_t buffer_size) {
   unsigned char buffer[40];
   size_t size = 99;
-  struct vizhoniku_refusal refusal;
-  vizhoniku_check(mode, BYTES(text), &refusal);
-  uint32_t status = vizhoniku_error_path(mode, BYTES(text), &refusal, buffer, buffer_size, &size);
+  struct vizhoniku_error error;
+  vizhoniku_check(mode, BYTES(text), &error);
+  uint32_t status = vizhoniku_error_path(mode, BYTES(text), &error, buffer, buffer_size, &size);
   printf("path of %s: status %u size %zu", text, (unsigned)status, size);
   if (status == VIZHONIKU_ACCEPTED) printf(" %.*s", (int)size, (const char *)buffer);
   printf("\n");
@@ -140,8 +140,8 @@ static unsigned char key[200];
 static size_t key_size;
 
 static void make_key(const char *text) {
-  struct vizhoniku_refusal refusal;
-  uint32_t status = vizhoniku_sort_key(VIZHONIKU_EXTENDED, BYTES(text), key, sizeof key, &key_size, &refusal);
+  struct vizhoniku_error error;
+  uint32_t status = vizhoniku_sort_key(VIZHONIKU_EXTENDED, BYTES(text), key, sizeof key, &key_size, &error);
   size_t count = 99;
   printf("key of %s: status %u size %zu check %u kind %u", text, (unsigned)status, key_size,
          (unsigned)vizhoniku_key_check(key, key_size), (unsigned)vizhoniku_key_kind(key, key_size));
@@ -281,9 +281,9 @@ static void find_parts(void) {
 static void contain(const char *text, const char *other) {
   unsigned char other_key[99];
   size_t size;
-  struct vizhoniku_refusal refusal;
+  struct vizhoniku_error error;
   make_key(text);
-  if (vizhoniku_sort_key(VIZHONIKU_EXTENDED, BYTES(other), other_key, sizeof other_key, &size, &refusal)) exit(1);
+  if (vizhoniku_sort_key(VIZHONIKU_EXTENDED, BYTES(other), other_key, sizeof other_key, &size, &error)) exit(1);
   printf("%s contains %s: %u", text, other, (unsigned)vizhoniku_key_contains(key, key_size, other_key, size));
   printf(", and is contained: %u\n", (unsigned)vizhoniku_key_contains(other_key, size, key, key_size));
 }
@@ -292,26 +292,26 @@ static void contain(const char *text, const char *other) {
 static void pass_null(uint32_t mode) {
   size_t size = 99, key_size = 99;
   int32_t order = 99;
-  struct vizhoniku_refusal refusal = {0, 0, 0};
+  struct vizhoniku_error error = {0, 0, 0};
   struct vizhoniku_location place = {0, 0, 0};
-  printf("null: check %u,", (unsigned)vizhoniku_check(mode, NULL, 0, &refusal));
-  printf(" text %u", (unsigned)vizhoniku_text(mode, NULL, 0, NULL, 0, &size, &refusal));
+  printf("null: check %u,", (unsigned)vizhoniku_check(mode, NULL, 0, &error));
+  printf(" text %u", (unsigned)vizhoniku_text(mode, NULL, 0, NULL, 0, &size, &error));
   printf(" size %zu,", size);
-  printf(" part %u", (unsigned)vizhoniku_part(mode, NULL, 0, NULL, 0, NULL, 0, &size, &refusal));
+  printf(" part %u", (unsigned)vizhoniku_part(mode, NULL, 0, NULL, 0, NULL, 0, &size, &error));
   printf(" size %zu,", size);
-  printf(" whole %u", (unsigned)vizhoniku_part(mode, NULL, 0, BYTES("[1]"), NULL, 0, &size, &refusal));
+  printf(" whole %u", (unsigned)vizhoniku_part(mode, NULL, 0, BYTES("[1]"), NULL, 0, &size, &error));
   printf(" size %zu,", size);
-  printf(" sort key %u", (unsigned)vizhoniku_sort_key(mode, NULL, 0, NULL, 0, &size, &refusal));
+  printf(" sort key %u", (unsigned)vizhoniku_sort_key(mode, NULL, 0, NULL, 0, &size, &error));
   printf(" size %zu,", size);
   printf(" key's text %u", (unsigned)vizhoniku_key_text(NULL, 0, NULL, 0, &size));
   printf(" size %zu,", size);
-  printf(" both %u", (unsigned)vizhoniku_text_and_key(mode, NULL, 0, NULL, 0, &size, NULL, 0, &key_size, &refusal));
+  printf(" both %u", (unsigned)vizhoniku_text_and_key(mode, NULL, 0, NULL, 0, &size, NULL, 0, &key_size, &error));
   printf(" sizes %zu %zu,", size, key_size);
-  printf(" compare %u", (unsigned)vizhoniku_compare(mode, BYTES("null"), NULL, 0, &order, &refusal));
+  printf(" compare %u", (unsigned)vizhoniku_compare(mode, BYTES("null"), NULL, 0, &order, &error));
   printf(" order %d,", (int)order);
   printf(" message %u", (unsigned)vizhoniku_message(mode, NULL, 0, NULL, 0, &size));
   printf(" size %zu,", size);
-  vizhoniku_place(NULL, 0, &refusal, &place);
+  vizhoniku_place(NULL, 0, &error, &place);
   printf(" place %zu %zu %zu\n", place.index, place.line, place.column);
 }
 

@@ -23,21 +23,21 @@ static void print_line(const unsigned char *text, size_t text_size, const struct
 }
 
 /* Says where the text is wrong, and what is wrong, in words. */
-static int print_failure(uint32_t mode, uint32_t status, const struct vizhoniku_refusal *refusal,
-                         const unsigned char *text, size_t text_size) {
+static int print_failure(uint32_t mode, uint32_t status, const struct vizhoniku_error *error, const unsigned char *text,
+                         size_t text_size) {
   unsigned char words[256];
   size_t size;
   struct vizhoniku_location place;
-  if (status != VIZHONIKU_REFUSED) {
+  if (status != VIZHONIKU_REJECTED) {
     fprintf(stderr, "status %u\n", (unsigned)status);
     return 2;
   }
-  vizhoniku_place(text, text_size, refusal, &place);
+  vizhoniku_place(text, text_size, error, &place);
   fprintf(stderr, "line %zu, column %zu: ", place.line, place.column);
-  if (vizhoniku_message(mode, text, text_size, words, sizeof words, &size) == VIZHONIKU_REFUSED)
+  if (vizhoniku_message(mode, text, text_size, words, sizeof words, &size) == VIZHONIKU_REJECTED)
     fwrite(words, 1, size, stderr);
   else
-    fprintf(stderr, "code %u", (unsigned)refusal->code); /* a long key, or no memory */
+    fprintf(stderr, "code %u", (unsigned)error->code); /* a long key, or no memory */
   fputc('\n', stderr);
   print_line(text, text_size, &place);
   return 1;
@@ -66,16 +66,16 @@ static unsigned char *read_all(FILE *in, size_t *size) {
 static int print_text(uint32_t mode, const unsigned char *text, size_t text_size) {
   unsigned char small[256], *buffer = small;
   size_t size;
-  struct vizhoniku_refusal refusal;
-  uint32_t status = vizhoniku_text(mode, text, text_size, buffer, sizeof small, &size, &refusal);
+  struct vizhoniku_error error;
+  uint32_t status = vizhoniku_text(mode, text, text_size, buffer, sizeof small, &size, &error);
   if (status == VIZHONIKU_TOO_SHORT) {
     buffer = malloc(size);
     if (!buffer) return 2;
-    status = vizhoniku_text(mode, text, text_size, buffer, size, &size, &refusal);
+    status = vizhoniku_text(mode, text, text_size, buffer, size, &size, &error);
   }
   int answer = 0;
   if (status != VIZHONIKU_ACCEPTED)
-    answer = print_failure(mode, status, &refusal, text, text_size);
+    answer = print_failure(mode, status, &error, text, text_size);
   else if (fwrite(buffer, 1, size, stdout) != size || putchar('\n') == EOF)
     answer = 2;
   if (buffer != small) free(buffer);
@@ -86,25 +86,25 @@ static int print_input(uint32_t mode) {
   size_t text_size;
   unsigned char *text = read_all(stdin, &text_size);
   if (!text) return 2;
-  struct vizhoniku_refusal refusal;
-  uint32_t status = vizhoniku_check(mode, text, text_size, &refusal);
+  struct vizhoniku_error error;
+  uint32_t status = vizhoniku_check(mode, text, text_size, &error);
   int answer = status == VIZHONIKU_ACCEPTED ? print_text(mode, text, text_size)
-                                            : print_failure(mode, status, &refusal, text, text_size);
+                                            : print_failure(mode, status, &error, text, text_size);
   free(text);
   return answer;
 }
 
 static int print_order(uint32_t mode, const char *left, const char *right) {
   int32_t order;
-  struct vizhoniku_refusal refusal;
+  struct vizhoniku_error error;
   const char *texts[] = {left, right};
   uint32_t status = vizhoniku_compare(mode, (const unsigned char *)left, strlen(left), (const unsigned char *)right,
-                                      strlen(right), &order, &refusal);
+                                      strlen(right), &order, &error);
   if (status == VIZHONIKU_ACCEPTED) return puts(order < 0 ? "<" : order > 0 ? ">" : "=") == EOF ? 2 : 0;
-  if (status != VIZHONIKU_REFUSED) return print_failure(mode, status, &refusal, NULL, 0);
-  const char *text = texts[refusal.which - 1];
-  fprintf(stderr, "text %u: ", (unsigned)refusal.which);
-  return print_failure(mode, status, &refusal, (const unsigned char *)text, strlen(text));
+  if (status != VIZHONIKU_REJECTED) return print_failure(mode, status, &error, NULL, 0);
+  const char *text = texts[error.which - 1];
+  fprintf(stderr, "text %u: ", (unsigned)error.which);
+  return print_failure(mode, status, &error, (const unsigned char *)text, strlen(text));
 }
 
 int main(int argc, char **argv) {

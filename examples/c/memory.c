@@ -55,17 +55,17 @@ static uint32_t call(int which, uint32_t mode, const unsigned char *text, size_t
   static const unsigned char object_key[] = {0xD1, 'c', 0, 1, 0xD1, 'k', 0, 1, 0xD3, 0, 0, 0, 0};
   static const unsigned char decimals[] = "[1.50,2,4.000,5.0]", shortest[] = "[1.5,2,4,5]", zeros[] = {0, 1, 1, 3, 0, 1};
   unsigned char buffer[400], key_buffer[400];
-  struct vizhoniku_refusal refusal;
+  struct vizhoniku_error error;
   size_t size, key_size;
   int32_t order;
   switch (which) {
-    case 0: return vizhoniku_check(mode, text, text_size, &refusal);
-    case 1: return vizhoniku_text(mode, text, text_size, buffer, room, &size, &refusal);
-    case 2: return vizhoniku_sort_key(mode, text, text_size, buffer, room, &size, &refusal);
-    case 3: return vizhoniku_part(mode, path, sizeof path, text, text_size, buffer, room, &size, &refusal);
+    case 0: return vizhoniku_check(mode, text, text_size, &error);
+    case 1: return vizhoniku_text(mode, text, text_size, buffer, room, &size, &error);
+    case 2: return vizhoniku_sort_key(mode, text, text_size, buffer, room, &size, &error);
+    case 3: return vizhoniku_part(mode, path, sizeof path, text, text_size, buffer, room, &size, &error);
     case 4: return vizhoniku_message(mode, text, text_size, buffer, room, &size);
     case 5:
-      return vizhoniku_text_and_key(mode, text, text_size, buffer, room, &size, key_buffer, room, &key_size, &refusal);
+      return vizhoniku_text_and_key(mode, text, text_size, buffer, room, &size, key_buffer, room, &key_size, &error);
     case 6: return vizhoniku_key_text(key, sizeof key, buffer, room, &size);
     case 7: return vizhoniku_key_part(object_key, sizeof object_key, path, sizeof path, &size, &key_size);
     case 8:
@@ -82,7 +82,7 @@ static uint32_t call(int which, uint32_t mode, const unsigned char *text, size_t
     case 13: return vizhoniku_key_push(key, sizeof key, key, sizeof key, buffer, room, &size);
     case 11:
       return vizhoniku_key_merge(object_key, sizeof object_key, object_key, sizeof object_key, buffer, room, &size);
-    default: return vizhoniku_compare(mode, text, text_size, text, text_size, &order, &refusal);
+    default: return vizhoniku_compare(mode, text, text_size, text, text_size, &order, &error);
   }
 }
 

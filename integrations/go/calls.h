@@ -10,7 +10,7 @@ struct told {
   size_t offset;
   size_t size;
   size_t key_size;
-  struct vizhoniku_refusal refusal;
+  struct vizhoniku_error error;
 };
 
 struct part {
@@ -24,26 +24,26 @@ typedef unsigned char *buffer;
 
 static inline struct told call_check(uint32_t mode, bytes text, size_t text_size) {
   struct told told = {0};
-  told.status = vizhoniku_check(mode, text, text_size, &told.refusal);
+  told.status = vizhoniku_check(mode, text, text_size, &told.error);
   return told;
 }
 
 static inline struct told call_text(uint32_t mode, bytes text, size_t text_size, buffer to, size_t room) {
   struct told told = {0};
-  told.status = vizhoniku_text(mode, text, text_size, to, room, &told.size, &told.refusal);
+  told.status = vizhoniku_text(mode, text, text_size, to, room, &told.size, &told.error);
   return told;
 }
 
 static inline struct told call_part(uint32_t mode, bytes path, size_t path_size, bytes text, size_t text_size, buffer to,
                                     size_t room) {
   struct told told = {0};
-  told.status = vizhoniku_part(mode, path, path_size, text, text_size, to, room, &told.size, &told.refusal);
+  told.status = vizhoniku_part(mode, path, path_size, text, text_size, to, room, &told.size, &told.error);
   return told;
 }
 
 static inline struct told call_sort_key(uint32_t mode, bytes text, size_t text_size, buffer to, size_t room) {
   struct told told = {0};
-  told.status = vizhoniku_sort_key(mode, text, text_size, to, room, &told.size, &told.refusal);
+  told.status = vizhoniku_sort_key(mode, text, text_size, to, room, &told.size, &told.error);
   return told;
 }
 
@@ -51,13 +51,13 @@ static inline struct told call_text_and_key(uint32_t mode, bytes text, size_t te
                                             buffer key_to, size_t key_room) {
   struct told told = {0};
   told.status = vizhoniku_text_and_key(mode, text, text_size, to, room, &told.size, key_to, key_room, &told.key_size,
-                                       &told.refusal);
+                                       &told.error);
   return told;
 }
 
 static inline struct told call_compare(uint32_t mode, bytes left, size_t left_size, bytes right, size_t right_size) {
   struct told told = {0};
-  told.status = vizhoniku_compare(mode, left, left_size, right, right_size, &told.order, &told.refusal);
+  told.status = vizhoniku_compare(mode, left, left_size, right, right_size, &told.order, &told.error);
   return told;
 }
 
@@ -69,7 +69,7 @@ static inline struct told call_message(uint32_t mode, bytes text, size_t text_si
 
 static inline struct told call_plain_numbers(bytes text, size_t text_size, buffer to, size_t room) {
   struct told told = {0};
-  told.status = vizhoniku_plain_numbers(text, text_size, to, room, &told.size, &told.refusal);
+  told.status = vizhoniku_plain_numbers(text, text_size, to, room, &told.size, &told.error);
   return told;
 }
 
@@ -79,16 +79,16 @@ static inline struct told call_masked_numbers(bytes text, size_t text_size, buff
   return told;
 }
 
-static inline struct told call_error_path(uint32_t mode, bytes text, size_t text_size, struct vizhoniku_refusal refusal,
+static inline struct told call_error_path(uint32_t mode, bytes text, size_t text_size, struct vizhoniku_error error,
                                           buffer to, size_t room) {
   struct told told = {0};
-  told.status = vizhoniku_error_path(mode, text, text_size, &refusal, to, room, &told.size);
+  told.status = vizhoniku_error_path(mode, text, text_size, &error, to, room, &told.size);
   return told;
 }
 
-static inline struct vizhoniku_location call_place(bytes text, size_t text_size, struct vizhoniku_refusal refusal) {
+static inline struct vizhoniku_location call_place(bytes text, size_t text_size, struct vizhoniku_error error) {
   struct vizhoniku_location place;
-  vizhoniku_place(text, text_size, &refusal, &place);
+  vizhoniku_place(text, text_size, &error, &place);
   return place;
 }
 

@@ -84,18 +84,18 @@ func rejection(text []byte, mode Mode, second bool) error {
 		return C.call_message(of, begin(masked), size(len(masked)), buffer, room)
 	})
 	path, found := appended(nil, 128, func(buffer *C.uchar, room C.size_t) C.struct_told {
-		return C.call_error_path(of, begin(masked), size(len(masked)), checked.refusal, buffer, room)
+		return C.call_error_path(of, begin(masked), size(len(masked)), checked.error, buffer, room)
 	})
-	if checked.status != C.VIZHONIKU_REFUSED || told.status != C.VIZHONIKU_REFUSED || found.status != C.VIZHONIKU_ACCEPTED {
+	if checked.status != C.VIZHONIKU_REJECTED || told.status != C.VIZHONIKU_REJECTED || found.status != C.VIZHONIKU_ACCEPTED {
 		return ErrOutOfMemory
 	}
-	place := C.call_place(begin(text), size(len(text)), checked.refusal)
+	place := C.call_place(begin(text), size(len(text)), checked.error)
 	// The message ends with the position, which is told as line and column instead.
-	end := fmt.Sprintf(", pos %d", checked.refusal.position)
+	end := fmt.Sprintf(", pos %d", checked.error.position)
 	return &Error{
-		Code:     Code(checked.refusal.code),
+		Code:     Code(checked.error.code),
 		Second:   second,
-		Position: int(checked.refusal.position),
+		Position: int(checked.error.position),
 		Offset:   int(place.index),
 		Line:     int(place.line),
 		Column:   int(place.column),

@@ -30,7 +30,7 @@ type parsing struct {
 func (it *parsing) run(call func(left, right []byte) C.struct_told) {
 	for {
 		it.told = call(it.left.parsed(), it.right.parsed())
-		if it.told.status != C.VIZHONIKU_REFUSED || !it.writeOut(it.rejected()) {
+		if it.told.status != C.VIZHONIKU_REJECTED || !it.writeOut(it.rejected()) {
 			return
 		}
 	}
@@ -38,7 +38,7 @@ func (it *parsing) run(call func(left, right []byte) C.struct_told) {
 
 // The text that was rejected.
 func (it *parsing) rejected() *input {
-	if it.told.refusal.which == 2 {
+	if it.told.error.which == 2 {
 		return &it.right
 	}
 	return &it.left
@@ -46,7 +46,7 @@ func (it *parsing) rejected() *input {
 
 // Writes out the numbers of a text that was rejected for one. It is false where the call isn't to be made again.
 func (it *parsing) writeOut(in *input) bool {
-	if it.mode != Extended || it.told.refusal.code != C.VIZHONIKU_NUMBER_NOT_CARRIED || in.plain != nil {
+	if it.mode != Extended || it.told.error.code != C.VIZHONIKU_NUMBER_NOT_CARRIED || in.plain != nil {
 		return false
 	}
 	plain, told := plainNumbers(in.given)
@@ -69,8 +69,8 @@ func plainNumbers(text []byte) ([]byte, C.struct_told) {
 
 // The error of what the call has told.
 func (it *parsing) err() error {
-	if it.told.status != C.VIZHONIKU_REFUSED {
+	if it.told.status != C.VIZHONIKU_REJECTED {
 		return errorOfStatus(it.told.status)
 	}
-	return rejection(it.rejected().given, it.mode, it.told.refusal.which == 2)
+	return rejection(it.rejected().given, it.mode, it.told.error.which == 2)
 }

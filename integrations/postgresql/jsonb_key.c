@@ -108,9 +108,9 @@ write_number(Writer *writer, Numeric numeric)
 	char	   *digits = DatumGetCString(DirectFunctionCall1(numeric_out, NumericGetDatum(numeric)));
 	size_t		size = strlen(digits);
 	size_t		key_size;
-	struct vizhoniku_refusal refusal;
+	struct vizhoniku_error error;
 	uint32		status = vizhoniku_sort_key(VIZHONIKU_EXTENDED, (unsigned char *) digits, size, writer->at,
-											writer->end - writer->at, &key_size, &refusal);
+											writer->end - writer->at, &key_size, &error);
 
 	if (status == VIZHONIKU_OUT_OF_MEMORY)
 		vjson_raise_out_of_memory(size);

@@ -147,9 +147,9 @@ vjson_without_numbers(const char *text, size_t size)
 static bool
 is_carried(const char *number, size_t size)
 {
-	struct vizhoniku_refusal refusal;
+	struct vizhoniku_error error;
 
-	return vizhoniku_check(VIZHONIKU_EXTENDED, (const unsigned char *) number, size, &refusal) == VIZHONIKU_ACCEPTED;
+	return vizhoniku_check(VIZHONIKU_EXTENDED, (const unsigned char *) number, size, &error) == VIZHONIKU_ACCEPTED;
 }
 
 static char *
@@ -236,7 +236,7 @@ try_text(Range *text, bool is_rounded, VjsonRejection *why)
 	struct varlena *value = vjson_try_input((const char *) text->at, text->size, why);
 	StringInfoData rounded;
 
-	if (value != NULL || !is_rounded || why->refusal.code != VIZHONIKU_NUMBER_NOT_CARRIED)
+	if (value != NULL || !is_rounded || why->error.code != VIZHONIKU_NUMBER_NOT_CARRIED)
 		return value;
 	rounded = rounded_text((const char *) text->at, text->size);
 	text->at = (const unsigned char *) rounded.data;
@@ -286,15 +286,15 @@ server_words(char *words)
 char *
 vjson_path_of_rejection(const VjsonRejection *why)
 {
-	bool		is_of_server = why->refusal.code == VIZHONIKU_NO_CODE;
-	size_t		size = is_of_server ? Min(why->refusal.position, why->size) : why->size;
+	bool		is_of_server = why->error.code == VIZHONIKU_NO_CODE;
+	size_t		size = is_of_server ? Min(why->error.position, why->size) : why->size;
 	size_t		room = 256;
 
 	for (;;)
 	{
 		char	   *path = palloc_extended(room + 1, MCXT_ALLOC_HUGE);
 		size_t		length;
-		uint32		status = vizhoniku_error_path(why->mode, (const unsigned char *) why->parsed, size, &why->refusal,
+		uint32		status = vizhoniku_error_path(why->mode, (const unsigned char *) why->parsed, size, &why->error,
 												  (unsigned char *) path, room, &length);
 
 		if (status == VIZHONIKU_ACCEPTED)
@@ -319,7 +319,7 @@ words_of_fault(const VjsonRejection *why)
 	char	   *words = pstrdup(why->words);
 	char	   *end;
 
-	switch (why->refusal.code)
+	switch (why->error.code)
 	{
 		case VIZHONIKU_OBJECT_DUPLICATE_KEY:
 		case VIZHONIKU_INVALID_ESCAPED:

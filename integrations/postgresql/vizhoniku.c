@@ -155,7 +155,7 @@ printable(char *words, size_t size)
  * no memory for them.
  */
 static char *
-words_of_refusal(uint32 mode, const char *text, size_t size)
+message_of_error(uint32 mode, const char *text, size_t size)
 {
 	size_t		room = 256;
 
@@ -166,7 +166,7 @@ words_of_refusal(uint32 mode, const char *text, size_t size)
 		uint32		status = vizhoniku_message(mode, (const unsigned char *) text, size,
 											   (unsigned char *) words, room, &length);
 
-		if (status == VIZHONIKU_REFUSED)
+		if (status == VIZHONIKU_REJECTED)
 		{
 			words[length] = '\0';
 			return printable(words, length);
@@ -230,7 +230,7 @@ vjson_locate(const VjsonRejection *why, VjsonPlace *place)
 {
 	struct vizhoniku_location location;
 
-	vizhoniku_place((const unsigned char *) why->text, why->size, &why->refusal, &location);
+	vizhoniku_place((const unsigned char *) why->text, why->size, &why->error, &location);
 	place->index = location.index;
 	place->line = location.line;
 	place->column = column_in_characters(why->text, why->size, &location);
@@ -243,7 +243,7 @@ words_of_path(const VjsonRejection *why)
 {
 	const char *path;
 
-	if (why->refusal.code != VIZHONIKU_NUMBER_NOT_CARRIED && why->refusal.code != VIZHONIKU_OBJECT_DUPLICATE_KEY)
+	if (why->error.code != VIZHONIKU_NUMBER_NOT_CARRIED && why->error.code != VIZHONIKU_OBJECT_DUPLICATE_KEY)
 		return "";
 	path = vjson_path_of_rejection(why);
 	return path == NULL || *path == '\0' || strlen(path) > LONGEST_PATH ? "" : psprintf(", at %s", path);
@@ -253,7 +253,7 @@ words_of_path(const VjsonRejection *why)
 static int
 hint_of_rejection(const VjsonRejection *why)
 {
-	switch (why->refusal.code)
+	switch (why->error.code)
 	{
 		case VIZHONIKU_NUMBER_NOT_CARRIED:
 			if (why->is_extended)
@@ -395,7 +395,7 @@ size_of_key_alone(size_t key_size)
 
 /* Make the value of a text in which no decimal ends in a zero, so that its key alone has all of it. */
 static uint32
-make_key_value(uint32 mode, const char *text, size_t size, struct varlena **value, struct vizhoniku_refusal *refusal)
+make_key_value(uint32 mode, const char *text, size_t size, struct varlena **value, struct vizhoniku_error *error)
 {
 	size_t		key_room = size + SPARE_ROOM;
 
@@ -405,7 +405,7 @@ make_key_value(uint32 mode, const char *text, size_t size, struct varlena **valu
 		char	   *form = result + VARHDRSZ;
 		size_t		key_size;
 		uint32		status = vizhoniku_sort_key(mode, (const unsigned char *) text, size,
-												(unsigned char *) form + FORM_SIZE, key_room, &key_size, refusal);
+												(unsigned char *) form + FORM_SIZE, key_room, &key_size, error);
 
 		if (status == VIZHONIKU_ACCEPTED)
 		{
@@ -423,7 +423,7 @@ make_key_value(uint32 mode, const char *text, size_t size, struct varlena **valu
 
 /* Make the value of a text of extended mode, with the zeros that end its decimals. */
 static uint32
-make_zeros_value(const char *text, size_t size, struct varlena **value, struct vizhoniku_refusal *refusal)
+make_zeros_value(const char *text, size_t size, struct varlena **value, struct vizhoniku_error *error)
 {
 	size_t		key_room = size + SPARE_ROOM;
 	size_t		text_room = size + SPARE_ROOM;
@@ -438,7 +438,7 @@ make_zeros_value(const char *text, size_t size, struct varlena **value, struct v
 		size_t		text_size;
 		uint32		status = vizhoniku_text_and_key(VIZHONIKU_EXTENDED, (const unsigned char *) text, size,
 													(unsigned char *) written, text_room, &text_size,
-													(unsigned char *) key, key_room, &key_size, refusal);
+													(unsigned char *) key, key_room, &key_size, error);
 
 		if (status == VIZHONIKU_ACCEPTED)
 		{
@@ -466,13 +466,13 @@ make_zeros_value(const char *text, size_t size, struct varlena **value, struct v
  */
 static uint32
 make_value(uint32 mode, bool has_zeros, const char *text, size_t size, struct varlena **value,
-		   struct vizhoniku_refusal *refusal)
+		   struct vizhoniku_error *error)
 {
 	CHECK_FOR_INTERRUPTS();
 	check_stack_room(text, size);
 	if (has_zeros)
-		return make_zeros_value(text, size, value, refusal);
-	return make_key_value(mode, text, size, value, refusal);
+		return make_zeros_value(text, size, value, error);
+	return make_key_value(mode, text, size, value, error);
 }
 
 /*
@@ -485,17 +485,17 @@ static void
 tell_no_json(const char *text, size_t size, JsonParseErrorType error, size_t position, VjsonRejection *why)
 {
 	char	   *rest = vjson_without_numbers(text, size);
-	uint32		status = vizhoniku_check(VIZHONIKU_STANDARD, (const unsigned char *) rest, size, &why->refusal);
+	uint32		status = vizhoniku_check(VIZHONIKU_STANDARD, (const unsigned char *) rest, size, &why->error);
 
 	if (status == VIZHONIKU_OUT_OF_MEMORY)
 		vjson_raise_out_of_memory(size);
-	if (status == VIZHONIKU_REFUSED && why->refusal.code != VIZHONIKU_NUMBER_NOT_CARRIED)
-		why->words = words_of_refusal(VIZHONIKU_STANDARD, rest, size);
+	if (status == VIZHONIKU_REJECTED && why->error.code != VIZHONIKU_NUMBER_NOT_CARRIED)
+		why->words = message_of_error(VIZHONIKU_STANDARD, rest, size);
 	else
 	{
-		why->refusal.code = VIZHONIKU_NO_CODE;
-		why->refusal.which = 1;
-		why->refusal.position = position;
+		why->error.code = VIZHONIKU_NO_CODE;
+		why->error.which = 1;
+		why->error.position = position;
 		why->words = error == JSON_ESCAPING_REQUIRED ? "control character in a string" : "not JSON";
 	}
 	why->mode = VIZHONIKU_STANDARD;
@@ -529,7 +529,7 @@ is_json(const char *text, size_t size, VjsonRejection *why)
  */
 static uint32
 write_plain_numbers(const char *text, size_t size, char **plain, size_t *plain_size,
-					struct vizhoniku_refusal *refusal)
+					struct vizhoniku_error *error)
 {
 	size_t		room = size + size / 4 + SPARE_ROOM;
 
@@ -537,7 +537,7 @@ write_plain_numbers(const char *text, size_t size, char **plain, size_t *plain_s
 	{
 		char	   *written = palloc_extended(room, MCXT_ALLOC_HUGE);
 		uint32		status = vizhoniku_plain_numbers((const unsigned char *) text, size,
-													 (unsigned char *) written, room, plain_size, refusal);
+													 (unsigned char *) written, room, plain_size, error);
 
 		if (status == VIZHONIKU_ACCEPTED)
 		{
@@ -643,20 +643,20 @@ static struct varlena *
 value_of_json(const char *text, size_t size, Numbers numbers)
 {
 	struct varlena *value = NULL;
-	struct vizhoniku_refusal refusal;
+	struct vizhoniku_error error;
 	char	   *plain = NULL;
 	uint32		status = VIZHONIKU_ACCEPTED;
 
 	if (numbers.some_exponent)
 	{
-		status = write_plain_numbers(text, size, &plain, &size, &refusal);
+		status = write_plain_numbers(text, size, &plain, &size, &error);
 		if (status == VIZHONIKU_ACCEPTED && !numbers.some_zeros)
 			numbers = look_at_numbers(plain, size);
 		text = plain;
 	}
 	if (status == VIZHONIKU_ACCEPTED)
 		status = make_value(VIZHONIKU_EXTENDED, numbers.some_zeros || size > LONGEST_FOR_KEY, text, size, &value,
-							&refusal);
+							&error);
 	if (plain != NULL)
 		pfree(plain);
 	return status == VIZHONIKU_ACCEPTED ? value : NULL;
@@ -707,12 +707,12 @@ try_utf8(const char *text, size_t size, ReadAs as, VjsonRejection *why)
 		if (value != NULL)
 			return value;
 	}
-	status = make_value(mode, mode == VIZHONIKU_EXTENDED, text, size, &value, &why->refusal);
+	status = make_value(mode, mode == VIZHONIKU_EXTENDED, text, size, &value, &why->error);
 	why->text = text;
 	why->size = size;
 	why->parsed = text;
 	why->is_extended = as == READ_EXTENDED;
-	if (status == VIZHONIKU_REFUSED && as == READ_INPUT && why->refusal.code == VIZHONIKU_NUMBER_NOT_CARRIED)
+	if (status == VIZHONIKU_REJECTED && as == READ_INPUT && why->error.code == VIZHONIKU_NUMBER_NOT_CARRIED)
 	{
 		if (!is_json(text, size, why))
 		{
@@ -727,30 +727,30 @@ try_utf8(const char *text, size_t size, ReadAs as, VjsonRejection *why)
 				return value;
 		}
 		mode = VIZHONIKU_EXTENDED;
-		status = make_value(mode, true, text, size, &value, &why->refusal);
+		status = make_value(mode, true, text, size, &value, &why->error);
 	}
-	if (status == VIZHONIKU_REFUSED && as != READ_EXTENDED && mode == VIZHONIKU_EXTENDED &&
-		why->refusal.code == VIZHONIKU_NUMBER_NOT_CARRIED)
+	if (status == VIZHONIKU_REJECTED && as != READ_EXTENDED && mode == VIZHONIKU_EXTENDED &&
+		why->error.code == VIZHONIKU_NUMBER_NOT_CARRIED)
 	{
 		char	   *plain;
 		size_t		plain_size;
 
-		status = write_plain_numbers(text, size, &plain, &plain_size, &why->refusal);
+		status = write_plain_numbers(text, size, &plain, &plain_size, &why->error);
 		if (status == VIZHONIKU_ACCEPTED)
 		{
-			status = make_value(mode, true, plain, plain_size, &value, &why->refusal);
+			status = make_value(mode, true, plain, plain_size, &value, &why->error);
 			pfree(plain);
 		}
-		if (status == VIZHONIKU_REFUSED)
+		if (status == VIZHONIKU_REJECTED)
 		{
 			why->parsed = masked_numbers(text, size);
-			status = vizhoniku_check(mode, (const unsigned char *) why->parsed, size, &why->refusal);
+			status = vizhoniku_check(mode, (const unsigned char *) why->parsed, size, &why->error);
 		}
 	}
 	why->mode = mode;
-	if (status == VIZHONIKU_REFUSED)
+	if (status == VIZHONIKU_REJECTED)
 	{
-		why->words = words_of_refusal(mode, why->parsed, size);
+		why->words = message_of_error(mode, why->parsed, size);
 		if (why->words == NULL)
 			why->words = NO_WORDS;
 		return NULL;

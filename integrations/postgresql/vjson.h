@@ -69,7 +69,7 @@ typedef struct
 typedef struct
 {
 	const char *words;
-	struct vizhoniku_refusal refusal;
+	struct vizhoniku_error error;
 	const char *text;
 	size_t		size;
 	uint32		mode;			/* of the library, in which this was parsed: */

@@ -1186,38 +1186,38 @@ STAND_IN = r"""
 #include <stdint.h>
 #include <time.h>
 
-struct refusal { uint32_t code, which; size_t position; };
+struct error { uint32_t code, which; size_t position; };
 struct place { size_t index, line, column; };
 
 volatile int waits, is_waiting, goes_on;
 volatile uint32_t status, message_status = 1, path_status;
 
-static uint32_t answer(struct refusal *refusal) {
+static uint32_t answer(struct error *error) {
   const struct timespec moment = {0, 1000000};
   is_waiting = 1;
   for (int i = 0; waits && !goes_on && i < 10000; i++) nanosleep(&moment, NULL);
-  refusal->code = refusal->which = status == 1;
-  refusal->position = 0;
+  error->code = error->which = status == 1;
+  error->position = 0;
   return waits && !goes_on ? 99 : status;
 }
 
 uint32_t vizhoniku_version(void) { return INTERFACE; }
 
-uint32_t vizhoniku_check(uint32_t mode, const char *text, size_t text_size, struct refusal *refusal) {
+uint32_t vizhoniku_check(uint32_t mode, const char *text, size_t text_size, struct error *error) {
   (void)mode, (void)text, (void)text_size;
-  return answer(refusal);
+  return answer(error);
 }
 
 uint32_t vizhoniku_text(uint32_t mode, const char *text, size_t text_size, char *buffer, size_t room, size_t *size,
-                        struct refusal *refusal) {
+                        struct error *error) {
   (void)mode, (void)text, (void)text_size, (void)buffer, (void)room;
   *size = 0;
-  return answer(refusal);
+  return answer(error);
 }
 
 uint32_t vizhoniku_plain_numbers(const char *text, size_t text_size, char *buffer, size_t room, size_t *size,
-                                 struct refusal *refusal) {
-  return vizhoniku_text(1, text, text_size, buffer, room, size, refusal);
+                                 struct error *error) {
+  return vizhoniku_text(1, text, text_size, buffer, room, size, error);
 }
 
 uint32_t vizhoniku_masked_numbers(const char *text, size_t text_size, char *buffer, size_t room, size_t *size) {
@@ -1226,37 +1226,37 @@ uint32_t vizhoniku_masked_numbers(const char *text, size_t text_size, char *buff
   return status;
 }
 
-uint32_t vizhoniku_error_path(uint32_t mode, const char *text, size_t text_size, const struct refusal *refusal,
+uint32_t vizhoniku_error_path(uint32_t mode, const char *text, size_t text_size, const struct error *error,
                               char *buffer, size_t room, size_t *size) {
-  (void)mode, (void)text, (void)text_size, (void)refusal, (void)buffer, (void)room;
+  (void)mode, (void)text, (void)text_size, (void)error, (void)buffer, (void)room;
   *size = 0;
   return path_status;
 }
 
 uint32_t vizhoniku_sort_key(uint32_t mode, const char *text, size_t text_size, char *buffer, size_t room, size_t *size,
-                            struct refusal *refusal) {
-  return vizhoniku_text(mode, text, text_size, buffer, room, size, refusal);
+                            struct error *error) {
+  return vizhoniku_text(mode, text, text_size, buffer, room, size, error);
 }
 
 uint32_t vizhoniku_part(uint32_t mode, const char *path, size_t path_size, const char *text, size_t text_size,
-                        char *buffer, size_t room, size_t *size, struct refusal *refusal) {
+                        char *buffer, size_t room, size_t *size, struct error *error) {
   (void)path, (void)path_size;
-  return vizhoniku_text(mode, text, text_size, buffer, room, size, refusal);
+  return vizhoniku_text(mode, text, text_size, buffer, room, size, error);
 }
 
 uint32_t vizhoniku_text_and_key(uint32_t mode, const char *text, size_t text_size, char *buffer, size_t room,
                                 size_t *size, char *key_buffer, size_t key_room, size_t *key_size,
-                                struct refusal *refusal) {
+                                struct error *error) {
   (void)key_buffer, (void)key_room;
   *key_size = 0;
-  return vizhoniku_text(mode, text, text_size, buffer, room, size, refusal);
+  return vizhoniku_text(mode, text, text_size, buffer, room, size, error);
 }
 
 uint32_t vizhoniku_compare(uint32_t mode, const char *left, size_t left_size, const char *right, size_t right_size,
-                           int32_t *order, struct refusal *refusal) {
+                           int32_t *order, struct error *error) {
   (void)mode, (void)left, (void)left_size, (void)right, (void)right_size;
   *order = 0;
-  return answer(refusal);
+  return answer(error);
 }
 
 uint32_t vizhoniku_message(uint32_t mode, const char *text, size_t text_size, char *buffer, size_t room, size_t *size) {
@@ -1270,8 +1270,8 @@ uint32_t vizhoniku_message(uint32_t mode, const char *text, size_t text_size, ch
 KEY(check) KEY(kind) KEY(count) KEY(member) KEY(item) KEY(part) KEY(begin) KEY(next) KEY(name) KEY(text)
 KEY(contains) KEY(set) KEY(remove) KEY(put) KEY(push) KEY(merge)
 
-void vizhoniku_place(const char *text, size_t text_size, const struct refusal *refusal, struct place *place) {
-  (void)text, (void)text_size, (void)refusal;
+void vizhoniku_place(const char *text, size_t text_size, const struct error *error, struct place *place) {
+  (void)text, (void)text_size, (void)error;
   place->index = 0, place->line = place->column = 1;
 }
 """

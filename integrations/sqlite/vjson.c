@@ -80,9 +80,9 @@ static struct read_text as_passed(const unsigned char *text, size_t size) {
 }
 
 /* Whether the text has to be read once more: extended mode rejected a number, and those with an exponent were written
- * out now. The status and the refusal are those of that where it failed. */
-static int read_again(uint32_t mode, uint32_t *status, struct vizhoniku_refusal *refusal, struct read_text *text) {
-  if (*status != VIZHONIKU_REFUSED || mode != VIZHONIKU_EXTENDED || refusal->code != VIZHONIKU_NUMBER_NOT_CARRIED ||
+ * out now. The status and the error are those of that where it failed. */
+static int read_again(uint32_t mode, uint32_t *status, struct vizhoniku_error *error, struct read_text *text) {
+  if (*status != VIZHONIKU_REJECTED || mode != VIZHONIKU_EXTENDED || error->code != VIZHONIKU_NUMBER_NOT_CARRIED ||
       text->made)
     return 0;
   size_t room = text->size + 64, size = 0;
@@ -94,12 +94,12 @@ static int read_again(uint32_t mode, uint32_t *status, struct vizhoniku_refusal 
       *status = VIZHONIKU_OUT_OF_MEMORY;
       return 0;
     }
-    *status = vizhoniku_plain_numbers(text->at, text->size, made, room, &size, refusal);
+    *status = vizhoniku_plain_numbers(text->at, text->size, made, room, &size, error);
     room = size;
   } while (*status == VIZHONIKU_TOO_SHORT);
   if (*status != VIZHONIKU_ACCEPTED) {
     sqlite3_free(made);
-    text->too_long = *status == VIZHONIKU_REFUSED;
+    text->too_long = *status == VIZHONIKU_REJECTED;
     return 0;
   }
   text->at = text->made = made;
@@ -107,48 +107,48 @@ static int read_again(uint32_t mode, uint32_t *status, struct vizhoniku_refusal 
   return 1;
 }
 
-static uint32_t check(uint32_t mode, struct read_text *text, struct vizhoniku_refusal *refusal) {
+static uint32_t check(uint32_t mode, struct read_text *text, struct vizhoniku_error *error) {
   uint32_t status;
   do {
-    status = vizhoniku_check(mode, text->at, text->size, refusal);
-  } while (read_again(mode, &status, refusal, text));
+    status = vizhoniku_check(mode, text->at, text->size, error);
+  } while (read_again(mode, &status, error, text));
   return status;
 }
 
 /* Finds the first fault of a text that was rejected with its numbers written out, or whose numbers can't be, in the
- * text that was passed, with these numbers masked: each byte stays where it is then. Returns VIZHONIKU_REFUSED, or
+ * text that was passed, with these numbers masked: each byte stays where it is then. Returns VIZHONIKU_REJECTED, or
  * VIZHONIKU_OUT_OF_MEMORY. */
-static uint32_t find_in_passed(struct read_text *text, struct vizhoniku_refusal *refusal) {
-  struct vizhoniku_refusal found;
+static uint32_t find_in_passed(struct read_text *text, struct vizhoniku_error *error) {
+  struct vizhoniku_error found;
   size_t size;
-  if (!text->made && !text->too_long) return VIZHONIKU_REFUSED;
+  if (!text->made && !text->too_long) return VIZHONIKU_REJECTED;
   unsigned char *masked = sqlite3_malloc64(text->passed_size);
   if (!masked) return VIZHONIKU_OUT_OF_MEMORY;
   uint32_t status = vizhoniku_masked_numbers(text->passed, text->passed_size, masked, text->passed_size, &size);
   if (status == VIZHONIKU_ACCEPTED) status = vizhoniku_check(VIZHONIKU_EXTENDED, masked, size, &found);
-  if (status != VIZHONIKU_REFUSED) {
+  if (status != VIZHONIKU_REJECTED) {
     sqlite3_free(masked);
-    return status == VIZHONIKU_OUT_OF_MEMORY ? status : VIZHONIKU_REFUSED;
+    return status == VIZHONIKU_OUT_OF_MEMORY ? status : VIZHONIKU_REJECTED;
   }
   sqlite3_free(text->made);
   text->at = text->made = masked;
   text->size = size;
   text->too_long = found.code == VIZHONIKU_NUMBER_NOT_CARRIED;
-  *refusal = found;
+  *error = found;
   return status;
 }
 
 /* Checks a text to tell its fault, in the text that was passed. */
-static uint32_t find_fault(uint32_t mode, struct read_text *text, struct vizhoniku_refusal *refusal) {
-  uint32_t status = check(mode, text, refusal);
-  return status == VIZHONIKU_REFUSED ? find_in_passed(text, refusal) : status;
+static uint32_t find_fault(uint32_t mode, struct read_text *text, struct vizhoniku_error *error) {
+  uint32_t status = check(mode, text, error);
+  return status == VIZHONIKU_REJECTED ? find_in_passed(text, error) : status;
 }
 
 /* Writes the place of a fault in words, and returns their size. */
-static size_t write_place(char *words, size_t room, const struct read_text *text,
-                          const struct vizhoniku_refusal *refusal, int is_error) {
+static size_t write_place(char *words, size_t room, const struct read_text *text, const struct vizhoniku_error *error,
+                          int is_error) {
   struct vizhoniku_location place;
-  vizhoniku_place(text->at, text->size, refusal, &place);
+  vizhoniku_place(text->at, text->size, error, &place);
   size_t first = place.index - (place.column - 1);
   size_t column = text->size ? character_at(text->at, text->size, first, place.index) : 1;
   return (size_t)snprintf(words, room, "%sline %zu, column %zu: ", is_error ? "malformed JSON: " : "", place.line,
@@ -159,10 +159,10 @@ static size_t write_place(char *words, size_t room, const struct read_text *text
 
 /* The library's words for a fault, behind so many bytes of room, without the position that ends them, which is told as
  * line and column instead. They have to be freed. Returns NULL where there is no memory. */
-static char *words_of(uint32_t mode, const struct read_text *text, const struct vizhoniku_refusal *refusal,
-                      size_t front, size_t *size) {
+static char *words_of(uint32_t mode, const struct read_text *text, const struct vizhoniku_error *error, size_t front,
+                      size_t *size) {
   char end[32], *words = NULL;
-  size_t end_size = (size_t)snprintf(end, sizeof end, ", pos %zu", refusal->position), room = 256;
+  size_t end_size = (size_t)snprintf(end, sizeof end, ", pos %zu", error->position), room = 256;
   uint32_t status;
   do {
     sqlite3_free(words);
@@ -175,7 +175,7 @@ static char *words_of(uint32_t mode, const struct read_text *text, const struct 
     status = vizhoniku_message(mode, text->at, text->size, (unsigned char *)words + front, room, size);
     room = *size;
   } while (status == VIZHONIKU_TOO_SHORT);
-  if (status != VIZHONIKU_REFUSED) {
+  if (status != VIZHONIKU_REJECTED) {
     sqlite3_free(words);
     return NULL;
   }
@@ -184,13 +184,13 @@ static char *words_of(uint32_t mode, const struct read_text *text, const struct 
 }
 
 /* Gives what is wrong with the text, in words: as the error of the statement, or as the result. */
-static void tell(sqlite3_context *context, uint32_t mode, uint32_t status, const struct vizhoniku_refusal *refusal,
+static void tell(sqlite3_context *context, uint32_t mode, uint32_t status, const struct vizhoniku_error *error,
                  const struct read_text *text, int is_error) {
   char front[128], *words = NULL;
   size_t front_size = 0, size;
-  if (status == VIZHONIKU_REFUSED) {
-    front_size = write_place(front, sizeof front, text, refusal, is_error);
-    words = words_of(mode, text, refusal, front_size, &size);
+  if (status == VIZHONIKU_REJECTED) {
+    front_size = write_place(front, sizeof front, text, error, is_error);
+    words = words_of(mode, text, error, front_size, &size);
   }
   if (!words) {
     sqlite3_result_error_nomem(context);
@@ -210,10 +210,10 @@ static void call_valid(sqlite3_context *context, int count, sqlite3_value **valu
   uint32_t mode;
   size_t size;
   const unsigned char *text;
-  struct vizhoniku_refusal refusal;
+  struct vizhoniku_error error;
   if (!read_arguments(context, count, values, &text, &size, &mode)) return;
   struct read_text read = as_passed(text, size);
-  uint32_t status = check(mode, &read, &refusal);
+  uint32_t status = check(mode, &read, &error);
   sqlite3_free(read.made);
   if (status == VIZHONIKU_OUT_OF_MEMORY)
     sqlite3_result_error_nomem(context);
@@ -225,17 +225,17 @@ static void call_error_position(sqlite3_context *context, int count, sqlite3_val
   uint32_t mode;
   size_t size;
   const unsigned char *text;
-  struct vizhoniku_refusal refusal;
+  struct vizhoniku_error error;
   struct vizhoniku_location place;
   if (!read_arguments(context, count, values, &text, &size, &mode)) return;
   struct read_text read = as_passed(text, size);
-  uint32_t status = find_fault(mode, &read, &refusal);
+  uint32_t status = find_fault(mode, &read, &error);
   if (status == VIZHONIKU_OUT_OF_MEMORY) {
     sqlite3_result_error_nomem(context);
   } else if (status == VIZHONIKU_ACCEPTED) {
     sqlite3_result_int(context, 0);
   } else {
-    vizhoniku_place(read.at, read.size, &refusal, &place);
+    vizhoniku_place(read.at, read.size, &error, &place);
     sqlite3_result_int64(context, size ? (sqlite3_int64)character_at(read.at, read.size, 0, place.index) : 1);
   }
   sqlite3_free(read.made);
@@ -245,11 +245,11 @@ static void call_error(sqlite3_context *context, int count, sqlite3_value **valu
   uint32_t mode;
   size_t size;
   const unsigned char *text;
-  struct vizhoniku_refusal refusal;
+  struct vizhoniku_error error;
   if (!read_arguments(context, count, values, &text, &size, &mode)) return;
   struct read_text read = as_passed(text, size);
-  uint32_t status = find_fault(mode, &read, &refusal);
-  if (status != VIZHONIKU_ACCEPTED) tell(context, mode, status, &refusal, &read, 0);
+  uint32_t status = find_fault(mode, &read, &error);
+  if (status != VIZHONIKU_ACCEPTED) tell(context, mode, status, &error, &read, 0);
   sqlite3_free(read.made);
 }
 
@@ -258,18 +258,17 @@ static void call_error_path(sqlite3_context *context, int count, sqlite3_value *
   size_t size, room = 256;
   const unsigned char *text;
   unsigned char *path = NULL;
-  struct vizhoniku_refusal refusal;
+  struct vizhoniku_error error;
   if (!read_arguments(context, count, values, &text, &size, &mode)) return;
   struct read_text read = as_passed(text, size);
-  uint32_t status = find_fault(mode, &read, &refusal);
+  uint32_t status = find_fault(mode, &read, &error);
   sqlite3_free(read.made);
   if (status == VIZHONIKU_ACCEPTED) return;
-  if (status == VIZHONIKU_REFUSED) status = VIZHONIKU_TOO_SHORT;
+  if (status == VIZHONIKU_REJECTED) status = VIZHONIKU_TOO_SHORT;
   while (status == VIZHONIKU_TOO_SHORT) {
     sqlite3_free(path);
     path = sqlite3_malloc64(room);
-    status = !path ? VIZHONIKU_OUT_OF_MEMORY
-                   : vizhoniku_error_path(mode, text, size, &refusal, path, room, &room);
+    status = !path ? VIZHONIKU_OUT_OF_MEMORY : vizhoniku_error_path(mode, text, size, &error, path, room, &room);
   }
   if (status == VIZHONIKU_ACCEPTED) {
     sqlite3_result_text64(context, (char *)path, room, sqlite3_free, SQLITE_UTF8);
@@ -287,7 +286,7 @@ static void give_written(sqlite3_context *context, enum what what, uint32_t mode
                          size_t path_size, const unsigned char *text, size_t size) {
   uint32_t status;
   size_t written;
-  struct vizhoniku_refusal refusal;
+  struct vizhoniku_error error;
   struct read_text read = as_passed(text, size);
   unsigned char small[1024], *buffer = small;
   size_t room = what == PART || size <= sizeof small - 64 ? sizeof small : size + 64;
@@ -298,12 +297,12 @@ static void give_written(sqlite3_context *context, enum what what, uint32_t mode
       return;
     }
     if (what == TEXT)
-      status = vizhoniku_text(mode, read.at, read.size, buffer, room, &written, &refusal);
+      status = vizhoniku_text(mode, read.at, read.size, buffer, room, &written, &error);
     else if (what == KEY)
-      status = vizhoniku_sort_key(mode, read.at, read.size, buffer, room, &written, &refusal);
+      status = vizhoniku_sort_key(mode, read.at, read.size, buffer, room, &written, &error);
     else
-      status = vizhoniku_part(mode, path, path_size, read.at, read.size, buffer, room, &written, &refusal);
-    if (read_again(mode, &status, &refusal, &read))
+      status = vizhoniku_part(mode, path, path_size, read.at, read.size, buffer, room, &written, &error);
+    if (read_again(mode, &status, &error, &read))
       written = room;
     else if (status != VIZHONIKU_TOO_SHORT)
       break;
@@ -326,7 +325,7 @@ static void give_written(sqlite3_context *context, enum what what, uint32_t mode
   if (status == VIZHONIKU_NO_PATH)
     sqlite3_result_error(context, MALFORMED_PATH, -1);
   else if (status != VIZHONIKU_NO_PART)
-    tell(context, mode, status == VIZHONIKU_REFUSED ? find_in_passed(&read, &refusal) : status, &refusal, &read, 1);
+    tell(context, mode, status == VIZHONIKU_REJECTED ? find_in_passed(&read, &error) : status, &error, &read, 1);
   sqlite3_free(read.made);
 }
 
@@ -363,15 +362,15 @@ static int compare_bytes(const void *left, size_t left_size, const void *right, 
 }
 
 /* Compares two texts again, as long as one was rejected whose numbers were written out now. Where one stays rejected,
- * the refusal says which. */
+ * the error says which. */
 static uint32_t compare_again(uint32_t status, struct read_text *left, struct read_text *right, int32_t *order,
-                              struct vizhoniku_refusal *refusal) {
-  uint32_t which = refusal->which;
-  while (read_again(VIZHONIKU_EXTENDED, &status, refusal, which == 2 ? right : left)) {
-    status = vizhoniku_compare(VIZHONIKU_EXTENDED, left->at, left->size, right->at, right->size, order, refusal);
-    which = refusal->which;
+                              struct vizhoniku_error *error) {
+  uint32_t which = error->which;
+  while (read_again(VIZHONIKU_EXTENDED, &status, error, which == 2 ? right : left)) {
+    status = vizhoniku_compare(VIZHONIKU_EXTENDED, left->at, left->size, right->at, right->size, order, error);
+    which = error->which;
   }
-  refusal->which = which;
+  error->which = which;
   return status;
 }
 
@@ -380,16 +379,16 @@ static uint32_t compare_again(uint32_t status, struct read_text *left, struct re
 static int collate(void *database, int left_length, const void *left, int right_length, const void *right) {
   size_t left_size = (size_t)left_length, right_size = (size_t)right_length;
   int32_t order;
-  struct vizhoniku_refusal refusal;
-  uint32_t status = vizhoniku_compare(VIZHONIKU_EXTENDED, left, left_size, right, right_size, &order, &refusal);
+  struct vizhoniku_error error;
+  uint32_t status = vizhoniku_compare(VIZHONIKU_EXTENDED, left, left_size, right, right_size, &order, &error);
   if (status == VIZHONIKU_ACCEPTED) return order;
   struct read_text one = as_passed(left, left_size), two = as_passed(right, right_size);
-  status = compare_again(status, &one, &two, &order, &refusal);
-  if (status == VIZHONIKU_REFUSED && refusal.which == 2) {
+  status = compare_again(status, &one, &two, &order, &error);
+  if (status == VIZHONIKU_REJECTED && error.which == 2) {
     status = VIZHONIKU_ACCEPTED;
     order = -1;
-  } else if (status == VIZHONIKU_REFUSED) {
-    status = check(VIZHONIKU_EXTENDED, &two, &refusal);
+  } else if (status == VIZHONIKU_REJECTED) {
+    status = check(VIZHONIKU_EXTENDED, &two, &error);
     order = 1;
   }
   sqlite3_free(one.made);

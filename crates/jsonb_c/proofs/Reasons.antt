@@ -8,7 +8,7 @@ use Rattle.jsonb_value.specs.declared.error.Error.TheVariants as errors
 use Rattle.jsonb_scan.specs.Answer.{Fails}
 use Rattle.jsonb_scan.specs.Parsing.Document.{document_of}
 use Rattle.jsonb.specs.Explained.{IsExplained}
-use Rattle.jsonb_c.specs.declared.Refusal.{Refusal}
+use Rattle.jsonb_c.specs.declared.Rejection.{Rejection}
 use Rattle.jsonb_c.specs.declared.Failure.{Failure}
 use Rattle.jsonb_c.specs.declared.Failure.TheVariants.{Text, OutOfMemory, UnknownMode}
 use Rattle.jsonb_c.specs.Interface.{NumberChooses, standard_mode, extended_mode, status_of, IsAccepted, IsOneRejected, first_rejected, second_rejected, IsReason, IsRejected, SaysError}
@@ -29,15 +29,15 @@ one_mode (extended_mode e) (extended_mode f) = refl
 -- ---- from errors to reasons
 
 -- a fault of the text that a reader told, in other words
-rejected_text : (number : ℕ) (mode : Mode) (text : List ℕ) (count : ℕ) (e : Error) (refusal : Refusal) → NumberChooses number mode
-    → (e ≢ errors.OutOfMemory → IsNoDocument mode text) → Fails e (document_of mode text) → IsExplained mode text e → SaysError count e (Text refusal) → IsRejected number text count refusal
-rejected_text number mode text count e refusal chosen none fails explained says =
+rejected_text : (number : ℕ) (mode : Mode) (text : List ℕ) (count : ℕ) (e : Error) (rejection : Rejection) → NumberChooses number mode
+    → (e ≢ errors.OutOfMemory → IsNoDocument mode text) → Fails e (document_of mode text) → IsExplained mode text e → SaysError count e (Text rejection) → IsRejected number text count rejection
+rejected_text number mode text count e rejection chosen none fails explained says =
     let code = says.0 in
-    let is : e ≡ errors.Syntax code refusal.position = says.1 in
+    let is : e ≡ errors.Syntax code rejection.position = says.1 in
     record {
       mode = mode;
       chosen = chosen;
-      no_document = none (λ same. let f : errors.Syntax code refusal.position ≡ errors.OutOfMemory = sym is ∙ same in cc);
+      no_document = none (λ same. let f : errors.Syntax code rejection.position ≡ errors.OutOfMemory = sym is ∙ same in cc);
       counted = says.3;
       code = code_of code;
       numbered = says.2;
@@ -48,30 +48,30 @@ rejected_text number mode text count e refusal chosen none fails explained says 
 pub reason_says : (number : ℕ) (mode : Mode) (text : List ℕ) (count : ℕ) (e : Error) (reason : Failure) → NumberChooses number mode
     → (e ≢ errors.OutOfMemory → IsNoDocument mode text) → Fails e (document_of mode text) → IsExplained mode text e → SaysError count e reason
     → IsReason number (IsRejected number text count) reason
-reason_says number mode text count e (Text refusal) chosen none fails explained says = (within chosen, rejected_text number mode text count e refusal chosen none fails explained says)
+reason_says number mode text count e (Text rejection) chosen none fails explained says = (within chosen, rejected_text number mode text count e rejection chosen none fails explained says)
 reason_says number mode text count e OutOfMemory chosen none fails explained says = within chosen
 reason_says number mode text count e UnknownMode chosen none fails explained says = absurd says
 
 -- ---- what is accepted
 
 -- a text that is rejected isn't accepted
-pub denied : (number : ℕ) (text : List ℕ) (count : ℕ) (refusal : Refusal) → IsRejected number text count refusal → IsAccepted number text → ⊥
-denied number text count refusal w a = w.no_document a.tree (subst (λ mode. IsDocument mode text a.tree) (one_mode a.read.chosen w.chosen) a.read.document)
+pub denied : (number : ℕ) (text : List ℕ) (count : ℕ) (rejection : Rejection) → IsRejected number text count rejection → IsAccepted number text → ⊥
+denied number text count rejection w a = w.no_document a.tree (subst (λ mode. IsDocument mode text a.tree) (one_mode a.read.chosen w.chosen) a.read.document)
 
 -- nor are both of two texts of which one is rejected
-pub one_denied : (number : ℕ) (left right : List ℕ) (refusal : Refusal) → IsOneRejected number left right refusal → IsAccepted number left → IsAccepted number right → ⊥
-one_denied number left right refusal (first_rejected w) a b = denied number left 1 refusal w a
-one_denied number left right refusal (second_rejected first w) a b = denied number right 2 refusal w b
+pub one_denied : (number : ℕ) (left right : List ℕ) (rejection : Rejection) → IsOneRejected number left right rejection → IsAccepted number left → IsAccepted number right → ⊥
+one_denied number left right rejection (first_rejected w) a b = denied number left 1 rejection w a
+one_denied number left right rejection (second_rejected first w) a b = denied number right 2 rejection w b
 
 -- where a text is accepted, memory ran out
 pub memory_wanting : (number : ℕ) (text : List ℕ) (reason : Failure) → IsReason number (IsRejected number text 1) reason → IsAccepted number text → status_of reason ≡ 2
-memory_wanting number text (Text refusal) w a = absurd (denied number text 1 refusal w.1 a)
+memory_wanting number text (Text rejection) w a = absurd (denied number text 1 rejection w.1 a)
 memory_wanting number text OutOfMemory w a = refl
 memory_wanting number text UnknownMode w a = absurd (omega (arith, w, within a.read.chosen))
 
 -- the same of two texts
 pub memory_wanting_of_two : (number : ℕ) (left right : List ℕ) (reason : Failure) → IsReason number (IsOneRejected number left right) reason → IsAccepted number left → IsAccepted number right → status_of reason ≡ 2
-memory_wanting_of_two number left right (Text refusal) w a b = absurd (one_denied number left right refusal w.1 a b)
+memory_wanting_of_two number left right (Text rejection) w a b = absurd (one_denied number left right rejection w.1 a b)
 memory_wanting_of_two number left right OutOfMemory w a b = refl
 memory_wanting_of_two number left right UnknownMode w a b = absurd (omega (arith, w, within a.read.chosen))
 

@@ -43,7 +43,7 @@ document_accepted {mode = mode} number text t chosen document = record {
 
 -- what is written of a text is a document, so it isn't rejected
 pub form_reason : (number : ℕ) (text form : List ℕ) (reason : Failure) → IsTextOf number text form → IsReason number (IsRejected number form 1) reason → IsReason number (IsRejected number text 1) reason
-form_reason number text form (Text refusal) t w =
-    absurd (denied number form 1 refusal w.1 (document_accepted number form t.reads_back.tree t.read.chosen t.reads_back.document))
+form_reason number text form (Text rejection) t w =
+    absurd (denied number form 1 rejection w.1 (document_accepted number form t.reads_back.tree t.read.chosen t.reads_back.document))
 form_reason number text form OutOfMemory t w = w
 form_reason number text form UnknownMode t w = w

@@ -23,7 +23,7 @@ use Rattle.jsonb_spec.specs.PartAt.{IsAt}
 use Rattle.jsonb_path.specs.Path.{IsPath, StartsKey}
 use Rattle.jsonb_c.specs.declared.Part.{Part}
 use Rattle.jsonb_c.specs.declared.Part.TheVariants as parts
-use Rattle.jsonb_c.specs.declared.Refusal.{Refusal}
+use Rattle.jsonb_c.specs.declared.Rejection.{Rejection}
 use Rattle.jsonb_c.specs.declared.Failure.{Failure}
 use Rattle.jsonb_c.specs.declared.Failure.TheVariants.{Text, OutOfMemory, UnknownMode}
 
@@ -57,7 +57,7 @@ code_number number_not_carried = 20
 code_number depth_limit_exceeded = 21
 
 -- what is told where no text is rejected
-abbrev pub nothing : Refusal
+abbrev pub nothing : Rejection
 nothing = record { code = 0; which = 0; position = 0 }
 
 -- the number of an order
@@ -82,20 +82,20 @@ pub record IsAccepted (number : ℕ) (text : List ℕ) : Type 0 where
 
 -- The number chooses a mode in which the text is no document. What is told is the fault that reading meets, and which
 -- of the texts it is.
-pub record IsRejected (number : ℕ) (text : List ℕ) (count : ℕ) (refusal : Refusal) : Type 0 where
+pub record IsRejected (number : ℕ) (text : List ℕ) (count : ℕ) (rejection : Rejection) : Type 0 where
   pub mode : Mode
   pub chosen : NumberChooses number mode
   pub no_document : IsNoDocument mode text
-  pub counted : refusal.which ≡ count
+  pub counted : rejection.which ≡ count
   pub code : Code
-  pub numbered : refusal.code ≡ code_number code
-  pub exact : document_of mode text ≡ Err (record { code = code; place = refusal.position })
-  pub explained : Stands mode text code refusal.position
+  pub numbered : rejection.code ≡ code_number code
+  pub exact : document_of mode text ≡ Err (record { code = code; place = rejection.position })
+  pub explained : Stands mode text code rejection.position
 
 -- One of two texts is rejected, the first that is no document.
-pub data IsOneRejected (number : ℕ) (left right : List ℕ) (refusal : Refusal) : Type 0 where
-  first_rejected : IsRejected number left 1 refusal → IsOneRejected number left right refusal
-  second_rejected : IsAccepted number left → IsRejected number right 2 refusal → IsOneRejected number left right refusal
+pub data IsOneRejected (number : ℕ) (left right : List ℕ) (rejection : Rejection) : Type 0 where
+  first_rejected : IsRejected number left 1 rejection → IsOneRejected number left right rejection
+  second_rejected : IsAccepted number left → IsRejected number right 2 rejection → IsOneRejected number left right rejection
 
 -- The status is no greater than this one, and says whether the number chooses a mode.
 pub record IsStatus (number greatest status : ℕ) : Type 0 where
@@ -124,9 +124,9 @@ pub record AcceptsDocuments (number : ℕ) (text : List ℕ) (status : ℕ) : Ty
   pub accepted : IsAccepted number text → (status ≡ 0) ⊎ (status ≡ 2)
 
 -- Of what is rejected it is told what and where it is, and else nothing.
-pub record Tells (IsTold : Refusal → Type 0) (status : ℕ) (refusal : Refusal) : Type 0 where
-  pub rejected : status ≡ 1 → IsTold refusal
-  pub nothing : status ≢ 1 → refusal ≡ nothing
+pub record Tells (IsTold : Rejection → Type 0) (status : ℕ) (rejection : Rejection) : Type 0 where
+  pub rejected : status ≡ 1 → IsTold rejection
+  pub nothing : status ≢ 1 → rejection ≡ nothing
 
 -- Bytes that are these stand at the front of the buffer, whose other bytes are as before.
 pub record Writes (Are : List ℕ → Type 0) (size : ℕ) (old new : List ℕ) : Type 0 where
@@ -252,13 +252,13 @@ IsPartAnswer number path text parts.Nothing = HasNoPartAt number path text
 IsPartAnswer number path text parts.NoPath = IsAccepted number text × IsNoPath path
 
 -- Why there is no answer: a text is rejected, of which this is told; memory ran out; or the number chooses no mode.
-abbrev pub IsReason : ℕ → (Refusal → Type 0) → Failure → Type 0
-IsReason number IsTold (Text refusal) = (number ≤ 1) × IsTold refusal
+abbrev pub IsReason : ℕ → (Rejection → Type 0) → Failure → Type 0
+IsReason number IsTold (Text rejection) = (number ≤ 1) × IsTold rejection
 IsReason number IsTold OutOfMemory = number ≤ 1
 IsReason number IsTold UnknownMode = 1 < number
 
 -- Why a call has no answer: for such a reason, and memory runs out only where it may be needed.
-pub record FailsFor {X : Type 0} (number : ℕ) (IsTold : Refusal → Type 0) (MayNeedMemory : Type 0)
+pub record FailsFor {X : Type 0} (number : ℕ) (IsTold : Rejection → Type 0) (MayNeedMemory : Type 0)
     (result : Result X Failure) : Type 0 where
   pub reason : IfErr result (IsReason number IsTold)
   pub memory : result ≡ Err OutOfMemory → MayNeedMemory
@@ -272,19 +272,19 @@ pub record OrdersTexts (number : ℕ) (left right : List ℕ) (result : Result O
 
 -- The reason says what the error of a reader does: the fault is told, of this one of the texts, or memory ran out.
 abbrev pub SaysError : ℕ → Error → Failure → Type 0
-SaysError count error (Text refusal) = (code : ParseErrorCode) × (error ≡ errors.Syntax code refusal.position)
-    × (refusal.code ≡ code_number (code_of code)) × (refusal.which ≡ count)
+SaysError count error (Text rejection) = (code : ParseErrorCode) × (error ≡ errors.Syntax code rejection.position)
+    × (rejection.code ≡ code_number (code_of code)) × (rejection.which ≡ count)
 SaysError count error OutOfMemory = error ≡ errors.OutOfMemory
 SaysError count error UnknownMode = ⊥
 
 -- the status of a reason
 abbrev pub status_of : Failure → ℕ
-status_of (Text refusal) = 1
+status_of (Text rejection) = 1
 status_of OutOfMemory = 2
 status_of UnknownMode = 3
 
 -- what is told of a reason
-abbrev pub refusal_of : Failure → Refusal
-refusal_of (Text refusal) = refusal
-refusal_of OutOfMemory = nothing
-refusal_of UnknownMode = nothing
+abbrev pub rejection_of : Failure → Rejection
+rejection_of (Text rejection) = rejection
+rejection_of OutOfMemory = nothing
+rejection_of UnknownMode = nothing

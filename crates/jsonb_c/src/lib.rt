@@ -17,7 +17,7 @@ ghost use Rattle.jsonb_scan.specs.Answer.{mode_of, MayAllocate, IsTextError};
 ghost use Rattle.jsonb.specs.Follows.{FollowsSpecification};
 ghost use Rattle.jsonb.specs.Parses.{Parses};
 ghost use Rattle.jsonb_path.specs.Path.{IsPath};
-ghost use Rattle.jsonb_c.specs.Interface.{NumberChooses, code_number, nothing, sign, status_of, refusal_of, AcceptsDocuments, EitherMayAllocate, FailsFor, FillsBuffer, FormMayAllocate, HasNoPartAt, HasPartAt, IsAccepted, IsNoDocumentOf, IsNoPath, IsOneRejected, IsOrdered, IsDocumentOf, IsKeyOf, IsMessageOf, IsPartAnswer, IsPartOf, IsRejected, IsStatus, IsStatusOfForm, IsTextOf, NeedsRoomForBoth, OrdersTexts, PartMayAllocate, SaysError, Tells, Writes};
+ghost use Rattle.jsonb_c.specs.Interface.{NumberChooses, code_number, nothing, sign, status_of, rejection_of, AcceptsDocuments, EitherMayAllocate, FailsFor, FillsBuffer, FormMayAllocate, HasNoPartAt, HasPartAt, IsAccepted, IsNoDocumentOf, IsNoPath, IsOneRejected, IsOrdered, IsDocumentOf, IsKeyOf, IsMessageOf, IsPartAnswer, IsPartOf, IsRejected, IsStatus, IsStatusOfForm, IsTextOf, NeedsRoomForBoth, OrdersTexts, PartMayAllocate, SaysError, Tells, Writes};
 
 use jsonb::{
     Error, Mode, ParseErrorCode, Value, append_part, append_sort_key, append_text, check,
@@ -39,7 +39,7 @@ pub mod zeros;
 pub const ACCEPTED: u32 = 0;
 
 /// A text is no document of the mode.
-pub const REFUSED: u32 = 1;
+pub const REJECTED: u32 = 1;
 
 /// Memory ran out.
 pub const OUT_OF_MEMORY: u32 = 2;
@@ -69,7 +69,7 @@ pub const NO_ZEROS: u32 = 9;
 /// the error. All are 0 where no text is rejected.
 #[repr(C)]
 #[derive(Clone, Copy)]
-pub struct Refusal {
+pub struct Rejection {
     pub code: u32,
     pub which: u32,
     pub position: usize,
@@ -85,7 +85,7 @@ pub struct Place {
     pub column: usize,
 }
 
-const NOTHING: Refusal = Refusal {
+const NOTHING: Rejection = Rejection {
     code: 0,
     which: 0,
     position: 0,
@@ -94,19 +94,19 @@ const NOTHING: Refusal = Refusal {
 // Why a call has no answer.
 #[derive(Clone, Copy)]
 enum Failure {
-    Text(Refusal),
+    Text(Rejection),
     OutOfMemory,
     UnknownMode,
 }
 
 /// Checks whether the text is a document of the mode, 0 for standard or 1 for extended. What is wrong with a text that
-/// is none is in `refusal`.
+/// is none is in `rejection`.
 #[unsafe(no_mangle)]
 pub extern "C" fn vizhoniku_check(
     alloc: Global,
     mode: u32,
     text: &[u8],
-    refusal: &mut Refusal,
+    rejection: &mut Rejection,
 ) -> u32
     ensures status { IsStatus mode UNKNOWN_MODE result }
 
@@ -115,14 +115,14 @@ pub extern "C" fn vizhoniku_check(
     ensures memory { result ≡ OUT_OF_MEMORY → MayAllocate text.now }
 
     // Which fault it is, and where.
-    ensures tells { Tells (IsRejected mode text.now 1) result refusal.new }
+    ensures tells { Tells (IsRejected mode text.now 1) result rejection.new }
 {
     match check_text(alloc, mode, text) {
         Ok(()) => {
-            *refusal = NOTHING;
+            *rejection = NOTHING;
             ACCEPTED
         }
-        Err(rejected) => tell(rejected, refusal),
+        Err(rejected) => tell(rejected, rejection),
     }
 }
 
@@ -135,7 +135,7 @@ pub extern "C" fn vizhoniku_text(
     text: &[u8],
     out: &mut [u8],
     size: &mut usize,
-    refusal: &mut Refusal,
+    rejection: &mut Rejection,
 ) -> u32
     // A document is accepted, unless memory ran out.
     ensures status { IsStatusOfForm mode text.now result }
@@ -144,17 +144,17 @@ pub extern "C" fn vizhoniku_text(
     ensures fills { FillsBuffer (IsTextOf mode text.now) ACCEPTED result size.new out.old out.new }
 
     // Which fault it is, and where.
-    ensures tells { Tells (IsRejected mode text.now 1) result refusal.new }
+    ensures tells { Tells (IsRejected mode text.now 1) result rejection.new }
 {
     match text_of(alloc, mode, text) {
         Ok(bytes) => {
-            *refusal = NOTHING;
+            *rejection = NOTHING;
             *size = bytes.len();
             put(&bytes, out)
         }
         Err(rejected) => {
             *size = 0;
-            tell(rejected, refusal)
+            tell(rejected, rejection)
         }
     }
 }
@@ -168,7 +168,7 @@ pub extern "C" fn vizhoniku_sort_key(
     text: &[u8],
     out: &mut [u8],
     size: &mut usize,
-    refusal: &mut Refusal,
+    rejection: &mut Rejection,
 ) -> u32
     // A document is accepted, unless memory ran out.
     ensures status { IsStatusOfForm mode text.now result }
@@ -178,17 +178,17 @@ pub extern "C" fn vizhoniku_sort_key(
     ensures fills { FillsBuffer (IsKeyOf mode text.now) ACCEPTED result size.new out.old out.new }
 
     // Which fault it is, and where.
-    ensures tells { Tells (IsRejected mode text.now 1) result refusal.new }
+    ensures tells { Tells (IsRejected mode text.now 1) result rejection.new }
 {
     match sort_key_of(alloc, mode, text, 1) {
         Ok(bytes) => {
-            *refusal = NOTHING;
+            *rejection = NOTHING;
             *size = bytes.len();
             put(&bytes, out)
         }
         Err(rejected) => {
             *size = 0;
-            tell(rejected, refusal)
+            tell(rejected, rejection)
         }
     }
 }
@@ -204,7 +204,7 @@ pub extern "C" fn vizhoniku_text_and_key(
     size: &mut usize,
     key_out: &mut [u8],
     key_size: &mut usize,
-    refusal: &mut Refusal,
+    rejection: &mut Rejection,
 ) -> u32
     // A document is accepted, unless memory ran out.
     ensures status { IsStatusOfForm mode text.now result }
@@ -218,11 +218,11 @@ pub extern "C" fn vizhoniku_text_and_key(
     ensures no_size { result ≢ ACCEPTED → result ≢ TOO_SHORT → (size.new ≡ 0) × (key_size.new ≡ 0) }
 
     // Which fault it is, and where.
-    ensures tells { Tells (IsRejected mode text.now 1) result refusal.new }
+    ensures tells { Tells (IsRejected mode text.now 1) result rejection.new }
 {
     match text_and_key_of(alloc, mode, text) {
         Ok(both) => {
-            *refusal = NOTHING;
+            *rejection = NOTHING;
             *size = both.text.len();
             *key_size = both.key.len();
             put_both(&both.text, &both.key, out, key_out)
@@ -230,7 +230,7 @@ pub extern "C" fn vizhoniku_text_and_key(
         Err(rejected) => {
             *size = 0;
             *key_size = 0;
-            tell(rejected, refusal)
+            tell(rejected, rejection)
         }
     }
 }
@@ -244,7 +244,7 @@ pub extern "C" fn vizhoniku_compare(
     left: &[u8],
     right: &[u8],
     order: &mut i32,
-    refusal: &mut Refusal,
+    rejection: &mut Rejection,
 ) -> u32
     ensures status { IsStatus mode UNKNOWN_MODE result }
 
@@ -262,17 +262,17 @@ pub extern "C" fn vizhoniku_compare(
     ensures memory { result ≡ OUT_OF_MEMORY → EitherMayAllocate mode left.now right.now }
 
     // Which of the two it is that is rejected, which fault, and where.
-    ensures tells { Tells (IsOneRejected mode left.now right.now) result refusal.new }
+    ensures tells { Tells (IsOneRejected mode left.now right.now) result rejection.new }
 {
     match order_of(alloc, mode, left, right) {
         Ok(is) => {
-            *refusal = NOTHING;
+            *rejection = NOTHING;
             *order = sign(is);
             ACCEPTED
         }
         Err(rejected) => {
             *order = 0;
-            tell(rejected, refusal)
+            tell(rejected, rejection)
         }
     }
 }
@@ -287,7 +287,7 @@ pub extern "C" fn vizhoniku_part(
     text: &[u8],
     out: &mut [u8],
     size: &mut usize,
-    refusal: &mut Refusal,
+    rejection: &mut Rejection,
 ) -> u32
     ensures status { IsStatus mode NO_PATH result }
 
@@ -306,27 +306,27 @@ pub extern "C" fn vizhoniku_part(
     ensures memory { result ≡ OUT_OF_MEMORY → PartMayAllocate mode path.now text.now }
 
     // Which fault it is, and where.
-    ensures tells { Tells (IsRejected mode text.now 1) result refusal.new }
+    ensures tells { Tells (IsRejected mode text.now 1) result rejection.new }
 {
     match part_of(alloc, mode, path, text) {
         Ok(Part::Text(bytes)) => {
-            *refusal = NOTHING;
+            *rejection = NOTHING;
             *size = bytes.len();
             put(&bytes, out)
         }
         Ok(Part::Nothing) => {
-            *refusal = NOTHING;
+            *rejection = NOTHING;
             *size = 0;
             NO_PART
         }
         Ok(Part::NoPath) => {
-            *refusal = NOTHING;
+            *rejection = NOTHING;
             *size = 0;
             NO_PATH
         }
         Err(rejected) => {
             *size = 0;
-            tell(rejected, refusal)
+            tell(rejected, rejection)
         }
     }
 }
@@ -389,19 +389,19 @@ pub extern "C" fn vizhoniku_version() -> u32
 
 /// Returns the byte to show of an error of this text.
 #[unsafe(no_mangle)]
-pub extern "C" fn vizhoniku_place(alloc: Global, text: &[u8], refusal: &Refusal, place: &mut Place)
+pub extern "C" fn vizhoniku_place(alloc: Global, text: &[u8], rejection: &Rejection, place: &mut Place)
     // The index is that of the code with the number, and where there is none the position, within the text.
-    ensures index { (code : Code) → refusal.now.code ≡ code_number code
-        → place.new.index ≡ fault_index text.now code refusal.now.position }
-    ensures no_code { ((code : Code) → refusal.now.code ≢ code_number code)
-        → place.new.index ≡ min refusal.now.position (length text.now) }
+    ensures index { (code : Code) → rejection.now.code ≡ code_number code
+        → place.new.index ≡ fault_index text.now code rejection.now.position }
+    ensures no_code { ((code : Code) → rejection.now.code ≢ code_number code)
+        → place.new.index ≡ min rejection.now.position (length text.now) }
 
     ensures line { place.new.line ≡ line_at text.now place.new.index }
     ensures column { place.new.column ≡ column_at text.now place.new.index }
 {
-    let index = match code_numbered(alloc, refusal.code) {
-        Some(code) => fault_index(text, &code, refusal.position),
-        None => refusal.position.min(text.len()),
+    let index = match code_numbered(alloc, rejection.code) {
+        Some(code) => fault_index(text, &code, rejection.position),
+        None => rejection.position.min(text.len()),
     };
     let (line, column) = line_and_column(text, index);
     *place = Place {
@@ -460,14 +460,14 @@ pub extern "C" fn vizhoniku_message(
     ensures memory { result ≡ OUT_OF_MEMORY → MayAllocate text.now ⊎ IsNoDocumentOf mode text.now }
 
     // What is written is the message of the fault that reading meets, and no other byte of the buffer changes.
-    ensures fills { FillsBuffer (IsMessageOf mode text.now) REFUSED result size.new out.old out.new }
+    ensures fills { FillsBuffer (IsMessageOf mode text.now) REJECTED result size.new out.old out.new }
 {
     match message_of(alloc, mode, text) {
         Ok(Some(message)) => {
             let bytes = message.as_bytes();
             *size = bytes.len();
             match put(bytes, out) {
-                ACCEPTED => REFUSED,
+                ACCEPTED => REJECTED,
                 short => short,
             }
         }
@@ -517,28 +517,28 @@ fn status(rejected: Failure) -> u32
     ensures { result ≡ status_of rejected }
 {
     match rejected {
-        Failure::Text(_) => REFUSED,
+        Failure::Text(_) => REJECTED,
         Failure::OutOfMemory => OUT_OF_MEMORY,
         Failure::UnknownMode => UNKNOWN_MODE,
     }
 }
 
 // Tells why a call has no answer, and gives the status of that.
-fn tell(rejected: Failure, refusal: &mut Refusal) -> u32
+fn tell(rejected: Failure, rejection: &mut Rejection) -> u32
     ensures status { result ≡ status_of rejected }
-    ensures told { refusal.new ≡ refusal_of rejected }
+    ensures told { rejection.new ≡ rejection_of rejected }
 {
     match rejected {
         Failure::Text(told) => {
-            *refusal = told;
-            REFUSED
+            *rejection = told;
+            REJECTED
         }
         Failure::OutOfMemory => {
-            *refusal = NOTHING;
+            *rejection = NOTHING;
             OUT_OF_MEMORY
         }
         Failure::UnknownMode => {
-            *refusal = NOTHING;
+            *rejection = NOTHING;
             UNKNOWN_MODE
         }
     }
@@ -749,7 +749,7 @@ fn reason_of(error: &Error, which: u32) -> Failure
     ensures { SaysError which error.now result }
 {
     match error {
-        Error::Syntax(code, position) => Failure::Text(Refusal {
+        Error::Syntax(code, position) => Failure::Text(Rejection {
             code: code_number(code),
             which,
             position: *position,

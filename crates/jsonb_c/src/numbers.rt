@@ -3,7 +3,7 @@ ghost use Rattle.std.specs.Prelude.{◌≡◌, ◌⊎◌};
 ghost use Rattle.jsonb_c.specs.Interface.{FillsBuffer, Tells};
 ghost use Rattle.jsonb_c.specs.PlainNumbers.{IsMaskedText, IsPlainText, IsReported, IsTooLong};
 
-use crate::{ACCEPTED, NOTHING, OUT_OF_MEMORY, REFUSED, Refusal, TOO_SHORT, buffer_of, put};
+use crate::{ACCEPTED, NOTHING, OUT_OF_MEMORY, REJECTED, Rejection, TOO_SHORT, buffer_of, put};
 use plain_numbers::{PlainError, write_masked_numbers, write_plain_numbers};
 use std::alloc::Global;
 
@@ -18,44 +18,44 @@ pub extern "C" fn vizhoniku_plain_numbers(
     text: &[u8],
     out: &mut [u8],
     size: &mut usize,
-    refusal: &mut Refusal,
+    rejection: &mut Rejection,
 ) -> u32
-    ensures status { (result ≡ ACCEPTED) ⊎ (result ≡ OUT_OF_MEMORY) ⊎ (result ≡ TOO_SHORT) ⊎ (result ≡ REFUSED) }
+    ensures status { (result ≡ ACCEPTED) ⊎ (result ≡ OUT_OF_MEMORY) ⊎ (result ≡ TOO_SHORT) ⊎ (result ≡ REJECTED) }
     ensures fills { FillsBuffer (IsPlainText text.now) ACCEPTED result size.new out.old out.new }
 
     // Which number has too many digits.
-    ensures tells { Tells (IsTooLong text.now) result refusal.new }
+    ensures tells { Tells (IsTooLong text.now) result rejection.new }
 {
     let mut bytes = buffer_of(alloc, text.len());
     match write_plain_numbers(text, &mut bytes) {
         Ok(()) => {
-            *refusal = NOTHING;
+            *rejection = NOTHING;
             *size = bytes.len();
             put(&bytes, out)
         }
         Err(error) => {
             *size = 0;
-            tell_number(&error, refusal)
+            tell_number(&error, rejection)
         }
     }
 }
 
 // Reports a number that has too many digits; the answer is the status.
-fn tell_number(error: &PlainError, refusal: &mut Refusal) -> u32
-    ensures status { (result ≡ OUT_OF_MEMORY) ⊎ (result ≡ REFUSED) }
-    ensures tells { Tells (IsReported error.now) result refusal.new }
+fn tell_number(error: &PlainError, rejection: &mut Rejection) -> u32
+    ensures status { (result ≡ OUT_OF_MEMORY) ⊎ (result ≡ REJECTED) }
+    ensures tells { Tells (IsReported error.now) result rejection.new }
 {
     match error {
         PlainError::DoesNotFit(position) => {
-            *refusal = Refusal {
+            *rejection = Rejection {
                 code: NUMBER_NOT_CARRIED,
                 which: 1,
                 position: *position,
             };
-            REFUSED
+            REJECTED
         }
         PlainError::OutOfMemory => {
-            *refusal = NOTHING;
+            *rejection = NOTHING;
             OUT_OF_MEMORY
         }
     }

@@ -3,7 +3,7 @@ ghost use Rattle.std.specs.Prelude.{◌≡◌, ◌⊎◌, ◌↔◌, ◌<◌};
 ghost use Rattle.jsonb_c.specs.Interface.{FillsBuffer};
 ghost use Rattle.jsonb_c.specs.Rejected.{IsSomePath};
 
-use crate::{ACCEPTED, OUT_OF_MEMORY, Refusal, TOO_SHORT, UNKNOWN_MODE, choose_mode, put};
+use crate::{ACCEPTED, OUT_OF_MEMORY, Rejection, TOO_SHORT, UNKNOWN_MODE, choose_mode, put};
 use error_path::{Fault, error_path};
 use std::alloc::Global;
 
@@ -19,7 +19,7 @@ pub extern "C" fn vizhoniku_error_path(
     alloc: Global,
     mode: u32,
     text: &[u8],
-    refusal: &Refusal,
+    rejection: &Rejection,
     out: &mut [u8],
     size: &mut usize,
 ) -> u32
@@ -31,7 +31,7 @@ pub extern "C" fn vizhoniku_error_path(
         *size = 0;
         return UNKNOWN_MODE;
     };
-    match error_path(alloc, text, mode, fault_of(refusal)) {
+    match error_path(alloc, text, mode, fault_of(rejection)) {
         Ok(path) => {
             *size = path.len();
             put(&path, out)
@@ -44,10 +44,10 @@ pub extern "C" fn vizhoniku_error_path(
 }
 
 // Where the text is rejected.
-fn fault_of(refusal: &Refusal) -> Fault {
-    match refusal.code {
-        OBJECT_DUPLICATE_KEY => Fault::Key(refusal.position),
-        NUMBER_NOT_CARRIED => Fault::Number(refusal.position),
+fn fault_of(rejection: &Rejection) -> Fault {
+    match rejection.code {
+        OBJECT_DUPLICATE_KEY => Fault::Key(rejection.position),
+        NUMBER_NOT_CARRIED => Fault::Number(rejection.position),
         _ => Fault::Other,
     }
 }

@@ -17,12 +17,12 @@ from ._values import text_of, value_of
 _SONAME = "libvizhoniku.so.0"
 _VERSION = 7  # the version of the interface, VIZHONIKU_VERSION of the header; a later one only adds to it
 
-(_ACCEPTED, _REFUSED, _OUT_OF_MEMORY, _UNKNOWN_MODE, _TOO_SHORT, _NO_PART, _NO_PATH, _NO_KEY,
+(_ACCEPTED, _REJECTED, _OUT_OF_MEMORY, _UNKNOWN_MODE, _TOO_SHORT, _NO_PART, _NO_PATH, _NO_KEY,
  _TOO_DEEP) = range(9)
 _KINDS = ("", "null", "boolean", "number", "string", "array", "object")
 
 
-class _Refusal(ctypes.Structure):
+class _Error(ctypes.Structure):
     _fields_ = [("code", ctypes.c_uint32), ("which", ctypes.c_uint32), ("position", ctypes.c_size_t)]
 
 
@@ -62,24 +62,24 @@ def _load() -> ctypes.CDLL:
     mode, size, status = ctypes.c_uint32, ctypes.c_size_t, ctypes.c_uint32
     text_in: List[Any] = [ctypes.c_char_p, size]
     text_out: List[Any] = [ctypes.c_void_p, size, ctypes.POINTER(size)]
-    refusal, place = ctypes.POINTER(_Refusal), ctypes.POINTER(_Place)
+    error, place = ctypes.POINTER(_Error), ctypes.POINTER(_Place)
     try:
         library.vizhoniku_version.argtypes = []
         library.vizhoniku_version.restype = ctypes.c_uint32
         version = library.vizhoniku_version()
         if version < _VERSION:
             raise ImportError(f"libvizhoniku has interface version {version}, and {_VERSION} is needed")
-        library.vizhoniku_check.argtypes = [mode, *text_in, refusal]
-        library.vizhoniku_text.argtypes = [mode, *text_in, *text_out, refusal]
-        library.vizhoniku_part.argtypes = [mode, *text_in, *text_in, *text_out, refusal]
-        library.vizhoniku_sort_key.argtypes = [mode, *text_in, *text_out, refusal]
-        library.vizhoniku_text_and_key.argtypes = [mode, *text_in, *text_out, *text_out, refusal]
-        library.vizhoniku_compare.argtypes = [mode, *text_in, *text_in, ctypes.POINTER(ctypes.c_int32), refusal]
+        library.vizhoniku_check.argtypes = [mode, *text_in, error]
+        library.vizhoniku_text.argtypes = [mode, *text_in, *text_out, error]
+        library.vizhoniku_part.argtypes = [mode, *text_in, *text_in, *text_out, error]
+        library.vizhoniku_sort_key.argtypes = [mode, *text_in, *text_out, error]
+        library.vizhoniku_text_and_key.argtypes = [mode, *text_in, *text_out, *text_out, error]
+        library.vizhoniku_compare.argtypes = [mode, *text_in, *text_in, ctypes.POINTER(ctypes.c_int32), error]
         library.vizhoniku_message.argtypes = [mode, *text_in, *text_out]
-        library.vizhoniku_place.argtypes = [*text_in, refusal, place]
-        library.vizhoniku_plain_numbers.argtypes = [*text_in, *text_out, refusal]
+        library.vizhoniku_place.argtypes = [*text_in, error, place]
+        library.vizhoniku_plain_numbers.argtypes = [*text_in, *text_out, error]
         library.vizhoniku_masked_numbers.argtypes = [*text_in, *text_out]
-        library.vizhoniku_error_path.argtypes = [mode, *text_in, refusal, *text_out]
+        library.vizhoniku_error_path.argtypes = [mode, *text_in, error, *text_out]
         found = [ctypes.POINTER(size), ctypes.POINTER(size)]
         library.vizhoniku_key_check.argtypes = text_in
         library.vizhoniku_key_kind.argtypes = text_in
@@ -141,12 +141,12 @@ _NOT_CARRIED = 20  # the code of a number that isn't representable
 _TOO_LONG = b"number not carried"  # as the library tells it of a number without an exponent
 
 
-def _path(mode: int, data: bytes, refusal: _Refusal) -> Optional[str]:
+def _path(mode: int, data: bytes, error: _Error) -> Optional[str]:
     """The path of the innermost item or member at which the text was rejected."""
     room = 256
     while True:
         buffer, size = ctypes.create_string_buffer(room), ctypes.c_size_t()
-        status = _library.vizhoniku_error_path(mode, data, len(data), refusal, buffer, room, size)
+        status = _library.vizhoniku_error_path(mode, data, len(data), error, buffer, room, size)
         if status != _TOO_SHORT:
             break
         room = size.value
@@ -155,12 +155,12 @@ def _path(mode: int, data: bytes, refusal: _Refusal) -> Optional[str]:
     return ctypes.string_at(buffer, size.value).decode("utf-8", "replace") if status == _ACCEPTED else None
 
 
-def _rejected(mode: int, refusal: _Refusal, text: Text, data: bytes, words: Optional[bytes] = None) -> RejectedText:
+def _rejected(mode: int, error: _Error, text: Text, data: bytes, words: Optional[bytes] = None) -> RejectedText:
     """The error of a text, of which the data are the bytes, or are those with numbers masked."""
     place = _Place()
-    _library.vizhoniku_place(data, len(data), refusal, place)
-    return rejection(text, data, _words(mode, data) if words is None else words, refusal.code, refusal.which,
-                     refusal.position, place.index, place.line, place.column, _path(mode, _bytes(text), refusal))
+    _library.vizhoniku_place(data, len(data), error, place)
+    return rejection(text, data, _words(mode, data) if words is None else words, error.code, error.which,
+                     error.position, place.index, place.line, place.column, _path(mode, _bytes(text), error))
 
 
 def _of_the_user(text: Text, data: bytes, fault: RejectedText) -> RejectedText:
@@ -169,25 +169,25 @@ def _of_the_user(text: Text, data: bytes, fault: RejectedText) -> RejectedText:
 
     That place is where the text is rejected with these numbers masked, since then each byte stays where it is.
     """
-    buffer, size, refusal = ctypes.create_string_buffer(len(data)), ctypes.c_size_t(), _Refusal()
+    buffer, size, error = ctypes.create_string_buffer(len(data)), ctypes.c_size_t(), _Error()
     status = _library.vizhoniku_masked_numbers(data, len(data), buffer, len(data), size)
     masked = ctypes.string_at(buffer, size.value)
     if status == _ACCEPTED:
-        status = _library.vizhoniku_check(EXTENDED, masked, len(masked), refusal)
+        status = _library.vizhoniku_check(EXTENDED, masked, len(masked), error)
     if status == _OUT_OF_MEMORY:
         raise MemoryError
-    if status != _REFUSED:
+    if status != _REJECTED:
         return fault
-    refusal.which = fault.which
-    return _rejected(EXTENDED, refusal, text, masked, _TOO_LONG if refusal.code == _NOT_CARRIED else None)
+    error.which = fault.which
+    return _rejected(EXTENDED, error, text, masked, _TOO_LONG if error.code == _NOT_CARRIED else None)
 
 
-def _raise(status: int, mode: int, refusal: _Refusal, texts: List[Tuple[Text, bytes]]) -> None:
+def _raise(status: int, mode: int, error: _Error, texts: List[Tuple[Text, bytes]]) -> None:
     """Raises what the status says, or returns where it is accepted."""
     if status == _ACCEPTED:
         return
-    if status == _REFUSED:
-        raise _rejected(mode, refusal, *texts[refusal.which - 1])
+    if status == _REJECTED:
+        raise _rejected(mode, error, *texts[error.which - 1])
     if status == _OUT_OF_MEMORY:
         raise MemoryError
     raise RuntimeError(f"unknown status {status}")
@@ -195,17 +195,17 @@ def _raise(status: int, mode: int, refusal: _Refusal, texts: List[Tuple[Text, by
 
 def _plain(text: Text, data: bytes, which: int) -> bytes:
     """The bytes with each number that has an exponent written out."""
-    refusal, size, room = _Refusal(), ctypes.c_size_t(), len(data) + 64
+    error, size, room = _Error(), ctypes.c_size_t(), len(data) + 64
     while True:
         buffer = ctypes.create_string_buffer(room)
-        status = _library.vizhoniku_plain_numbers(data, len(data), buffer, room, size, refusal)
+        status = _library.vizhoniku_plain_numbers(data, len(data), buffer, room, size, error)
         if status != _TOO_SHORT:
             break
         room = size.value
-    if status == _REFUSED:
-        refusal.which = which
-        raise _of_the_user(text, data, _rejected(EXTENDED, refusal, text, data, _TOO_LONG))
-    _raise(status, 0, refusal, [(text, data)])
+    if status == _REJECTED:
+        error.which = which
+        raise _of_the_user(text, data, _rejected(EXTENDED, error, text, data, _TOO_LONG))
+    _raise(status, 0, error, [(text, data)])
     return ctypes.string_at(buffer, size.value)
 
 
@@ -232,69 +232,69 @@ def _reads_exponents(call: Any) -> Any:
 @_reads_exponents
 def check(text: Text, mode: int = EXTENDED) -> None:
     """Raises RejectedText where the text is no document."""
-    mode, data, refusal = _mode(mode), _bytes(text), _Refusal()
-    _raise(_library.vizhoniku_check(mode, data, len(data), refusal), mode, refusal, [(text, data)])
+    mode, data, error = _mode(mode), _bytes(text), _Error()
+    _raise(_library.vizhoniku_check(mode, data, len(data), error), mode, error, [(text, data)])
 
 
 def is_valid(text: Text, mode: int = EXTENDED) -> bool:
     """Whether the text is a document."""
-    mode, data, refusal = _mode(mode), _bytes(text), _Refusal()
-    status = _library.vizhoniku_check(mode, data, len(data), refusal)
-    if status == _REFUSED and mode == EXTENDED and refusal.code == _NOT_CARRIED:
+    mode, data, error = _mode(mode), _bytes(text), _Error()
+    status = _library.vizhoniku_check(mode, data, len(data), error)
+    if status == _REJECTED and mode == EXTENDED and error.code == _NOT_CARRIED:
         try:
             data = _plain(text, data, 1)
         except RejectedText:
             return False
-        status = _library.vizhoniku_check(mode, data, len(data), refusal)
-    if status != _REFUSED:
-        _raise(status, mode, refusal, [(text, data)])
+        status = _library.vizhoniku_check(mode, data, len(data), error)
+    if status != _REJECTED:
+        _raise(status, mode, error, [(text, data)])
     return bool(status == _ACCEPTED)
 
 
 @_reads_exponents
 def text(text: Text, mode: int = EXTENDED) -> str:
     """The text of the document's value: no whitespace, and members in the order of their keys' bytes."""
-    mode, data, refusal, size = _mode(mode), _bytes(text), _Refusal(), ctypes.c_size_t()
+    mode, data, error, size = _mode(mode), _bytes(text), _Error(), ctypes.c_size_t()
     room = len(data) + 16
     while True:
         buffer = ctypes.create_string_buffer(room)
-        status = _library.vizhoniku_text(mode, data, len(data), buffer, room, size, refusal)
+        status = _library.vizhoniku_text(mode, data, len(data), buffer, room, size, error)
         if status != _TOO_SHORT:
             break
         room = size.value
-    _raise(status, mode, refusal, [(text, data)])
+    _raise(status, mode, error, [(text, data)])
     return ctypes.string_at(buffer, size.value).decode()
 
 
 @_reads_exponents
 def sort_key(text: Text, mode: int = EXTENDED) -> bytes:
     """Bytes that compare as the values of documents do: equal for equal values, and none the beginning of others."""
-    mode, data, refusal, size = _mode(mode), _bytes(text), _Refusal(), ctypes.c_size_t()
+    mode, data, error, size = _mode(mode), _bytes(text), _Error(), ctypes.c_size_t()
     room = len(data) + 64
     while True:
         buffer = ctypes.create_string_buffer(room)
-        status = _library.vizhoniku_sort_key(mode, data, len(data), buffer, room, size, refusal)
+        status = _library.vizhoniku_sort_key(mode, data, len(data), buffer, room, size, error)
         if status != _TOO_SHORT:
             break
         room = size.value
-    _raise(status, mode, refusal, [(text, data)])
+    _raise(status, mode, error, [(text, data)])
     return ctypes.string_at(buffer, size.value)
 
 
 @_reads_exponents
 def text_and_key(text: Text, mode: int = EXTENDED) -> Tuple[str, bytes]:
     """What text and sort_key return, of one reading."""
-    mode, data, refusal = _mode(mode), _bytes(text), _Refusal()
+    mode, data, error = _mode(mode), _bytes(text), _Error()
     size, key_size = ctypes.c_size_t(), ctypes.c_size_t()
     room, key_room = len(data) + 16, len(data) + 64
     while True:
         buffer, key_buffer = ctypes.create_string_buffer(room), ctypes.create_string_buffer(key_room)
         status = _library.vizhoniku_text_and_key(mode, data, len(data), buffer, room, size, key_buffer, key_room,
-                                                 key_size, refusal)
+                                                 key_size, error)
         if status != _TOO_SHORT:
             break
         room, key_room = size.value, key_size.value
-    _raise(status, mode, refusal, [(text, data)])
+    _raise(status, mode, error, [(text, data)])
     return ctypes.string_at(buffer, size.value).decode(), ctypes.string_at(key_buffer, key_size.value)
 
 
@@ -305,11 +305,11 @@ def get(text: Text, path: Text, mode: int = EXTENDED) -> Optional[str]:
     The path "" is the whole document, and "/a/0" the first item of the member "a". PathError is raised where the path
     isn't spelled so.
     """
-    mode, data, path_data, refusal = _mode(mode), _bytes(text), _bytes(path), _Refusal()
+    mode, data, path_data, error = _mode(mode), _bytes(text), _bytes(path), _Error()
     size, room = ctypes.c_size_t(), 256
     while True:
         buffer = ctypes.create_string_buffer(room)
-        status = _library.vizhoniku_part(mode, path_data, len(path_data), data, len(data), buffer, room, size, refusal)
+        status = _library.vizhoniku_part(mode, path_data, len(path_data), data, len(data), buffer, room, size, error)
         if status != _TOO_SHORT:
             break
         room = size.value
@@ -317,23 +317,23 @@ def get(text: Text, path: Text, mode: int = EXTENDED) -> Optional[str]:
         return None
     if status == _NO_PATH:
         raise PathError(BAD_PATH)
-    _raise(status, mode, refusal, [(text, data)])
+    _raise(status, mode, error, [(text, data)])
     return ctypes.string_at(buffer, size.value).decode()
 
 
 def compare(left: Text, right: Text, mode: int = EXTENDED) -> int:
     """-1, 0 or 1: the first document's value is below the second's, equal to it, or above it."""
     mode, texts, read = _mode(mode), [left, right], [_bytes(left), _bytes(right)]
-    refusal, order, plain = _Refusal(), ctypes.c_int32(), [False, False]
+    error, order, plain = _Error(), ctypes.c_int32(), [False, False]
     while True:
-        status = _library.vizhoniku_compare(mode, read[0], len(read[0]), read[1], len(read[1]), order, refusal)
-        at = refusal.which - 1
-        if status != _REFUSED or refusal.code != _NOT_CARRIED or mode == STANDARD or plain[at]:
+        status = _library.vizhoniku_compare(mode, read[0], len(read[0]), read[1], len(read[1]), order, error)
+        at = error.which - 1
+        if status != _REJECTED or error.code != _NOT_CARRIED or mode == STANDARD or plain[at]:
             break
         read[at], plain[at] = _plain(texts[at], read[at], at + 1), True
-    if status == _REFUSED and plain[at]:
-        raise _of_the_user(texts[at], _bytes(texts[at]), _rejected(mode, refusal, read[at], read[at]))
-    _raise(status, mode, refusal, [(left, read[0]), (right, read[1])])
+    if status == _REJECTED and plain[at]:
+        raise _of_the_user(texts[at], _bytes(texts[at]), _rejected(mode, error, read[at], read[at]))
+    _raise(status, mode, error, [(left, read[0]), (right, read[1])])
     return order.value
 
 

@@ -150,12 +150,12 @@ static PyObject *words_of(uint32_t mode, const struct text *text) {
 }
 
 /* The path of the innermost item or member at which the text was rejected, or None where it can't be told. */
-static PyObject *path_of(uint32_t mode, const struct vizhoniku_refusal *refusal, const struct text *text) {
+static PyObject *path_of(uint32_t mode, const struct vizhoniku_error *error, const struct text *text) {
   unsigned char small[256], *path = small;
   size_t room = sizeof small, size;
   uint32_t status;
   for (;;) {
-    status = vizhoniku_error_path(mode, text->at, text->size, refusal, path, room, &size);
+    status = vizhoniku_error_path(mode, text->at, text->size, error, path, room, &size);
     if (status != VIZHONIKU_TOO_SHORT) break;
     if (path != small) PyMem_Free(path);
     room = size;
@@ -174,56 +174,55 @@ static PyObject *path_of(uint32_t mode, const struct vizhoniku_refusal *refusal,
 
 /* Raises RejectedText, in these words, or in those of the library where there are none. The text is the one that was
  * passed, or is that with numbers masked. */
-static void raise_rejected(const struct state *state, uint32_t mode, const struct vizhoniku_refusal *refusal,
+static void raise_rejected(const struct state *state, uint32_t mode, const struct vizhoniku_error *error,
                            PyObject *object, const struct text *text, const struct text *passed,
                            const char *own_words) {
   struct vizhoniku_location place;
-  vizhoniku_place(text->at, text->size, refusal, &place);
+  vizhoniku_place(text->at, text->size, error, &place);
   PyObject *words = own_words ? PyBytes_FromString(own_words) : words_of(mode, text);
-  PyObject *path = words ? path_of(mode, refusal, passed) : NULL;
-  PyObject *error = !path ? NULL : PyObject_CallFunction(
-      state->rejection, "Oy#OIInnnnO", object, (const char *)text->at, (Py_ssize_t)text->size, words, refusal->code,
-      refusal->which, (Py_ssize_t)refusal->position, (Py_ssize_t)place.index, (Py_ssize_t)place.line,
+  PyObject *path = words ? path_of(mode, error, passed) : NULL;
+  PyObject *raised = !path ? NULL : PyObject_CallFunction(
+      state->rejection, "Oy#OIInnnnO", object, (const char *)text->at, (Py_ssize_t)text->size, words, error->code,
+      error->which, (Py_ssize_t)error->position, (Py_ssize_t)place.index, (Py_ssize_t)place.line,
       (Py_ssize_t)place.column, path);
   Py_XDECREF(words);
   Py_XDECREF(path);
-  if (!error) return;
-  PyErr_SetObject((PyObject *)Py_TYPE(error), error);
-  Py_DECREF(error);
+  if (!raised) return;
+  PyErr_SetObject((PyObject *)Py_TYPE(raised), raised);
+  Py_DECREF(raised);
 }
 
 /* Masks the numbers of a text that have an exponent, and finds what is wrong with it then: at the same place as in the
  * text, since each byte stays where it is. Returns 0 where it isn't rejected, or an exception is raised. */
-static int check_masked(const struct text *text, struct text *masked, struct vizhoniku_refusal *refusal) {
+static int check_masked(const struct text *text, struct text *masked, struct vizhoniku_error *error) {
   masked->holder = PyBytes_FromStringAndSize(NULL, (Py_ssize_t)text->size);
   if (!masked->holder) return 0;
   unsigned char *at = (unsigned char *)PyBytes_AsString(masked->holder);
   masked->at = at;
   uint32_t status = vizhoniku_masked_numbers(text->at, text->size, at, text->size, &masked->size);
-  if (status == VIZHONIKU_ACCEPTED)
-    status = vizhoniku_check(VIZHONIKU_EXTENDED, masked->at, masked->size, refusal);
+  if (status == VIZHONIKU_ACCEPTED) status = vizhoniku_check(VIZHONIKU_EXTENDED, masked->at, masked->size, error);
   if (status == VIZHONIKU_OUT_OF_MEMORY) PyErr_NoMemory();
-  return status == VIZHONIKU_REFUSED;
+  return status == VIZHONIKU_REJECTED;
 }
 
 #define TOO_LONG "number not carried" /* as the library tells it of a number without an exponent */
 
-static const char *words_for(const struct vizhoniku_refusal *refusal) {
-  return refusal->code == VIZHONIKU_NUMBER_NOT_CARRIED ? TOO_LONG : NULL;
+static const char *words_for(const struct vizhoniku_error *error) {
+  return error->code == VIZHONIKU_NUMBER_NOT_CARRIED ? TOO_LONG : NULL;
 }
 
 /* Raises RejectedText for the first fault of a text that was rejected with its numbers written out, as `plain`, or
  * whose numbers can't be written out: then `plain` is the text itself. */
-static void raise_of_plain(const struct state *state, const struct vizhoniku_refusal *refusal, PyObject *object,
+static void raise_of_plain(const struct state *state, const struct vizhoniku_error *error, PyObject *object,
                            const struct text *text, const struct text *plain) {
-  struct vizhoniku_refusal of_masked;
+  struct vizhoniku_error of_masked;
   struct text masked;
   if (check_masked(text, &masked, &of_masked)) {
-    of_masked.which = refusal->which;
+    of_masked.which = error->which;
     raise_rejected(state, VIZHONIKU_EXTENDED, &of_masked, object, &masked, text, words_for(&of_masked));
   } else if (!PyErr_Occurred()) {
     if (plain != text) object = plain->holder;
-    raise_rejected(state, VIZHONIKU_EXTENDED, refusal, object, plain, plain, words_for(refusal));
+    raise_rejected(state, VIZHONIKU_EXTENDED, error, object, plain, plain, words_for(error));
   }
   free_text(&masked);
 }
@@ -282,13 +281,13 @@ static PyObject *bytes_of(const struct written *written) {
 }
 
 /* Writes out the numbers of a text that have an exponent, where extended mode rejected a number, and holds what was
- * written. Returns 0 where it didn't, with the status and the refusal of that, or where an exception is raised, which is
+ * written. Returns 0 where it didn't, with the status and the error of that, or where an exception is raised, which is
  * the status VIZHONIKU_OUT_OF_MEMORY. */
-static int write_plain(uint32_t mode, uint32_t *status, struct vizhoniku_refusal *refusal, const struct text *text,
+static int write_plain(uint32_t mode, uint32_t *status, struct vizhoniku_error *error, const struct text *text,
                        struct text *plain) {
-  if (*status != VIZHONIKU_REFUSED || mode != VIZHONIKU_EXTENDED || refusal->code != VIZHONIKU_NUMBER_NOT_CARRIED)
+  if (*status != VIZHONIKU_REJECTED || mode != VIZHONIKU_EXTENDED || error->code != VIZHONIKU_NUMBER_NOT_CARRIED)
     return 0;
-  uint32_t which = refusal->which;
+  uint32_t which = error->which;
   size_t room = text->size + 64;
   for (;;) {
     plain->holder = PyBytes_FromStringAndSize(NULL, (Py_ssize_t)room);
@@ -299,13 +298,13 @@ static int write_plain(uint32_t mode, uint32_t *status, struct vizhoniku_refusal
     }
     unsigned char *at = (unsigned char *)PyBytes_AsString(plain->holder);
     plain->at = at;
-    *status = vizhoniku_plain_numbers(text->at, text->size, at, room, &plain->size, refusal);
+    *status = vizhoniku_plain_numbers(text->at, text->size, at, room, &plain->size, error);
     if (*status == VIZHONIKU_ACCEPTED) return 1;
     free_text(plain);
     if (*status != VIZHONIKU_TOO_SHORT) break;
     room = plain->size;
   }
-  if (*status == VIZHONIKU_REFUSED) refusal->which = which;
+  if (*status == VIZHONIKU_REJECTED) error->which = which;
   return 0;
 }
 
@@ -314,61 +313,61 @@ enum what { CHECK, TEXT, SORT_KEY, TEXT_AND_KEY, PART };
 
 /* Calls the library once. */
 static uint32_t call_once(enum what what, uint32_t mode, const struct text *path, const struct text *text,
-                          struct written *written, struct written *key, struct vizhoniku_refusal *refusal) {
+                          struct written *written, struct written *key, struct vizhoniku_error *error) {
   switch (what) {
   case CHECK:
-    return vizhoniku_check(mode, text->at, text->size, refusal);
+    return vizhoniku_check(mode, text->at, text->size, error);
   case TEXT:
-    return vizhoniku_text(mode, text->at, text->size, written->at, written->room, &written->size, refusal);
+    return vizhoniku_text(mode, text->at, text->size, written->at, written->room, &written->size, error);
   case SORT_KEY:
-    return vizhoniku_sort_key(mode, text->at, text->size, key->at, key->room, &key->size, refusal);
+    return vizhoniku_sort_key(mode, text->at, text->size, key->at, key->room, &key->size, error);
   case TEXT_AND_KEY:
     return vizhoniku_text_and_key(mode, text->at, text->size, written->at, written->room, &written->size, key->at,
-                                  key->room, &key->size, refusal);
+                                  key->room, &key->size, error);
   default:
     return vizhoniku_part(mode, path->at, path->size, text->at, text->size, written->at, written->room,
-                          &written->size, refusal);
+                          &written->size, error);
   }
 }
 
 /* Calls the library until the buffers are long enough, and raises what the status says unless it is success, or
- * VIZHONIKU_NO_PART, or VIZHONIKU_REFUSED of a call that only checks. Where extended mode rejects a number, the text is
+ * VIZHONIKU_NO_PART, or VIZHONIKU_REJECTED of a call that only checks. Where extended mode rejects a number, the text is
  * read once more with its numbers written out, and `user` is the text that was passed then, else NULL. Returns the
  * status, or -1 where an exception is raised. */
 static int64_t call_library(const struct state *state, enum what what, uint32_t mode, const struct text *path,
                             PyObject *object, const struct text *text, struct written *written, struct written *key,
                             int tells_refusal, const struct text *user) {
-  struct vizhoniku_refusal refusal;
+  struct vizhoniku_error error;
   uint32_t status;
   if (what != PART && written && !make_room(written, text->size + 16)) return -1;
   if (key && !make_room(key, text->size + 64)) return -1;
   for (;;) {
     if (text->size >= RELEASED) {
       Py_BEGIN_ALLOW_THREADS
-      status = call_once(what, mode, path, text, written, key, &refusal);
+      status = call_once(what, mode, path, text, written, key, &error);
       Py_END_ALLOW_THREADS
     } else {
-      status = call_once(what, mode, path, text, written, key, &refusal);
+      status = call_once(what, mode, path, text, written, key, &error);
     }
     if (status != VIZHONIKU_TOO_SHORT) break;
     if (written && !make_room(written, written->size)) return -1;
     if (key && !make_room(key, key->size)) return -1;
   }
   if (status == VIZHONIKU_ACCEPTED || status == VIZHONIKU_NO_PART) return status;
-  int rejected = status == VIZHONIKU_REFUSED;
+  int rejected = status == VIZHONIKU_REJECTED;
   struct text plain;
-  if (!user && write_plain(mode, &status, &refusal, text, &plain)) {
+  if (!user && write_plain(mode, &status, &error, text, &plain)) {
     int64_t again = call_library(state, what, mode, path, object, &plain, written, key, tells_refusal, text);
     free_text(&plain);
     return again;
   }
-  if (status == VIZHONIKU_REFUSED) {
+  if (status == VIZHONIKU_REJECTED) {
     if (tells_refusal) return status;
-    int too_long = rejected && mode == VIZHONIKU_EXTENDED && refusal.code == VIZHONIKU_NUMBER_NOT_CARRIED;
+    int too_long = rejected && mode == VIZHONIKU_EXTENDED && error.code == VIZHONIKU_NUMBER_NOT_CARRIED;
     if (user || too_long)
-      raise_of_plain(state, &refusal, object, user ? user : text, text);
+      raise_of_plain(state, &error, object, user ? user : text, text);
     else
-      raise_rejected(state, mode, &refusal, object, text, text, NULL);
+      raise_rejected(state, mode, &error, object, text, text, NULL);
   } else {
     raise_status(state, status);
   }
@@ -488,14 +487,14 @@ static PyObject *py_get(PyObject *module, PyObject *const *given, Py_ssize_t cou
 
 /* Compares two texts, each as it is or with its numbers written out. */
 static uint32_t compare_once(uint32_t mode, const struct text *left, const struct text *right, int32_t *order,
-                             struct vizhoniku_refusal *refusal) {
+                             struct vizhoniku_error *error) {
   uint32_t status;
   if (left->size + right->size >= RELEASED) {
     Py_BEGIN_ALLOW_THREADS
-    status = vizhoniku_compare(mode, left->at, left->size, right->at, right->size, order, refusal);
+    status = vizhoniku_compare(mode, left->at, left->size, right->at, right->size, order, error);
     Py_END_ALLOW_THREADS
   } else {
-    status = vizhoniku_compare(mode, left->at, left->size, right->at, right->size, order, refusal);
+    status = vizhoniku_compare(mode, left->at, left->size, right->at, right->size, order, error);
   }
   return status;
 }
@@ -504,26 +503,26 @@ static PyObject *compare_texts(const struct state *state, uint32_t mode, PyObjec
                                const struct text *right) {
   const struct text *user[2] = {left, right}, *read[2] = {left, right};
   struct text plain[2] = {{NULL, 0, NULL}, {NULL, 0, NULL}};
-  struct vizhoniku_refusal refusal;
+  struct vizhoniku_error error;
   PyObject *result = NULL;
   int32_t order;
   uint32_t status;
   int at, again;
   do {
-    status = compare_once(mode, read[0], read[1], &order, &refusal);
-    at = status == VIZHONIKU_REFUSED ? (int)refusal.which - 1 : 0;
-    again = !plain[at].holder && write_plain(mode, &status, &refusal, user[at], &plain[at]);
+    status = compare_once(mode, read[0], read[1], &order, &error);
+    at = status == VIZHONIKU_REJECTED ? (int)error.which - 1 : 0;
+    again = !plain[at].holder && write_plain(mode, &status, &error, user[at], &plain[at]);
     if (again) read[at] = &plain[at];
   } while (again);
-  int too_long = mode == VIZHONIKU_EXTENDED && refusal.code == VIZHONIKU_NUMBER_NOT_CARRIED;
+  int too_long = mode == VIZHONIKU_EXTENDED && error.code == VIZHONIKU_NUMBER_NOT_CARRIED;
   if (status == VIZHONIKU_ACCEPTED)
     result = PyLong_FromLong(order);
-  else if (status != VIZHONIKU_REFUSED)
+  else if (status != VIZHONIKU_REJECTED)
     raise_status(state, status);
   else if (plain[at].holder || too_long)
-    raise_of_plain(state, &refusal, objects[at], user[at], read[at]);
+    raise_of_plain(state, &error, objects[at], user[at], read[at]);
   else
-    raise_rejected(state, mode, &refusal, objects[at], user[at], user[at], NULL);
+    raise_rejected(state, mode, &error, objects[at], user[at], user[at], NULL);
   free_text(&plain[0]);
   free_text(&plain[1]);
   return result;

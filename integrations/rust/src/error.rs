@@ -115,17 +115,17 @@ impl Rejection {
             Mode::Standard => Cow::Borrowed(text),
             Mode::Extended => Cow::Owned(masked_numbers(text)?),
         };
-        let refusal = refusal(&masked, mode)?;
-        let place = place(text, &refusal);
+        let error = error(&masked, mode)?;
+        let place = place(text, &error);
         Ok(Rejection {
-            code: Code::of(refusal.code),
+            code: Code::of(error.code),
             is_second: which == 2,
-            position: refusal.position,
+            position: error.position,
             offset: place.index,
             line: place.line,
             column: place.column,
-            path: path(&masked, mode, &refusal)?,
-            message: message(&masked, mode, &refusal)?,
+            path: path(&masked, mode, &error)?,
+            message: message(&masked, mode, &error)?,
         })
     }
 
@@ -172,20 +172,20 @@ impl Rejection {
 }
 
 /// What is wrong with a text that is rejected.
-fn refusal(text: &[u8], mode: Mode) -> Result<ffi::Refusal, Error> {
-    let mut refusal = ffi::Refusal::default();
-    // SAFETY: the text has its size, and the refusal is whole.
-    match unsafe { ffi::vizhoniku_check(mode as u32, text.as_ptr(), text.len(), &mut refusal) } {
-        ffi::REFUSED => Ok(refusal),
+fn error(text: &[u8], mode: Mode) -> Result<ffi::TextError, Error> {
+    let mut error = ffi::TextError::default();
+    // SAFETY: the text has its size, and the error is whole.
+    match unsafe { ffi::vizhoniku_check(mode as u32, text.as_ptr(), text.len(), &mut error) } {
+        ffi::REJECTED => Ok(error),
         _ => Err(Error::OutOfMemory),
     }
 }
 
 /// The path of what is wrong with a text.
-fn path(text: &[u8], mode: Mode, refusal: &ffi::Refusal) -> Result<String, Error> {
+fn path(text: &[u8], mode: Mode, error: &ffi::TextError) -> Result<String, Error> {
     let (path, status) = write(128, |buffer, room, size| {
-        // SAFETY: the text has its size and the buffer its room, and the refusal is whole.
-        unsafe { ffi::vizhoniku_error_path(mode as u32, text.as_ptr(), text.len(), refusal, buffer, room, size) }
+        // SAFETY: the text has its size and the buffer its room, and the error is whole.
+        unsafe { ffi::vizhoniku_error_path(mode as u32, text.as_ptr(), text.len(), error, buffer, room, size) }
     })?;
     if status != ffi::ACCEPTED {
         return Err(Error::OutOfMemory);
@@ -193,26 +193,26 @@ fn path(text: &[u8], mode: Mode, refusal: &ffi::Refusal) -> Result<String, Error
     Ok(String::from_utf8_lossy(&path).into_owned())
 }
 
-/// Where the byte to show of a refusal stands.
-fn place(text: &[u8], refusal: &ffi::Refusal) -> ffi::Location {
+/// Where the byte to show of an error stands.
+fn place(text: &[u8], error: &ffi::TextError) -> ffi::Location {
     let mut place = ffi::Location::default();
-    // SAFETY: the text has its size, and the refusal and the place are whole.
-    unsafe { ffi::vizhoniku_place(text.as_ptr(), text.len(), refusal, &mut place) };
+    // SAFETY: the text has its size, and the error and the place are whole.
+    unsafe { ffi::vizhoniku_place(text.as_ptr(), text.len(), error, &mut place) };
     place
 }
 
 /// What is wrong with a text, in words.
-fn message(text: &[u8], mode: Mode, refusal: &ffi::Refusal) -> Result<String, Error> {
+fn message(text: &[u8], mode: Mode, error: &ffi::TextError) -> Result<String, Error> {
     let (message, status) = write(128, |buffer, room, size| {
         // SAFETY: the text has its size, and the buffer its room.
         unsafe { ffi::vizhoniku_message(mode as u32, text.as_ptr(), text.len(), buffer, room, size) }
     })?;
-    if status != ffi::REFUSED {
+    if status != ffi::REJECTED {
         return Err(Error::OutOfMemory);
     }
     let mut message = String::from_utf8_lossy(&message).into_owned();
     // The message ends with the position, which is told as line and column instead.
-    let end = format!(", pos {}", refusal.position);
+    let end = format!(", pos {}", error.position);
     if message.ends_with(&end) {
         message.truncate(message.len() - end.len());
     }

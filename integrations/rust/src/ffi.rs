@@ -2,7 +2,7 @@
 
 #[repr(C)]
 #[derive(Default)]
-pub struct Refusal {
+pub struct TextError {
     pub code: u32,
     pub which: u32,
     pub position: usize,
@@ -33,7 +33,7 @@ pub struct KeyEntry {
 }
 
 pub const ACCEPTED: u32 = 0;
-pub const REFUSED: u32 = 1;
+pub const REJECTED: u32 = 1;
 pub const OUT_OF_MEMORY: u32 = 2;
 pub const TOO_SHORT: u32 = 4;
 pub const NO_PART: u32 = 5;
@@ -43,14 +43,14 @@ pub const TOO_DEEP: u32 = 8;
 #[rustfmt::skip] // a function a line
 extern "C" {
     pub fn vizhoniku_version() -> u32;
-    pub fn vizhoniku_check(mode: u32, text: *const u8, text_size: usize, refusal: *mut Refusal) -> u32;
-    pub fn vizhoniku_text(mode: u32, text: *const u8, text_size: usize, buffer: *mut u8, buffer_size: usize, size: *mut usize, refusal: *mut Refusal) -> u32;
-    pub fn vizhoniku_part(mode: u32, path: *const u8, path_size: usize, text: *const u8, text_size: usize, buffer: *mut u8, buffer_size: usize, size: *mut usize, refusal: *mut Refusal) -> u32;
-    pub fn vizhoniku_sort_key(mode: u32, text: *const u8, text_size: usize, buffer: *mut u8, buffer_size: usize, size: *mut usize, refusal: *mut Refusal) -> u32;
+    pub fn vizhoniku_check(mode: u32, text: *const u8, text_size: usize, error: *mut TextError) -> u32;
+    pub fn vizhoniku_text(mode: u32, text: *const u8, text_size: usize, buffer: *mut u8, buffer_size: usize, size: *mut usize, error: *mut TextError) -> u32;
+    pub fn vizhoniku_part(mode: u32, path: *const u8, path_size: usize, text: *const u8, text_size: usize, buffer: *mut u8, buffer_size: usize, size: *mut usize, error: *mut TextError) -> u32;
+    pub fn vizhoniku_sort_key(mode: u32, text: *const u8, text_size: usize, buffer: *mut u8, buffer_size: usize, size: *mut usize, error: *mut TextError) -> u32;
     pub fn vizhoniku_key_text(key: *const u8, key_size: usize, buffer: *mut u8, buffer_size: usize, size: *mut usize) -> u32;
-    pub fn vizhoniku_text_and_key(mode: u32, text: *const u8, text_size: usize, buffer: *mut u8, buffer_size: usize, size: *mut usize, key_buffer: *mut u8, key_buffer_size: usize, key_size: *mut usize, refusal: *mut Refusal) -> u32;
-    pub fn vizhoniku_compare(mode: u32, left: *const u8, left_size: usize, right: *const u8, right_size: usize, order: *mut i32, refusal: *mut Refusal) -> u32;
-    pub fn vizhoniku_place(text: *const u8, text_size: usize, refusal: *const Refusal, place: *mut Location);
+    pub fn vizhoniku_text_and_key(mode: u32, text: *const u8, text_size: usize, buffer: *mut u8, buffer_size: usize, size: *mut usize, key_buffer: *mut u8, key_buffer_size: usize, key_size: *mut usize, error: *mut TextError) -> u32;
+    pub fn vizhoniku_compare(mode: u32, left: *const u8, left_size: usize, right: *const u8, right_size: usize, order: *mut i32, error: *mut TextError) -> u32;
+    pub fn vizhoniku_place(text: *const u8, text_size: usize, error: *const TextError, place: *mut Location);
     pub fn vizhoniku_message(mode: u32, text: *const u8, text_size: usize, buffer: *mut u8, buffer_size: usize, size: *mut usize) -> u32;
     pub fn vizhoniku_key_check(key: *const u8, key_size: usize) -> u32;
     pub fn vizhoniku_key_kind(key: *const u8, key_size: usize) -> u32;
@@ -68,7 +68,7 @@ extern "C" {
     pub fn vizhoniku_key_put(key: *const u8, key_size: usize, name: *const u8, name_size: usize, value: *const u8, value_size: usize, buffer: *mut u8, buffer_size: usize, size: *mut usize) -> u32;
     pub fn vizhoniku_key_push(key: *const u8, key_size: usize, item: *const u8, item_size: usize, buffer: *mut u8, buffer_size: usize, size: *mut usize) -> u32;
     pub fn vizhoniku_key_merge(left: *const u8, left_size: usize, right: *const u8, right_size: usize, buffer: *mut u8, buffer_size: usize, size: *mut usize) -> u32;
-    pub fn vizhoniku_plain_numbers(text: *const u8, text_size: usize, buffer: *mut u8, buffer_size: usize, size: *mut usize, refusal: *mut Refusal) -> u32;
+    pub fn vizhoniku_plain_numbers(text: *const u8, text_size: usize, buffer: *mut u8, buffer_size: usize, size: *mut usize, error: *mut TextError) -> u32;
     pub fn vizhoniku_masked_numbers(text: *const u8, text_size: usize, buffer: *mut u8, buffer_size: usize, size: *mut usize) -> u32;
-    pub fn vizhoniku_error_path(mode: u32, text: *const u8, text_size: usize, refusal: *const Refusal, buffer: *mut u8, buffer_size: usize, size: *mut usize) -> u32;
+    pub fn vizhoniku_error_path(mode: u32, text: *const u8, text_size: usize, error: *const TextError, buffer: *mut u8, buffer_size: usize, size: *mut usize) -> u32;
 }

@@ -95,9 +95,9 @@ fn utf8(bytes: Vec<u8>) -> Result<String, Error> {
 /// assert_eq!((rejection.code(), rejection.offset()), (Code::ObjectDuplicateKey, 25));
 /// ```
 pub fn check(text: impl AsRef<[u8]>, mode: Mode) -> Result<(), Error> {
-    let ((), status) = parse([text.as_ref()], mode, |[text], refusal| {
-        // SAFETY: the text has its size, and the refusal is whole.
-        Ok(((), unsafe { ffi::vizhoniku_check(mode as u32, text.as_ptr(), text.len(), refusal) }))
+    let ((), status) = parse([text.as_ref()], mode, |[text], error| {
+        // SAFETY: the text has its size, and the error is whole.
+        Ok(((), unsafe { ffi::vizhoniku_check(mode as u32, text.as_ptr(), text.len(), error) }))
     })?;
     accept(status)
 }
@@ -115,10 +115,10 @@ pub fn check(text: impl AsRef<[u8]>, mode: Mode) -> Result<(), Error> {
 /// # Ok::<(), vizhoniku::Error>(())
 /// ```
 pub fn text(text: impl AsRef<[u8]>, mode: Mode) -> Result<String, Error> {
-    let (written, status) = parse([text.as_ref()], mode, |[text], refusal| {
+    let (written, status) = parse([text.as_ref()], mode, |[text], error| {
         write(text.len().saturating_add(16), |buffer, room, size| {
             // SAFETY: the text has its size and the buffer its room, and they don't overlap.
-            unsafe { ffi::vizhoniku_text(mode as u32, text.as_ptr(), text.len(), buffer, room, size, refusal) }
+            unsafe { ffi::vizhoniku_text(mode as u32, text.as_ptr(), text.len(), buffer, room, size, error) }
         })
     })?;
     accept(status)?;
@@ -131,10 +131,10 @@ pub fn text(text: impl AsRef<[u8]>, mode: Mode) -> Result<String, Error> {
 ///
 /// [`Error::Rejected`] for a text that is no document, and [`Error::OutOfMemory`].
 pub fn sort_key(text: impl AsRef<[u8]>, mode: Mode) -> Result<Key, Error> {
-    let (written, status) = parse([text.as_ref()], mode, |[text], refusal| {
+    let (written, status) = parse([text.as_ref()], mode, |[text], error| {
         write(text.len().saturating_add(16), |buffer, room, size| {
             // SAFETY: as in `text`.
-            unsafe { ffi::vizhoniku_sort_key(mode as u32, text.as_ptr(), text.len(), buffer, room, size, refusal) }
+            unsafe { ffi::vizhoniku_sort_key(mode as u32, text.as_ptr(), text.len(), buffer, room, size, error) }
         })
     })?;
     accept(status)?;
@@ -148,13 +148,13 @@ pub fn sort_key(text: impl AsRef<[u8]>, mode: Mode) -> Result<Key, Error> {
 /// Those of [`text`].
 pub fn text_and_key(text: impl AsRef<[u8]>, mode: Mode) -> Result<(String, Key), Error> {
     let ((written, key), status) =
-        parse([text.as_ref()], mode, |[text], refusal| write_text_and_key(text, mode, refusal))?;
+        parse([text.as_ref()], mode, |[text], error| write_text_and_key(text, mode, error))?;
     accept(status)?;
     Ok((utf8(written)?, Key::of(key)))
 }
 
 /// The bytes of a text and of its key.
-fn write_text_and_key(text: &[u8], mode: Mode, refusal: &mut ffi::Refusal) -> Made<(Vec<u8>, Vec<u8>)> {
+fn write_text_and_key(text: &[u8], mode: Mode, error: &mut ffi::TextError) -> Made<(Vec<u8>, Vec<u8>)> {
     let (mut key, mut key_size) = (Vec::new(), text.len().saturating_add(16));
     let (written, status) = write(text.len().saturating_add(16), |buffer, room, size| {
         let key_room = key_size;
@@ -173,7 +173,7 @@ fn write_text_and_key(text: &[u8], mode: Mode, refusal: &mut ffi::Refusal) -> Ma
                 key.as_mut_ptr(),
                 key_room,
                 &mut key_size,
-                refusal,
+                error,
             )
         };
         if status == ffi::ACCEPTED {
@@ -192,11 +192,11 @@ fn write_text_and_key(text: &[u8], mode: Mode, refusal: &mut ffi::Refusal) -> Ma
 /// [`Error::Rejected`] where a text is no document, of the first that is none ([`Rejection::is_second`]), and
 /// [`Error::OutOfMemory`].
 pub fn compare(left: impl AsRef<[u8]>, right: impl AsRef<[u8]>, mode: Mode) -> Result<Ordering, Error> {
-    let (order, status) = parse([left.as_ref(), right.as_ref()], mode, |[left, right], refusal| {
+    let (order, status) = parse([left.as_ref(), right.as_ref()], mode, |[left, right], error| {
         let (mode, mut order) = (mode as u32, 0);
-        // SAFETY: the texts have their sizes, and the order and the refusal are whole.
+        // SAFETY: the texts have their sizes, and the order and the error are whole.
         let status = unsafe {
-            ffi::vizhoniku_compare(mode, left.as_ptr(), left.len(), right.as_ptr(), right.len(), &mut order, refusal)
+            ffi::vizhoniku_compare(mode, left.as_ptr(), left.len(), right.as_ptr(), right.len(), &mut order, error)
         };
         Ok((order, status))
     })?;
@@ -220,12 +220,12 @@ pub fn compare(left: impl AsRef<[u8]>, right: impl AsRef<[u8]>, mode: Mode) -> R
 /// # Ok::<(), vizhoniku::Error>(())
 /// ```
 pub fn part(text: impl AsRef<[u8]>, path: &str, mode: Mode) -> Result<Option<String>, Error> {
-    let (written, status) = parse([text.as_ref()], mode, |[text], refusal| {
+    let (written, status) = parse([text.as_ref()], mode, |[text], error| {
         write(256, |buffer, room, size| {
             let (mode, path, path_size) = (mode as u32, path.as_ptr(), path.len());
             // SAFETY: as in `text`, and the path has its size.
             unsafe {
-                ffi::vizhoniku_part(mode, path, path_size, text.as_ptr(), text.len(), buffer, room, size, refusal)
+                ffi::vizhoniku_part(mode, path, path_size, text.as_ptr(), text.len(), buffer, room, size, error)
             }
         })
     })?;

@@ -30,8 +30,8 @@ fn in_rust(declared: &str) -> String {
         "int32_t*" => "*mut i32",
         "const unsigned char*" => "*const u8",
         "unsigned char*" => "*mut u8",
-        "struct vizhoniku_refusal*" => "*mut Refusal",
-        "const struct vizhoniku_refusal*" => "*const Refusal",
+        "struct vizhoniku_error*" => "*mut TextError",
+        "const struct vizhoniku_error*" => "*const TextError",
         "struct vizhoniku_location*" => "*mut Location",
         "struct vizhoniku_key_cursor*" => "*mut KeyCursor",
         "struct vizhoniku_key_entry*" => "*mut KeyEntry",
@@ -80,7 +80,7 @@ fn the_declarations_are_those_of_the_header() {
         .collect();
     assert_eq!(found, wanted);
 
-    for name in ["refusal", "location", "key_cursor", "key_entry"] {
+    for name in ["error", "location", "key_cursor", "key_entry"] {
         let fields =
             between(&header, "struct ", "};").into_iter().find(|it| it.0.trim() == format!("vizhoniku_{name}"));
         let fields = fields.expect(name).1;
