@@ -7,8 +7,8 @@
  *
  * What a caller owes:
  *  - No pointer is null, but that of a text, a path, a name, a key or a buffer of size 0, which isn't dereferenced.
- *  - What a call writes to (buffer, size, order, error, location, offset, count, cursor, entry, before, numbers, plain)
- *    doesn't overlap any other argument.
+ *  - What a call writes to (buffer, size, order, error, location, offset, count, value, cursor, entry, before, numbers,
+ *    plain) doesn't overlap any other argument.
  *  - No text, no key and no buffer is longer than PTRDIFF_MAX bytes.
  *  - The thread has 112 KB of stack free, where input is untrusted: no call was seen to take more, and
  *    vizhoniku_check and vizhoniku_message take no more than 32 KB. docs/C.md has figures. A thread of musl has 128 KB
@@ -33,7 +33,7 @@ extern "C" {
 
 /* The version of this interface. It grows where a function, a status or a code is added. vizhoniku_version returns that
  * of the library. */
-#define VIZHONIKU_VERSION 7
+#define VIZHONIKU_VERSION 8
 
 uint32_t vizhoniku_version(void);
 
@@ -181,6 +181,11 @@ void vizhoniku_place(const unsigned char *text, size_t text_size, const struct v
 uint32_t vizhoniku_message(uint32_t mode, const unsigned char *text, size_t text_size, unsigned char *buffer,
                            size_t buffer_size, size_t *size);
 
+/* Writes the same message without its end `, pos N`, for a program that shows line and column instead:
+ * `duplicate object attribute "a"`. The statuses are those of vizhoniku_message. */
+uint32_t vizhoniku_reason(uint32_t mode, const unsigned char *text, size_t text_size, unsigned char *buffer,
+                          size_t buffer_size, size_t *size);
+
 /* A sort key as a stored document. The calls below take the key of a value, as vizhoniku_sort_key wrote it, and find
  * the keys of its parts in it: an offset and a size. No text is parsed, no value is made, and nothing is
  * kept. A part's range is the key of the part, to which each of these calls may be applied again.
@@ -265,6 +270,28 @@ uint32_t vizhoniku_key_string(const unsigned char *key, size_t key_size, unsigne
 /* Writes the name of a member, from its range in a key, as vizhoniku_key_string writes the text of a string. */
 uint32_t vizhoniku_key_name(const unsigned char *name, size_t name_size, unsigned char *buffer, size_t buffer_size,
                             size_t *size);
+
+/* Returns the boolean of a key in *value: 1 for true, 0 for false. VIZHONIKU_NO_PART: the value is no boolean. */
+uint32_t vizhoniku_key_boolean(const unsigned char *key, size_t key_size, uint32_t *value);
+
+/* Writes the sort key of a string to the start of the buffer, from its text in UTF-8, with no quotes and escapes.
+ *
+ *  - VIZHONIKU_ACCEPTED: *size bytes were written. The rest of the buffer is as before.
+ *  - VIZHONIKU_TOO_SHORT: *size bytes are needed, and nothing was written.
+ *  - VIZHONIKU_NO_KEY: the text isn't UTF-8. *size is 0, and nothing was written.
+ *  - VIZHONIKU_OUT_OF_MEMORY: *size is 0, and nothing was written. */
+uint32_t vizhoniku_key_of_string(const unsigned char *text, size_t text_size, unsigned char *buffer, size_t buffer_size,
+                                 size_t *size);
+
+/* Writes the step of a path for a name to the start of the buffer: a slash, and the name, with ~0 for ~ and ~1 for /.
+ * The steps of several names make up a path (RFC 6901). The name is UTF-8 as it is.
+ *
+ *  - VIZHONIKU_ACCEPTED: *size bytes were written. The rest of the buffer is as before.
+ *  - VIZHONIKU_TOO_SHORT: *size bytes are needed, and nothing was written.
+ *  - VIZHONIKU_NO_PATH: the name isn't UTF-8. *size is 0, and nothing was written.
+ *  - VIZHONIKU_OUT_OF_MEMORY: *size is 0, and nothing was written. */
+uint32_t vizhoniku_path_step(const unsigned char *name, size_t name_size, unsigned char *buffer, size_t buffer_size,
+                             size_t *size);
 
 /* Whether a value contains another, from their keys, as @> of PostgreSQL's jsonb does: an object contains an
  * object where for each member of that it has one of that name whose value contains the other's, an array an array where

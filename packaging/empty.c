@@ -25,6 +25,8 @@ void proved_place(const unsigned char *text, size_t text_size, const struct vizh
                   struct vizhoniku_location *location);
 uint32_t proved_message(uint32_t mode, const unsigned char *text, size_t text_size, unsigned char *buffer,
                         size_t buffer_size, size_t *size);
+uint32_t proved_reason(uint32_t mode, const unsigned char *text, size_t text_size, unsigned char *buffer,
+                       size_t buffer_size, size_t *size);
 uint32_t proved_key_check(const unsigned char *key, size_t key_size);
 uint32_t proved_key_kind(const unsigned char *key, size_t key_size);
 uint32_t proved_key_count(const unsigned char *key, size_t key_size, size_t *count);
@@ -40,6 +42,11 @@ uint32_t proved_key_string(const unsigned char *key, size_t key_size, unsigned c
                            size_t *size);
 uint32_t proved_key_name(const unsigned char *name, size_t name_size, unsigned char *buffer, size_t buffer_size,
                          size_t *size);
+uint32_t proved_key_boolean(const unsigned char *key, size_t key_size, uint32_t *value);
+uint32_t proved_key_of_string(const unsigned char *text, size_t text_size, unsigned char *buffer, size_t buffer_size,
+                              size_t *size);
+uint32_t proved_path_step(const unsigned char *name, size_t name_size, unsigned char *buffer, size_t buffer_size,
+                          size_t *size);
 uint32_t proved_key_contains(const unsigned char *key, size_t key_size, const unsigned char *other, size_t other_size);
 uint32_t proved_key_set(const unsigned char *key, size_t key_size, const unsigned char *path, size_t path_size,
                         const unsigned char *part, size_t part_size, uint32_t create, unsigned char *buffer,
@@ -126,6 +133,11 @@ uint32_t vizhoniku_message(uint32_t mode, const unsigned char *text, size_t text
   return proved_message(mode, bytes_at(text, text_size), text_size, buffer_at(buffer, buffer_size), buffer_size, size);
 }
 
+uint32_t vizhoniku_reason(uint32_t mode, const unsigned char *text, size_t text_size, unsigned char *buffer,
+                          size_t buffer_size, size_t *size) {
+  return proved_reason(mode, bytes_at(text, text_size), text_size, buffer_at(buffer, buffer_size), buffer_size, size);
+}
+
 uint32_t vizhoniku_key_check(const unsigned char *key, size_t key_size) {
   return proved_key_check(bytes_at(key, key_size), key_size);
 }
@@ -169,6 +181,20 @@ uint32_t vizhoniku_key_string(const unsigned char *key, size_t key_size, unsigne
 uint32_t vizhoniku_key_name(const unsigned char *name, size_t name_size, unsigned char *buffer, size_t buffer_size,
                             size_t *size) {
   return proved_key_name(bytes_at(name, name_size), name_size, buffer_at(buffer, buffer_size), buffer_size, size);
+}
+
+uint32_t vizhoniku_key_boolean(const unsigned char *key, size_t key_size, uint32_t *value) {
+  return proved_key_boolean(bytes_at(key, key_size), key_size, value);
+}
+
+uint32_t vizhoniku_key_of_string(const unsigned char *text, size_t text_size, unsigned char *buffer, size_t buffer_size,
+                                 size_t *size) {
+  return proved_key_of_string(bytes_at(text, text_size), text_size, buffer_at(buffer, buffer_size), buffer_size, size);
+}
+
+uint32_t vizhoniku_path_step(const unsigned char *name, size_t name_size, unsigned char *buffer, size_t buffer_size,
+                             size_t *size) {
+  return proved_path_step(bytes_at(name, name_size), name_size, buffer_at(buffer, buffer_size), buffer_size, size);
 }
 
 uint32_t vizhoniku_key_contains(const unsigned char *key, size_t key_size, const unsigned char *other,

@@ -222,11 +222,11 @@ static size_t bound_of(const struct text *text) {
 }
 
 /* Each function of the library that takes memory, by a number. */
-enum function { CHECK, TEXT, SORT_KEY, TEXT_AND_KEY, PART, COMPARE, MESSAGE, FUNCTIONS };
+enum function { CHECK, TEXT, SORT_KEY, TEXT_AND_KEY, PART, COMPARE, MESSAGE, REASON, FUNCTIONS };
 
 static const char *const functions[] = {
     "vizhoniku_check", "vizhoniku_text", "vizhoniku_sort_key", "vizhoniku_text_and_key", "vizhoniku_part",
-    "vizhoniku_compare", "vizhoniku_message",
+    "vizhoniku_compare", "vizhoniku_message", "vizhoniku_reason",
 };
 
 /* Calls the function, with buffers of so much room. *written is the size of all that it writes, and *status what it
@@ -249,6 +249,7 @@ static void call(enum function function, const struct text *text, unsigned char 
     case COMPARE:
       *status = vizhoniku_compare(mode, text->bytes, text->size, text->bytes, text->size, &order, &error);
       break;
+    case REASON: *status = vizhoniku_reason(mode, text->bytes, text->size, buffer, room, &size); break;
     default: *status = vizhoniku_message(mode, text->bytes, text->size, buffer, room, &size); break;
   }
   *written = size + key_size;
@@ -290,7 +291,7 @@ static void measure(enum kind kind, int count, const struct text *text, uint32_t
     calls++;
     int writes = function == TEXT || function == SORT_KEY || function == TEXT_AND_KEY || function == PART;
     uint32_t due = wanted == VIZHONIKU_ACCEPTED ? (i % 2 && writes ? VIZHONIKU_TOO_SHORT : VIZHONIKU_ACCEPTED)
-                                                : (i % 2 && function == MESSAGE ? VIZHONIKU_TOO_SHORT : wanted);
+                                                : (i % 2 && function >= MESSAGE ? VIZHONIKU_TOO_SHORT : wanted);
     if (status != due) {
       faults++;
       printf("%s answered %u: %s, %d\n", functions[function], (unsigned)status, kinds[kind], count);
@@ -302,7 +303,7 @@ static void measure(enum kind kind, int count, const struct text *text, uint32_t
     /* What is written, in a vector for each, and of an object that is out of order once more. Of two texts the sort
      * keys are held, and of a part two copies beside the whole. */
     size_t one = bound;
-    if (function != CHECK && function != MESSAGE) one += 2 * (text->size + 1);
+    if (function != CHECK && function < MESSAGE) one += 2 * (text->size + 1);
     if (function == COMPARE || function == PART) one += text->size + 1;
     if (function == PART) one += text->size + 1;
     compare(function, kind, count, 0, most, one + ROOM(written));
@@ -336,6 +337,8 @@ enum key_function {
   ZEROS_OF_NUMBERS,
   PLAIN_NUMBERS,
   MASKED_NUMBERS,
+  KEY_OF_STRING,
+  PATH_STEP,
   ERROR_PATH,
   KEY_FUNCTIONS
 };
@@ -348,7 +351,7 @@ static const char *const key_functions[] = {
     "vizhoniku_key_part with an escape", "vizhoniku_key_text", "vizhoniku_key_set", "vizhoniku_key_remove",
     "vizhoniku_key_put", "vizhoniku_key_push", "vizhoniku_key_merge", "vizhoniku_zeros_of_text",
     "vizhoniku_text_with_zeros", "vizhoniku_zeros_of_numbers", "vizhoniku_plain_numbers", "vizhoniku_masked_numbers",
-    "vizhoniku_error_path",
+    "vizhoniku_key_of_string", "vizhoniku_path_step", "vizhoniku_error_path",
 };
 
 /* The zeros of the text that the functions over zeros take, which is passed in the place of a key as that of the
@@ -406,6 +409,8 @@ static uint32_t call_over_key(enum key_function function, const struct text *key
       return vizhoniku_zeros_of_numbers(zeros.bytes, zeros.size, 0, zeros.size / 2, &part_size, buffer, room, size);
     case PLAIN_NUMBERS: return vizhoniku_plain_numbers(key->bytes, key->size, buffer, room, size, &error);
     case MASKED_NUMBERS: return vizhoniku_masked_numbers(key->bytes, key->size, buffer, room, size);
+    case KEY_OF_STRING: return vizhoniku_key_of_string(key->bytes, key->size, buffer, room, size);
+    case PATH_STEP: return vizhoniku_path_step(key->bytes, key->size, buffer, room, size);
     case ERROR_PATH:
       return vizhoniku_error_path(VIZHONIKU_EXTENDED, key->bytes, key->size, &why, buffer, room, size);
     default: return vizhoniku_key_merge(key->bytes, key->size, key->bytes, key->size, buffer, room, size);

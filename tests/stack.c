@@ -193,14 +193,15 @@ static struct text make(const struct shape *shape) {
 /* Each function of the library that reads a text, then those that read a sort key, and then those that reject no text,
  * by a number. */
 enum function {
-  CHECK, TEXT, SORT_KEY, TEXT_AND_KEY, PART, COMPARE, MESSAGE, KEY_CHECK, KEY_TEXT, KEY_PART, KEY_COUNT,
+  CHECK, TEXT, SORT_KEY, TEXT_AND_KEY, PART, COMPARE, MESSAGE, REASON, KEY_CHECK, KEY_TEXT, KEY_PART, KEY_COUNT,
   KEY_CONTAINS, KEY_SET, KEY_REMOVE, KEY_MERGE, KEY_NUMBERS, ZEROS, TEXT_WITH_ZEROS,
   PLAIN_NUMBERS, MASKED_NUMBERS, ERROR_PATH, FUNCTIONS
 };
 
 static const char *const functions[] = {
     "vizhoniku_check", "vizhoniku_text", "vizhoniku_sort_key", "vizhoniku_text_and_key", "vizhoniku_part",
-    "vizhoniku_compare", "vizhoniku_message", "vizhoniku_key_check", "vizhoniku_key_text", "vizhoniku_key_part",
+    "vizhoniku_compare", "vizhoniku_message", "vizhoniku_reason", "vizhoniku_key_check", "vizhoniku_key_text",
+    "vizhoniku_key_part",
     "vizhoniku_key_count", "vizhoniku_key_contains", "vizhoniku_key_set", "vizhoniku_key_remove", "vizhoniku_key_merge",
     "vizhoniku_key_numbers", "vizhoniku_zeros_of_text", "vizhoniku_text_with_zeros",
     "vizhoniku_plain_numbers", "vizhoniku_masked_numbers", "vizhoniku_error_path",
@@ -213,7 +214,7 @@ static const size_t told[FUNCTIONS][2] = {
     [KEY_TEXT] = {2, 0},      [KEY_PART] = {2, 0},     [KEY_COUNT] = {2, 0},       [KEY_CONTAINS] = {25, 0},
     [KEY_SET] = {2, 0},       [KEY_REMOVE] = {2, 0},   [KEY_MERGE] = {2, 0},       [KEY_NUMBERS] = {2, 0},
     [ZEROS] = {2, 0},         [TEXT_WITH_ZEROS] = {2, 0}, [PLAIN_NUMBERS] = {2, 0},   [MASKED_NUMBERS] = {2, 0},
-    [ERROR_PATH] = {2, 0},
+    [ERROR_PATH] = {2, 0},    [REASON] = {22, 0},
 };
 
 struct call {
@@ -292,6 +293,7 @@ static void *run(void *given) {
     case ERROR_PATH:
       call->status = vizhoniku_error_path(call->mode, bytes, text_size, call->why, call->buffer, call->room, &size);
       break;
+    case REASON: call->status = vizhoniku_reason(call->mode, bytes, text_size, call->buffer, call->room, &size); break;
     default: call->status = vizhoniku_message(call->mode, bytes, text_size, call->buffer, call->room, &size); break;
   }
   return NULL;
@@ -328,7 +330,7 @@ static struct shape where[FUNCTIONS][2];
 static long runs, wrong;
 
 static int makes_value(enum function function, const struct shape *shape) {
-  return shape->kind == OUT_OF_ORDER && function != CHECK && function != MESSAGE && function < KEY_CHECK;
+  return shape->kind == OUT_OF_ORDER && function != CHECK && function < MESSAGE;
 }
 
 /* Each function over one text, with ample memory, and, in extended mode and with one member, with each request refused in

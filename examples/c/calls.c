@@ -402,6 +402,49 @@ static void change_keys(void) {
   print_key("null pushed", status, out, size);
 }
 
+/* Booleans, keys of strings, steps of paths, and what is wrong with a text, without its offset. */
+static void pass_scalars(void) {
+  static const unsigned char yes[] = {0x16}, no[] = {0x15}, null[] = {0xD3}, text[] = {'a', 0, 'b'};
+  unsigned char out[40];
+  uint32_t value = 99, status = vizhoniku_key_boolean(yes, sizeof yes, &value);
+  size_t size = 99;
+  printf("boolean: %u %u", (unsigned)status, (unsigned)value);
+  status = vizhoniku_key_boolean(no, sizeof no, &value);
+  printf(", %u %u", (unsigned)status, (unsigned)value);
+  status = vizhoniku_key_boolean(null, sizeof null, &value);
+  printf(", %u %u", (unsigned)status, (unsigned)value);
+  status = vizhoniku_key_boolean(NULL, 0, &value);
+  printf(", %u %u\n", (unsigned)status, (unsigned)value);
+  status = vizhoniku_key_of_string(text, sizeof text, out, sizeof out, &size);
+  print_key("string", status, out, size);
+  status = vizhoniku_key_of_string(text, sizeof text, out, 6, &size);
+  print_key("too short", status, out, size);
+  status = vizhoniku_key_of_string(NULL, 0, out, sizeof out, &size);
+  print_key("null string", status, out, size);
+  status = vizhoniku_key_of_string(BYTES("\xC3"), out, sizeof out, &size);
+  print_key("no text", status, out, size);
+  status = vizhoniku_path_step(BYTES("a/~b"), out, sizeof out, &size);
+  print_key("step", status, out, size);
+  status = vizhoniku_path_step(BYTES("a/~b"), out, 6, &size);
+  print_key("too short", status, out, size);
+  status = vizhoniku_path_step(NULL, 0, out, sizeof out, &size);
+  print_key("null step", status, out, size);
+  status = vizhoniku_path_step(BYTES("\xC3"), out, sizeof out, &size);
+  print_key("no name", status, out, size);
+  status = vizhoniku_reason(VIZHONIKU_STANDARD, BYTES("[1 2]"), out, sizeof out, &size);
+  printf("reason: %u %.*s\n", (unsigned)status, (int)size, (const char *)out);
+  status = vizhoniku_reason(VIZHONIKU_STANDARD, BYTES("{\"a\":1,\"a\":2}"), out, sizeof out, &size);
+  printf("reason: %u %.*s\n", (unsigned)status, (int)size, (const char *)out);
+  status = vizhoniku_reason(VIZHONIKU_STANDARD, BYTES("[1 2]"), out, 18, &size);
+  printf("too short: %u %zu", (unsigned)status, size);
+  status = vizhoniku_reason(VIZHONIKU_STANDARD, BYTES("[1,2]"), out, sizeof out, &size);
+  printf(", a document: %u %zu", (unsigned)status, size);
+  status = vizhoniku_reason(2, BYTES("[1 2]"), out, sizeof out, &size);
+  printf(", no mode: %u %zu", (unsigned)status, size);
+  status = vizhoniku_reason(VIZHONIKU_STANDARD, NULL, 0, NULL, 0, &size);
+  printf(", null: %u %zu\n", (unsigned)status, size);
+}
+
 int main(void) {
   check(VIZHONIKU_STANDARD, "[null]");
   check(VIZHONIKU_STANDARD, "{\"a\":1,\"a\":2}");
@@ -474,6 +517,7 @@ int main(void) {
   contain("[1.0]", "1");
   pass_null_keys();
   change_keys();
+  pass_scalars();
 
   printf("version: %u\n", (unsigned)vizhoniku_version());
   return 0;

@@ -48,7 +48,9 @@ static const char *const texts[] = {
     "",
 };
 
-/* Each function of the library that takes memory, by a number. */
+/* Each function of the library that takes memory, by a number below this one. */
+#define FUNCTIONS 21
+
 static uint32_t call(int which, uint32_t mode, const unsigned char *text, size_t text_size, size_t room) {
   static const unsigned char path[] = {'/', 'c', '/', 'k'};
   static const unsigned char key[] = {0xD2, 0xD0, 'a', '\n', 0, 1, 0xA1, 0x1E, 0xD1, 0, 0, 0};
@@ -82,17 +84,20 @@ static uint32_t call(int which, uint32_t mode, const unsigned char *text, size_t
     case 13: return vizhoniku_key_push(key, sizeof key, key, sizeof key, buffer, room, &size);
     case 11:
       return vizhoniku_key_merge(object_key, sizeof object_key, object_key, sizeof object_key, buffer, room, &size);
+    case 17: return vizhoniku_reason(mode, text, text_size, buffer, room, &size);
+    case 18: return vizhoniku_key_of_string(key + 2, 2, buffer, room, &size);
+    case 19: return vizhoniku_path_step(path, sizeof path, buffer, room, &size);
     default: return vizhoniku_compare(mode, text, text_size, text, text_size, &order, &error);
   }
 }
 
 int main(void) {
   long kept = 0, wrong = 0;
-  for (size_t i = 0; i < 2 * 2 * 18 * (sizeof texts / sizeof *texts); i++) {
-    const unsigned char *text = (const unsigned char *)texts[i / 72];
-    size_t text_size = strlen(texts[i / 72]), room = i % 2 ? 400 : 3;
-    int which = (int)(i / 2 % 18);
-    uint32_t mode = (uint32_t)(i / 36 % 2), whole = 0;
+  for (size_t i = 0; i < 2 * 2 * FUNCTIONS * (sizeof texts / sizeof *texts); i++) {
+    const unsigned char *text = (const unsigned char *)texts[i / (4 * FUNCTIONS)];
+    size_t text_size = strlen(texts[i / (4 * FUNCTIONS)]), room = i % 2 ? 400 : 3;
+    int which = (int)(i / 2 % FUNCTIONS);
+    uint32_t mode = (uint32_t)(i / (2 * FUNCTIONS) % 2), whole = 0;
     for (refused = -1; refused < 0 || asked >= refused; refused++) {
       long before = held;
       asked = 0;

@@ -61,9 +61,9 @@ static inline struct told call_compare(uint32_t mode, bytes left, size_t left_si
   return told;
 }
 
-static inline struct told call_message(uint32_t mode, bytes text, size_t text_size, buffer to, size_t room) {
+static inline struct told call_reason(uint32_t mode, bytes text, size_t text_size, buffer to, size_t room) {
   struct told told = {0};
-  told.status = vizhoniku_message(mode, text, text_size, to, room, &told.size);
+  told.status = vizhoniku_reason(mode, text, text_size, to, room, &told.size);
   return told;
 }
 

@@ -6,7 +6,6 @@ import "C"
 import (
 	"errors"
 	"fmt"
-	"strings"
 )
 
 // An Error says why and where a text was rejected.
@@ -81,7 +80,7 @@ func rejection(text []byte, mode Mode, second bool) error {
 	of := C.uint32_t(mode)
 	checked := C.call_check(of, begin(masked), size(len(masked)))
 	message, told := appended(nil, 128, func(buffer *C.uchar, room C.size_t) C.struct_told {
-		return C.call_message(of, begin(masked), size(len(masked)), buffer, room)
+		return C.call_reason(of, begin(masked), size(len(masked)), buffer, room)
 	})
 	path, found := appended(nil, 128, func(buffer *C.uchar, room C.size_t) C.struct_told {
 		return C.call_error_path(of, begin(masked), size(len(masked)), checked.error, buffer, room)
@@ -90,8 +89,6 @@ func rejection(text []byte, mode Mode, second bool) error {
 		return ErrOutOfMemory
 	}
 	place := C.call_place(begin(text), size(len(text)), checked.error)
-	// The message ends with the position, which is told as line and column instead.
-	end := fmt.Sprintf(", pos %d", checked.error.position)
 	return &Error{
 		Code:     Code(checked.error.code),
 		Second:   second,
@@ -100,7 +97,7 @@ func rejection(text []byte, mode Mode, second bool) error {
 		Line:     int(place.line),
 		Column:   int(place.column),
 		Path:     string(path),
-		Message:  strings.TrimSuffix(string(message), end),
+		Message:  string(message),
 	}
 }
 

@@ -286,22 +286,11 @@ raise_wrong_kind(const char *words)
 static Range
 path_of_name(Range name)
 {
-	StringInfoData path;
-	Range		result;
+	size_t		room = 2 * name.size + 1;
+	unsigned char *path = palloc_extended(room, MCXT_ALLOC_HUGE);
+	Range		result = {path, 0};
 
-	initStringInfo(&path);
-	appendStringInfoChar(&path, '/');
-	for (size_t i = 0; i < name.size; i++)
-	{
-		if (name.at[i] == '~')
-			appendStringInfoString(&path, "~0");
-		else if (name.at[i] == '/')
-			appendStringInfoString(&path, "~1");
-		else
-			appendStringInfoChar(&path, (char) name.at[i]);
-	}
-	result.at = (unsigned char *) path.data;
-	result.size = path.len;
+	is_found(vizhoniku_path_step(name.at, name.size, path, room, &result.size));
 	return result;
 }
 

@@ -1,7 +1,7 @@
 /*-------------------------------------------------------------------------
  *
  * key_walk.h
- *	  Calls of the library on sort keys, with its refusals as errors of the
+ *	  Calls of the library on sort keys, with its statuses as errors of the
  *	  server.
  *
  *-------------------------------------------------------------------------
@@ -59,21 +59,6 @@ utf8_of(text *words)
 	return range;
 }
 
-/* The key of a string, whose text is of the server: so it has no zero byte, which alone is escaped in a key. */
-static inline Range
-key_of_string(Range words)
-{
-	size_t		size = words.size + STRING_EXTRA;
-	unsigned char *key = palloc(size);
-	Range		result = {key, size};
-
-	key[0] = STRING_KEY;
-	memcpy(key + 1, words.at, words.size);
-	key[size - 2] = END;
-	key[size - 1] = END_OF_TEXT;
-	return result;
-}
-
 /* Whether a call found what it was asked for. */
 static inline bool
 is_found(uint32 status)
@@ -85,6 +70,18 @@ is_found(uint32 status)
 	if (status != VIZHONIKU_NO_PART)
 		vjson_raise_unexpected(status);
 	return false;
+}
+
+/* The key of a string, whose text is of the server: so it has no zero byte, which takes two in a key. */
+static inline Range
+key_of_string(Range words)
+{
+	size_t		size = words.size + STRING_EXTRA;
+	unsigned char *key = palloc(size);
+	Range		result = {key, size};
+
+	is_found(vizhoniku_key_of_string(words.at, words.size, key, size, &result.size));
+	return result;
 }
 
 static inline uint32

@@ -47,7 +47,7 @@ try:
 except ImportError:
     lmdb = None
 
-VERSION = 7  # of the interface that is needed
+VERSION = 8  # of the interface that is needed
 TOP = os.path.join(HERE, "..", "..")
 VECTORS = os.path.join(TOP, "tests", "vectors.jsonl")
 

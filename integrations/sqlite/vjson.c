@@ -157,12 +157,11 @@ static size_t write_place(char *words, size_t room, const struct read_text *text
 
 #define TOO_LONG "number not carried" /* as the library tells it of a number without an exponent */
 
-/* The library's words for a fault, behind so many bytes of room, without the position that ends them, which is told as
- * line and column instead. They have to be freed. Returns NULL where there is no memory. */
-static char *words_of(uint32_t mode, const struct read_text *text, const struct vizhoniku_error *error, size_t front,
-                      size_t *size) {
-  char end[32], *words = NULL;
-  size_t end_size = (size_t)snprintf(end, sizeof end, ", pos %zu", error->position), room = 256;
+/* The library's words for an error, after so many bytes that are left free. They have to be freed. Returns NULL where
+ * there is no memory. */
+static char *words_of(uint32_t mode, const struct read_text *text, size_t front, size_t *size) {
+  char *words = NULL;
+  size_t room = 256;
   uint32_t status;
   do {
     sqlite3_free(words);
@@ -172,14 +171,13 @@ static char *words_of(uint32_t mode, const struct read_text *text, const struct 
       memcpy(words + front, TOO_LONG, *size);
       return words;
     }
-    status = vizhoniku_message(mode, text->at, text->size, (unsigned char *)words + front, room, size);
+    status = vizhoniku_reason(mode, text->at, text->size, (unsigned char *)words + front, room, size);
     room = *size;
   } while (status == VIZHONIKU_TOO_SHORT);
   if (status != VIZHONIKU_REJECTED) {
     sqlite3_free(words);
     return NULL;
   }
-  if (*size >= end_size && !memcmp(words + front + *size - end_size, end, end_size)) *size -= end_size;
   return words;
 }
 
@@ -190,7 +188,7 @@ static void tell(sqlite3_context *context, uint32_t mode, uint32_t status, const
   size_t front_size = 0, size;
   if (status == VIZHONIKU_REJECTED) {
     front_size = write_place(front, sizeof front, text, error, is_error);
-    words = words_of(mode, text, error, front_size, &size);
+    words = words_of(mode, text, front_size, &size);
   }
   if (!words) {
     sqlite3_result_error_nomem(context);

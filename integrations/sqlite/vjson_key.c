@@ -24,8 +24,6 @@ SQLITE_EXTENSION_INIT3
 
 #define NO_KEY "not a sort key: vjson_key makes one of a text"
 
-#define TRUE_KEY 0x16
-
 /* Bytes that a short text is written to. */
 #define SMALL 1024
 
@@ -139,13 +137,20 @@ static void give_number(sqlite3_context *context, struct key key) {
                         written.at == written.small ? SQLITE_TRANSIENT : sqlite3_free, SQLITE_UTF8);
 }
 
+/* Whether a boolean is true. */
+static int is_true(struct key key) {
+  uint32_t value;
+  vizhoniku_key_boolean(key.at, key.size, &value);
+  return value != 0;
+}
+
 /* Gives a scalar as a value of SQL. Returns 0 where the value is none. */
 static int give_scalar(sqlite3_context *context, struct key key) {
   switch (vizhoniku_key_kind(key.at, key.size)) {
   case VIZHONIKU_NULL:
     return 1;
   case VIZHONIKU_BOOLEAN:
-    sqlite3_result_int(context, key.at[0] == TRUE_KEY);
+    sqlite3_result_int(context, is_true(key));
     return 1;
   case VIZHONIKU_NUMBER:
     give_number(context, key);
@@ -173,7 +178,7 @@ static void give_type(sqlite3_context *context, struct key key) {
     tell_status(context, VIZHONIKU_NO_KEY);
     return;
   case VIZHONIKU_BOOLEAN:
-    sqlite3_result_text(context, key.at[0] == TRUE_KEY ? "true" : "false", -1, SQLITE_STATIC);
+    sqlite3_result_text(context, is_true(key) ? "true" : "false", -1, SQLITE_STATIC);
     return;
   case VIZHONIKU_NUMBER:
     status = write_text(key, 0, &written);
@@ -271,7 +276,7 @@ static int fail_with(struct walk *walk, uint32_t status) {
 
 /* Writes the name or the index of the row as it stands in a path: behind a slash, with ~ as ~0 and / as ~1. */
 static uint32_t write_step(const struct walk *walk, const struct level *level, char **step, size_t *size) {
-  size_t name_size, written = 0;
+  size_t name_size;
   *step = sqlite3_malloc64(3 * walk->name.size + 24);
   if (!*step) return VIZHONIKU_OUT_OF_MEMORY;
   if (level->next.kind == VIZHONIKU_ARRAY) {
@@ -285,17 +290,9 @@ static uint32_t write_step(const struct walk *walk, const struct level *level, c
     sqlite3_free(*step);
     return status;
   }
-  (*step)[written++] = '/';
-  for (size_t i = 0; i < name_size; i++) {
-    char byte = (char)name[i];
-    if (byte == '~' || byte == '/') {
-      (*step)[written++] = '~';
-      byte = byte == '~' ? '0' : '1';
-    }
-    (*step)[written++] = byte;
-  }
-  *size = written;
-  return VIZHONIKU_ACCEPTED;
+  status = vizhoniku_path_step(name, name_size, (unsigned char *)*step, 2 * walk->name.size + 24, size);
+  if (status != VIZHONIKU_ACCEPTED) sqlite3_free(*step);
+  return status == VIZHONIKU_NO_PATH ? VIZHONIKU_NO_KEY : status; /* the names of a key are UTF-8 */
 }
 
 /* Enters the row's part, whose path is that of the level around it and a step more. The root's path is the argument. */

@@ -1,5 +1,5 @@
 -- Paths, key by key and byte by byte.
-use Rattle.std.proofs.Common.{◌≡◌, ℕ, ◌+◌, ◌<◌, length, get_or, take, List, [], ◌∷◌, ◌++◌, sym, ap, ◌∙◌, append_assoc, append-nil, map, String, Global, string_bytes, IsUtf8}
+use Rattle.std.proofs.Common.{◌≡◌, ℕ, ◌+◌, ◌<◌, length, get_or, take, List, [], ◌∷◌, ◌++◌, sym, ap, ◌∙◌, append_assoc, append-nil, map, String, Global, string_bytes, IsUtf8, refl}
 use Rattle.std.proofs.lemmas.List.{map-append, take_more}
 use Rattle.std.proofs.lemmas.Str.{IsUtf8-string_bytes}
 use Rattle.std.specs.List.{AllByRecursion}
@@ -9,10 +9,10 @@ pub key_then : (front : List ℕ) (byte : ℕ) → spelled_key (front ++ byte �
 key_then [] byte = append-nil (spelled_byte byte)
 key_then (b ∷ front) byte = ap (λ bs. spelled_byte b ++ bs) (key_then front byte) ∙ sym (append_assoc (spelled_byte b) (spelled_key front) (spelled_byte byte))
 
-pub keys_then : (front : List (List ℕ)) (key : List ℕ) → spelled_keys (front ++ key ∷ []) ≡ spelled_keys front ++ 47 ∷ spelled_key key
-keys_then [] key = ap (λ bs. 47 ∷ bs) (append-nil (spelled_key key))
-keys_then (k ∷ front) key =
-    ap (λ bs. 47 ∷ (spelled_key k ++ bs)) (keys_then front key) ∙ ap (λ bs. 47 ∷ bs) (sym (append_assoc (spelled_key k) (spelled_keys front) (47 ∷ spelled_key key)))
+pub keys_joined : (front back : List (List ℕ)) → spelled_keys (front ++ back) ≡ spelled_keys front ++ spelled_keys back
+keys_joined [] back = refl
+keys_joined (k ∷ front) back =
+    ap (λ bs. 47 ∷ (spelled_key k ++ bs)) (keys_joined front back) ∙ ap (λ bs. 47 ∷ bs) (sym (append_assoc (spelled_key k) (spelled_keys front) (spelled_keys back)))
 
 pub texts_of : (strings : List (String Global)) → AllByRecursion IsUtf8 (map string_bytes strings)
 texts_of [] = tt
@@ -25,11 +25,16 @@ key_step old now new key i inside before after =
     after ∙ ap (λ xs. xs ++ spelled_byte b) before ∙ append_assoc old (spelled_key (take i key)) (spelled_byte b)
     ∙ ap (λ bs. old ++ bs) (sym (key_then (take i key) b) ∙ ap spelled_key (sym (take_more key i 0 inside)))
 
+-- a key after the slash
+pub step_joined : (old pushed new key : List ℕ) → pushed ≡ old ++ 47 ∷ [] → new ≡ pushed ++ spelled_key key → new ≡ old ++ spelled_keys (key ∷ [])
+step_joined old pushed new key slash after =
+    after ∙ ap (λ xs. xs ++ spelled_key key) slash ∙ append_assoc old (47 ∷ []) (spelled_key key) ∙ ap (λ bs. old ++ 47 ∷ bs) (sym (append-nil (spelled_key key)))
+
 -- a key more
-pub keys_step : (old now pushed new : List ℕ) (keys : List (String Global)) (i : ℕ) (key : String Global) (bytes : List ℕ) → i < length keys → key ≡ get_or keys i key → now ≡ old ++ spelled_keys (map string_bytes (take i keys)) → pushed ≡ now ++ 47 ∷ [] → bytes ≡ string_bytes key → new ≡ pushed ++ spelled_key bytes → new ≡ old ++ spelled_keys (map string_bytes (take (i + 1) keys))
-keys_step old now pushed new keys i key bytes inside item before slash is after =
+pub keys_step : (old now new : List ℕ) (keys : List (String Global)) (i : ℕ) (key : String Global) (bytes : List ℕ) → i < length keys → key ≡ get_or keys i key → now ≡ old ++ spelled_keys (map string_bytes (take i keys)) → bytes ≡ string_bytes key → new ≡ now ++ spelled_keys (bytes ∷ []) → new ≡ old ++ spelled_keys (map string_bytes (take (i + 1) keys))
+keys_step old now new keys i key bytes inside item before is after =
     let more : take (i + 1) keys ≡ take i keys ++ key ∷ [] = take_more keys i key inside ∙ ap (λ x. take i keys ++ x ∷ []) (sym item) in
     let front = map string_bytes (take i keys) in
-    after ∙ ap (λ xs. xs ++ spelled_key bytes) slash ∙ append_assoc now (47 ∷ []) (spelled_key bytes) ∙ ap (λ bs. now ++ 47 ∷ spelled_key bs) is
-    ∙ ap (λ xs. xs ++ 47 ∷ spelled_key (string_bytes key)) before ∙ append_assoc old (spelled_keys front) (47 ∷ spelled_key (string_bytes key))
-    ∙ ap (λ bs. old ++ bs) (sym (keys_then front (string_bytes key)) ∙ ap spelled_keys (sym (ap (map string_bytes) more ∙ map-append string_bytes (take i keys) (key ∷ []))))
+    let last = string_bytes key ∷ [] in
+    after ∙ ap (λ b. now ++ spelled_keys (b ∷ [])) is ∙ ap (λ xs. xs ++ spelled_keys last) before ∙ append_assoc old (spelled_keys front) (spelled_keys last)
+    ∙ ap (λ bs. old ++ bs) (sym (keys_joined front last) ∙ ap spelled_keys (sym (ap (map string_bytes) more ∙ map-append string_bytes (take i keys) (key ∷ []))))

@@ -5,4 +5,4 @@ mod handler;
 mod path;
 mod steps;
 
-pub use path::{Fault, append_path, error_path};
+pub use path::{Fault, append_path, append_step, error_path};

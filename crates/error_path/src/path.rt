@@ -1,5 +1,5 @@
 //! The path of the part at which a text is rejected.
-ghost use Rattle.std.specs.Prelude.{◌≡◌, ◌++◌, List, ℕ, map, string_bytes, IfOk, OnOk};
+ghost use Rattle.std.specs.Prelude.{◌≡◌, ◌++◌, ◌∷◌, [], List, ℕ, map, string_bytes, IfOk, OnOk};
 ghost use Rattle.jsonb_path.specs.Path.{spelled_byte, spelled_key, spelled_keys, IsPath};
 
 use crate::handler::PassedPart;
@@ -18,10 +18,21 @@ pub fn append_path(keys: &[String], path: &mut Vec<u8>) -> Result<(), AllocError
     ensures { OnOk result (path.new.items ≡ path.old.items ++ spelled_keys (map string_bytes keys.now)) }
 {
     'keys: for key in keys {
-        path.push(b'/')?;
-        append_key(key.as_bytes(), path)?;
+        append_step(key.as_bytes(), path)?;
     }
     Ok(())
+}
+
+/// Appends the step of a path (RFC 6901) for this key.
+///
+/// # Errors
+///
+/// Where `path` could not grow.
+pub fn append_step(key: &[u8], path: &mut Vec<u8>) -> Result<(), AllocError>
+    ensures { OnOk result (path.new.items ≡ path.old.items ++ spelled_keys (key.now ∷ [])) }
+{
+    path.push(b'/')?;
+    append_key(key, path)
 }
 
 // Appends a key as it is spelled in a path.

@@ -6,3 +6,4 @@ pub mod KeyText
 pub mod Zeros
 pub mod PlainNumbers
 pub mod Rejected
+pub mod Scalars

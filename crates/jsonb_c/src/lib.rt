@@ -33,6 +33,7 @@ pub mod key_edit;
 pub mod key_text;
 pub mod numbers;
 pub mod rejected;
+pub mod scalar;
 pub mod zeros;
 
 /// Success.
@@ -377,7 +378,7 @@ fn part_at_keys(alloc: Global, mode: u32, keys: &[String], text: &[u8]) -> Resul
 }
 
 /// The version of this interface. It grows by one when a function, a status or a code is added.
-pub const VERSION: u32 = 7;
+pub const VERSION: u32 = 8;
 
 /// The version of this interface.
 #[unsafe(no_mangle)]

@@ -15,7 +15,7 @@ from ._common import (BAD_PATH, EXTENDED, NO_KEY, NO_NAME, STANDARD, TOO_DEEP, M
 from ._values import text_of, value_of
 
 _SONAME = "libvizhoniku.so.0"
-_VERSION = 7  # the version of the interface, VIZHONIKU_VERSION of the header; a later one only adds to it
+_VERSION = 8  # the version of the interface, VIZHONIKU_VERSION of the header; a later one only adds to it
 
 (_ACCEPTED, _REJECTED, _OUT_OF_MEMORY, _UNKNOWN_MODE, _TOO_SHORT, _NO_PART, _NO_PATH, _NO_KEY,
  _TOO_DEEP) = range(9)
@@ -75,7 +75,7 @@ def _load() -> ctypes.CDLL:
         library.vizhoniku_sort_key.argtypes = [mode, *text_in, *text_out, error]
         library.vizhoniku_text_and_key.argtypes = [mode, *text_in, *text_out, *text_out, error]
         library.vizhoniku_compare.argtypes = [mode, *text_in, *text_in, ctypes.POINTER(ctypes.c_int32), error]
-        library.vizhoniku_message.argtypes = [mode, *text_in, *text_out]
+        library.vizhoniku_reason.argtypes = [mode, *text_in, *text_out]
         library.vizhoniku_place.argtypes = [*text_in, error, place]
         library.vizhoniku_plain_numbers.argtypes = [*text_in, *text_out, error]
         library.vizhoniku_masked_numbers.argtypes = [*text_in, *text_out]
@@ -97,7 +97,7 @@ def _load() -> ctypes.CDLL:
         library.vizhoniku_key_put.argtypes = [*text_in, *text_in, *text_in, *text_out]
         library.vizhoniku_key_push.argtypes = [*text_in, *text_in, *text_out]
         library.vizhoniku_key_merge.argtypes = [*text_in, *text_in, *text_out]
-        for name in ("check", "text", "part", "sort_key", "text_and_key", "compare", "message", "key_check", "key_kind",
+        for name in ("check", "text", "part", "sort_key", "text_and_key", "compare", "reason", "key_check", "key_kind",
                      "key_count", "key_member", "key_item", "key_part", "key_begin", "key_next", "key_name",
                      "key_text", "key_contains", "key_set", "key_remove", "key_put", "key_push", "key_merge",
                      "plain_numbers", "masked_numbers", "error_path"):
@@ -128,7 +128,7 @@ def _words(mode: int, data: bytes) -> bytes:
     room = 256
     while True:
         buffer, size = ctypes.create_string_buffer(room), ctypes.c_size_t()
-        status = _library.vizhoniku_message(mode, data, len(data), buffer, room, size)
+        status = _library.vizhoniku_reason(mode, data, len(data), buffer, room, size)
         if status != _TOO_SHORT:
             break
         room = size.value
@@ -160,7 +160,7 @@ def _rejected(mode: int, error: _Error, text: Text, data: bytes, words: Optional
     place = _Place()
     _library.vizhoniku_place(data, len(data), error, place)
     return rejection(text, data, _words(mode, data) if words is None else words, error.code, error.which,
-                     error.position, place.index, place.line, place.column, _path(mode, _bytes(text), error))
+                     place.index, place.line, place.column, _path(mode, _bytes(text), error))
 
 
 def _of_the_user(text: Text, data: bytes, fault: RejectedText) -> RejectedText:

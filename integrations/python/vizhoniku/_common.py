@@ -56,8 +56,8 @@ def _characters(data: bytes) -> int:
     return sum(byte & 0xC0 != 0x80 for byte in data)
 
 
-def rejection(text: Text, data: bytes, words: bytes, code: int, which: int, position: int, index: int, line: int,
-              column: int, path: Optional[str]) -> RejectedText:
+def rejection(text: Text, data: bytes, words: bytes, code: int, which: int, index: int, line: int, column: int,
+              path: Optional[str]) -> RejectedText:
     """The error for a text, whose bytes are the data: with the words, the place in bytes and the path that the library
     tells."""
     if isinstance(text, str):
@@ -66,7 +66,4 @@ def rejection(text: Text, data: bytes, words: bytes, code: int, which: int, posi
         past = 0 if index < len(data) else 1
         column = _characters(data[begins:until]) + past
         index = _characters(data[:until]) + past - 1
-    # The words end with the position, which is told as line and column instead.
-    message, end = words.decode("utf-8", "replace"), f", pos {position}"
-    message = message[:-len(end)] if message.endswith(end) else message
-    return RejectedText(message, code, which, index, line, column, path)
+    return RejectedText(words.decode("utf-8", "replace"), code, which, index, line, column, path)

@@ -137,7 +137,7 @@ static PyObject *words_of(uint32_t mode, const struct text *text) {
   size_t room = sizeof small, size;
   uint32_t status;
   for (;;) {
-    status = vizhoniku_message(mode, text->at, text->size, words, room, &size);
+    status = vizhoniku_reason(mode, text->at, text->size, words, room, &size);
     if (status != VIZHONIKU_TOO_SHORT) break;
     if (words != small) PyMem_Free(words);
     room = size;
@@ -182,9 +182,8 @@ static void raise_rejected(const struct state *state, uint32_t mode, const struc
   PyObject *words = own_words ? PyBytes_FromString(own_words) : words_of(mode, text);
   PyObject *path = words ? path_of(mode, error, passed) : NULL;
   PyObject *raised = !path ? NULL : PyObject_CallFunction(
-      state->rejection, "Oy#OIInnnnO", object, (const char *)text->at, (Py_ssize_t)text->size, words, error->code,
-      error->which, (Py_ssize_t)error->position, (Py_ssize_t)place.index, (Py_ssize_t)place.line,
-      (Py_ssize_t)place.column, path);
+      state->rejection, "Oy#OIInnnO", object, (const char *)text->at, (Py_ssize_t)text->size, words, error->code,
+      error->which, (Py_ssize_t)place.index, (Py_ssize_t)place.line, (Py_ssize_t)place.column, path);
   Py_XDECREF(words);
   Py_XDECREF(path);
   if (!raised) return;

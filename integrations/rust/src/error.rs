@@ -125,7 +125,7 @@ impl Rejection {
             line: place.line,
             column: place.column,
             path: path(&masked, mode, &error)?,
-            message: message(&masked, mode, &error)?,
+            message: reason(&masked, mode)?,
         })
     }
 
@@ -193,7 +193,7 @@ fn path(text: &[u8], mode: Mode, error: &ffi::TextError) -> Result<String, Error
     Ok(String::from_utf8_lossy(&path).into_owned())
 }
 
-/// Where the byte to show of an error stands.
+/// The byte to show of an error.
 fn place(text: &[u8], error: &ffi::TextError) -> ffi::Location {
     let mut place = ffi::Location::default();
     // SAFETY: the text has its size, and the error and the place are whole.
@@ -201,22 +201,16 @@ fn place(text: &[u8], error: &ffi::TextError) -> ffi::Location {
     place
 }
 
-/// What is wrong with a text, in words.
-fn message(text: &[u8], mode: Mode, error: &ffi::TextError) -> Result<String, Error> {
-    let (message, status) = write(128, |buffer, room, size| {
+/// What is wrong with a text, in words, without its offset.
+fn reason(text: &[u8], mode: Mode) -> Result<String, Error> {
+    let (reason, status) = write(128, |buffer, room, size| {
         // SAFETY: the text has its size, and the buffer its room.
-        unsafe { ffi::vizhoniku_message(mode as u32, text.as_ptr(), text.len(), buffer, room, size) }
+        unsafe { ffi::vizhoniku_reason(mode as u32, text.as_ptr(), text.len(), buffer, room, size) }
     })?;
     if status != ffi::REJECTED {
         return Err(Error::OutOfMemory);
     }
-    let mut message = String::from_utf8_lossy(&message).into_owned();
-    // The message ends with the position, which is told as line and column instead.
-    let end = format!(", pos {}", error.position);
-    if message.ends_with(&end) {
-        message.truncate(message.len() - end.len());
-    }
-    Ok(message)
+    Ok(String::from_utf8_lossy(&reason).into_owned())
 }
 
 impl fmt::Display for Rejection {

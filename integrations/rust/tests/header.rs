@@ -1,10 +1,19 @@
-//! The functions and the structs of src/ffi.rs are those of vizhoniku.h. The zeros of decimals have no call.
+//! The functions and the structs of src/ffi.rs are those of vizhoniku.h. The crate has no call for the zeros of decimals,
+//! and makes keys and paths of Rust's own types.
 
 use std::collections::BTreeMap;
 use std::path::Path;
 
-const LEFT_OUT: [&str; 4] =
-    ["vizhoniku_zeros_of_text", "vizhoniku_text_with_zeros", "vizhoniku_key_numbers", "vizhoniku_zeros_of_numbers"];
+const LEFT_OUT: [&str; 8] = [
+    "vizhoniku_zeros_of_text",
+    "vizhoniku_text_with_zeros",
+    "vizhoniku_key_numbers",
+    "vizhoniku_zeros_of_numbers",
+    "vizhoniku_message",
+    "vizhoniku_key_boolean",
+    "vizhoniku_key_of_string",
+    "vizhoniku_path_step",
+];
 
 fn between<'a>(text: &'a str, left: &str, right: &str) -> Vec<(&'a str, &'a str)> {
     text.split(left)
@@ -28,6 +37,7 @@ fn in_rust(declared: &str) -> String {
         "size_t" => "usize",
         "size_t*" => "*mut usize",
         "int32_t*" => "*mut i32",
+        "uint32_t*" => "*mut u32",
         "const unsigned char*" => "*const u8",
         "unsigned char*" => "*mut u8",
         "struct vizhoniku_error*" => "*mut TextError",
@@ -80,14 +90,16 @@ fn the_declarations_are_those_of_the_header() {
         .collect();
     assert_eq!(found, wanted);
 
-    for name in ["error", "location", "key_cursor", "key_entry"] {
+    for (name, in_rust_named) in
+        [("error", "TextError"), ("location", "Location"), ("key_cursor", "KeyCursor"), ("key_entry", "KeyEntry")]
+    {
         let fields =
             between(&header, "struct ", "};").into_iter().find(|it| it.0.trim() == format!("vizhoniku_{name}"));
         let fields = fields.expect(name).1;
         let fields: Vec<String> = fields.split(';').filter(|it| !it.trim().is_empty()).map(in_rust).collect();
         let ours = between(ours, "struct ", "}\n")
             .into_iter()
-            .find(|it| it.0.trim().to_lowercase() == name.replace('_', ""))
+            .find(|it| it.0.trim() == in_rust_named)
             .expect(name)
             .1;
         let ours: Vec<String> =

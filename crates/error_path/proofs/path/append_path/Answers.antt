@@ -3,4 +3,4 @@ use Rattle.error_path.proofs.Spelling.{keys_step}
 use Rattle.error_path.proofs.path.append_path.Goals as goal
 
 pub keys-preserved : goal.keys-preserved
-keys-preserved c = keys_step c.args.path.now.items c.keys.path.items c.push.new.self.items c.append_key.new.path.items c.args.keys.now c.keys.key-index c.key-item.result c.as_bytes.result.now (omega arith) c.key-item.is c.keys.invariant c.in_ok-push.ensures.items c.as_bytes.ensures.value c.in_ok-append_key.ensures
+keys-preserved c = keys_step c.args.path.now.items c.keys.path.items c.append_step.new.path.items c.args.keys.now c.keys.key-index c.key-item.result c.as_bytes.result.now (omega arith) c.key-item.is c.keys.invariant c.as_bytes.ensures.value c.in_ok-append_step.ensures

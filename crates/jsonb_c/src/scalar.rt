@@ -1,0 +1,170 @@
+//! Scalars from and to sort keys, a step of a path from a name, and the reason of an error without its offset.
+ghost use Rattle.std.specs.Prelude.{◌≡◌, ◌≢◌, ◌⊎◌, ◌↔◌, ◌∷◌, ℕ, List, [], IsUtf8, IfOk, IfSome, MatchOption, OnOk, string_bytes};
+ghost use Rattle.jsonb_c.specs.Interface.{AcceptsDocuments, FailsFor, FillsBuffer, IsAccepted, IsNoDocumentOf, IsStatus};
+ghost use Rattle.jsonb_c.specs.KeyParts.{IsPartStatus, IsTreeKey};
+ghost use Rattle.jsonb_c.specs.Scalars.{IsBoolean, IsReasonOf};
+ghost use Rattle.jsonb_path.specs.Path.{IsPath};
+ghost use Rattle.jsonb_scan.specs.Answer.{MayAllocate};
+ghost use Rattle.jsonb_spec.specs.Accessors.{as_boolean};
+ghost use Rattle.jsonb_spec.specs.SortKey.{key_of};
+ghost use Rattle.jsonb_spec.specs.Tree.{Tree, string, escaped};
+ghost use Rattle.jsonb_value.specs.Error.CodeView.{code_of};
+ghost use Rattle.jsonb_value.specs.Error.ErrorText.{code_text};
+
+use crate::{
+    ACCEPTED, Failure, NO_KEY, NO_PART, NO_PATH, OUT_OF_MEMORY, REJECTED, TOO_SHORT, choose_mode, put, status,
+};
+use error_path::append_step;
+use jsonb::check;
+use jsonb_stored::{boolean_of, kind_of};
+use jsonb_value::error::{Error, ParseErrorCode};
+use jsonb_value::parts::append_text_key;
+use jsonb_value::sort_key::kind;
+use std::alloc::{AllocError, Global};
+
+/// The boolean of a sort key: 1 for true, and 0 for false.
+#[unsafe(no_mangle)]
+pub extern "C" fn vizhoniku_key_boolean(key: &[u8], value: &mut u32) -> u32
+    ensures status { IsPartStatus result }
+
+    // The value is that of the boolean, and a value of another kind has none.
+    ensures boolean { (t : Tree) → IsTreeKey key.now t → IsBoolean (as_boolean t) result value.new }
+    ensures no_value { result ≢ ACCEPTED → value.new ≡ 0 }
+{
+    if let Some(boolean) = boolean_of(key) {
+        *value = if boolean { 1 } else { 0 };
+        return ACCEPTED;
+    }
+    *value = 0;
+    match kind_of(key) {
+        Some(_) => NO_PART,
+        None => NO_KEY,
+    }
+}
+
+/// Writes the sort key of a string to the start of `out`, and its size to `size`. The text is UTF-8 as it is, with no
+/// escapes. Where `out` is too short, it stays as it is, and `size` is what is needed.
+#[unsafe(no_mangle)]
+pub extern "C" fn vizhoniku_key_of_string(alloc: Global, text: &[u8], out: &mut [u8], size: &mut usize) -> u32
+    ensures status { (result ≡ ACCEPTED) ⊎ (result ≡ OUT_OF_MEMORY) ⊎ (result ≡ TOO_SHORT) ⊎ (result ≡ NO_KEY) }
+
+    // What is written is the key of the string, which only a text in UTF-8 is.
+    ensures fills { FillsBuffer (λ key. key ≡ key_of (string escaped text.now)) ACCEPTED result size.new out.old out.new }
+    ensures no_text { (result ≡ NO_KEY) ↔ (IsUtf8 text.now → ⊥) }
+{
+    let Ok(text) = str::from_utf8(text) else {
+        *size = 0;
+        return NO_KEY;
+    };
+    match string_key(alloc, text) {
+        Ok(key) => {
+            *size = key.len();
+            put(&key, out)
+        }
+        Err(_) => {
+            *size = 0;
+            OUT_OF_MEMORY
+        }
+    }
+}
+
+// The sort key of a string.
+fn string_key(alloc: Global, text: &str) -> Result<Vec<u8>, AllocError>
+    ensures { OnOk result (λ key. key.items ≡ key_of (string escaped text.now)) }
+{
+    let mut key = Vec::new(alloc);
+    key.push(kind::STRING)?;
+    append_text_key(text, &mut key)?;
+    Ok(key)
+}
+
+/// Writes the step of a path (RFC 6901) for a name to the start of `out`, and its size to `size`: a slash, and the name
+/// with `~0` for `~` and `~1` for `/`. Where `out` is too short, it stays as it is, and `size` is what is needed.
+#[unsafe(no_mangle)]
+pub extern "C" fn vizhoniku_path_step(alloc: Global, name: &[u8], out: &mut [u8], size: &mut usize) -> u32
+    ensures status { (result ≡ ACCEPTED) ⊎ (result ≡ OUT_OF_MEMORY) ⊎ (result ≡ TOO_SHORT) ⊎ (result ≡ NO_PATH) }
+
+    // What is written is the path whose only step the name is, which only a text in UTF-8 can be.
+    ensures fills { FillsBuffer (λ path. IsPath path (name.now ∷ [])) ACCEPTED result size.new out.old out.new }
+    ensures no_path { (result ≡ NO_PATH) ↔ (IsUtf8 name.now → ⊥) }
+{
+    let Ok(name) = str::from_utf8(name) else {
+        *size = 0;
+        return NO_PATH;
+    };
+    let mut path = Vec::new(alloc);
+    if append_step(name.as_bytes(), &mut path).is_err() {
+        *size = 0;
+        return OUT_OF_MEMORY;
+    }
+    *size = path.len();
+    put(&path, out)
+}
+
+/// Writes what is wrong with a text that is no document to the start of `out`, without its offset, and its size to
+/// `size`. Where `out` is too short, it stays as it is, and `size` is what is needed.
+#[unsafe(no_mangle)]
+pub extern "C" fn vizhoniku_reason(
+    alloc: Global,
+    mode: u32,
+    text: &[u8],
+    out: &mut [u8],
+    size: &mut usize,
+) -> u32
+    ensures status { IsStatus mode TOO_SHORT result }
+
+    // A document is accepted, and nothing else, unless memory ran out.
+    ensures accepts { AcceptsDocuments mode text.now result }
+    ensures memory { result ≡ OUT_OF_MEMORY → MayAllocate text.now ⊎ IsNoDocumentOf mode text.now }
+
+    // What is written is the code of the text's error in words, and no other byte of the buffer changes.
+    ensures fills { FillsBuffer (IsReasonOf mode text.now) REJECTED result size.new out.old out.new }
+{
+    match reason_of_text(alloc, mode, text) {
+        Ok(Some(reason)) => {
+            let bytes = reason.as_bytes();
+            *size = bytes.len();
+            match put(bytes, out) {
+                ACCEPTED => REJECTED,
+                short => short,
+            }
+        }
+        Ok(None) => {
+            *size = 0;
+            ACCEPTED
+        }
+        Err(rejected) => {
+            *size = 0;
+            status(rejected)
+        }
+    }
+}
+
+// What is wrong with a text in words, without its offset, or `None` where it is a document.
+fn reason_of_text(alloc: Global, mode: u32, text: &[u8]) -> Result<Option<String>, Failure>
+    ensures reason { IfOk result (λ answer. MatchOption answer (IsAccepted mode text.now)
+        (λ reason. IsReasonOf mode text.now (string_bytes reason))) }
+    ensures fails { FailsFor mode (λ _. ⊥) (MayAllocate text.now ⊎ IsNoDocumentOf mode text.now) result }
+{
+    let Some(mode) = choose_mode(mode) else {
+        return Err(Failure::UnknownMode);
+    };
+    let error = match check(alloc, text, mode) {
+        Ok(()) => return Ok(None),
+        Err(error) => error,
+    };
+    let Error::Syntax(code, _) = error else {
+        return Err(Failure::OutOfMemory);
+    };
+    match words_of_code(alloc, &code) {
+        Some(words) => Ok(Some(words)),
+        None => Err(Failure::OutOfMemory),
+    }
+}
+
+// A code in words, or `None` where memory ran out.
+fn words_of_code(alloc: Global, code: &ParseErrorCode) -> Option<String>
+    ensures words { IfSome result (λ words. string_bytes words ≡ code_text (code_of code.now)) }
+{
+    format!(in alloc; "{code}").ok()
+}
