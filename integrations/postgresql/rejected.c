@@ -310,8 +310,8 @@ vjson_path_of_rejection(const VjsonRejection *why)
 }
 
 /*
- * What is wrong, in words that are the same for each text with the fault: with
- * neither the position in them nor what stands there.
+ * What is wrong, in words that are the same for each text with the error:
+ * without the name or the byte that is wrong.
  */
 static char *
 words_of_fault(const VjsonRejection *why)
@@ -324,18 +324,14 @@ words_of_fault(const VjsonRejection *why)
 		case VIZHONIKU_OBJECT_DUPLICATE_KEY:
 		case VIZHONIKU_INVALID_ESCAPED:
 		case VIZHONIKU_INVALID_HEX:
-			/* The name, or the byte, stands in quotes behind a space. */
+			/* The name, or the byte, is in quotes after a space. */
 			end = strpbrk(words, "\"'");
 			if (end > words)
-				end--;
+				*(end - 1) = '\0';
 			break;
 		default:
-			end = strstr(words, ", pos ");
-			while (end != NULL && strspn(end + 6, "0123456789") < strlen(end + 6))
-				end = strstr(end + 1, ", pos ");
+			break;
 	}
-	if (end != NULL)
-		*end = '\0';
 	return words;
 }
 

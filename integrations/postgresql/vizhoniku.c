@@ -163,8 +163,8 @@ message_of_error(uint32 mode, const char *text, size_t size)
 	{
 		char	   *words = palloc_extended(room + 1, MCXT_ALLOC_HUGE);
 		size_t		length;
-		uint32		status = vizhoniku_message(mode, (const unsigned char *) text, size,
-											   (unsigned char *) words, room, &length);
+		uint32		status = vizhoniku_reason(mode, (const unsigned char *) text, size,
+											  (unsigned char *) words, room, &length);
 
 		if (status == VIZHONIKU_REJECTED)
 		{
