@@ -7,3 +7,4 @@ pub mod Parts
 pub mod PartsAt
 pub mod Reasons
 pub mod Texts
+pub mod Scalars

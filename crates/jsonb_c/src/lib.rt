@@ -390,7 +390,12 @@ pub extern "C" fn vizhoniku_version() -> u32
 
 /// Returns the byte to show of an error of this text.
 #[unsafe(no_mangle)]
-pub extern "C" fn vizhoniku_place(alloc: Global, text: &[u8], rejection: &Rejection, place: &mut Place)
+pub extern "C" fn vizhoniku_place(
+    alloc: Global,
+    text: &[u8],
+    rejection: &Rejection,
+    place: &mut Place,
+)
     // The index is that of the code with the number, and where there is none the position, within the text.
     ensures index { (code : Code) → rejection.now.code ≡ code_number code
         → place.new.index ≡ fault_index text.now code rejection.now.position }

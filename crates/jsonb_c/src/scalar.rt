@@ -1,5 +1,5 @@
 //! Scalars from and to sort keys, a step of a path from a name, and the reason of an error without its offset.
-ghost use Rattle.std.specs.Prelude.{◌≡◌, ◌≢◌, ◌⊎◌, ◌↔◌, ◌∷◌, ℕ, List, [], IsUtf8, IfOk, IfSome, MatchOption, OnOk, string_bytes};
+ghost use Rattle.std.specs.Prelude.{◌≡◌, ◌≢◌, ◌⊎◌, ◌↔◌, ◌∷◌, ℕ, List, [], IsUtf8, IfOk, IfSome, MatchOption, if◌then◌else◌, string_bytes};
 ghost use Rattle.jsonb_c.specs.Interface.{AcceptsDocuments, FailsFor, FillsBuffer, IsAccepted, IsNoDocumentOf, IsStatus};
 ghost use Rattle.jsonb_c.specs.KeyParts.{IsPartStatus, IsTreeKey};
 ghost use Rattle.jsonb_c.specs.Scalars.{IsBoolean, IsReasonOf};
@@ -12,7 +12,8 @@ ghost use Rattle.jsonb_value.specs.Error.CodeView.{code_of};
 ghost use Rattle.jsonb_value.specs.Error.ErrorText.{code_text};
 
 use crate::{
-    ACCEPTED, Failure, NO_KEY, NO_PART, NO_PATH, OUT_OF_MEMORY, REJECTED, TOO_SHORT, choose_mode, put, status,
+    ACCEPTED, Failure, NO_KEY, NO_PART, NO_PATH, OUT_OF_MEMORY, REJECTED, TOO_SHORT, choose_mode,
+    put, status,
 };
 use error_path::append_step;
 use jsonb::check;
@@ -32,7 +33,7 @@ pub extern "C" fn vizhoniku_key_boolean(key: &[u8], value: &mut u32) -> u32
     ensures no_value { result ≢ ACCEPTED → value.new ≡ 0 }
 {
     if let Some(boolean) = boolean_of(key) {
-        *value = if boolean { 1 } else { 0 };
+        *value = number_of(boolean);
         return ACCEPTED;
     }
     *value = 0;
@@ -42,10 +43,22 @@ pub extern "C" fn vizhoniku_key_boolean(key: &[u8], value: &mut u32) -> u32
     }
 }
 
+// The number of a boolean.
+fn number_of(boolean: bool) -> u32
+    ensures { result ≡ (if boolean then 1 else 0) }
+{
+    if boolean { 1 } else { 0 }
+}
+
 /// Writes the sort key of a string to the start of `out`, and its size to `size`. The text is UTF-8 as it is, with no
 /// escapes. Where `out` is too short, it stays as it is, and `size` is what is needed.
 #[unsafe(no_mangle)]
-pub extern "C" fn vizhoniku_key_of_string(alloc: Global, text: &[u8], out: &mut [u8], size: &mut usize) -> u32
+pub extern "C" fn vizhoniku_key_of_string(
+    alloc: Global,
+    text: &[u8],
+    out: &mut [u8],
+    size: &mut usize,
+) -> u32
     ensures status { (result ≡ ACCEPTED) ⊎ (result ≡ OUT_OF_MEMORY) ⊎ (result ≡ TOO_SHORT) ⊎ (result ≡ NO_KEY) }
 
     // What is written is the key of the string, which only a text in UTF-8 is.
@@ -70,7 +83,7 @@ pub extern "C" fn vizhoniku_key_of_string(alloc: Global, text: &[u8], out: &mut 
 
 // The sort key of a string.
 fn string_key(alloc: Global, text: &str) -> Result<Vec<u8>, AllocError>
-    ensures { OnOk result (λ key. key.items ≡ key_of (string escaped text.now)) }
+    ensures { IfOk result (λ key. key.items ≡ key_of (string escaped text.now)) }
 {
     let mut key = Vec::new(alloc);
     key.push(kind::STRING)?;
@@ -81,7 +94,12 @@ fn string_key(alloc: Global, text: &str) -> Result<Vec<u8>, AllocError>
 /// Writes the step of a path (RFC 6901) for a name to the start of `out`, and its size to `size`: a slash, and the name
 /// with `~0` for `~` and `~1` for `/`. Where `out` is too short, it stays as it is, and `size` is what is needed.
 #[unsafe(no_mangle)]
-pub extern "C" fn vizhoniku_path_step(alloc: Global, name: &[u8], out: &mut [u8], size: &mut usize) -> u32
+pub extern "C" fn vizhoniku_path_step(
+    alloc: Global,
+    name: &[u8],
+    out: &mut [u8],
+    size: &mut usize,
+) -> u32
     ensures status { (result ≡ ACCEPTED) ⊎ (result ≡ OUT_OF_MEMORY) ⊎ (result ≡ TOO_SHORT) ⊎ (result ≡ NO_PATH) }
 
     // What is written is the path whose only step the name is, which only a text in UTF-8 can be.
