@@ -19,7 +19,7 @@ SONAME = libvizhoniku.so.0
 VERSION = $(shell sed -n 's/^\#define VIZHONIKU_VERSION_STRING "\(.*\)"/\1/p' include/vizhoniku.h)
 
 # The functions that take bytes: packaging/empty.c stands before the proved ones.
-WITH_BYTES = $(shell sed -n 's/^[a-z0-9_]* vizhoniku_\([a-z_]*\)(.*/\1/p' packaging/empty.c)
+WITH_BYTES = $(shell sed -n 's/^[a-z0-9_]* vizhoniku_\([a-z_]*\).*/\1/p' packaging/empty.c)
 
 # What is proved, as one object.
 PROVED ?= build/proved.o
