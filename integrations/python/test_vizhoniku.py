@@ -1190,7 +1190,7 @@ struct error { uint32_t code, which; size_t position; };
 struct place { size_t index, line, column; };
 
 volatile int waits, is_waiting, goes_on;
-volatile uint32_t status, message_status = 1, path_status;
+volatile uint32_t status, reason_status = 1, path_status;
 
 static uint32_t answer(struct error *error) {
   const struct timespec moment = {0, 1000000};
@@ -1259,10 +1259,10 @@ uint32_t vizhoniku_compare(uint32_t mode, const char *left, size_t left_size, co
   return answer(error);
 }
 
-uint32_t vizhoniku_message(uint32_t mode, const char *text, size_t text_size, char *buffer, size_t room, size_t *size) {
+uint32_t vizhoniku_reason(uint32_t mode, const char *text, size_t text_size, char *buffer, size_t room, size_t *size) {
   (void)mode, (void)text, (void)text_size, (void)buffer, (void)room;
   *size = 0;
-  return message_status;
+  return reason_status;
 }
 
 /* Calls on keys, whose arguments don't matter. */
@@ -1284,7 +1284,7 @@ import vizhoniku as v
 from vizhoniku._by_ctypes import _library
 
 status = ctypes.c_uint32.in_dll(_library, "status")
-message_status = ctypes.c_uint32.in_dll(_library, "message_status")
+reason_status = ctypes.c_uint32.in_dll(_library, "reason_status")
 path_status = ctypes.c_uint32.in_dll(_library, "path_status")
 waits, is_waiting, goes_on = (ctypes.c_int.in_dll(_library, name) for name in ("waits", "is_waiting", "goes_on"))
 calls = {"check": lambda: v.check("1"), "is_valid": lambda: v.is_valid("1"), "text": lambda: v.text("1"),
@@ -1361,9 +1361,9 @@ class StandIn(InAnInterpreter):
 for status.value in (2, 3, 4_000_000_000):
     print(status.value, *sorted({told(call) for call in calls.values()}))
 status.value = 1
-for message_status.value in (1, 2):
+for reason_status.value in (1, 2):
     print(*(told(call) for call in calls.values()))
-message_status.value = 1
+reason_status.value = 1
 for path_status.value in (0, 2, 3):
     try:
         v.check("1")

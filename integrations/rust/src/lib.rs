@@ -147,8 +147,7 @@ pub fn sort_key(text: impl AsRef<[u8]>, mode: Mode) -> Result<Key, Error> {
 ///
 /// Those of [`text`].
 pub fn text_and_key(text: impl AsRef<[u8]>, mode: Mode) -> Result<(String, Key), Error> {
-    let ((written, key), status) =
-        parse([text.as_ref()], mode, |[text], error| write_text_and_key(text, mode, error))?;
+    let ((written, key), status) = parse([text.as_ref()], mode, |[text], error| write_text_and_key(text, mode, error))?;
     accept(status)?;
     Ok((utf8(written)?, Key::of(key)))
 }
@@ -224,9 +223,7 @@ pub fn part(text: impl AsRef<[u8]>, path: &str, mode: Mode) -> Result<Option<Str
         write(256, |buffer, room, size| {
             let (mode, path, path_size) = (mode as u32, path.as_ptr(), path.len());
             // SAFETY: as in `text`, and the path has its size.
-            unsafe {
-                ffi::vizhoniku_part(mode, path, path_size, text.as_ptr(), text.len(), buffer, room, size, error)
-            }
+            unsafe { ffi::vizhoniku_part(mode, path, path_size, text.as_ptr(), text.len(), buffer, room, size, error) }
         })
     })?;
     if status == ffi::NO_PART {

@@ -97,11 +97,7 @@ fn the_declarations_are_those_of_the_header() {
             between(&header, "struct ", "};").into_iter().find(|it| it.0.trim() == format!("vizhoniku_{name}"));
         let fields = fields.expect(name).1;
         let fields: Vec<String> = fields.split(';').filter(|it| !it.trim().is_empty()).map(in_rust).collect();
-        let ours = between(ours, "struct ", "}\n")
-            .into_iter()
-            .find(|it| it.0.trim() == in_rust_named)
-            .expect(name)
-            .1;
+        let ours = between(ours, "struct ", "}\n").into_iter().find(|it| it.0.trim() == in_rust_named).expect(name).1;
         let ours: Vec<String> =
             ours.split(',').map(|it| words(it).replace("pub ", "")).filter(|it| !it.is_empty()).collect();
         assert_eq!(ours, fields, "{name}");
