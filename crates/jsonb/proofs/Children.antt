@@ -1,7 +1,7 @@
 -- The children of trees, as they are found.
 use Rattle.std.proofs.Common.{◌≡◌, ℕ, zero, suc, ◌<◌, ◌^◌, List, Some, None, option_map, refl, sym, ap, arith}
 use Rattle.std.specs.Option.{option_and_then}
-use Rattle.jsonb_spec.specs.Accessors.{as_array, get_by_index, get_by_name, item_at, trees_len}
+use Rattle.jsonb_spec.specs.Accessors.{as_array, get_by_name, item_at, trees_len}
 use Rattle.jsonb_spec.specs.Tree.{Tree, array, object, Trees, no_trees, more_trees}
 use Rattle.jsonb_spec.specs.PartAt.{IsIndex, IsChild, child_at, index_named}
 
@@ -36,8 +36,3 @@ named_child t key e = refl
 pub no_child : (t : Tree) (key : List ℕ) (len : ℕ) → Some len ≡ option_map trees_len (as_array t) → None ≡ index_named key → None ≡ child_at key t
 no_child (array ts) key len some e = ap (option_and_then (item_at ts)) e
 no_child t key len some e = absurd (no_some len some)
-
--- in an array, by a key that names one
-pub indexed_child : (t : Tree) (key : List ℕ) (len index : ℕ) → Some len ≡ option_map trees_len (as_array t) → Some index ≡ index_named key → get_by_index index t ≡ child_at key t
-indexed_child (array ts) key len index some e = ap (option_and_then (item_at ts)) e
-indexed_child t key len index some e = absurd (no_some len some)

@@ -1,20 +1,20 @@
--- What is kept of the containers that are open while serialized text or a sort key is written.
-use Rattle.std.specs.Prelude.{ℕ, Bool}
+-- What is kept of a text while it is written to a sink, or only checked.
+use Rattle.std.specs.Prelude.{ℕ, List, Option, Some, None}
 use Rattle.jsonb_parse.specs.declared.parser.frame.Frame.{Frame}
 use Rattle.jsonb_parse.specs.declared.parser.frame.Frame.TheVariants as frames
 use Rattle.jsonb_spec.specs.Source.{Source}
-use Rattle.jsonb_write.specs.TextRoom as text
 use Rattle.jsonb_write.specs.KeyRoom as key
-use Rattle.jsonb_write.specs.PartRoom as part
-use Rattle.jsonb_write.specs.declared.part.PartItems.{PartItems}
-use Rattle.jsonb_write.specs.declared.part.PartMembers.{PartMembers}
+use Rattle.jsonb_write.specs.TextRoom.{IsSpelled, SeesPart}
+use Rattle.jsonb_write.specs.declared.text.Part.{Part}
+use Rattle.text_common.specs.KeptScalar.{IsKeptAt}
+use Rattle.text_common.specs.declared.kept.Kept.{Kept}
 
--- of a text: whether an array has no element yet, or the index of an object's first member
-abbrev pub text_held : {K : Type 0} → Frame Bool ℕ K → text.Held
-text_held (frames.Array is_first) = text.items is_first
-text_held (frames.Object o) = text.members o.members
+-- what is kept of an open container, from what is kept of an array and of an object
+abbrev pub held_by : {I M K H : Type 0} → (I → H) → (M → H) → Frame I M K → H
+held_by of_items of_members (frames.Array items) = of_items items
+held_by of_items of_members (frames.Object o) = of_members o.members
 
--- of a sort key: nothing of an array
+-- of a check: nothing of an array, of an object the index of its first member
 abbrev pub key_held : {I K : Type 0} → Frame I ℕ K → key.Held
 key_held (frames.Array items) = key.items
 key_held (frames.Object o) = key.members o.members
@@ -23,7 +23,7 @@ key_held (frames.Object o) = key.members o.members
 abbrev pub IsAnyValue : {V : Type 0} → V → Source → Type 0
 IsAnyValue v s = Unit {0}
 
--- of the text of a part
-abbrev pub part_held : {K : Type 0} → Frame PartItems PartMembers K → part.PartHeld
-part_held (frames.Array items) = part.array_held items
-part_held (frames.Object o) = part.object_held o.members
+-- The scalar that isn't written yet is of this source, or stands there in the text.
+abbrev pub IsScalarAt : Part → Option Kept → ℕ → ℕ → List ℕ → Source → Type 0
+IsScalarAt part None from to text s = SeesPart part s × IsSpelled text from to part
+IsScalarAt part (Some kept) from to text s = IsKeptAt kept text from to s

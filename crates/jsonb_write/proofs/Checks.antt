@@ -5,7 +5,7 @@ use Rattle.std.specs.Str.{IsUtf8}
 use Rattle.jsonb_spec.specs.Tree.{Mark}
 use Rattle.jsonb_scan.specs.Open.{Open, members_so_far}
 use Rattle.jsonb_spec.specs.Source.{Found, Source, found_member}
-use Rattle.jsonb_write.specs.CheckRoom.{CheckStands, EndsObject, unwritten}
+use Rattle.jsonb_write.specs.CheckRoom.{CheckEnds, CheckStands, unwritten}
 use Rattle.jsonb_write.specs.KeyRoom.{Held}
 use Rattle.jsonb_write.specs.KeyRoom.Held.{members}
 use Rattle.jsonb_write.specs.OpenMembers.{AreSame, Begins, Closes, EndIn, FindsRepeat, TellsRepeatOf, next_start}
@@ -36,14 +36,14 @@ value_ended {r = r} {fs = fs} {key = key} {place = place} {cs = cs} s next other
 
 -- a key that comes twice
 pub repeat_told : {text : List ℕ} {r : CheckRoom} {first : ℕ} {held : List Held} {fs : List Found} {key : Mark × List ℕ} {place : ℕ} {cs : List Open} (s : CheckRoom) (found : Option ℕ) → CheckStands text r false (members first ∷ held) (members_so_far fs key place ∷ cs)
-    → ((commas : Bool) → (bytes : Found → List ℕ) → (start : ℕ) → (gs : List Found) → EndIn commas bytes r.members first start gs → FindsRepeat s.members first gs found) → is_some found ≡ true → MatchOption found (EndsObject text s fs held cs) (TellsRepeatOf s.members first fs)
+    → ((commas : Bool) → (bytes : Found → List ℕ) → (start : ℕ) → (gs : List Found) → EndIn commas bytes r.members first start gs → FindsRepeat s.members first gs found) → is_some found ≡ true → MatchOption found (CheckEnds text s fs held cs) (TellsRepeatOf s.members first fs)
 repeat_told {fs = fs} {cs = cs} s None room finds e = absurd cc
 repeat_told {fs = fs} {cs = cs} s (Some i) room finds e = finds false (λ f. []) 0 fs (opened.ends_in room.members room.fits.0)
 
 -- no such key
 pub object_ended : {text : List ℕ} {r : CheckRoom} {first : ℕ} {held : List Held} {fs : List Found} {key : Mark × List ℕ} {place : ℕ} {cs : List Open} (s t : CheckRoom) (found : Option ℕ) → CheckStands text r false (members first ∷ held) (members_so_far fs key place ∷ cs)
     → ((commas : Bool) → (bytes : Found → List ℕ) → (start : ℕ) → (gs : List Found) → EndIn commas bytes r.members first start gs → FindsRepeat s.members first gs found) → is_some found ≡ false → AreSame r.members s.members → Closes first s.members t.members
-    → MatchOption found (EndsObject text t fs held cs) (TellsRepeatOf t.members first fs)
+    → MatchOption found (CheckEnds text t fs held cs) (TellsRepeatOf t.members first fs)
 object_ended {fs = fs} {cs = cs} s t None room finds e a closes =
     record { filled = record { members = opened.closed room.members room.fits.0 a closes; fits = room.fits.1 }; new_keys = finds false (λ f. []) 0 fs (opened.ends_in room.members room.fits.0) }
 object_ended {fs = fs} {cs = cs} s t (Some i) room finds e a closes = absurd cc

@@ -41,15 +41,8 @@ object_ended fs cs up =
 abbrev pub piece_of : Found → Piece
 piece_of f = (spot_of f, member_text f)
 
-pub piece_texts : (fs : List Found) → map (λ (p : Piece). p.1) (map piece_of fs) ≡ map member_text fs
-piece_texts = closing.piece_bytes member_text
-
 pub piece_spots : (fs : List Found) → map (λ (p : Piece). p.0) (map piece_of fs) ≡ map spot_of fs
 piece_spots = closing.piece_spots member_text
-
--- the texts of the pieces in order are those of the members in order
-pub pieces_sorted : (fs : List Found) → map (λ (p : Piece). p.1) (sort_by (λ (p : Piece). p.0) (map piece_of fs)) ≡ map member_text (sort_by spot_of fs)
-pieces_sorted = closing.bytes_in_order member_text
 
 pub joined_is : (texts : List (List ℕ)) → join_pieces true texts ≡ with_commas texts
 joined_is = closing.with_commas_joined

@@ -20,9 +20,6 @@ use Rattle.jsonb_write.proofs.Objects.Closing.{bytes_in_order, piece_bytes, piec
 pub same : (ms : OpenMembers) → AreSame ms ms
 same ms = record { text = refl; entries = refl; decoded = refl }
 
-pub same_same : {r s t : OpenMembers} → AreSame r s → AreSame s t → AreSame r t
-same_same a b = record { text = b.text ∙ a.text; entries = b.entries ∙ a.entries; decoded = b.decoded ∙ a.decoded }
-
 pub same_begins : {key : List ℕ} {place start : ℕ} {r s t : OpenMembers} → AreSame r s → Begins key place start s t → Begins key place start r t
 same_begins {key = key} {place = place} {start = start} {t = t} a m = record {
   member = m.member;

@@ -30,10 +30,6 @@ part_joined f first xs x before =
     append_assoc before (first ∷ with_commas (map f xs) ++ comma_after xs) (f x)
     ∙ ap (λ rest. before ++ first ∷ rest) (append_assoc (with_commas (map f xs)) (comma_after xs) (f x) ∙ sym (more_parts f xs x))
 
-pub not_empty : {A : Type 0} (xs : List A) (x : A) → is_empty (xs ++ x ∷ []) ≡ false
-not_empty [] x = refl
-not_empty (y ∷ xs) x = refl
-
 -- up to where the next part is due
 pub led : (c : Open) (cs : List Open) → open_text false (c ∷ cs) ++ lead_text c ≡ open_text true (c ∷ cs)
 led c cs = append_assoc (open_text true cs) (parts_text c) (lead_text c)

@@ -1,6 +1,6 @@
 -- The room of a part after an event.
-use Rattle.std.proofs.Common.{◌≡◌, ◌⊎◌, inl, inr, ℕ, zero, suc, ◌+◌, ◌-◌, ◌<◌, ◌≤◌, Bool, true, false, true≢false, List, [], ◌∷◌, ◌++◌, map, length, drop, take, Option, Some, None, MatchOption, refl, sym, ap, subst, ◌∙◌, arith, append-nil, length-append, ◌==◌}
-use Rattle.std.proofs.lemmas.Bool.{cond-false, cond-true}
+use Rattle.std.proofs.Common.{◌≡◌, inl, inr, ℕ, zero, suc, ◌+◌, ◌-◌, ◌<◌, ◌≤◌, Bool, true, false, true≢false, List, [], ◌∷◌, ◌++◌, map, length, take, Option, Some, None, MatchOption, refl, sym, ap, subst, ◌∙◌, arith, append-nil, length-append, ◌==◌}
+use Rattle.std.proofs.lemmas.Bool.{cond-true}
 use Rattle.std.specs.Option.{is_none, option_and_then, option_map, option_or, option_map_or}
 use Rattle.std.specs.Prelude.{if◌then◌else◌, nat_lt, IfOk}
 use Rattle.std.proofs.Common.{Result, Ok, Err}
@@ -18,8 +18,8 @@ use Rattle.jsonb_spec.specs.PartAt.{index_named, part_at}
 use Rattle.jsonb_write.specs.CheckRoom as check
 use Rattle.jsonb_write.specs.CheckRoom.{CheckStands, unwritten}
 use Rattle.jsonb_write.specs.KeyRoom as key
-use Rattle.jsonb_write.specs.OpenMembers.{TellsRepeatOf, all_starts}
-use Rattle.jsonb_write.specs.PartRoom.{EndsAt, EndsObject, FilledAt, HeldFits, InnerEnds, IsAhead, IsAround, IsInPart, IsOutside, IsSeeking, IsSought, IsWritten, Leads, PartFilled, PartHeld, PartStands, StandsAt, check_held, first_index, follow, follow_key, array_held, keys_of, path_behind, object_held, other_keys, part_inside, part_of, part_of_ended, part_with_value, less, rest_at, text_held, waits_at, within}
+use Rattle.jsonb_write.specs.OpenMembers.{EndsObject, TellsRepeatOf, all_starts}
+use Rattle.jsonb_write.specs.PartRoom.{EndsAt, FilledAt, HeldFits, InnerEnds, IsAhead, IsAround, IsInPart, IsOutside, IsSeeking, IsWritten, Leads, PartFilled, PartHeld, PartStands, StandsAt, check_held, first_index, follow, follow_key, array_held, keys_of, path_behind, object_held, other_keys, part_inside, part_of, part_of_ended, part_with_value, less, rest_at, text_held, waits_at, within}
 use Rattle.jsonb_write.specs.TextRoom as text
 use Rattle.jsonb_write.specs.TextRoom.{SeesPart, TextFilled, TextStands, base_of}
 use Rattle.jsonb_write.specs.declared.check.CheckRoom.{CheckRoom}
@@ -29,7 +29,7 @@ use Rattle.jsonb_write.specs.declared.part.PartItems.{PartItems}
 use Rattle.jsonb_write.specs.declared.part.PartMembers.{PartMembers}
 use Rattle.jsonb_write.specs.declared.part.PartRoom.{PartRoom}
 use Rattle.jsonb_write.specs.declared.text.TextRoom.{TextRoom}
-use Rattle.jsonb_write.proofs.Checks.{object_begun, value_ended}
+use Rattle.jsonb_write.proofs.Checks.{value_ended}
 use Rattle.jsonb_write.proofs.OpenMembers as opened
 use Rattle.jsonb_write.proofs.PartPaths.{array-ended, object-ended, or_none, picked-alone, picked-ended, picked-more}
 
@@ -125,35 +125,8 @@ next_on (Some (key ∷ keys)) ss e = cond-true (waits_at (elements_so_far ss) ke
     same_number : (n : ℕ) → ((n + 0) == n) ≡ true
     same_number n = grind arith
 
--- it isn't, since another one is
-next_off : (rest : Option (List (List ℕ))) (ss : List Source) (n : ℕ) → option_and_then first_index rest ≡ Some (length ss + n) → 0 < n → option_and_then (follow (elements_so_far ss)) rest ≡ None
-next_off None ss n e h = refl
-next_off (Some []) ss n e h = refl
-next_off (Some (key ∷ keys)) ss n e h = cond-false (waits_at (elements_so_far ss) key) (Some keys) None (ap (λ o. option_map_or (λ i. i == length ss) o false) e ∙ other_number (length ss) n h)
-  where
-    other_number : (m n : ℕ) → 0 < n → ((m + n) == m) ≡ false
-    other_number m n h = grind arith
-
--- it isn't, since one before is, or none
-next_past : (rest : Option (List (List ℕ))) (ss : List Source) → IsAhead (option_and_then first_index rest) None (length ss) → option_and_then (follow (elements_so_far ss)) rest ≡ None
-next_past None ss h = refl
-next_past (Some []) ss h = refl
-next_past (Some (key ∷ keys)) ss h = cond-false (waits_at (elements_so_far ss) key) (Some keys) None (by (index_named key) h)
-  where
-    by : (o : Option ℕ) → IsAhead o None (length ss) → option_map_or (λ i. i == length ss) o false ≡ false
-    by None h = refl
-    by (Some i) h = apart i (length ss) h
-      where
-        apart : (m n : ℕ) → m < n → (m == n) ≡ false
-        apart m n h = grind arith
-
 pub item_here : (keys : List (List ℕ)) (level result : Option ℕ) (ss : List Source) (cs : List Open) → rest_at keys result ≡ option_and_then other_keys (rest_at keys level) → Leads keys level cs → IsAhead (option_and_then first_index (path_behind keys cs)) (Some 0) (length ss) → Leads keys result (elements_so_far ss ∷ cs)
 item_here keys level result ss cs is leads ahead = next_on (path_behind keys cs) ss ahead ∙ ap (option_and_then other_keys) leads ∙ sym is
-
-pub item_elsewhere : (keys : List (List ℕ)) (ss : List Source) (cs : List Open) (ahead : Option ℕ) → (ahead ≡ Some 0 → ⊥) → IsAhead (option_and_then first_index (path_behind keys cs)) ahead (length ss) → Leads keys None (elements_so_far ss ∷ cs)
-item_elsewhere keys ss cs None h ahead = next_past (path_behind keys cs) ss ahead
-item_elsewhere keys ss cs (Some zero) h ahead = absurd (h refl)
-item_elsewhere keys ss cs (Some (suc n)) h ahead = next_off (path_behind keys cs) ss (suc n) ahead (omega arith)
 
 -- whatever key waits, the members are the same
 same_members : (before : Option Tree) (fs : List Found) (k l : Mark × List ℕ) (place other : ℕ) (rest : Option (List (List ℕ))) → option_or before (option_and_then (within (members_so_far fs k place)) rest) ≡ option_or before (option_and_then (within (members_so_far fs l other)) rest)
@@ -517,26 +490,26 @@ if_ok (Err e) p f = tt
 
 -- around the part
 pub told_around : {document : List ℕ} {r : PartRoom} (k : CheckRoom) {held : List PartHeld} {cs : List Open} (told : Option ℕ) (f : PartMembers) (fs : List Found) (last : Mark × List ℕ) (place : ℕ) → r.inside ≡ 0
-    → (CheckStands document r.check false (key.members f.first ∷ map check_held held) (members_so_far fs last place ∷ cs) → MatchOption told (check.EndsObject document k fs (map check_held held) cs) (TellsRepeatOf k.members f.first fs))
+    → (CheckStands document r.check false (key.members f.first ∷ map check_held held) (members_so_far fs last place ∷ cs) → MatchOption told (check.CheckEnds document k fs (map check_held held) cs) (TellsRepeatOf k.members f.first fs))
     → PartStands document r false (object_held f ∷ held) (members_so_far fs last place ∷ cs)
-    → MatchOption told (EndsObject document (record { check = k; text = r.text; path = r.path; due = r.due; inside = r.inside; found = r.found }) fs held cs)
+    → MatchOption told (EndsObject (PartFilled document) (record { check = k; text = r.text; path = r.path; due = r.due; inside = r.inside; found = r.found }) fs held cs)
     (λ i. TellsRepeatOf (if nat_lt 0 r.inside then r.text.members else k.members) f.first fs i)
 told_around {document = document} {r = r} k {held = held} {cs = cs} told f fs last place none tells room = by_told told (tells (around none room).0.stands)
   where
-    by_told : (o : Option ℕ) → MatchOption o (check.EndsObject document k fs (map check_held held) cs) (TellsRepeatOf k.members f.first fs)
-        → MatchOption o (EndsObject document (record { check = k; text = r.text; path = r.path; due = r.due; inside = r.inside; found = r.found }) fs held cs) (λ i. TellsRepeatOf (if nat_lt 0 r.inside then r.text.members else k.members) f.first fs i)
+    by_told : (o : Option ℕ) → MatchOption o (check.CheckEnds document k fs (map check_held held) cs) (TellsRepeatOf k.members f.first fs)
+        → MatchOption o (EndsObject (PartFilled document) (record { check = k; text = r.text; path = r.path; due = r.due; inside = r.inside; found = r.found }) fs held cs) (λ i. TellsRepeatOf (if nat_lt 0 r.inside then r.text.members else k.members) f.first fs i)
     by_told None ends = record { filled = object_ended f fs last place none ends.filled ends.new_keys room; new_keys = ends.new_keys }
     by_told (Some i) told = subst (λ n. TellsRepeatOf (if nat_lt 0 n then r.text.members else k.members) f.first fs i) (sym none) told
 
 -- in it, where none comes twice
 pub new_in : {document : List ℕ} {r : PartRoom} {w : TextRoom} {held : List PartHeld} {cs : List Open} (told : Option ℕ) (f : PartMembers) (fs : List Found) (last : Mark × List ℕ) (place : ℕ) → 0 < r.inside → is_none told ≡ true
-    → ((hs : List text.Held) → (ds : List Open) → TextStands document r.text false (text.members f.first ∷ hs) (members_so_far fs last place ∷ ds) → MatchOption told (text.EndsObject document w fs hs ds) (TellsRepeatOf w.members f.first fs))
+    → ((hs : List text.Held) → (ds : List Open) → TextStands document r.text false (text.members f.first ∷ hs) (members_so_far fs last place ∷ ds) → MatchOption told (EndsObject (TextFilled document) w fs hs ds) (TellsRepeatOf w.members f.first fs))
     → PartStands document r false (object_held f ∷ held) (members_so_far fs last place ∷ cs) → ((hs : List text.Held) → (ds : List Open) → TextStands document r.text false (text.members f.first ∷ hs) (members_so_far fs last place ∷ ds) → TextFilled document w (object_source_of fs) hs ds)
     × (first_repeat (map spot_of fs) ≡ None)
 new_in {document = document} {r = r} {w = w} {held = held} {cs = cs} told f fs last place some none tells room =
     (λ hs ds stands_so. (by_told told none (tells hs ds stands_so)).filled, by_count r.inside some room.stands)
   where
-    by_told : {hs : List text.Held} {ds : List Open} (o : Option ℕ) → is_none o ≡ true → MatchOption o (text.EndsObject document w fs hs ds) (TellsRepeatOf w.members f.first fs) → text.EndsObject document w fs hs ds
+    by_told : {hs : List text.Held} {ds : List Open} (o : Option ℕ) → is_none o ≡ true → MatchOption o (EndsObject (TextFilled document) w fs hs ds) (TellsRepeatOf w.members f.first fs) → EndsObject (TextFilled document) w fs hs ds
     by_told None e ends = ends
     by_told (Some i) e ends = absurd cc
 
@@ -545,13 +518,13 @@ new_in {document = document} {r = r} {w = w} {held = held} {cs = cs} told f fs l
     by_count (suc n) some x = (by_told told none (tells (map text_held (take n held)) (take n cs) x.1)).new_keys
 
 pub ended_in : {document : List ℕ} {next : PartRoom} (fs : List Found) {held : List PartHeld} {cs : List Open} (told : Option ℕ) (B : ℕ → Type 0) → is_none told ≡ true → PartFilled document next (object_source_of fs) held cs → first_repeat (map spot_of fs) ≡ None
-    → MatchOption told (EndsObject document next fs held cs) B
+    → MatchOption told (EndsObject (PartFilled document) next fs held cs) B
 ended_in fs None B e filled new = record { filled = filled; new_keys = new }
 ended_in fs (Some i) B e filled new = absurd cc
 
 -- in it, where one does
 pub told_in : {document : List ℕ} {r : PartRoom} (w : TextRoom) {held : List PartHeld} {cs : List Open} (A : Type 0) (told : Option ℕ) (f : PartMembers) (fs : List Found) (last : Mark × List ℕ) (place : ℕ) → 0 < r.inside → is_none told ≡ false
-    → ((hs : List text.Held) → (ds : List Open) → TextStands document r.text false (text.members f.first ∷ hs) (members_so_far fs last place ∷ ds) → MatchOption told (text.EndsObject document w fs hs ds) (TellsRepeatOf w.members f.first fs))
+    → ((hs : List text.Held) → (ds : List Open) → TextStands document r.text false (text.members f.first ∷ hs) (members_so_far fs last place ∷ ds) → MatchOption told (EndsObject (TextFilled document) w fs hs ds) (TellsRepeatOf w.members f.first fs))
     → PartStands document r false (object_held f ∷ held) (members_so_far fs last place ∷ cs) → MatchOption told A (λ i. TellsRepeatOf (if nat_lt 0 r.inside then w.members else r.check.members) f.first fs i)
 told_in {document = document} {r = r} w {held = held} {cs = cs} A told f fs last place some other tells room = by_count r.inside some room.stands
   where

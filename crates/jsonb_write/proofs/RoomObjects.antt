@@ -7,9 +7,9 @@ use Rattle.jsonb_spec.specs.Tree.{Mark}
 use Rattle.jsonb_scan.specs.Open.{Open, members_so_far}
 use Rattle.jsonb_spec.specs.Source.{Found, sort_by, spot_of}
 use Rattle.jsonb_write.specs.Members.{join_pieces}
-use Rattle.jsonb_write.specs.OpenMembers.{AreOf, AreSettled, EndIn, KeysAscendFrom, PutsInOrder, TellsRepeatOf}
+use Rattle.jsonb_write.specs.OpenMembers.{AreOf, AreSettled, EndIn, EndsObject, KeysAscendFrom, PutsInOrder, TellsRepeatOf}
 use Rattle.jsonb_write.specs.OpenText.{member_text, open_text}
-use Rattle.jsonb_write.specs.TextRoom.{Closes, EndsObject, Held, HeldFits, IsSettled, KeepsMembers, TextStands, base_of, members, text_layout}
+use Rattle.jsonb_write.specs.TextRoom.{Closes, Held, HeldFits, IsSettled, KeepsMembers, TextFilled, TextStands, base_of, members, text_layout}
 use Rattle.jsonb_write.specs.Written.{bytes_of}
 use Rattle.jsonb_write.specs.declared.text.TextRoom.{TextRoom}
 use Rattle.jsonb_write.proofs.ObjectTexts.{object_ended, sort_ascends, stays}
@@ -66,7 +66,7 @@ in_order {r = r} {first = first} {fs = fs} {cs = cs} room up =
 -- ---- the end
 
 pub ended : {text : List ℕ} {r s t : TextRoom} {first : ℕ} {held : List Held} {fs : List Found} {key : Mark × List ℕ} {place : ℕ} {cs : List Open} → TextStands text r false (members first ∷ held) (members_so_far fs key place ∷ cs) → KeepsMembers r s → IsSettled r s fs cs → Closes first s t
-    → EndsObject text t fs held cs
+    → EndsObject (TextFilled text) t fs held cs
 ended {text = text} {r = r} {t = t} {held = held} {fs = fs} {cs = cs} room keeps is closes =
     let body = open_text true cs ++ 123 ∷ with_commas (map member_text (sort_by spot_of fs)) in
     let base : r.base ≡ t.base = sym (closes.base ∙ keeps.base) in
@@ -85,7 +85,7 @@ ended {text = text} {r = r} {t = t} {held = held} {fs = fs} {cs = cs} room keeps
 -- ---- what was told
 
 pub if_some : (text : List ℕ) (r s : TextRoom) (first : ℕ) (fs : List Found) (held : List Held) (cs : List Open) (told : Option ℕ) → true ≡ is_some told → MatchOption told (IsSettled r s fs cs) (TellsRepeatOf s.members first fs)
-    → MatchOption told (EndsObject text s fs held cs) (TellsRepeatOf s.members first fs)
+    → MatchOption told (EndsObject (TextFilled text) s fs held cs) (TellsRepeatOf s.members first fs)
 if_some text r s first fs held cs None e h = absurd cc
 if_some text r s first fs held cs (Some n) e h = h
 

@@ -1,5 +1,5 @@
 -- The room after bytes were written.
-use Rattle.std.proofs.Common.{◌≡◌, ℕ, Bool, true, false, List, [], ◌∷◌, ◌++◌, Result, Ok, Err, OnOk, refl, sym, ap, ap₂, subst, ◌∙◌, append_assoc, append-nil, slice_range}
+use Rattle.std.proofs.Common.{◌≡◌, ℕ, Bool, true, false, List, [], ◌∷◌, ◌++◌, Result, Ok, Err, OnOk, refl, sym, ap, ap₂, subst, ◌∙◌, append_assoc, append-nil}
 use Rattle.jsonb_scan.specs.Open.{Open, elements_so_far}
 use Rattle.jsonb_spec.specs.Source.{Source}
 use Rattle.jsonb_write.specs.OpenMembers.{AreOf, all_starts}
@@ -7,7 +7,7 @@ use Rattle.jsonb_write.specs.OpenText.{comma_unless, open_text}
 use Rattle.text_common.specs.SourceText.{source_text}
 use Rattle.jsonb_write.specs.Written.{bytes_of}
 use Rattle.jsonb_write.proofs.OpenMembers.{same, stay}
-use Rattle.jsonb_write.proofs.OpenTexts.{comma_is, led, not_empty, part_joined}
+use Rattle.jsonb_write.proofs.OpenTexts.{comma_is, led}
 use Rattle.jsonb_write.specs.declared.text.Part.{Part}
 use Rattle.jsonb_write.specs.declared.text.Part.TheVariants as part
 use Rattle.jsonb_write.specs.TextRoom.{Held, IsSpelled, items, part_text, SeesPart, TextStands, TextFilled, HeldFits, IsRoomWith, Writes, base_of, text_layout}
@@ -51,26 +51,18 @@ pub part_written : {text written : List ℕ} {r s : TextRoom} {due : Bool} {held
 part_written {r = r} {s = s} p v from to room sees spelled wrote =
     subst (λ bytes. Writes bytes r s) (sees_text p v sees) (wrote (subst (λ t. IsSpelled t from to p) (sym room.text_is) spelled))
 
--- what is written of a range of the text that is a value's text
-pub range_written : {text written : List ℕ} {r s : TextRoom} {due : Bool} {held : List Held} {cs : List Open} (v : Source) (from to : ℕ) → IsRoomWith text r written due held cs → slice_range text from to ≡ source_text v
-    → Writes (slice_range r.written.text.now from to) r s → Writes (source_text v) r s
-range_written {r = r} {s = s} v from to room spelled writes =
-    subst (λ bytes. Writes bytes r s) (ap (λ t. slice_range t from to) room.text_is ∙ spelled) writes
-
--- an item behind the comma before it
-pub item_written : {text : List ℕ} {r s : TextRoom} {held : List Held} {ss : List Source} {cs : List Open} (b : Bool) (v : Source) → TextStands text r true (items b ∷ held) (elements_so_far ss ∷ cs) → Writes (source_text v) r s
-    → TextStands text s false (items b ∷ held) (elements_so_far (ss ++ v ∷ []) ∷ cs)
-item_written {ss = ss} {cs = cs} b v room w =
-    goes_on room w (part_joined source_text 91 ss v (open_text true cs)) refl (room.fits.0 ∙ sym (not_empty ss v), room.fits.1)
-
 -- a value where one was due
 pub value_written : {text : List ℕ} {r s : TextRoom} {held : List Held} {cs : List Open} (v : Source) → TextStands text r true held cs → Writes (source_text v) r s → TextFilled text s v held cs
 value_written v room w = goes_on room w refl refl room.fits
 
--- a whole value
-pub root_written : {text : List ℕ} {r s : TextRoom} (v : Source) → TextStands text r true [] [] → Writes (source_text v) r s → TextFilled text s v [] []
-root_written v room w = goes_on room w refl refl tt
-
 pub on_ok : {T E P Q : Type 0} (r : Result T E) → OnOk r P → (P → Q) → OnOk r Q
 on_ok (Ok x) p f = f p
 on_ok (Err e) p f = tt
+
+-- the only one of a list
+pub same_only : {xs ys : List ℕ} → (xs ∷ []) ≡ (ys ∷ []) → xs ≡ ys
+same_only e = ap first e
+  where
+    first : List (List ℕ) → List ℕ
+    first [] = []
+    first (x ∷ xs) = x

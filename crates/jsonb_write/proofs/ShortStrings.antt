@@ -168,9 +168,6 @@ writes_then as_text bytes text old middle new n m f g = record {
 abbrev pub WritesSome : Bool → List ℕ → ℕ → List ℕ → List ℕ → ℕ → Type 0
 WritesSome as_text bytes count old new at = (text : List ℕ) → IsShort (take count bytes) text → WritesFront as_text (take count bytes) text old new at
 
-pub some_start : (as_text : Bool) (bytes : List ℕ) (count : ℕ) (old : List ℕ) → WritesSome as_text bytes count old old 0
-some_start as_text bytes count old text short = record { left = text; within = omega arith; short = short; written = refl }
-
 -- what is left of the contents
 left_is : (bytes : List ℕ) (count at : ℕ) → at ≤ count → drop at (take count bytes) ≡ take (count - at) (drop at bytes)
 left_is bytes count at within = ap (λ n. drop at (take n bytes)) {x = count} {y = at + (count - at)} (omega (arith, within)) ∙ drop-take at (count - at) bytes

@@ -1,9 +1,9 @@
 -- What is kept of a text that is only checked, while arrays and objects are open.
-use Rattle.std.specs.Prelude.{◌≡◌, ℕ, Bool, true, false, List, [], map, None}
+use Rattle.std.specs.Prelude.{ℕ, Bool, true, false, List, []}
 use Rattle.jsonb_scan.specs.Open.{Open}
-use Rattle.jsonb_spec.specs.Source.{Found, first_repeat, spot_of}
+use Rattle.jsonb_spec.specs.Source.{Found}
 use Rattle.jsonb_write.specs.KeyRoom.{Held, HeldFits}
-use Rattle.jsonb_write.specs.OpenMembers.{AreOf, Layout}
+use Rattle.jsonb_write.specs.OpenMembers.{AreOf, EndsObject, Layout}
 use Rattle.jsonb_write.specs.declared.check.CheckRoom.{CheckRoom}
 
 -- nothing of members is written
@@ -21,7 +21,5 @@ abbrev pub CheckFilled : List ℕ → CheckRoom → List Held → List Open → 
 CheckFilled text room held cs = CheckStands text room true held cs
 
 -- No key comes twice, and the object ended.
-pub record EndsObject (text : List ℕ) (room : CheckRoom)
-    (fs : List Found) (held : List Held) (cs : List Open) : Type 0 where
-  pub filled : CheckFilled text room held cs
-  pub new_keys : first_repeat (map spot_of fs) ≡ None
+abbrev pub CheckEnds : List ℕ → CheckRoom → List Found → List Held → List Open → Type 0
+CheckEnds text = EndsObject (λ room s. CheckFilled text room)

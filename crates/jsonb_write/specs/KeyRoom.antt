@@ -7,7 +7,7 @@ use Rattle.jsonb_spec.specs.Tree.{plain, null, boolean, string, number}
 use Rattle.jsonb_spec.specs.Tree.Mark.{escaped}
 use Rattle.jsonb_value.specs.View.{mark_view, number_view}
 use Rattle.jsonb_scan.specs.Open.{Open, elements_so_far, members_so_far}
-use Rattle.jsonb_spec.specs.Source.{Found, Source, first_repeat, object_source_of, sort_by, spot_of}
+use Rattle.jsonb_spec.specs.Source.{Found, Source, first_repeat, sort_by, spot_of}
 use Rattle.jsonb_write.specs.Contents.{text_of_contents}
 use Rattle.jsonb_write.specs.Members.{member_key, source_key}
 use Rattle.jsonb_write.specs.OpenMembers as opened
@@ -101,9 +101,3 @@ pub record Closes (first : ℕ) (old new : KeyRoom) : Type 0 where
   pub before : base_of new ≡ base_of old
   pub written : new.out.items ≡ old.out.items ++ kind.terminator ∷ kind.terminator ∷ []
   pub members : opened.Closes first old.members new.members
-
--- No key comes twice, and the object is written.
-pub record EndsObject (text : List ℕ) (room : KeyRoom)
-    (fs : List Found) (held : List Held) (cs : List Open) : Type 0 where
-  pub filled : KeyFilled text room (object_source_of fs) held cs
-  pub new_keys : first_repeat (map spot_of fs) ≡ None

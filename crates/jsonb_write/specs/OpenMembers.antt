@@ -2,7 +2,7 @@
 use Rattle.std.specs.Prelude.{◌≡◌, ℕ, ◌+◌, ◌≤◌, Bool, true, false, List, [], ◌∷◌, ◌++◌, length, map, drop, take, Option, Some, None, MatchOption}
 use Rattle.std.specs.Str.{IsUtf8}
 use Rattle.jsonb_scan.specs.Open.{Open, elements_so_far, members_so_far}
-use Rattle.jsonb_spec.specs.Source.{Found, Spot, first_repeat, sort_by, spot_of}
+use Rattle.jsonb_spec.specs.Source.{Found, Source, Spot, first_repeat, object_source_of, sort_by, spot_of}
 use Rattle.jsonb_write.specs.MemberStarts.{AreKept, MemberStart, IsKept}
 use Rattle.jsonb_write.specs.Members.{AreKeyed, SpotsAscend, between, join_pieces, spot_at, spot_in}
 use Rattle.jsonb_write.specs.declared.members.Member.{Member}
@@ -122,3 +122,9 @@ PutsInOrder commas floor before after first old new found =
     (bytes : Found → List ℕ) → (front : List ℕ) → (fs : List Found) → floor ≤ length front
     → EndIn commas bytes before first (length front) fs → old ≡ front ++ join_pieces commas (map bytes fs)
     → MatchOption found (AreSettled commas bytes front fs new) (TellsRepeatOf after first fs)
+
+-- No key comes twice, and the object ended, of which this holds.
+pub record EndsObject {R H : Type 0} (Filled : R → Source → List H → List Open → Type 0) (room : R)
+    (fs : List Found) (held : List H) (cs : List Open) : Type 0 where
+  pub filled : Filled room (object_source_of fs) held cs
+  pub new_keys : first_repeat (map spot_of fs) ≡ None

@@ -5,7 +5,7 @@ use Rattle.std.specs.Str.{bytes_eq}
 use Rattle.jsonb_spec.specs.Text.{tree_text}
 use Rattle.jsonb_spec.specs.Tree.{Tree}
 use Rattle.jsonb_scan.specs.Open.{Open, elements_so_far, members_so_far}
-use Rattle.jsonb_spec.specs.Source.{Found, Source, first_repeat, object_source_of, spot_of, tree_of_source}
+use Rattle.jsonb_spec.specs.Source.{Found, Source, tree_of_source}
 use Rattle.jsonb_spec.specs.PartAt.{index_named, part_at}
 use Rattle.jsonb_write.specs.CheckRoom.{CheckStands}
 use Rattle.jsonb_write.specs.KeyRoom as key
@@ -233,9 +233,3 @@ pub record InnerEnds (document : List ℕ) (room : PartRoom) (s : Source) (held 
   pub outer : ℕ
   pub count : room.inside ≡ suc outer
   pub ends : EndsAt outer document room s held cs
-
--- No key comes twice, and the object ended.
-pub record EndsObject (document : List ℕ) (room : PartRoom) (fs : List Found) (held : List PartHeld) (cs : List Open)
-    : Type 0 where
-  pub filled : PartFilled document room (object_source_of fs) held cs
-  pub new_keys : first_repeat (map spot_of fs) ≡ None

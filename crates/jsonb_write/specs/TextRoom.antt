@@ -13,7 +13,7 @@ use Rattle.jsonb_spec.specs.Tree.Mark.{escaped}
 use Rattle.jsonb_spec.specs.Tree.{plain}
 use Rattle.jsonb_value.specs.View.{mark_view, number_view}
 use Rattle.jsonb_scan.specs.Open.{Open, elements_so_far, members_so_far}
-use Rattle.jsonb_spec.specs.Source.{Found, Source, null_source, boolean_source, string_source, number_source, first_repeat, object_source_of, sort_by, spot_of}
+use Rattle.jsonb_spec.specs.Source.{Found, Source, null_source, boolean_source, string_source, number_source, first_repeat, sort_by, spot_of}
 use Rattle.jsonb_write.specs.Contents.{text_of_contents}
 use Rattle.jsonb_write.specs.OpenMembers as opened
 use Rattle.jsonb_write.specs.OpenMembers.{AreOf, AreSame, Layout, all_starts}
@@ -153,9 +153,3 @@ pub record Closes (first : ℕ) (old new : TextRoom) : Type 0 where
   pub before : base_of new ≡ base_of old
   pub written : bytes_of new.written ≡ bytes_of old.written ++ ascii.close_brace ∷ []
   pub members : opened.Closes first old.members new.members
-
--- No key comes twice, and the object is written.
-pub record EndsObject (text : List ℕ) (room : TextRoom)
-    (fs : List Found) (held : List Held) (cs : List Open) : Type 0 where
-  pub filled : TextFilled text room (object_source_of fs) held cs
-  pub new_keys : first_repeat (map spot_of fs) ≡ None

@@ -22,7 +22,7 @@ impl<'a> CheckRoom<'a> {
     ghost use Rattle.jsonb_spec.specs.Tree.{Mark};
     ghost use Rattle.jsonb_spec.specs.Tree.Mark.{plain};
     ghost use Rattle.jsonb_value.specs.View.{mark_view};
-    ghost use Rattle.jsonb_write.specs.CheckRoom.{CheckFilled, CheckStands, EndsObject};
+    ghost use Rattle.jsonb_write.specs.CheckRoom.{CheckEnds, CheckStands};
     ghost use Rattle.jsonb_write.specs.KeyRoom.{Held};
     ghost use Rattle.jsonb_write.specs.KeyRoom.Held.{members};
     ghost use Rattle.jsonb_write.specs.OpenMembers.{TellsRepeatOf};
@@ -109,7 +109,7 @@ impl<'a> CheckRoom<'a> {
         ensures stands { IfOk result (λ repeat. (text : List ℕ) → (held : List Held) → (fs : List Found)
             → (key : Mark × List ℕ) → (place : ℕ) → (cs : List Open)
             → CheckStands text self.old false (members first ∷ held) (members_so_far fs key place ∷ cs)
-            → MatchOption repeat (EndsObject text self.new fs held cs) (TellsRepeatOf self.new.members first fs)) }
+            → MatchOption repeat (CheckEnds text self.new fs held cs) (TellsRepeatOf self.new.members first fs)) }
     {
         let repeat = self.members.find_repeat(first)?;
         if repeat.is_none() {

@@ -33,7 +33,7 @@ impl<'a> Contents<'a> {
     ///
     /// `Syntax` with the code and the offset that decoding the contents fails with.
     #[inline(always)]
-    pub fn for_text(body: &'a str, mode: Mode, idx: usize) -> Result<Contents<'a>>
+    pub(crate) fn for_text(body: &'a str, mode: Mode, idx: usize) -> Result<Contents<'a>>
         requires escaped { TellsBackslash body.now (length body.now) true }
         requires room { idx + length body.now < 2 ^ 64 }
         ensures { ChecksAs idx result (body_of (mode_of mode) body.now) }
@@ -60,7 +60,7 @@ impl<'a> Contents<'a> {
     ///
     /// As those of `for_text`.
     #[inline(always)]
-    pub fn for_key(body: &'a str, mode: Mode, idx: usize) -> Result<Contents<'a>>
+    pub(crate) fn for_key(body: &'a str, mode: Mode, idx: usize) -> Result<Contents<'a>>
         requires escaped { TellsBackslash body.now (length body.now) true }
         requires room { idx + length body.now < 2 ^ 64 }
         ensures { ChecksAs idx result (body_of (mode_of mode) body.now) }

@@ -9,12 +9,16 @@ use crate::escaped_key::append_escaped_key;
 use crate::key_text::{append_key_text, append_with_kind};
 use crate::object::Site;
 use crate::open_members::OpenMembers;
+use crate::sink::Sink;
 use crate::text::Part;
+use jsonb_scan::parser::Mode;
+use jsonb_value::error::Error;
 use jsonb_value::number::Number;
 use jsonb_value::parts::{append_number_key, append_text_key};
 use jsonb_value::sort_key::kind;
 use std::alloc::{AllocError, Global};
 use std::borrow::CowStr;
+use text_common::kept::Kept;
 
 // How many times the bytes of the text may be moved.
 const MOST_MOVED: usize = 8;
@@ -39,7 +43,7 @@ impl<'a> KeyRoom<'a> {
     ghost use Rattle.jsonb_spec.specs.Tree.Mark.{plain};
     ghost use Rattle.jsonb_value.specs.View.{mark_view, number_view};
     ghost use Rattle.jsonb_write.specs.Contents.{text_of_contents};
-    ghost use Rattle.jsonb_write.specs.KeyRoom.{Closes, EndsObject, Held, IsSettled, KeepsMembers, KeyFilled, KeyStands, Writes, base_of, part_key};
+    ghost use Rattle.jsonb_write.specs.KeyRoom.{Closes, Held, IsSettled, KeepsMembers, KeyFilled, KeyStands, Writes, base_of, part_key};
     ghost use Rattle.jsonb_write.specs.KeyRoom.Held.{items, members};
     ghost use Rattle.jsonb_write.specs.Members.{source_key};
     ghost use Rattle.jsonb_write.specs.OpenMembers.{TellsRepeatOf};
@@ -168,137 +172,6 @@ impl<'a> KeyRoom<'a> {
         }
     }
 
-    /// An array begins where a value is due.
-    #[inline(always)]
-    pub fn begin_array(&mut self) -> Result<(), AllocError>
-        ensures stands { OnOk result ((text : List ℕ) → (held : List Held) → (cs : List Open)
-            → KeyStands text self.old true held cs
-            → KeyStands text self.new false (items ∷ held) (elements_so_far [] ∷ cs)) }
-        ensures base { base_of self.new ≡ base_of self.old }
-    {
-        self.append(&[kind::ARRAY])
-    }
-
-    /// What stands before an item: nothing.
-    #[inline(always)]
-    pub fn next_item(&mut self) -> Result<(), AllocError>
-        ensures stands { OnOk result ((text : List ℕ) → (held : List Held) → (ss : List Source) → (cs : List Open)
-            → KeyStands text self.old false (items ∷ held) (elements_so_far ss ∷ cs)
-            → KeyStands text self.new true (items ∷ held) (elements_so_far ss ∷ cs)) }
-        ensures base { base_of self.new ≡ base_of self.old }
-    {
-        Ok(())
-    }
-
-    /// An item that holds no others, wherever it stands in the text.
-    #[inline(always)]
-    pub fn push(&mut self, part: Part<'a>, from: usize, to: usize) -> Result<(), AllocError>
-        ensures stands { OnOk result ((text : List ℕ) → (s : Source) → (held : List Held) → (ss : List Source)
-            → (cs : List Open) → KeyStands text self.old false (items ∷ held) (elements_so_far ss ∷ cs)
-            → SeesPart part.entry s → IsSpelled text from to part.entry
-            → KeyStands text self.new false (items ∷ held) (elements_so_far (ss ++ s ∷ []) ∷ cs)) }
-        ensures base { base_of self.new ≡ base_of self.old }
-    {
-        self.part(&part, from, to)
-    }
-
-    /// An item that is written.
-    #[inline(always)]
-    pub fn push_inner(&mut self)
-        ensures stands { (text : List ℕ) → (s : Source) → (held : List Held) → (ss : List Source) → (cs : List Open)
-            → KeyFilled text self.old s (items ∷ held) (elements_so_far ss ∷ cs)
-            → KeyStands text self.new false (items ∷ held) (elements_so_far (ss ++ s ∷ []) ∷ cs) }
-        ensures base { base_of self.new ≡ base_of self.old }
-    {}
-
-    /// The end of an array.
-    #[inline(always)]
-    pub fn end_array(&mut self) -> Result<(), AllocError>
-        ensures stands { OnOk result ((text : List ℕ) → (held : List Held) → (ss : List Source) → (cs : List Open)
-            → KeyStands text self.old false (items ∷ held) (elements_so_far ss ∷ cs)
-            → KeyFilled text self.new (array_source_of ss) held cs) }
-        ensures base { base_of self.new ≡ base_of self.old }
-    {
-        self.append(&[kind::TERMINATOR])
-    }
-
-    /// An object begins where a value is due. What is returned is the index of its first member.
-    #[inline(always)]
-    pub fn begin_object(&mut self) -> Result<usize, AllocError>
-        ensures stands { IfOk result (λ first. (text : List ℕ) → (held : List Held) → (cs : List Open)
-            → (key : Mark × List ℕ) → (place : ℕ) → KeyStands text self.old true held cs
-            → KeyStands text self.new false (members first ∷ held) (members_so_far [] key place ∷ cs)) }
-        ensures base { base_of self.new ≡ base_of self.old }
-    {
-        self.append(&[kind::OBJECT])?;
-        Ok(self.members.len())
-    }
-
-    /// A key whose bytes stand in the text from an index above 0 on, in double quotes and without escapes, and the
-    /// index after it. With 0 for the first index the key may stand anywhere.
-    #[inline(always)]
-    pub fn borrowed_key(
-        &mut self,
-        first: usize,
-        key: &'a str,
-        from: usize,
-        after: usize,
-    ) -> Result<(), AllocError>
-        ensures stands { OnOk result ((text : List ℕ) → (held : List Held) → (fs : List Found) → (k : Mark × List ℕ)
-            → (place : ℕ) → (cs : List Open)
-            → KeyStands text self.old false (members first ∷ held) (members_so_far fs k place ∷ cs)
-            → (0 < from → slice_range text (from - 1) after ≡ in_quotes key.now)
-            → KeyStands text self.new true (members first ∷ held) (members_so_far fs (plain, key.now) after ∷ cs)) }
-        ensures base { base_of self.new ≡ base_of self.old }
-    {
-        if 0 < from && self.is_range(from, after) {
-            let start = self.out.len();
-            self.members.begin_within(from, after - 1, after, start)?;
-            return self.append_text(key);
-        }
-        self.decoded_key(first, key, after)
-    }
-
-    /// A key that stands so, and none of whose bytes has an escape.
-    #[inline(always)]
-    pub fn plain_key(
-        &mut self,
-        first: usize,
-        key: &'a str,
-        from: usize,
-        after: usize,
-    ) -> Result<(), AllocError>
-        ensures stands { OnOk result ((text : List ℕ) → (held : List Held) → (fs : List Found) → (k : Mark × List ℕ)
-            → (place : ℕ) → (cs : List Open)
-            → KeyStands text self.old false (members first ∷ held) (members_so_far fs k place ∷ cs)
-            → (0 < from → slice_range text (from - 1) after ≡ in_quotes key.now) → ArePlain key.now
-            → KeyStands text self.new true (members first ∷ held) (members_so_far fs (plain, key.now) after ∷ cs)) }
-        ensures base { base_of self.new ≡ base_of self.old }
-    {
-        if 0 < from && self.is_range(from, after) {
-            let start = self.out.len();
-            self.members.begin_within(from, after - 1, after, start)?;
-            return self.keep_text(from, after - 1);
-        }
-        self.decoded_key(first, key, after)
-    }
-
-    /// A key, and the index after it in the text.
-    #[inline(always)]
-    pub fn key(&mut self, first: usize, key: CowStr<'a>, after: usize) -> Result<(), AllocError>
-        ensures stands { OnOk result ((text : List ℕ) → (held : List Held) → (fs : List Found) → (k : Mark × List ℕ)
-            → (place : ℕ) → (cs : List Open)
-            → KeyStands text self.old false (members first ∷ held) (members_so_far fs k place ∷ cs)
-            → KeyStands text self.new true (members first ∷ held)
-            (members_so_far fs (mark_view key.entry, cow_str_bytes key.entry) after ∷ cs)) }
-        ensures base { base_of self.new ≡ base_of self.old }
-    {
-        match key {
-            CowStr::Borrowed(key) => self.decoded_key(first, key, after),
-            CowStr::Owned(key) => self.decoded_key(first, key.as_str(), after),
-        }
-    }
-
     // A key that is kept among the decoded ones.
     #[inline(never)]
     fn decoded_key(&mut self, first: usize, key: &str, after: usize) -> Result<(), AllocError>
@@ -312,37 +185,6 @@ impl<'a> KeyRoom<'a> {
         self.members.begin_decoded(key, after, start)?;
         self.append_text(key)
     }
-
-    /// A member's value that holds no others, wherever it stands in the text.
-    #[inline(always)]
-    pub fn insert(
-        &mut self,
-        first: usize,
-        part: Part<'a>,
-        from: usize,
-        to: usize,
-    ) -> Result<(), AllocError>
-        ensures stands { OnOk result ((text : List ℕ) → (s : Source) → (held : List Held) → (fs : List Found)
-            → (k : Mark × List ℕ) → (place : ℕ) → (cs : List Open) → (next : Mark × List ℕ) → (other : ℕ)
-            → KeyStands text self.old true (members first ∷ held) (members_so_far fs k place ∷ cs)
-            → SeesPart part.entry s → IsSpelled text from to part.entry
-            → KeyStands text self.new false (members first ∷ held)
-            (members_so_far (fs ++ found_member k s place ∷ []) next other ∷ cs)) }
-        ensures base { base_of self.new ≡ base_of self.old }
-    {
-        self.part(&part, from, to)
-    }
-
-    /// A member's value that is written.
-    #[inline(always)]
-    pub fn insert_inner(&mut self, first: usize)
-        ensures stands { (text : List ℕ) → (s : Source) → (held : List Held) → (fs : List Found)
-            → (k : Mark × List ℕ) → (place : ℕ) → (cs : List Open) → (next : Mark × List ℕ) → (other : ℕ)
-            → KeyFilled text self.old s (members first ∷ held) (members_so_far fs k place ∷ cs)
-            → KeyStands text self.new false (members first ∷ held)
-            (members_so_far (fs ++ found_member k s place ∷ []) next other ∷ cs) }
-        ensures base { base_of self.new ≡ base_of self.old }
-    {}
 
     // Puts the members from an index on in the order of their keys. Where a key comes twice, it returns the index among
     // them of the one where the least such key comes the second time.
@@ -377,40 +219,6 @@ impl<'a> KeyRoom<'a> {
         self.append(&[kind::TERMINATOR, kind::TERMINATOR])
     }
 
-    /// Whether so many bytes of members were moved that another way takes less time: several times those of the text.
-    #[inline(always)]
-    pub fn moved_much(&self) -> bool {
-        self.members.spare.total / MOST_MOVED > self.members.text.len()
-    }
-
-    /// The end of an object. Where a key comes twice, what is returned is the index, among the members, of the one
-    /// where the least such key comes the second time.
-    #[inline(always)]
-    pub fn end_object(&mut self, first: usize) -> Result<Option<usize>, AllocError>
-        ensures stands { IfOk result (λ repeat. (text : List ℕ) → (held : List Held) → (fs : List Found)
-            → (key : Mark × List ℕ) → (place : ℕ) → (cs : List Open)
-            → KeyStands text self.old false (members first ∷ held) (members_so_far fs key place ∷ cs)
-            → MatchOption repeat (EndsObject text self.new fs held cs) (TellsRepeatOf self.new.members first fs)) }
-        ensures base { base_of self.new ≡ base_of self.old }
-    {
-        let repeat = self.settle(first)?;
-        if repeat.is_some() {
-            return Ok(repeat);
-        }
-        self.close(first)?;
-        Ok(None)
-    }
-
-    /// A whole value that holds no others, wherever it stands in the text.
-    #[inline(always)]
-    pub fn root(&mut self, part: &Part<'a>, from: usize, to: usize) -> Result<(), AllocError>
-        ensures stands { OnOk result ((text : List ℕ) → (s : Source) → KeyStands text self.old true [] []
-            → SeesPart part.now s → IsSpelled text from to part.now → KeyFilled text self.new s [] []) }
-        ensures base { base_of self.new ≡ base_of self.old }
-    {
-        self.part(part, from, to)
-    }
-
     /// The end of a whole value: all of it is in the buffer.
     #[inline(always)]
     pub fn finish(&mut self) -> Result<(), AllocError>
@@ -437,5 +245,145 @@ impl<'a> KeyRoom<'a> {
         let mut out = self.into_buffer();
         out.truncate(base);
         out
+    }
+}
+
+impl<'a> Sink<'a> for KeyRoom<'a> {
+    ghost use Rattle.jsonb_write.specs.KeyRoom.{Held, KeyFilled, KeyStands, base_of};
+    ghost use Rattle.jsonb_write.specs.KeyRoom.Held.{items, members};
+
+    // Nothing.
+    type Items = ();
+
+    // The index of the object's first member.
+    type Members = usize;
+
+    ghost Held = { Held };
+
+    ghost array = { λ u. items };
+
+    ghost object = { members };
+
+    ghost stands = { KeyStands };
+
+    ghost filled = { KeyFilled };
+
+    ghost base = { λ room. base_of room ∷ [] };
+
+    ghost opened = { λ room. room.members };
+
+    ghost first = { λ first. first };
+
+    #[inline(always)]
+    fn contents(
+        body: &'a str,
+        mode: Mode,
+        offset: usize,
+    ) -> std::result::Result<Contents<'a>, Error> {
+        Contents::for_key(body, mode, offset)
+    }
+
+    #[inline(always)]
+    fn fill(&mut self, part: &Part<'a>, from: usize, to: usize) -> Result<(), AllocError> {
+        self.part(part, from, to)
+    }
+
+    #[inline(always)]
+    fn fill_kept(&mut self, kept: Kept, from: usize, to: usize) -> Result<(), AllocError> {
+        self.kept(kept, from, to)
+    }
+
+    #[inline(always)]
+    fn begin_array(&mut self, at: usize) -> Result<(), AllocError> {
+        self.append(&[kind::ARRAY])
+    }
+
+    #[inline(always)]
+    fn next_item(&mut self, items: &mut ()) -> Result<(), AllocError> {
+        Ok(())
+    }
+
+    #[inline(always)]
+    fn push_inner(&mut self, items: &mut ()) {}
+
+    #[inline(always)]
+    fn end_array(&mut self, items: &(), at: usize) -> Result<(), AllocError> {
+        self.append(&[kind::TERMINATOR])
+    }
+
+    #[inline(always)]
+    fn begin_object(&mut self, at: usize) -> Result<usize, AllocError> {
+        self.append(&[kind::OBJECT])?;
+        Ok(self.members.len())
+    }
+
+    #[inline(always)]
+    fn borrowed_key(
+        &mut self,
+        first: &usize,
+        key: &'a str,
+        from: usize,
+        after: usize,
+    ) -> Result<(), AllocError> {
+        if 0 < from && self.is_range(from, after) {
+            let start = self.out.len();
+            self.members.begin_within(from, after - 1, after, start)?;
+            return self.append_text(key);
+        }
+        self.decoded_key(*first, key, after)
+    }
+
+    #[inline(always)]
+    fn plain_key(
+        &mut self,
+        first: &usize,
+        key: &'a str,
+        from: usize,
+        after: usize,
+    ) -> Result<(), AllocError> {
+        if 0 < from && self.is_range(from, after) {
+            let start = self.out.len();
+            self.members.begin_within(from, after - 1, after, start)?;
+            return self.keep_text(from, after - 1);
+        }
+        self.decoded_key(*first, key, after)
+    }
+
+    #[inline(always)]
+    fn key(&mut self, first: &usize, key: CowStr<'a>, after: usize) -> Result<(), AllocError> {
+        match key {
+            CowStr::Borrowed(key) => self.decoded_key(*first, key, after),
+            CowStr::Owned(key) => self.decoded_key(*first, key.as_str(), after),
+        }
+    }
+
+    #[inline(always)]
+    fn insert_inner(&mut self, first: &usize) {}
+
+    #[inline(always)]
+    fn end_object(&mut self, first: &usize, at: usize) -> Result<Option<usize>, AllocError> {
+        let repeat = self.settle(*first)?;
+        if repeat.is_some() {
+            return Ok(repeat);
+        }
+        self.close(*first)?;
+        Ok(None)
+    }
+
+    #[inline(always)]
+    fn open_members(&self) -> &OpenMembers<'a> {
+        &self.members
+    }
+
+    #[inline(always)]
+    fn first_member(first: &usize) -> usize
+        ensures { result ≡ first.now }
+    {
+        *first
+    }
+
+    #[inline(always)]
+    fn moved_much(&self) -> bool {
+        self.members.spare.total / MOST_MOVED > self.members.text.len()
     }
 }

@@ -16,6 +16,7 @@ mod orders;
 pub mod part;
 mod short;
 mod short_string;
+pub mod sink;
 mod spread;
 pub mod text;
 pub mod wide;

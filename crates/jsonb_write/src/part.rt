@@ -5,11 +5,16 @@ ghost use Rattle.std.specs.Option.{option_and_then, option_map};
 ghost use Rattle.jsonb_write.specs.PartRoom.{less};
 
 use crate::check::CheckRoom;
+use crate::contents::Contents;
 use crate::open_members::OpenMembers;
+use crate::sink::Sink;
 use crate::text::{Part, TextRoom};
 use jsonb_path::index_of;
+use jsonb_scan::parser::Mode;
+use jsonb_value::error::Error;
 use std::alloc::{AllocError, Global};
 use std::borrow::CowStr;
+use text_common::kept::Kept;
 
 /// What is kept of an array: whether it has no items yet, how many of its items come before the one on the path, if
 /// that is still to come, and how many keys of the path lead to the array, if it is on the path. Of an array that is
@@ -53,7 +58,7 @@ impl<'a> PartRoom<'a> {
     ghost use Rattle.jsonb_spec.specs.Tree.Mark.{plain};
     ghost use Rattle.jsonb_value.specs.View.{mark_view};
     ghost use Rattle.jsonb_write.specs.OpenMembers.{TellsRepeatOf};
-    ghost use Rattle.jsonb_write.specs.PartRoom.{EndsObject, InnerEnds, IsAhead, IsAround, IsWritten, Leads, PartFilled, PartHeld, PartStands, first_index, first_key, follow_key, keys_of, members_of, path_behind, other_keys, part_of, rest_at};
+    ghost use Rattle.jsonb_write.specs.PartRoom.{InnerEnds, IsAhead, IsAround, IsWritten, Leads, PartFilled, PartHeld, PartStands, first_index, first_key, follow_key, keys_of, members_of, path_behind, other_keys, part_of, rest_at};
     ghost use Rattle.jsonb_write.specs.PartRoom.PartHeld.{array_held, object_held};
     ghost use Rattle.jsonb_write.specs.TextRoom.{IsSpelled, SeesPart};
 
@@ -179,13 +184,86 @@ impl<'a> PartRoom<'a> {
         Ok(())
     }
 
-    /// An array begins where a value is due. Its bracket stands in the text at an index.
-    pub fn begin_array(&mut self, at: usize) -> Result<PartItems, AllocError>
-        ensures stands { IfOk result (λ i. (text : List ℕ) → (held : List PartHeld) → (cs : List Open)
-            → PartStands text self.old true held cs
-            → PartStands text self.new false (array_held i ∷ held) (elements_so_far [] ∷ cs)) }
-        ensures keys { keys_of self.new ≡ keys_of self.old }
+    // How many keys of the path lead to the next item.
+    #[inline(always)]
+    fn item_level(&self, items: &PartItems) -> Option<usize>
+        ensures { (ss : List Source) → (cs : List Open) → Leads (keys_of self.now) items.now.level cs
+            → IsAhead (option_and_then first_index (path_behind (keys_of self.now) cs)) items.now.ahead (length ss)
+            → Leads (keys_of self.now) result (elements_so_far ss ∷ cs) }
     {
+        match items.ahead {
+            Some(0) => self.deeper(items.level),
+            _ => None,
+        }
+    }
+
+    /// The text of the part, if the document has it.
+    pub fn into_part(self) -> Option<Vec<u8>>
+        ensures { option_map (λ part. part.items) result ≡ part_of self.entry }
+    {
+        let PartRoom { text, found, .. } = self;
+        if found {
+            Some(text.into_buffer())
+        } else {
+            None
+        }
+    }
+}
+
+impl<'a> Sink<'a> for PartRoom<'a> {
+    ghost use Rattle.jsonb_write.specs.PartRoom.{PartFilled, PartHeld, PartStands, keys_of, members_of};
+    ghost use Rattle.jsonb_write.specs.PartRoom.PartHeld.{array_held, object_held};
+
+    type Items = PartItems;
+
+    type Members = PartMembers;
+
+    ghost Held = { PartHeld };
+
+    ghost array = { array_held };
+
+    ghost object = { object_held };
+
+    ghost stands = { PartStands };
+
+    ghost filled = { PartFilled };
+
+    ghost base = { keys_of };
+
+    ghost opened = { members_of };
+
+    ghost first = { λ members. members.first };
+
+    #[inline(always)]
+    fn contents(
+        body: &'a str,
+        mode: Mode,
+        offset: usize,
+    ) -> std::result::Result<Contents<'a>, Error> {
+        Contents::for_text(body, mode, offset)
+    }
+
+    #[inline(always)]
+    fn fill(&mut self, part: &Part<'a>, from: usize, to: usize) -> Result<(), AllocError> {
+        if !self.is_written() {
+            return Ok(());
+        }
+        self.text.fill(part, from, to)?;
+        self.inside = self.one_more()?;
+        self.end_inner()
+    }
+
+    #[inline(always)]
+    fn fill_kept(&mut self, kept: Kept, from: usize, to: usize) -> Result<(), AllocError> {
+        if !self.is_written() {
+            return Ok(());
+        }
+        self.text.fill_kept(kept, from, to)?;
+        self.inside = self.one_more()?;
+        self.end_inner()
+    }
+
+    fn begin_array(&mut self, at: usize) -> Result<PartItems, AllocError> {
         if !self.is_written() {
             return Ok(PartItems {
                 is_first: true,
@@ -202,27 +280,8 @@ impl<'a> PartRoom<'a> {
         })
     }
 
-    // How many keys of the path lead to the next item.
     #[inline(always)]
-    fn item_level(&self, items: &PartItems) -> Option<usize>
-        ensures { (ss : List Source) → (cs : List Open) → Leads (keys_of self.now) items.now.level cs
-            → IsAhead (option_and_then first_index (path_behind (keys_of self.now) cs)) items.now.ahead (length ss)
-            → Leads (keys_of self.now) result (elements_so_far ss ∷ cs) }
-    {
-        match items.ahead {
-            Some(0) => self.deeper(items.level),
-            _ => None,
-        }
-    }
-
-    /// What stands before an item.
-    #[inline(always)]
-    pub fn next_item(&mut self, items: &mut PartItems) -> Result<(), AllocError>
-        ensures stands { OnOk result ((text : List ℕ) → (held : List PartHeld) → (ss : List Source)
-            → (cs : List Open) → PartStands text self.old false (array_held items.old ∷ held) (elements_so_far ss ∷ cs)
-            → PartStands text self.new true (array_held items.new ∷ held) (elements_so_far ss ∷ cs)) }
-        ensures keys { keys_of self.new ≡ keys_of self.old }
-    {
+    fn next_item(&mut self, items: &mut PartItems) -> Result<(), AllocError> {
         if self.inside > 0 {
             return self.text.next_item(&mut items.is_first);
         }
@@ -230,30 +289,8 @@ impl<'a> PartRoom<'a> {
         Ok(())
     }
 
-    // A value that holds no others, where one is due.
     #[inline(always)]
-    fn fill(&mut self, part: &Part<'a>, from: usize, to: usize) -> Result<(), AllocError>
-        ensures stands { OnOk result ((text : List ℕ) → (s : Source) → (held : List PartHeld) → (cs : List Open)
-            → PartStands text self.old true held cs → SeesPart part.now s → IsSpelled text from to part.now
-            → PartFilled text self.new s held cs) }
-        ensures keys { keys_of self.new ≡ keys_of self.old }
-    {
-        if !self.is_written() {
-            return Ok(());
-        }
-        self.text.fill(part, from, to)?;
-        self.inside = self.one_more()?;
-        self.end_inner()
-    }
-
-    /// An item that ended.
-    #[inline(always)]
-    pub fn push_inner(&mut self, items: &mut PartItems)
-        ensures stands { (text : List ℕ) → (s : Source) → (held : List PartHeld) → (ss : List Source)
-            → (cs : List Open) → PartFilled text self.old s (array_held items.old ∷ held) (elements_so_far ss ∷ cs)
-            → PartStands text self.new false (array_held items.new ∷ held) (elements_so_far (ss ++ s ∷ []) ∷ cs) }
-        ensures keys { keys_of self.new ≡ keys_of self.old }
-    {
+    fn push_inner(&mut self, items: &mut PartItems) {
         if self.inside > 0 {
             self.text.push_inner(&mut items.is_first);
             return;
@@ -261,48 +298,15 @@ impl<'a> PartRoom<'a> {
         items.ahead = one_less(items.ahead);
     }
 
-    /// An item that holds no others, and that stands there in the text.
-    #[inline(always)]
-    pub fn push(
-        &mut self,
-        items: &mut PartItems,
-        part: Part<'a>,
-        from: usize,
-        to: usize,
-    ) -> Result<(), AllocError>
-        ensures stands { OnOk result ((text : List ℕ) → (s : Source) → (held : List PartHeld) → (ss : List Source)
-            → (cs : List Open) → PartStands text self.old false (array_held items.old ∷ held) (elements_so_far ss ∷ cs)
-            → SeesPart part.entry s → IsSpelled text from to part.entry
-            → PartStands text self.new false (array_held items.new ∷ held) (elements_so_far (ss ++ s ∷ []) ∷ cs)) }
-        ensures keys { keys_of self.new ≡ keys_of self.old }
-    {
-        self.next_item(items)?;
-        self.fill(&part, from, to)?;
-        self.push_inner(items);
-        Ok(())
-    }
-
-    /// The end of an array. Its bracket stands in the text at an index.
-    pub fn end_array(&mut self, items: &PartItems, at: usize) -> Result<(), AllocError>
-        ensures stands { OnOk result ((text : List ℕ) → (held : List PartHeld) → (ss : List Source)
-            → (cs : List Open) → PartStands text self.old false (array_held items.now ∷ held) (elements_so_far ss ∷ cs)
-            → PartFilled text self.new (array_source_of ss) held cs) }
-        ensures keys { keys_of self.new ≡ keys_of self.old }
-    {
+    fn end_array(&mut self, items: &PartItems, at: usize) -> Result<(), AllocError> {
         if self.inside == 0 {
             return Ok(());
         }
-        self.text.end_array(at)?;
+        self.text.end_array(&items.is_first, at)?;
         self.end_inner()
     }
 
-    /// An object begins where a value is due. Its brace stands in the text at an index.
-    pub fn begin_object(&mut self, at: usize) -> Result<PartMembers, AllocError>
-        ensures stands { IfOk result (λ m. (text : List ℕ) → (held : List PartHeld) → (cs : List Open)
-            → (key : Mark × List ℕ) → (place : ℕ) → PartStands text self.old true held cs
-            → PartStands text self.new false (object_held m ∷ held) (members_so_far [] key place ∷ cs)) }
-        ensures keys { keys_of self.new ≡ keys_of self.old }
-    {
+    fn begin_object(&mut self, at: usize) -> Result<PartMembers, AllocError> {
         if !self.is_written() {
             return Ok(PartMembers {
                 first: self.check.begin_object(),
@@ -314,121 +318,70 @@ impl<'a> PartRoom<'a> {
         Ok(PartMembers { first, level: None })
     }
 
-    /// A key whose bytes stand in the text from an index above 0 on, in double quotes and without escapes, and the
-    /// index after it. With 0 for the first index the key may stand anywhere.
-    pub fn borrowed_key(
+    fn borrowed_key(
         &mut self,
         members: &PartMembers,
         key: &'a str,
         from: usize,
         after: usize,
-    ) -> Result<(), AllocError>
-        ensures stands { OnOk result ((text : List ℕ) → (held : List PartHeld) → (fs : List Found)
-            → (k : Mark × List ℕ) → (place : ℕ) → (cs : List Open)
-            → PartStands text self.old false (object_held members.now ∷ held) (members_so_far fs k place ∷ cs)
-            → (0 < from → slice_range text (from - 1) after ≡ in_quotes key.now)
-            → PartStands text self.new true (object_held members.now ∷ held)
-            (members_so_far fs (plain, key.now) after ∷ cs)) }
-        ensures keys { keys_of self.new ≡ keys_of self.old }
-    {
+    ) -> Result<(), AllocError> {
         if self.inside > 0 {
-            return self.text.borrowed_key(members.first, key, from, after);
+            return self.text.borrowed_key(&members.first, key, from, after);
         }
         self.due = self.follow(members.level, key);
         self.check.borrowed_key(members.first, key, from, after)
     }
 
-    /// A key that stands so, and none of whose bytes has an escape.
-    pub fn plain_key(
+    fn plain_key(
         &mut self,
         members: &PartMembers,
         key: &'a str,
         from: usize,
         after: usize,
-    ) -> Result<(), AllocError>
-        ensures stands { OnOk result ((text : List ℕ) → (held : List PartHeld) → (fs : List Found)
-            → (k : Mark × List ℕ) → (place : ℕ) → (cs : List Open)
-            → PartStands text self.old false (object_held members.now ∷ held) (members_so_far fs k place ∷ cs)
-            → (0 < from → slice_range text (from - 1) after ≡ in_quotes key.now) → ArePlain key.now
-            → PartStands text self.new true (object_held members.now ∷ held)
-            (members_so_far fs (plain, key.now) after ∷ cs)) }
-        ensures keys { keys_of self.new ≡ keys_of self.old }
-    {
+    ) -> Result<(), AllocError> {
         if self.inside > 0 {
-            return self.text.plain_key(members.first, key, from, after);
+            return self.text.plain_key(&members.first, key, from, after);
         }
         self.due = self.follow(members.level, key);
         self.check.borrowed_key(members.first, key, from, after)
     }
 
-    /// A key, and the index after it in the text.
-    pub fn key(
+    fn key(
         &mut self,
         members: &PartMembers,
         key: CowStr<'a>,
         after: usize,
-    ) -> Result<(), AllocError>
-        ensures stands { OnOk result ((text : List ℕ) → (held : List PartHeld) → (fs : List Found)
-            → (k : Mark × List ℕ) → (place : ℕ) → (cs : List Open)
-            → PartStands text self.old false (object_held members.now ∷ held) (members_so_far fs k place ∷ cs)
-            → PartStands text self.new true (object_held members.now ∷ held)
-            (members_so_far fs (mark_view key.entry, cow_str_bytes key.entry) after ∷ cs)) }
-        ensures keys { keys_of self.new ≡ keys_of self.old }
-    {
+    ) -> Result<(), AllocError> {
         if self.inside > 0 {
-            return self.text.key(members.first, key, after);
+            return self.text.key(&members.first, key, after);
         }
         self.due = self.follow(members.level, key.as_str());
         self.check.key(members.first, key, after)
     }
 
-    /// A member's value that ended.
     #[inline(always)]
-    pub fn insert_inner(&mut self, members: &PartMembers)
-        ensures stands { (text : List ℕ) → (s : Source) → (held : List PartHeld) → (fs : List Found)
-            → (k : Mark × List ℕ) → (place : ℕ) → (cs : List Open) → (next : Mark × List ℕ) → (other : ℕ)
-            → PartFilled text self.old s (object_held members.now ∷ held) (members_so_far fs k place ∷ cs)
-            → PartStands text self.new false (object_held members.now ∷ held)
-            (members_so_far (fs ++ found_member k s place ∷ []) next other ∷ cs) }
-        ensures keys { keys_of self.new ≡ keys_of self.old }
-    {
+    fn insert_inner(&mut self, members: &PartMembers) {
         if self.inside > 0 {
-            self.text.insert_inner(members.first);
+            self.text.insert_inner(&members.first);
         }
     }
 
-    /// A member's value that holds no others, and that stands there in the text.
-    #[inline(always)]
-    pub fn insert(
+    fn end_object(
         &mut self,
         members: &PartMembers,
-        part: Part<'a>,
-        from: usize,
-        to: usize,
-    ) -> Result<(), AllocError>
-        ensures stands { OnOk result ((text : List ℕ) → (s : Source) → (held : List PartHeld) → (fs : List Found)
-            → (k : Mark × List ℕ) → (place : ℕ) → (cs : List Open) → (next : Mark × List ℕ) → (other : ℕ)
-            → PartStands text self.old true (object_held members.now ∷ held) (members_so_far fs k place ∷ cs)
-            → SeesPart part.entry s → IsSpelled text from to part.entry
-            → PartStands text self.new false (object_held members.now ∷ held)
-            (members_so_far (fs ++ found_member k s place ∷ []) next other ∷ cs)) }
-        ensures keys { keys_of self.new ≡ keys_of self.old }
-    {
-        self.fill(&part, from, to)?;
-        self.insert_inner(members);
-        Ok(())
+        at: usize,
+    ) -> Result<Option<usize>, AllocError> {
+        if self.inside == 0 {
+            return self.check.end_object(members.first);
+        }
+        let repeat = self.text.end_object(&members.first, at)?;
+        if repeat.is_none() {
+            self.end_inner()?;
+        }
+        Ok(repeat)
     }
 
-    /// Whether so many bytes of the part were moved that another way takes less time.
-    #[inline(always)]
-    pub fn moved_much(&self) -> bool {
-        self.text.moved_much()
-    }
-
-    /// The members among which those of the innermost object are.
-    pub fn members(&self) -> &OpenMembers<'a>
-        ensures { result.now ≡ members_of self.now }
-    {
+    fn open_members(&self) -> &OpenMembers<'a> {
         if self.inside > 0 {
             &self.text.members
         } else {
@@ -436,49 +389,16 @@ impl<'a> PartRoom<'a> {
         }
     }
 
-    /// The end of an object. Its brace stands in the text at an index. Where a key comes twice, what is returned is the
-    /// index, among the members, of the one where the least such key comes the second time.
-    pub fn end_object(
-        &mut self,
-        members: &PartMembers,
-        at: usize,
-    ) -> Result<Option<usize>, AllocError>
-        ensures stands { IfOk result (λ repeat. (text : List ℕ) → (held : List PartHeld) → (fs : List Found)
-            → (key : Mark × List ℕ) → (place : ℕ) → (cs : List Open)
-            → PartStands text self.old false (object_held members.now ∷ held) (members_so_far fs key place ∷ cs)
-            → MatchOption repeat (EndsObject text self.new fs held cs)
-            (λ i. TellsRepeatOf (members_of self.new) members.now.first fs i)) }
-        ensures keys { keys_of self.new ≡ keys_of self.old }
+    #[inline(always)]
+    fn first_member(members: &PartMembers) -> usize
+        ensures { result ≡ members.now.first }
     {
-        if self.inside == 0 {
-            return self.check.end_object(members.first);
-        }
-        let repeat = self.text.end_object(members.first, at)?;
-        if repeat.is_none() {
-            self.end_inner()?;
-        }
-        Ok(repeat)
+        members.first
     }
 
-    /// The text of the part, if the document has it.
-    pub fn into_part(self) -> Option<Vec<u8>>
-        ensures { option_map (λ part. part.items) result ≡ part_of self.entry }
-    {
-        let PartRoom { text, found, .. } = self;
-        if found {
-            Some(text.into_buffer())
-        } else {
-            None
-        }
-    }
-
-    /// A whole value that holds no others, and that stands there in the text.
-    pub fn root(&mut self, part: &Part<'a>, from: usize, to: usize) -> Result<(), AllocError>
-        ensures stands { OnOk result ((text : List ℕ) → (s : Source) → PartStands text self.old true [] []
-            → SeesPart part.now s → IsSpelled text from to part.now → PartFilled text self.new s [] []) }
-        ensures keys { keys_of self.new ≡ keys_of self.old }
-    {
-        self.fill(part, from, to)
+    #[inline(always)]
+    fn moved_much(&self) -> bool {
+        self.text.moved_much()
     }
 }
 

@@ -7,11 +7,15 @@ ghost use Rattle.text_common.specs.SpelledNumber.{StaysSpelled};
 
 use crate::contents::Contents;
 use crate::open_members::OpenMembers;
+use crate::sink::Sink;
 use crate::written::Written;
+use jsonb_scan::parser::Mode;
+use jsonb_value::error::Error;
 use jsonb_value::number::Number;
 use jsonb_value::plain::is_plain;
 use std::alloc::{AllocError, Global};
 use std::borrow::CowStr;
+use text_common::kept::Kept;
 
 /// A value that holds no others and is to be written, or one that is written.
 #[derive(Drop)]
@@ -65,7 +69,7 @@ impl<'a> TextRoom<'a> {
     ghost use Rattle.jsonb_write.specs.OpenText.{comma_unless};
     ghost use Rattle.text_common.specs.SourceText.{source_text};
     ghost use Rattle.jsonb_write.specs.OpenMembers.{TellsRepeatOf};
-    ghost use Rattle.jsonb_write.specs.TextRoom.{Closes, EndsObject, Held, IsSettled, KeepsMembers, IsSpelled, SeesPart, TextFilled, TextStands, Writes, base_of, part_text};
+    ghost use Rattle.jsonb_write.specs.TextRoom.{Closes, Held, IsSettled, KeepsMembers, IsSpelled, SeesPart, TextFilled, TextStands, Writes, base_of, part_text};
     ghost use Rattle.jsonb_write.specs.TextRoom.Held.{items, members};
     ghost use Rattle.jsonb_write.specs.Written.{bytes_of};
 
@@ -98,19 +102,6 @@ impl<'a> TextRoom<'a> {
         ensures base { base_of self.new ≡ base_of self.old }
     {
         self.written.put_at(byte, at)
-    }
-
-    /// An array begins where a value is due, with a bracket that stands in the text at an index. What is returned says
-    /// whether it has no items yet.
-    #[inline(always)]
-    pub fn begin_array(&mut self, at: usize) -> Result<bool, AllocError>
-        ensures stands { IfOk result (λ is_first. (text : List ℕ) → (held : List Held) → (cs : List Open)
-            → TextStands text self.old true held cs
-            → TextStands text self.new false (items is_first ∷ held) (elements_so_far [] ∷ cs)) }
-        ensures base { base_of self.new ≡ base_of self.old }
-    {
-        self.put_at(b'[', at)?;
-        Ok(true)
     }
 
     // Whether these bytes of the text may be kept as they are.
@@ -215,75 +206,6 @@ impl<'a> TextRoom<'a> {
         }
     }
 
-    /// What stands before an item: a comma, but before the first.
-    #[inline(always)]
-    pub fn next_item(&mut self, is_first: &mut bool) -> Result<(), AllocError>
-        ensures stands { OnOk result ((text : List ℕ) → (held : List Held) → (ss : List Source) → (cs : List Open)
-            → TextStands text self.old false (items is_first.old ∷ held) (elements_so_far ss ∷ cs)
-            → TextStands text self.new true (items is_first.new ∷ held) (elements_so_far ss ∷ cs)) }
-        ensures base { base_of self.new ≡ base_of self.old }
-        ensures bytes { OnOk result (Writes (comma_unless is_first.old) self.old self.new) }
-        ensures first { OnOk result (is_first.new ≡ false) }
-    {
-        if *is_first {
-            *is_first = false;
-            return Ok(());
-        }
-        self.put(b',')
-    }
-
-    /// An item that holds no others, and that stands there in the text.
-    #[inline(always)]
-    pub fn push(
-        &mut self,
-        is_first: &mut bool,
-        part: Part<'a>,
-        from: usize,
-        to: usize,
-    ) -> Result<(), AllocError>
-        ensures stands { OnOk result ((text : List ℕ) → (s : Source) → (held : List Held) → (ss : List Source)
-            → (cs : List Open) → TextStands text self.old false (items is_first.old ∷ held) (elements_so_far ss ∷ cs)
-            → SeesPart part.entry s → IsSpelled text from to part.entry
-            → TextStands text self.new false (items is_first.new ∷ held) (elements_so_far (ss ++ s ∷ []) ∷ cs)) }
-        ensures base { base_of self.new ≡ base_of self.old }
-    {
-        self.next_item(is_first)?;
-        self.part(&part, from, to)
-    }
-
-    /// An item that is written.
-    #[inline(always)]
-    pub fn push_inner(&mut self, is_first: &mut bool)
-        ensures stands { (text : List ℕ) → (s : Source) → (held : List Held) → (ss : List Source) → (cs : List Open)
-            → TextFilled text self.old s (items is_first.old ∷ held) (elements_so_far ss ∷ cs)
-            → TextStands text self.new false (items is_first.new ∷ held) (elements_so_far (ss ++ s ∷ []) ∷ cs) }
-        ensures base { base_of self.new ≡ base_of self.old }
-    {}
-
-    /// The end of an array, whose bracket stands in the text at an index.
-    #[inline(always)]
-    pub fn end_array(&mut self, at: usize) -> Result<(), AllocError>
-        ensures stands { OnOk result ((text : List ℕ) → (is_first : Bool) → (held : List Held) → (ss : List Source)
-            → (cs : List Open) → TextStands text self.old false (items is_first ∷ held) (elements_so_far ss ∷ cs)
-            → TextFilled text self.new (array_source_of ss) held cs) }
-        ensures base { base_of self.new ≡ base_of self.old }
-    {
-        self.put_at(b']', at)
-    }
-
-    /// An object begins where a value is due, with a brace that stands in the text at an index. What is returned is the
-    /// index of its first member.
-    #[inline(always)]
-    pub fn begin_object(&mut self, at: usize) -> Result<usize, AllocError>
-        ensures stands { IfOk result (λ first. (text : List ℕ) → (held : List Held) → (cs : List Open)
-            → (key : Mark × List ℕ) → (place : ℕ) → TextStands text self.old true held cs
-            → TextStands text self.new false (members first ∷ held) (members_so_far [] key place ∷ cs)) }
-        ensures base { base_of self.new ≡ base_of self.old }
-    {
-        self.put_at(b'{', at)?;
-        Ok(self.members.len())
-    }
-
     // The comma behind the members before, if there are any.
     #[inline(always)]
     fn next_member(&mut self, first: usize) -> Result<(), AllocError>
@@ -298,75 +220,6 @@ impl<'a> TextRoom<'a> {
             return self.put(b',');
         }
         Ok(())
-    }
-
-    /// A key whose bytes stand in the text from an index above 0 on, in double quotes and without escapes, and the
-    /// index after it. With 0 for the first index the key may stand anywhere.
-    #[inline(always)]
-    pub fn borrowed_key(
-        &mut self,
-        first: usize,
-        key: &'a str,
-        from: usize,
-        after: usize,
-    ) -> Result<(), AllocError>
-        ensures stands { OnOk result ((text : List ℕ) → (held : List Held) → (fs : List Found) → (k : Mark × List ℕ)
-            → (place : ℕ) → (cs : List Open)
-            → TextStands text self.old false (members first ∷ held) (members_so_far fs k place ∷ cs)
-            → (0 < from → slice_range text (from - 1) after ≡ in_quotes key.now)
-            → TextStands text self.new true (members first ∷ held) (members_so_far fs (plain, key.now) after ∷ cs)) }
-        ensures base { base_of self.new ≡ base_of self.old }
-    {
-        if 0 < from && self.is_range(from, after) {
-            self.next_member(first)?;
-            let start = self.written.len();
-            self.members.begin_within(from, after - 1, after, start)?;
-            self.string(key, from - 1, after)?;
-            return self.put(b':');
-        }
-        self.decoded_key(first, key, after)
-    }
-
-    /// A key that stands so, and none of whose bytes has an escape.
-    #[inline(always)]
-    pub fn plain_key(
-        &mut self,
-        first: usize,
-        key: &'a str,
-        from: usize,
-        after: usize,
-    ) -> Result<(), AllocError>
-        ensures stands { OnOk result ((text : List ℕ) → (held : List Held) → (fs : List Found) → (k : Mark × List ℕ)
-            → (place : ℕ) → (cs : List Open)
-            → TextStands text self.old false (members first ∷ held) (members_so_far fs k place ∷ cs)
-            → (0 < from → slice_range text (from - 1) after ≡ in_quotes key.now) → ArePlain key.now
-            → TextStands text self.new true (members first ∷ held) (members_so_far fs (plain, key.now) after ∷ cs)) }
-        ensures base { base_of self.new ≡ base_of self.old }
-    {
-        if 0 < from && self.is_range(from, after) {
-            self.next_member(first)?;
-            let start = self.written.len();
-            self.members.begin_within(from, after - 1, after, start)?;
-            self.keep(from - 1, after)?;
-            return self.put(b':');
-        }
-        self.decoded_key(first, key, after)
-    }
-
-    /// A key, and the index after it in the text.
-    #[inline(always)]
-    pub fn key(&mut self, first: usize, key: CowStr<'a>, after: usize) -> Result<(), AllocError>
-        ensures stands { OnOk result ((text : List ℕ) → (held : List Held) → (fs : List Found) → (k : Mark × List ℕ)
-            → (place : ℕ) → (cs : List Open)
-            → TextStands text self.old false (members first ∷ held) (members_so_far fs k place ∷ cs)
-            → TextStands text self.new true (members first ∷ held)
-            (members_so_far fs (mark_view key.entry, cow_str_bytes key.entry) after ∷ cs)) }
-        ensures base { base_of self.new ≡ base_of self.old }
-    {
-        match key {
-            CowStr::Borrowed(key) => self.decoded_key(first, key, after),
-            CowStr::Owned(key) => self.decoded_key(first, key.as_str(), after),
-        }
     }
 
     // A key that is kept among the decoded ones.
@@ -384,37 +237,6 @@ impl<'a> TextRoom<'a> {
         self.string(key, 0, 0)?;
         self.put(b':')
     }
-
-    /// A member's value that holds no others, and that stands there in the text.
-    #[inline(always)]
-    pub fn insert(
-        &mut self,
-        first: usize,
-        part: Part<'a>,
-        from: usize,
-        to: usize,
-    ) -> Result<(), AllocError>
-        ensures stands { OnOk result ((text : List ℕ) → (s : Source) → (held : List Held) → (fs : List Found)
-            → (k : Mark × List ℕ) → (place : ℕ) → (cs : List Open) → (next : Mark × List ℕ) → (other : ℕ)
-            → TextStands text self.old true (members first ∷ held) (members_so_far fs k place ∷ cs)
-            → SeesPart part.entry s → IsSpelled text from to part.entry
-            → TextStands text self.new false (members first ∷ held)
-            (members_so_far (fs ++ found_member k s place ∷ []) next other ∷ cs)) }
-        ensures base { base_of self.new ≡ base_of self.old }
-    {
-        self.part(&part, from, to)
-    }
-
-    /// A member's value that is written.
-    #[inline(always)]
-    pub fn insert_inner(&mut self, first: usize)
-        ensures stands { (text : List ℕ) → (s : Source) → (held : List Held) → (fs : List Found)
-            → (k : Mark × List ℕ) → (place : ℕ) → (cs : List Open) → (next : Mark × List ℕ) → (other : ℕ)
-            → TextFilled text self.old s (members first ∷ held) (members_so_far fs k place ∷ cs)
-            → TextStands text self.new false (members first ∷ held)
-            (members_so_far (fs ++ found_member k s place ∷ []) next other ∷ cs) }
-        ensures base { base_of self.new ≡ base_of self.old }
-    {}
 
     // Puts the members from an index on in the order of their keys. Where a key comes twice, it returns the index among
     // them of the one where the least such key comes the second time.
@@ -443,50 +265,6 @@ impl<'a> TextRoom<'a> {
         self.put_at(b'}', at)
     }
 
-    /// Whether so many bytes of members were moved that another way takes less time: several times those of the text.
-    #[inline(always)]
-    pub fn moved_much(&self) -> bool {
-        self.members.spare.total / MOST_MOVED > self.written.text.len()
-    }
-
-    /// The end of an object, whose brace stands in the text at an index. Where a key comes twice, what is returned is
-    /// the index, among the members, of the one where the least such key comes the second time.
-    #[inline(always)]
-    pub fn end_object(&mut self, first: usize, at: usize) -> Result<Option<usize>, AllocError>
-        ensures stands { IfOk result (λ repeat. (text : List ℕ) → (held : List Held) → (fs : List Found)
-            → (key : Mark × List ℕ) → (place : ℕ) → (cs : List Open)
-            → TextStands text self.old false (members first ∷ held) (members_so_far fs key place ∷ cs)
-            → MatchOption repeat (EndsObject text self.new fs held cs) (TellsRepeatOf self.new.members first fs)) }
-        ensures base { base_of self.new ≡ base_of self.old }
-    {
-        let repeat = self.settle(first)?;
-        if repeat.is_some() {
-            return Ok(repeat);
-        }
-        self.close(first, at)?;
-        Ok(None)
-    }
-
-    /// A whole value that holds no others, and that stands there in the text.
-    #[inline(always)]
-    pub fn root(&mut self, part: &Part<'a>, from: usize, to: usize) -> Result<(), AllocError>
-        ensures stands { OnOk result ((text : List ℕ) → (s : Source) → TextStands text self.old true [] []
-            → SeesPart part.now s → IsSpelled text from to part.now → TextFilled text self.new s [] []) }
-        ensures base { base_of self.new ≡ base_of self.old }
-    {
-        self.part(part, from, to)
-    }
-
-    /// A value that holds no others, where one is due, and that stands there in the text.
-    #[inline(always)]
-    pub fn fill(&mut self, part: &Part<'a>, from: usize, to: usize) -> Result<(), AllocError>
-        ensures stands { OnOk result ((text : List ℕ) → (s : Source) → (held : List Held) → (cs : List Open)
-            → TextStands text self.old true held cs → SeesPart part.now s → IsSpelled text from to part.now
-            → TextFilled text self.new s held cs) }
-        ensures base { base_of self.new ≡ base_of self.old }
-    {
-        self.part(part, from, to)
-    }
     /// The end of a whole value: all of it is in the buffer.
     pub fn finish(&mut self) -> Result<(), AllocError>
         ensures ok { OnOk result ((text : List ℕ) → (s : Source) → TextFilled text self.old s [] []
@@ -513,5 +291,154 @@ impl<'a> TextRoom<'a> {
         let mut out = self.into_buffer();
         out.truncate(base);
         out
+    }
+}
+
+impl<'a> Sink<'a> for TextRoom<'a> {
+    ghost use Rattle.jsonb_write.specs.TextRoom.{Held, TextFilled, TextStands, base_of};
+    ghost use Rattle.jsonb_write.specs.TextRoom.Held.{items, members};
+
+    // Whether there is no item yet.
+    type Items = bool;
+
+    // The index of the object's first member.
+    type Members = usize;
+
+    ghost Held = { Held };
+
+    ghost array = { items };
+
+    ghost object = { members };
+
+    ghost stands = { TextStands };
+
+    ghost filled = { TextFilled };
+
+    ghost base = { λ room. base_of room ∷ [] };
+
+    ghost opened = { λ room. room.members };
+
+    ghost first = { λ first. first };
+
+    #[inline(always)]
+    fn contents(
+        body: &'a str,
+        mode: Mode,
+        offset: usize,
+    ) -> std::result::Result<Contents<'a>, Error> {
+        Contents::for_text(body, mode, offset)
+    }
+
+    #[inline(always)]
+    fn fill(&mut self, part: &Part<'a>, from: usize, to: usize) -> Result<(), AllocError> {
+        self.part(part, from, to)
+    }
+
+    #[inline(always)]
+    fn fill_kept(&mut self, kept: Kept, from: usize, to: usize) -> Result<(), AllocError> {
+        self.kept(kept, from, to)
+    }
+
+    #[inline(always)]
+    fn begin_array(&mut self, at: usize) -> Result<bool, AllocError> {
+        self.put_at(b'[', at)?;
+        Ok(true)
+    }
+
+    #[inline(always)]
+    fn next_item(&mut self, is_first: &mut bool) -> Result<(), AllocError> {
+        if *is_first {
+            *is_first = false;
+            return Ok(());
+        }
+        self.put(b',')
+    }
+
+    #[inline(always)]
+    fn push_inner(&mut self, is_first: &mut bool) {}
+
+    #[inline(always)]
+    fn end_array(&mut self, is_first: &bool, at: usize) -> Result<(), AllocError> {
+        self.put_at(b']', at)
+    }
+
+    #[inline(always)]
+    fn begin_object(&mut self, at: usize) -> Result<usize, AllocError> {
+        self.put_at(b'{', at)?;
+        Ok(self.members.len())
+    }
+
+    #[inline(always)]
+    fn borrowed_key(
+        &mut self,
+        first: &usize,
+        key: &'a str,
+        from: usize,
+        after: usize,
+    ) -> Result<(), AllocError> {
+        if 0 < from && self.is_range(from, after) {
+            self.next_member(*first)?;
+            let start = self.written.len();
+            self.members.begin_within(from, after - 1, after, start)?;
+            self.string(key, from - 1, after)?;
+            return self.put(b':');
+        }
+        self.decoded_key(*first, key, after)
+    }
+
+    #[inline(always)]
+    fn plain_key(
+        &mut self,
+        first: &usize,
+        key: &'a str,
+        from: usize,
+        after: usize,
+    ) -> Result<(), AllocError> {
+        if 0 < from && self.is_range(from, after) {
+            self.next_member(*first)?;
+            let start = self.written.len();
+            self.members.begin_within(from, after - 1, after, start)?;
+            self.keep(from - 1, after)?;
+            return self.put(b':');
+        }
+        self.decoded_key(*first, key, after)
+    }
+
+    #[inline(always)]
+    fn key(&mut self, first: &usize, key: CowStr<'a>, after: usize) -> Result<(), AllocError> {
+        match key {
+            CowStr::Borrowed(key) => self.decoded_key(*first, key, after),
+            CowStr::Owned(key) => self.decoded_key(*first, key.as_str(), after),
+        }
+    }
+
+    #[inline(always)]
+    fn insert_inner(&mut self, first: &usize) {}
+
+    #[inline(always)]
+    fn end_object(&mut self, first: &usize, at: usize) -> Result<Option<usize>, AllocError> {
+        let repeat = self.settle(*first)?;
+        if repeat.is_some() {
+            return Ok(repeat);
+        }
+        self.close(*first, at)?;
+        Ok(None)
+    }
+
+    #[inline(always)]
+    fn open_members(&self) -> &OpenMembers<'a> {
+        &self.members
+    }
+
+    #[inline(always)]
+    fn first_member(first: &usize) -> usize
+        ensures { result ≡ first.now }
+    {
+        *first
+    }
+
+    #[inline(always)]
+    fn moved_much(&self) -> bool {
+        self.members.spare.total / MOST_MOVED > self.written.text.len()
     }
 }

@@ -92,11 +92,6 @@ put_all-snoc : (ms : List Member) (m : Member) (done : Members) → put_all (ms 
 put_all-snoc [] m done = refl
 put_all-snoc (n ∷ ms) m done = put_all-snoc ms m (put n.0 n.1 done)
 
--- what holds of a key that is new
-pub if_new : {P : Type 0} (b : Bool) → b ≡ true → MatchBool b P (Unit {0}) → P
-if_new true e h = h
-if_new false e h = absurd cc
-
 -- what follows for what was put in
 pub on_ok : {X A P Q : Type 0} (r : Result X A) → (P → Q) → OnOk r P → OnOk r Q
 on_ok (Ok x) f h = f h

@@ -7,7 +7,7 @@ ghost use Rattle.jsonb.specs.Follows.{FailsAsSpecified};
 ghost use Rattle.jsonb.specs.Parses.{Rejects};
 
 use super::Mode;
-use super::handler::SoughtPart;
+use super::handler::SinkPart;
 use super::straight::{may_allocate, value_of};
 use crate::part::part_at;
 use jsonb_parse::parse_text;
@@ -58,7 +58,7 @@ pub fn append_part(
         return append_part_of_value(alloc, text, mode, path, buf);
     }
     let mut room = PartRoom::new(alloc, text, path);
-    match parse_text::<SoughtPart>(&mut room, alloc, text, mode) {
+    match parse_text::<SinkPart<PartRoom>>(&mut room, alloc, text, mode) {
         Ok(_) => match room.into_part() {
             Some(part) => {
                 if buf.extend_from_slice(&part).is_err() {

@@ -7,7 +7,7 @@ ghost use Rattle.jsonb.specs.Appends.{AppendsKeyOf, AppendsTextOf, IsParsed, Lac
 ghost use Rattle.jsonb.specs.Follows.{FailsAsSpecified, FollowsSpecification};
 ghost use Rattle.jsonb.specs.Parses.{AppendsParsed, Parses, Rejects};
 
-use super::handler::{CheckedPart, KeyPart, TextPart};
+use super::handler::{CheckedPart, SinkPart};
 use super::{Mode, parse_value, parse_value_standard_mode};
 use jsonb_parse::parse_text;
 use jsonb_value::error::{Error, Result};
@@ -101,7 +101,7 @@ pub fn append_text(alloc: Global, text: &[u8], mode: Mode, buf: &mut Vec<u8>) ->
     }
     let out = mem::replace(buf, Vec::new(alloc));
     let mut room = TextRoom::new(alloc, text, out);
-    let read = parse_text::<TextPart>(&mut room, alloc, text, mode);
+    let read = parse_text::<SinkPart<TextRoom>>(&mut room, alloc, text, mode);
     match read {
         Ok(_) => {
             if room.finish().is_err() {
@@ -154,7 +154,7 @@ pub fn append_sort_key(alloc: Global, text: &[u8], mode: Mode, buf: &mut Vec<u8>
     }
     let out = mem::replace(buf, Vec::new(alloc));
     let mut room = KeyRoom::new(alloc, text, out);
-    let read = parse_text::<KeyPart>(&mut room, alloc, text, mode);
+    let read = parse_text::<SinkPart<KeyRoom>>(&mut room, alloc, text, mode);
     match read {
         Ok(_) => {
             if room.finish().is_err() {

@@ -6,9 +6,9 @@ use Rattle.jsonb_spec.specs.Tree.{Mark}
 use Rattle.jsonb_scan.specs.Open.{Open, members_so_far}
 use Rattle.jsonb_spec.specs.Source.{Found, sort_by, spot_of}
 use Rattle.jsonb_write.specs.Members.{join_pieces, member_key}
-use Rattle.jsonb_write.specs.OpenMembers.{AreOf, AreSettled, EndIn, KeysAscendFrom, PutsInOrder, TellsRepeatOf}
+use Rattle.jsonb_write.specs.OpenMembers.{AreOf, AreSettled, EndIn, EndsObject, KeysAscendFrom, PutsInOrder, TellsRepeatOf}
 use Rattle.jsonb_write.specs.OpenKey.{keys_joined, open_key}
-use Rattle.jsonb_write.specs.KeyRoom.{Closes, EndsObject, Held, HeldFits, IsSettled, KeepsMembers, KeyStands, base_of, members, key_layout}
+use Rattle.jsonb_write.specs.KeyRoom.{Closes, Held, HeldFits, IsSettled, KeepsMembers, KeyFilled, KeyStands, base_of, members, key_layout}
 use Rattle.jsonb_write.specs.declared.key.KeyRoom.{KeyRoom}
 use Rattle.jsonb_write.proofs.Keys.OpenKeys.{object_ended}
 use Rattle.jsonb_write.proofs.Objects.Ascending.{ascending_new}
@@ -64,7 +64,7 @@ in_order {r = r} {first = first} {fs = fs} {cs = cs} room up =
 -- ---- the end
 
 pub ended : {text : List ℕ} {r s t : KeyRoom} {first : ℕ} {held : List Held} {fs : List Found} {key : Mark × List ℕ} {place : ℕ} {cs : List Open} → KeyStands text r false (members first ∷ held) (members_so_far fs key place ∷ cs) → KeepsMembers r s → IsSettled r s fs cs → Closes first s t
-    → EndsObject text t fs held cs
+    → EndsObject (KeyFilled text) t fs held cs
 ended {text = text} {r = r} {t = t} {held = held} {fs = fs} {cs = cs} room keeps is closes =
     let body = open_key true cs ++ 209 ∷ keys_joined (map member_key (sort_by spot_of fs)) in
     let base : r.base ≡ t.base = sym (closes.base ∙ keeps.base) in
@@ -82,7 +82,7 @@ ended {text = text} {r = r} {t = t} {held = held} {fs = fs} {cs = cs} room keeps
 -- ---- what was told
 
 pub if_some : (text : List ℕ) (r s : KeyRoom) (first : ℕ) (fs : List Found) (held : List Held) (cs : List Open) (told : Option ℕ) → true ≡ is_some told → MatchOption told (IsSettled r s fs cs) (TellsRepeatOf s.members first fs)
-    → MatchOption told (EndsObject text s fs held cs) (TellsRepeatOf s.members first fs)
+    → MatchOption told (EndsObject (KeyFilled text) s fs held cs) (TellsRepeatOf s.members first fs)
 if_some text r s first fs held cs None e h = absurd cc
 if_some text r s first fs held cs (Some n) e h = h
 

@@ -1,12 +1,12 @@
 -- The room for a sort key after bytes were written.
-use Rattle.std.proofs.Common.{◌≡◌, ℕ, ◌+◌, ◌-◌, ◌<◌, ◌≤◌, Bool, false, List, [], ◌∷◌, ◌++◌, length, take, drop, drop-drop, slice_range, refl, sym, ap, ap₂, subst, ◌∙◌, arith, append_assoc, append-nil}
+use Rattle.std.proofs.Common.{◌≡◌, ℕ, ◌+◌, ◌-◌, ◌<◌, ◌≤◌, Bool, true, List, [], ◌∷◌, ◌++◌, length, take, drop, drop-drop, slice_range, refl, sym, ap, ap₂, subst, ◌∙◌, arith, append_assoc, append-nil}
 use Rattle.std.proofs.lemmas.List.{take-append-le}
 use Rattle.jsonb_spec.specs.SortKey.{text_key}
 use Rattle.jsonb_spec.specs.Text.{in_quotes}
 use Rattle.jsonb_value.proofs.SortKeys.Zeros.{plain_key}
-use Rattle.jsonb_scan.specs.Open.{Open, elements_so_far}
+use Rattle.jsonb_scan.specs.Open.{Open}
 use Rattle.jsonb_spec.specs.Source.{Source}
-use Rattle.jsonb_write.specs.KeyRoom.{Held, HeldFits, IsRoomWith, KeyStands, Writes, base_of, items, key_layout, part_key}
+use Rattle.jsonb_write.specs.KeyRoom.{Held, HeldFits, IsRoomWith, KeyFilled, KeyStands, Writes, base_of, key_layout, part_key}
 use Rattle.jsonb_write.specs.Members.{source_key}
 use Rattle.jsonb_write.specs.OpenMembers.{AreOf, AreSame, all_starts}
 use Rattle.jsonb_spec.specs.Text.StringText.{ArePlain}
@@ -16,7 +16,6 @@ use Rattle.jsonb_write.specs.declared.text.Part.{Part}
 use Rattle.jsonb_write.specs.declared.text.Part.TheVariants as part
 use Rattle.jsonb_write.proofs.OpenMembers.{key_there, same, stay}
 use Rattle.jsonb_write.proofs.FirstBytes.{behind_first}
-use Rattle.jsonb_write.proofs.Keys.OpenKeys.{item_joined}
 
 -- More bytes are written, and what is open holds the members that it held.
 pub goes_on : {text front bytes now : List ℕ} {r s : KeyRoom} {due then : Bool} {held kept : List Held} {cs ds : List Open} → IsRoomWith text r front due held cs → Writes bytes r s → front ++ bytes ≡ now
@@ -48,10 +47,9 @@ pub part_written : {text written : List ℕ} {r s : KeyRoom} {due : Bool} {held 
 part_written {r = r} {s = s} p v from to room sees spelled wrote =
     subst (λ bytes. Writes bytes r s) (sees_key p v sees) (wrote (subst (λ t. IsSpelled t from to p) (sym room.members.text_is) spelled))
 
--- an item behind those before it
-pub item_written : {text : List ℕ} {r s : KeyRoom} {held : List Held} {ss : List Source} {cs : List Open} (v : Source) → KeyStands text r false (items ∷ held) (elements_so_far ss ∷ cs) → Writes (source_key v) r s
-    → KeyStands text s false (items ∷ held) (elements_so_far (ss ++ v ∷ []) ∷ cs)
-item_written {ss = ss} {cs = cs} v room w = goes_on room w (item_joined ss v cs) refl room.fits
+-- a value where one was due
+pub value_written : {text : List ℕ} {r s : KeyRoom} {held : List Held} {cs : List Open} (v : Source) → KeyStands text r true held cs → Writes (source_key v) r s → KeyFilled text s v held cs
+value_written v room w = goes_on room w refl refl room.fits
 
 -- the room with another buffer
 pub wrote : {bytes : List ℕ} {r s : KeyRoom} → s.base ≡ r.base → AreSame r.members s.members → s.out.items ≡ r.out.items ++ bytes → Writes bytes r s

@@ -1,5 +1,5 @@
 -- The sort key of what is open, with one more part, and the sort key of a container that ends.
-use Rattle.std.proofs.Common.{◌≡◌, ℕ, true, false, List, [], ◌∷◌, ◌++◌, map, None, refl, sym, ap, ◌∙◌, append_assoc, append-nil}
+use Rattle.std.proofs.Common.{◌≡◌, ℕ, true, false, List, [], ◌∷◌, ◌++◌, map, None, refl, sym, ap, ◌∙◌, append_assoc}
 use Rattle.std.proofs.lemmas.List.{map-append}
 use Rattle.jsonb_spec.specs.SortKey.{items_key, text_key}
 use Rattle.jsonb_scan.specs.Open.{Open, elements_so_far}
@@ -18,16 +18,6 @@ pub more_keys : {A : Type 0} (f : A → List ℕ) (xs : List A) (x : A) → keys
 more_keys f xs x =
     ap keys_joined (map-append f xs (x ∷ [])) ∙ joined_more false (map f xs) (f x)
     ∙ ap (λ b. keys_joined (map f xs) ++ (b ++ f x)) (none_between (map f xs))
-
--- up to where the next item is due
-pub item_led : (ss : List Source) (cs : List Open) → open_key true (elements_so_far ss ∷ cs) ≡ open_key false (elements_so_far ss ∷ cs)
-item_led ss cs = ap (λ keys. open_key true cs ++ keys) (append-nil (parts_key (elements_so_far ss)))
-
--- an item behind those before it
-pub item_joined : (ss : List Source) (s : Source) (cs : List Open) → open_key false (elements_so_far ss ∷ cs) ++ source_key s ≡ open_key false (elements_so_far (ss ++ s ∷ []) ∷ cs)
-item_joined ss s cs =
-    append_assoc (open_key true cs) (parts_key (elements_so_far ss)) (source_key s)
-    ∙ ap (λ keys. open_key true cs ++ 210 ∷ keys) (sym (more_keys source_key ss s))
 
 -- a member's value behind its key
 pub member_joined : (fs : List Found) (f : Found) (before : List ℕ) → (before ++ ((209 ∷ keys_joined (map member_key fs)) ++ text_key f.key)) ++ source_key f.source ≡ before ++ 209 ∷ keys_joined (map member_key (fs ++ f ∷ []))

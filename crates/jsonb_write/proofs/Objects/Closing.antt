@@ -10,8 +10,7 @@ use Rattle.jsonb_spec.specs.Text.{with_commas}
 use Rattle.jsonb_spec.specs.Tree.{Members, no_members, more_members, put, put_all, object}
 use Rattle.jsonb_value.proofs.Trees.MembersInOrder.{put_all-ascending}
 use Rattle.jsonb_spec.specs.Source.{Found, Spot, spot_of, spot_cmp, tree_of_source, source_members_of, object_source, put_source_members, sort_by, insert_by, adjacent_repeat, first_repeat}
-use Rattle.jsonb_write.specs.Members.{SpotsAscend, between, between_after, join_pieces, others_joined, StandFrom, Piece, pieces_of, spots_of_pieces, bytes_of_pieces, pieces_in_order, source_key, member_key}
-use Rattle.jsonb_write.specs.declared.members.Member.{Member}
+use Rattle.jsonb_write.specs.Members.{SpotsAscend, between, between_after, join_pieces, others_joined, Piece, pieces_of, spots_of_pieces, bytes_of_pieces, pieces_in_order, source_key, member_key}
 use Rattle.jsonb_write.proofs.Objects.Ascending.{ascending_sorted}
 use Rattle.text_common.proofs.Repeats.{AreSorted, apart, below, key_cmp, sort_spots, sorted-sort}
 use Rattle.text_common.proofs.Shuffles.{sort-ascending, spots-sort}
@@ -118,11 +117,3 @@ joined_more commas (q ∷ ps) p =
 after_first : (commas : Bool) (q : List ℕ) (ps : List (List ℕ)) → length (join_pieces commas (q ∷ ps) ++ between_after commas (q ∷ ps)) ≡ length q + length (between commas) + length (join_pieces commas ps ++ between_after commas ps)
 after_first commas q [] = simp (length-append, append-nil) (omega arith)
 after_first commas q (r ∷ rs) = simp length-append (omega arith)
-
-pub stands_more : (commas : Bool) (here : ℕ) (ms : List Member) (ps : List (List ℕ)) (m : Member) (p : List ℕ) → StandFrom commas here ms ps → m.start ≡ here + length (join_pieces commas ps ++ between_after commas ps) → StandFrom commas here (ms ++ m ∷ []) (ps ++ p ∷ [])
-stands_more commas here [] [] m p h e = (omega arith, tt)
-stands_more commas here [] (q ∷ ps) m p h e = absurd h
-stands_more commas here (n ∷ ms) [] m p h e = absurd h
-stands_more commas here (n ∷ ms) (q ∷ ps) m p h e =
-    let start : m.start ≡ here + length q + length (between commas) + length (join_pieces commas ps ++ between_after commas ps) = omega (arith, after_first commas q ps, e) in
-    (h.0, stands_more commas (here + length q + length (between commas)) ms ps m p h.1 start)

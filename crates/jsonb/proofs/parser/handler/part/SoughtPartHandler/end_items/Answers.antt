@@ -1,7 +1,0 @@
-use Rattle.std.proofs.Common.{map}
-use Rattle.jsonb.specs.Held.{part_held}
-use Rattle.jsonb.proofs.Containers.Built.{on_ok}
-use Rattle.jsonb.proofs.parser.handler.part.SoughtPartHandler.end_items.Goals as goal
-
-pub returns-clause-ended : goal.returns-clause-ended
-returns-clause-ended c = on_ok c.end_array.result (λ h text ss fs cs held. h text (map part_held fs) ss cs held) c.end_array.ensures.stands

@@ -1,6 +1,0 @@
-use Rattle.std.proofs.Common.{map}
-use Rattle.jsonb.specs.Held.{part_held}
-use Rattle.jsonb.proofs.parser.handler.part.SoughtPartHandler.push_inner.Goals as goal
-
-pub returns-clause-put : goal.returns-clause-put
-returns-clause-put c = λ text s ss fs cs filled. c.push_inner.ensures.stands text s (map part_held fs) ss cs filled

@@ -1,7 +1,0 @@
-use Rattle.std.proofs.Common.{[], map}
-use Rattle.jsonb_spec.specs.Tree.Mark.{plain}
-use Rattle.jsonb.specs.Held.{key_held}
-use Rattle.jsonb.proofs.parser.handler.sort_key.KeyPartHandler.members.Goals as goal
-
-pub returns-clause-opened : goal.returns-clause-opened
-returns-clause-opened c = λ text fs cs held. c.in_ok-members.ensures.stands text (map key_held fs) cs (plain, []) 0 held

@@ -1,7 +1,0 @@
-use Rattle.std.proofs.Common.{map}
-use Rattle.jsonb.specs.Held.{key_held}
-use Rattle.jsonb.proofs.Containers.Built.{on_ok}
-use Rattle.jsonb.proofs.parser.handler.sort_key.KeyPartHandler.next_item.Goals as goal
-
-pub returns-clause-due : goal.returns-clause-due
-returns-clause-due c = on_ok c.next_item.result (λ h text ss fs cs held. h text (map key_held fs) ss cs held) c.next_item.ensures.stands

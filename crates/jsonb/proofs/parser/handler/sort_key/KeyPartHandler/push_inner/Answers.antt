@@ -1,6 +1,0 @@
-use Rattle.std.proofs.Common.{map}
-use Rattle.jsonb.specs.Held.{key_held}
-use Rattle.jsonb.proofs.parser.handler.sort_key.KeyPartHandler.push_inner.Goals as goal
-
-pub returns-clause-put : goal.returns-clause-put
-returns-clause-put c = λ text s ss fs cs filled. c.push_inner.ensures.stands text s (map key_held fs) ss cs filled

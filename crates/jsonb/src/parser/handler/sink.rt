@@ -1,0 +1,260 @@
+//! What a text's value is written to while the text is parsed, with no value made: serialized text, a sort key, or the
+//! text of a part.
+ghost use Rattle.std.specs.Prelude.{◌≡◌, ℕ, List, None, OnOk, Some, map, true};
+ghost use Rattle.jsonb.specs.Held.{IsScalarAt, held_by};
+ghost use Rattle.jsonb_scan.specs.Open.{Open};
+ghost use Rattle.jsonb_spec.specs.Source.{Source};
+ghost use Rattle.jsonb_write.specs.TextRoom.{SeesPart};
+
+use super::repeat::tell_repeat;
+use crate::parser::Mode;
+use jsonb_parse::{Failed, Handler, Kept, OpenObject, Scalar, Text, Wants};
+use jsonb_value::error::Error;
+use jsonb_write::sink::Sink;
+use jsonb_write::text::Part;
+use std::alloc::{AllocError, Global};
+use std::borrow::CowStr;
+use std::marker::PhantomData;
+
+// A scalar that isn't written to the sink yet, or a container that is.
+#[derive(Drop)]
+pub(in crate::parser) struct SinkPart<'a, S> {
+    part: Part<'a>,
+    // It is put in from where it stands in the text.
+    kept: Option<Kept>,
+    sink: PhantomData<S>,
+}
+
+impl<'a, S: Sink<'a>> SinkPart<'a, S> {
+    // A scalar that isn't written yet, or a value that is.
+    #[inline(always)]
+    fn of(part: Part<'a>) -> SinkPart<'a, S>
+        ensures part { result.part ≡ part.entry }
+        ensures kept { result.kept ≡ None }
+    {
+        SinkPart {
+            part,
+            kept: None,
+            sink: PhantomData,
+        }
+    }
+
+    // Writes the scalar where a value is due.
+    #[inline(always)]
+    fn fill(&self, sink: &mut S, from: usize, to: usize) -> Result<(), AllocError>
+        ensures filled { OnOk result ((text : List ℕ) → (s : Source) → (held : List S.Held) → (cs : List Open)
+            → S.stands text sink.old true held cs → IsScalarAt self.now.part self.now.kept from to text s
+            → S.filled text sink.new s held cs) }
+        ensures base { S.base sink.new ≡ S.base sink.old }
+    {
+        match self.kept {
+            Some(kept) => sink.fill_kept(kept, from, to),
+            None => sink.fill(&self.part, from, to),
+        }
+    }
+}
+
+impl<'a, S: Sink<'a>> Handler<'a> for SinkPart<'a, S> {
+    type Room = S;
+
+    type Items = S::Items;
+
+    type Members = S::Members;
+
+    type Key = ();
+
+    ghost sees = { λ v s. (v.kept ≡ None) × SeesPart v.part s };
+
+    ghost is_kept = { λ k v. v.kept ≡ Some k };
+
+    ghost stands = { λ text room due fs cs. S.stands text room due (map (held_by S.array S.object) fs) cs };
+
+    ghost completes = { λ text room f s fs cs. S.filled text room s (map (held_by S.array S.object) fs) cs };
+
+    ghost filled = { λ text room v s fs cs. S.filled text room s (map (held_by S.array S.object) fs) cs };
+
+    ghost base = { S.base };
+
+    ghost silent = { true };
+
+    ghost writes = { true };
+
+    ghost keeps = { true };
+
+    #[inline(always)]
+    fn wants() -> Wants
+        ensures { result.kept ≡ true }
+    {
+        Wants {
+            plain: true,
+            kept: true,
+        }
+    }
+
+    #[inline(always)]
+    fn scalar(value: Scalar<'a>) -> Self {
+        let kept = match value {
+            Scalar::Kept(kept) => Some(kept),
+            _ => None,
+        };
+        let part = match value {
+            Scalar::Null => Part::Null,
+            Scalar::Bool(value) => Part::Bool(value),
+            Scalar::Number(value) => Part::Number(value),
+            Scalar::String(Text::Plain(text)) => Part::Plain(text),
+            Scalar::String(Text::Borrowed(text)) => Part::String(CowStr::Borrowed(text)),
+            Scalar::String(Text::Decoded(text)) => Part::String(text),
+            Scalar::Kept(_) => Part::Null,
+        };
+        SinkPart {
+            part,
+            kept,
+            sink: PhantomData,
+        }
+    }
+
+    #[inline(always)]
+    fn escaped_string(
+        alloc: Global,
+        body: &'a str,
+        mode: Mode,
+        offset: usize,
+    ) -> Result<Self, Error> {
+        let contents = S::contents(body, mode, offset)?;
+        Ok(SinkPart::of(Part::Contents(contents)))
+    }
+
+    #[inline(always)]
+    fn root(sink: &mut S, value: &Self) -> Result<(), AllocError> {
+        sink.fill(&value.part, 0, 0)
+    }
+
+    #[inline(always)]
+    fn items(sink: &mut S, alloc: Global, at: usize) -> Result<S::Items, AllocError> {
+        sink.begin_array(at)
+    }
+
+    #[inline(always)]
+    fn next_item(sink: &mut S, items: &mut S::Items) -> Result<(), AllocError> {
+        sink.next_item(items)
+    }
+
+    #[inline(always)]
+    fn push(
+        sink: &mut S,
+        items: &mut S::Items,
+        value: Self,
+        from: usize,
+        to: usize,
+    ) -> Result<(), AllocError> {
+        sink.next_item(items)?;
+        value.fill(sink, from, to)?;
+        sink.push_inner(items);
+        Ok(())
+    }
+
+    #[inline(always)]
+    fn push_inner(
+        sink: &mut S,
+        items: &mut S::Items,
+        value: Self,
+        is_last: bool,
+    ) -> Result<(), AllocError> {
+        sink.push_inner(items);
+        Ok(())
+    }
+
+    #[inline(always)]
+    fn end_items(sink: &mut S, items: &mut S::Items, at: usize) -> Result<(), AllocError> {
+        sink.end_array(items, at)
+    }
+
+    #[inline(always)]
+    fn array(sink: &S, items: S::Items) -> Self {
+        SinkPart::of(Part::Written)
+    }
+
+    #[inline(always)]
+    fn members(
+        sink: &mut S,
+        alloc: Global,
+        at: usize,
+    ) -> Result<OpenObject<S::Members, ()>, AllocError> {
+        let members = sink.begin_object(at)?;
+        Ok(OpenObject { members, key: () })
+    }
+
+    #[inline(always)]
+    fn key(
+        sink: &mut S,
+        object: &mut OpenObject<S::Members, ()>,
+        alloc: Global,
+        text: Text<'a>,
+        from: usize,
+        after: usize,
+    ) -> Result<(), AllocError> {
+        match text {
+            Text::Plain(text) => sink.plain_key(&object.members, text, from, after),
+            Text::Borrowed(text) => sink.borrowed_key(&object.members, text, from, after),
+            Text::Decoded(text) => sink.key(&object.members, text, after),
+        }
+    }
+
+    #[inline(always)]
+    fn insert(
+        sink: &mut S,
+        object: &mut OpenObject<S::Members, ()>,
+        key: (),
+        value: Self,
+        from: usize,
+        to: usize,
+    ) -> Result<bool, AllocError> {
+        value.fill(sink, from, to)?;
+        sink.insert_inner(&object.members);
+        Ok(true)
+    }
+
+    #[inline(always)]
+    fn insert_inner(
+        sink: &mut S,
+        object: &mut OpenObject<S::Members, ()>,
+        alloc: Global,
+        value: Self,
+    ) -> Result<bool, AllocError> {
+        sink.insert_inner(&object.members);
+        Ok(true)
+    }
+
+    #[inline(always)]
+    fn finish(
+        sink: &mut S,
+        alloc: Global,
+        members: &mut S::Members,
+        told: &mut Option<Error>,
+        at: usize,
+    ) -> Result<(), Failed> {
+        if sink.moved_much() {
+            *told = None;
+            return Err(Failed);
+        }
+        match sink.end_object(members, at) {
+            Ok(None) => Ok(()),
+            Ok(Some(index)) => {
+                let first = S::first_member(members);
+                tell_repeat(sink.open_members(), alloc, first, index, told);
+                Err(Failed)
+            }
+            Err(_) => {
+                *told = Some(Error::OutOfMemory);
+                Err(Failed)
+            }
+        }
+    }
+
+    #[inline(always)]
+    fn object(sink: &S, members: S::Members) -> Self {
+        SinkPart::of(Part::Written)
+    }
+
+    fn dismantle(self) {}
+}

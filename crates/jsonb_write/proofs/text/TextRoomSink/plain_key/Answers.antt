@@ -1,0 +1,23 @@
+use Rattle.std.proofs.Common.{◌≤◌, arith, ap, length, length-append, refl, subst, sym, ◌∙◌}
+use Rattle.jsonb_spec.specs.Tree.{plain}
+use Rattle.jsonb_write.proofs.OpenMembers.{begun_there}
+use Rattle.jsonb_write.proofs.Rooms.{on_ok}
+use Rattle.jsonb_write.proofs.RoomMembers.{begins, begins_wrote, comma_led, counted, key_stands, quoted_kept, wrote_begins}
+use Rattle.jsonb_write.proofs.text.TextRoomSink.plain_key.Goals as goal
+
+pub keep-requires-clause-inside : goal.keep-requires-clause-inside
+keep-requires-clause-inside c = subst (λ t. c.args.after ≤ length t) (sym c.in_ok-next_member.ensures.text) (omega arith)
+
+pub returns-then-is_range-clause-stands : goal.returns-then-is_range-clause-stands
+returns-then-is_range-clause-stands c =
+    on_ok c.put.result c.put.ensures.bytes (λ colon text held fs k place cs room spelled is_plain.
+    let key = c.args.key.now in
+    let there = spelled c.if-from-gt0.true in
+    let inside : c.args.after ≤ length text = subst (λ t. c.args.after ≤ length t) room.text_is c.if-is_range.ensures.1 in
+    let comma = comma_led fs (counted room) c.in_ok-next_member.ensures.more c.in_ok-next_member.ensures.none in
+    let begun = begun_there key c.args.from c.args.after c.len-start.result (comma.members.text ∙ room.members.text_is) c.if-from-gt0.true c.if-is_range.ensures.0 inside there c.in_ok-begin_within.ensures in
+    let quoted = quoted_kept key c.args.from c.args.after (comma.text ∙ room.text_is) there is_plain c.in_ok-keep.ensures.bytes in
+    key_stands plain key c.args.after _ room (c.len-start.ensures ∙ ap length comma.written ∙ length-append _ _) (wrote_begins comma (begins_wrote (begins_wrote (begins refl refl begun) quoted) colon)) c.utf8.key)
+
+pub returns-clause-stands : goal.returns-clause-stands
+returns-clause-stands c = on_ok c.decoded_key.result c.decoded_key.ensures.stands (λ stands text held fs k place cs room spelled is_plain. stands text held fs k place cs plain room)
