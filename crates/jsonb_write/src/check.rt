@@ -1,8 +1,6 @@
 //! What is kept of a text that is only checked: the keys of the objects that are open.
-ghost use Rattle.std.specs.Prelude.{◌≡◌, ◌-◌, ◌<◌, ◌≤◌, ◌++◌, ◌∷◌, [], ℕ, List, true, false, length, slice_range, IfOk, IfSome, IsTrue, MatchBool, MatchOption, OnOk};
+ghost use Rattle.std.specs.Prelude.{◌≡◌, ◌-◌, ◌<◌, ◌≤◌, ◌∷◌, [], ℕ, List, true, false, length, slice_range, IfOk, MatchBool, MatchOption, OnOk};
 ghost use Rattle.std.specs.Cow.{cow_str_bytes};
-ghost use Rattle.std.specs.Option.{is_some};
-ghost use Rattle.std.specs.Str.{IsUtf8};
 
 use crate::open_members::OpenMembers;
 use std::alloc::{AllocError, Global};

@@ -9,7 +9,6 @@ ghost use Rattle.jsonb_spec.specs.Tree.{Num};
 ghost use Rattle.jsonb_write.specs.IntegerKey.{digit_bytes, last_byte, more_byte, more_bytes};
 
 use crate::key::KeyRoom;
-use crate::short::append_part;
 use jsonb_scan::parser::number::byte_at;
 use jsonb_value::sort_key::kind;
 use std::alloc::AllocError;
@@ -97,6 +96,19 @@ fn significant_len(digits: &[u8]) -> usize
     len
 }
 
+// Appends bytes one by one, which takes less time than a call where they are few.
+#[inline(always)]
+fn append_each(bytes: &[u8], out: &mut Vec<u8>) -> Result<(), AllocError>
+    ensures bytes { OnOk result (out.new.items ≡ out.old.items ++ bytes.now) }
+    ensures kept { Extends out.old.items out.new.items }
+{
+    out.try_reserve(bytes.len())?;
+    'bytes: for byte in bytes {
+        out.push_reserved(*byte);
+    }
+    Ok(())
+}
+
 // Appends the bytes of at most 16 digits, which are the first ones.
 #[inline(always)]
 fn append_short(
@@ -114,7 +126,7 @@ fn append_short(
     let last = (len - 1) / 2;
     let second = if len % 2 == 0 { digits[len - 1] } else { b'0' };
     row[last] = last_byte(digits[2 * last], second);
-    append_part(&inverted_if(negative, row), last + 1, out)
+    append_each(&inverted_if(negative, row)[..last + 1], out)
 }
 
 // Appends the bytes of any digits.

@@ -1,8 +1,6 @@
 //! Sort keys, written while a text is parsed.
-ghost use Rattle.std.specs.Prelude.{◌≡◌, ◌+◌, ◌-◌, ◌<◌, ◌≤◌, ◌++◌, ◌∷◌, [], ℕ, List, true, false, length, drop, take, slice_range, IfOk, IfSome, IsTrue, MatchBool, MatchOption, OnOk};
-ghost use Rattle.std.specs.Cow.{cow_str_bytes};
+ghost use Rattle.std.specs.Prelude.{◌≡◌, ◌+◌, ◌-◌, ◌<◌, ◌≤◌, ◌++◌, ◌∷◌, [], ℕ, List, true, false, length, slice_range, IfOk, MatchBool, MatchOption, OnOk};
 ghost use Rattle.std.specs.Option.{is_some};
-ghost use Rattle.std.specs.Str.{IsUtf8};
 
 use crate::contents::Contents;
 use crate::escaped_key::append_escaped_key;
@@ -34,21 +32,21 @@ pub struct KeyRoom<'a> {
 
 impl<'a> KeyRoom<'a> {
     ghost use Rattle.jsonb_scan.specs.Open.{Open};
-    ghost use Rattle.jsonb_scan.specs.Open.Open.{elements_so_far, members_so_far};
-    ghost use Rattle.jsonb_spec.specs.Source.{Found, Source, array_source_of, found_member, string_source};
+    ghost use Rattle.jsonb_scan.specs.Open.Open.{members_so_far};
+    ghost use Rattle.jsonb_spec.specs.Source.{Found, Source};
     ghost use Rattle.jsonb_spec.specs.SortKey.Kind as kind;
-    ghost use Rattle.jsonb_spec.specs.SortKey.{key_of, number_key, text_key};
+    ghost use Rattle.jsonb_spec.specs.SortKey.{number_key, text_key};
     ghost use Rattle.jsonb_spec.specs.Text.{in_quotes};
     ghost use Rattle.jsonb_spec.specs.Tree.{Mark};
     ghost use Rattle.jsonb_spec.specs.Tree.Mark.{plain};
-    ghost use Rattle.jsonb_value.specs.View.{mark_view, number_view};
+    ghost use Rattle.jsonb_value.specs.View.{number_view};
     ghost use Rattle.jsonb_write.specs.Contents.{text_of_contents};
     ghost use Rattle.jsonb_write.specs.KeyRoom.{Closes, Held, IsSettled, KeepsMembers, KeyFilled, KeyStands, Writes, base_of, part_key};
     ghost use Rattle.jsonb_write.specs.KeyRoom.Held.{items, members};
     ghost use Rattle.jsonb_write.specs.Members.{source_key};
     ghost use Rattle.jsonb_write.specs.OpenMembers.{TellsRepeatOf};
     ghost use Rattle.jsonb_spec.specs.Text.StringText.{ArePlain};
-    ghost use Rattle.jsonb_write.specs.TextRoom.{IsSpelled, SeesPart};
+    ghost use Rattle.jsonb_write.specs.TextRoom.{IsSpelled};
 
     /// A buffer to whose end a value's sort key is written.
     pub fn new(alloc: Global, text: &'a [u8], out: Vec<u8>) -> KeyRoom<'a>

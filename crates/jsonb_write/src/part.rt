@@ -1,6 +1,5 @@
 //! The text of one part of a document. The part is written, and all around it is only checked.
-ghost use Rattle.std.specs.Prelude.{◌≡◌, ◌+◌, ◌-◌, ◌<◌, ◌∷◌, ◌++◌, [], ℕ, List, Some, true, false, length, map, slice_range, string_bytes, IfOk, MatchBool, MatchOption, OnOk};
-ghost use Rattle.std.specs.Cow.{cow_str_bytes};
+ghost use Rattle.std.specs.Prelude.{◌≡◌, ◌+◌, ◌-◌, ◌<◌, ◌∷◌, [], ℕ, List, Some, true, false, length, map, string_bytes, IfOk, MatchBool, OnOk};
 ghost use Rattle.std.specs.Option.{option_and_then, option_map};
 ghost use Rattle.jsonb_write.specs.PartRoom.{less};
 
@@ -50,17 +49,10 @@ pub struct PartRoom<'a> {
 
 impl<'a> PartRoom<'a> {
     ghost use Rattle.jsonb_scan.specs.Open.{Open};
-    ghost use Rattle.jsonb_scan.specs.Open.Open.{elements_so_far, members_so_far};
-    ghost use Rattle.jsonb_spec.specs.Source.{Found, Source, array_source_of, found_member};
-    ghost use Rattle.jsonb_spec.specs.Text.{in_quotes};
-    ghost use Rattle.jsonb_spec.specs.Text.StringText.{ArePlain};
-    ghost use Rattle.jsonb_spec.specs.Tree.{Mark};
-    ghost use Rattle.jsonb_spec.specs.Tree.Mark.{plain};
-    ghost use Rattle.jsonb_value.specs.View.{mark_view};
-    ghost use Rattle.jsonb_write.specs.OpenMembers.{TellsRepeatOf};
+    ghost use Rattle.jsonb_scan.specs.Open.Open.{elements_so_far};
+    ghost use Rattle.jsonb_spec.specs.Source.{Source};
     ghost use Rattle.jsonb_write.specs.PartRoom.{InnerEnds, IsAhead, IsAround, IsWritten, Leads, PartFilled, PartHeld, PartStands, first_index, first_key, follow_key, keys_of, members_of, path_behind, other_keys, part_of, rest_at};
     ghost use Rattle.jsonb_write.specs.PartRoom.PartHeld.{array_held, object_held};
-    ghost use Rattle.jsonb_write.specs.TextRoom.{IsSpelled, SeesPart};
 
     /// No part yet, of a document of which nothing was parsed.
     pub fn new(alloc: Global, text: &'a [u8], path: &'a [String]) -> PartRoom<'a>

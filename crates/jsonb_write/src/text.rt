@@ -1,8 +1,6 @@
 //! Serialized text, written while another text is parsed: no whitespace, and members in the order of their keys.
-ghost use Rattle.std.specs.Prelude.{◌≡◌, ◌+◌, ◌-◌, ◌<◌, ◌≤◌, ◌++◌, ◌∷◌, [], ℕ, List, Bool, true, false, length, drop, take, slice_range, IfOk, IfSome, IsTrue, MatchBool, MatchOption, OnOk};
-ghost use Rattle.std.specs.Cow.{cow_str_bytes};
+ghost use Rattle.std.specs.Prelude.{◌≡◌, ◌+◌, ◌-◌, ◌<◌, ◌≤◌, ◌++◌, ◌∷◌, [], ℕ, List, Bool, true, false, length, slice_range, IfOk, MatchBool, MatchOption, OnOk};
 ghost use Rattle.std.specs.Option.{is_some};
-ghost use Rattle.std.specs.Str.{IsUtf8};
 ghost use Rattle.text_common.specs.SpelledNumber.{StaysSpelled};
 
 use crate::contents::Contents;
@@ -57,21 +55,20 @@ fn is_kept(number: &Number) -> bool
 
 impl<'a> TextRoom<'a> {
     ghost use Rattle.jsonb_scan.specs.Open.{Open};
-    ghost use Rattle.jsonb_scan.specs.Open.Open.{elements_so_far, members_so_far};
-    ghost use Rattle.jsonb_spec.specs.Source.{Found, Source, array_source_of, found_member};
+    ghost use Rattle.jsonb_scan.specs.Open.Open.{members_so_far};
+    ghost use Rattle.jsonb_spec.specs.Source.{Found, Source};
     ghost use Rattle.jsonb_spec.specs.Grammar.StandardNumber.{IsStandardNumber};
     ghost use Rattle.jsonb_spec.specs.Text.{in_quotes};
     ghost use Rattle.jsonb_spec.specs.Text.NumberText.{number_text};
     ghost use Rattle.jsonb_spec.specs.Text.StringText.{ArePlain, quoted_text};
     ghost use Rattle.jsonb_spec.specs.Tree.{Mark};
     ghost use Rattle.jsonb_spec.specs.Tree.Mark.{plain};
-    ghost use Rattle.jsonb_value.specs.View.{mark_view, number_view};
+    ghost use Rattle.jsonb_value.specs.View.{number_view};
     ghost use Rattle.jsonb_write.specs.OpenText.{comma_unless};
     ghost use Rattle.text_common.specs.SourceText.{source_text};
     ghost use Rattle.jsonb_write.specs.OpenMembers.{TellsRepeatOf};
-    ghost use Rattle.jsonb_write.specs.TextRoom.{Closes, Held, IsSettled, KeepsMembers, IsSpelled, SeesPart, TextFilled, TextStands, Writes, base_of, part_text};
+    ghost use Rattle.jsonb_write.specs.TextRoom.{Closes, Held, IsSettled, KeepsMembers, IsSpelled, TextFilled, TextStands, Writes, base_of, part_text};
     ghost use Rattle.jsonb_write.specs.TextRoom.Held.{items, members};
-    ghost use Rattle.jsonb_write.specs.Written.{bytes_of};
 
     /// A buffer to whose end a value is written.
     pub fn new(alloc: Global, text: &'a [u8], out: Vec<u8>) -> TextRoom<'a>
