@@ -3,7 +3,7 @@
 ghost use Rattle.std.specs.Prelude.{◌≡◌, ◌≤◌, ◌++◌, List, ℕ, map, string_bytes, Option, None, MatchOption};
 ghost use Rattle.jsonb_key.specs.Readable.{IsReadable};
 ghost use Rattle.jsonb_spec.specs.SortKey.{key_of};
-ghost use Rattle.jsonb_spec.specs.Text.Appending.{AppendsAllOrNothing};
+ghost use Rattle.jsonb_spec.specs.Text.Appending.{AppendsAllOrNothing, Extends};
 ghost use Rattle.jsonb_spec.specs.Tree.{Tree};
 ghost use Rattle.stored_edit.specs.Edit.{Outcome, becomes, with_part, without_part, AppendsKey, Edits, EditsKeys, KeepsOnError};
 ghost use Rattle.jsonb_stored.specs.AtKeys.{OfKey};
@@ -78,18 +78,14 @@ pub fn append_with_part(
     }
 }
 
-// Appends the key with the part at the place.
-pub(crate) fn put_part(
-    out: &mut Vec<u8>,
-    key: &[u8],
-    place: &Place,
-    part: &[u8],
-) -> Result<(), EditError>
+/// Appends the key with the part at the place.
+pub fn put_part(out: &mut Vec<u8>, key: &[u8], place: &Place, part: &[u8]) -> Result<(), EditError>
     requires { place.now.room ≤ 511 }
     ensures put { (changed : (Option Tree → Outcome) → Option Tree) → (s : PlaceIn changed key.now place.now)
         → (u : Tree) → IsReadable u → part.now ≡ key_of u → (change : Option Tree → Outcome)
         → change s.0.there ≡ becomes u → MatchOption (changed change) ⊥ (λ v. AppendsKey v result out.old out.new) }
     ensures keeps { KeepsOnError result out.old out.new }
+    ensures kept { Extends out.old.items out.new.items }
 {
     if !fits(part, place.room)? {
         return Err(EditError::TooDeep);
@@ -107,6 +103,7 @@ fn write_part(out: &mut Vec<u8>, key: &[u8], place: &Place, part: &[u8]) -> Resu
         → (there ≡ None → name ≡ place.now.name.now) → AppendsAllOrNothing result out.old out.new
         (front ++ (name_key place.now.object name ++ (part.now ++ place.now.behind.now))) }
     ensures keeps { KeepsOnError result out.old out.new }
+    ensures kept { Extends out.old.items out.new.items }
 {
     let spot = place.spot;
     if spot.found {

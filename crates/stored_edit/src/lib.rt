@@ -7,9 +7,9 @@ pub mod error;
 mod fit;
 pub mod laws;
 pub mod merge;
-mod place;
-mod splice;
-mod spot;
+pub mod place;
+pub mod splice;
+pub mod spot;
 mod step;
 
 pub use build::{EMPTY_ARRAY, EMPTY_OBJECT, append_with_item, append_with_member};

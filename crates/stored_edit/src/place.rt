@@ -13,17 +13,17 @@ use jsonb_stored::skip::MAX_DEPTH;
 /// Where in a key the part at a path stands, or would stand; what is behind it; whether that is in an object; the last
 /// name of the path; and how many arrays and objects a part may have in one another there.
 #[derive(Clone, Copy)]
-pub(crate) struct Place<'k, 'n> {
-    pub(crate) spot: Spot<'k>,
-    pub(crate) behind: &'k [u8],
-    pub(crate) object: bool,
-    pub(crate) name: &'n str,
-    pub(crate) room: usize,
+pub struct Place<'k, 'n> {
+    pub spot: Spot<'k>,
+    pub behind: &'k [u8],
+    pub object: bool,
+    pub name: &'n str,
+    pub room: usize,
 }
 
 /// The place that the path leads to; `None` where there is none, since an earlier name leads nowhere, the last one is
 /// no index of an array, or there is no name. Of an earlier part only the beginning is looked for.
-pub(crate) fn find_place<'k, 'n>(
+pub fn find_place<'k, 'n>(
     key: &'k [u8],
     names: &'n [String],
 ) -> Result<Option<Place<'k, 'n>>, NoKey>

@@ -15,7 +15,7 @@ pub(crate) fn append(out: &mut Vec<u8>, bytes: &[u8]) -> Result<(), AllocError>
 }
 
 /// Appends the four, one after the other.
-pub(crate) fn splice(
+pub fn splice(
     out: &mut Vec<u8>,
     front: &[u8],
     first: &[u8],

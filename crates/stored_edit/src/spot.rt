@@ -17,10 +17,10 @@ use std::cmp::Ordering;
 /// Where a part stands in the bytes, or would stand: all that is left of them from its name on, which an item has none
 /// of, and from its value on. Where no part is there, both are what follows the place.
 #[derive(Clone, Copy)]
-pub(crate) struct Spot<'k> {
-    pub(crate) found: bool,
-    pub(crate) entry: &'k [u8],
-    pub(crate) value: &'k [u8],
+pub struct Spot<'k> {
+    pub found: bool,
+    pub entry: &'k [u8],
+    pub value: &'k [u8],
 }
 
 // A place where no part is, before what is left.

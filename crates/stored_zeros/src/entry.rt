@@ -9,7 +9,7 @@ use std::alloc::AllocError;
 
 /// Appends what is stored of a number with so many zeros, before which so many without any come. The answer is how many
 /// come before the next one.
-pub(crate) fn append_entry(plain: usize, count: u8, buf: &mut Vec<u8>) -> Result<usize, AllocError>
+pub fn append_entry(plain: usize, count: u8, buf: &mut Vec<u8>) -> Result<usize, AllocError>
     ensures appends { plain < 2 ^ 63 → Appends result buf.old buf.new (entry_of plain count) }
     ensures plain { plain < 2 ^ 63 → IfOk result (λ more. more ≡ plain_behind plain count) }
     ensures keeps { Keeps buf.old buf.new }
@@ -23,8 +23,8 @@ pub(crate) fn append_entry(plain: usize, count: u8, buf: &mut Vec<u8>) -> Result
     Ok(0)
 }
 
-// Appends a number below 2^63, seven bits in a byte.
-fn append_sevens(n: usize, buf: &mut Vec<u8>) -> Result<(), AllocError>
+/// Appends a number below 2^63, seven bits in a byte, the lowest first.
+pub fn append_sevens(n: usize, buf: &mut Vec<u8>) -> Result<(), AllocError>
     ensures appends { n < 2 ^ 63 → Appends result buf.old buf.new (in_sevens 8 n) }
     ensures keeps { Keeps buf.old buf.new }
 {
@@ -39,7 +39,7 @@ fn append_sevens(n: usize, buf: &mut Vec<u8>) -> Result<(), AllocError>
 
 /// Of the first number that zeros end: how many numbers without any come before it, how many zeros there are, and what
 /// is stored of the numbers behind it. `None` where the bytes begin with nothing of the kind.
-pub(crate) fn next_entry(zeros: &[u8]) -> Option<(usize, u8, &[u8])>
+pub fn next_entry(zeros: &[u8]) -> Option<(usize, u8, &[u8])>
     ensures found { (plain count : ℕ) → plain < 2 ^ 63 → 0 < count → (more : List ℕ)
         → zeros.now ≡ in_sevens 8 plain ++ count ∷ more
         → MatchOption result ⊥ (λ r. (r.0 ≡ plain) × (r.1 ≡ count) × (r.2.now ≡ more)) }

@@ -3,7 +3,7 @@
 #![tactic(auto)]
 
 mod count;
-mod entry;
+pub mod entry;
 pub mod error;
 pub mod laws;
 mod numbers;

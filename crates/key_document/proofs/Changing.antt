@@ -1,0 +1,172 @@
+-- Documents of changed values, from what is appended of their keys and their zeros.
+use Rattle.std.proofs.Common.{◌≡◌, ℕ, ◌+◌, ◌^◌, ◌<◌, ◌≤◌, Bool, true, false, inl, inr, List, [], ◌++◌, Option, Some, None, MatchOption, Result, Ok, Err, length, take, refl, sym, ap, subst, ◌∙◌, arith, append_assoc, length-append}
+use Rattle.std.specs.Prelude.{IsErrAnd, Vec, vec_len, vec_capacity}
+use Rattle.std.specs.declared.alloc.Global.{Global}
+use Rattle.std.proofs.Math.Seq.{take-append_seam}
+use Rattle.jsonb_key.specs.Readable.{IsAnyNumber}
+use Rattle.jsonb_spec.specs.Grammar.{max_depth}
+use Rattle.jsonb_spec.specs.Proper.{IsProper}
+use Rattle.jsonb_spec.specs.SortKey.{key_of}
+use Rattle.jsonb_spec.specs.Text.Appending.{Extends}
+use Rattle.jsonb_spec.specs.Text.Range.{IsWithin}
+use Rattle.jsonb_spec.specs.Tree.{Tree}
+use Rattle.key_document.specs.Changes.{Answers, IsLacking, as_document_error}
+use Rattle.key_document.specs.Document.{behind_key, counts_at, document_of, zeros_at}
+use Rattle.key_document.specs.Splices.{Cut, IsSplice, AreSpliced, entry_counts, spliced_counts}
+use Rattle.key_document.specs.declared.error.DocumentError.{DocumentError}
+use Rattle.key_document.specs.declared.error.DocumentError.TheVariants.{OutOfMemory}
+use Rattle.key_document.specs.declared.splice.Lengths.{Lengths}
+use Rattle.key_document.proofs.Agreeing.{agree}
+use Rattle.key_document.proofs.Counts.{one_each}
+use Rattle.key_document.proofs.Splicing.{at_splice}
+use Rattle.stored_edit.specs.Edit.{Outcome, goes, becomes, changed_at, remove, set_to, without_part, with_part}
+use Rattle.stored_edit.specs.Edit.{IsLacking as KeyLacks}
+use Rattle.stored_edit.specs.Spots.{Answers as SpotAnswers, PlaceIn, Stands}
+use Rattle.stored_edit.specs.declared.error.EditError.{EditError}
+use Rattle.stored_edit.specs.declared.error.EditError.TheVariants as edits
+use Rattle.stored_edit.specs.declared.place.Place.{Place}
+use Rattle.stored_zeros.specs.Zeros.{zeros_of}
+
+false_true : false ≡ true → ⊥
+false_true e = cc
+
+none_some : {A : Type 0} {a : A} → None ≡ Some a → ⊥
+none_some e = cc
+
+-- ---- the counts of a changed value
+
+-- A value was changed at a place: the counts of its key's bytes before the place and behind it stay, and those of the
+-- part stand between them, behind the name, which has none.
+pub record ChangedAt (t v : Tree) (part : List ℕ) (front behind : ℕ) : Type 0 where
+  pub first : List ℕ
+  pub entry : List ℕ
+  pub last : List ℕ
+  pub name : ℕ
+  pub counts_are : counts_at t ≡ first ++ (entry ++ last)
+  pub changed_are : counts_at v ≡ spliced_counts first name part last
+  pub first_is : length first ≡ front
+  pub last_is : length last ≡ behind
+  pub long : length (key_of v) ≡ front + (name + (length part + behind))
+
+set_splice : (cut : Cut) (u v : Tree) (create : Bool) (there : Option Tree) → IsSplice key_of counts_at cut (set_to u create there) (Some v) → IsSplice key_of counts_at cut (becomes u) (Some v)
+set_splice cut u v create (Some w) h = h
+set_splice cut u v true None h = h
+set_splice cut u v false None h = absurd h
+
+remove_splice : (cut : Cut) (v : Tree) (there : Option Tree) → IsSplice key_of counts_at cut (remove there) (Some v) → IsSplice key_of counts_at cut goes (Some v)
+remove_splice cut v (Some w) h = h
+remove_splice cut v None h = absurd h
+
+module _ (names : List (List ℕ)) (t v : Tree) (key : List ℕ) (place : Place) (p : IsProper t) (s : PlaceIn (λ change. changed_at change names t) key place) where
+  pub set_changes : (u : Tree) (create : Bool) → IsProper u → with_part names u create t ≡ Some v → ChangedAt t v (counts_at u) (length s.0.front) (length place.behind.now)
+  set_changes u create q is = elim (at_splice names t p) [
+    | inl none ↦ absurd (none_some (sym (none (set_to u create)) ∙ is))
+    | inr x ↦
+        let a = agree t (λ change. changed_at change names t) key place s x in
+        let h = set_splice x.cut u v create x.there (subst (λ o. IsSplice key_of counts_at x.cut (set_to u create x.there) o) is (x.answers (set_to u create))) in
+        record {
+          first = x.cut.counts_front;
+          entry = entry_counts x.cut.name x.there;
+          last = x.cut.counts_behind;
+          name = length x.cut.name;
+          counts_are = x.counts_are;
+          changed_are = h.1;
+          first_is = omega (arith, x.one_each, ap length a.front_is);
+          last_is = omega (arith, x.each_behind, ap length a.behind_is);
+          long = omega (arith, ap length h.0, ap length a.front_is, ap length a.behind_is, one_each u q, length-append x.cut.front (x.cut.name ++ (key_of u ++ x.cut.behind)), length-append x.cut.name (key_of u ++ x.cut.behind), length-append (key_of u) x.cut.behind);
+        }
+  ]
+
+  pub remove_changes : without_part names t ≡ Some v → ChangedAt t v [] (length s.0.front) (length place.behind.now)
+  remove_changes is = elim (at_splice names t p) [
+    | inl none ↦ absurd (none_some (sym (none remove) ∙ is))
+    | inr x ↦
+        let a = agree t (λ change. changed_at change names t) key place s x in
+        let h = remove_splice x.cut v x.there (subst (λ o. IsSplice key_of counts_at x.cut (remove x.there) o) is (x.answers remove)) in
+        record {
+          first = x.cut.counts_front;
+          entry = entry_counts x.cut.name x.there;
+          last = x.cut.counts_behind;
+          name = 0;
+          counts_are = x.counts_are;
+          changed_are = h.1;
+          first_is = omega (arith, x.one_each, ap length a.front_is);
+          last_is = omega (arith, x.each_behind, ap length a.behind_is);
+          long = omega (arith, ap length h.0, ap length a.front_is, ap length a.behind_is, length-append x.cut.front x.cut.behind);
+        }
+  ]
+
+module _ {t v : Tree} {part : List ℕ} {front behind : ℕ} (x : ChangedAt t v part front behind) where
+  pub are_spliced : (zeros part_zeros : List ℕ) (key_len : ℕ) (lengths : Lengths) → IsProper t → zeros ≡ zeros_at t → part_zeros ≡ zeros_of 0 part → key_len ≡ length (key_of t)
+      → lengths.front ≡ front → lengths.name ≡ x.name → lengths.part ≡ length part → lengths.behind ≡ behind → key_len < 2 ^ 63 → length (key_of v) < 2 ^ 63
+      → AreSpliced key_len zeros part_zeros lengths x.first x.entry part x.last
+  are_spliced zeros part_zeros key_len lengths p z pz k f n l b small fit = record {
+    zeros_are = z ∙ ap (zeros_of 0) x.counts_are;
+    part_are = pz;
+    key_is = omega (arith, k, one_each t p, ap length x.counts_are, length-append x.first (x.entry ++ x.last), length-append x.entry x.last);
+    front_is = omega (arith, f, x.first_is);
+    part_is = l;
+    behind_is = omega (arith, b, x.last_is);
+    small = small;
+    fit = omega (arith, fit, x.long, n, x.first_is, x.last_is);
+  }
+
+  pub as_tail : (name : ℕ) → name ≡ x.name → behind_key (zeros_of 0 (spliced_counts x.first name part x.last)) ≡ behind_key (zeros_at v)
+  as_tail name e = ap (λ n. behind_key (zeros_of 0 (spliced_counts x.first n part x.last))) e ∙ ap (λ counts. behind_key (zeros_of 0 counts)) (sym x.changed_are)
+
+-- ---- what is told
+
+-- There is an answer, of which this is so.
+pub record Told (answer : Option Tree) (P : Tree → Type 0) : Type 0 where
+  pub tree : Tree
+  pub is : answer ≡ Some tree
+  pub holds : P tree
+
+pub told : (answer : Option Tree) (P : Tree → Type 0) → MatchOption answer ⊥ P → Told answer P
+told None P h = absurd h
+told (Some v) P h = record { tree = v; is = refl; holds = h }
+
+pub removed : (names : List (List ℕ)) (t : Tree) (key : List ℕ) (place : Place) (s : PlaceIn (λ change. changed_at change names t) key place) → place.spot.found ≡ true
+    → Told (without_part names t) (λ v. (key_of v ≡ s.0.front ++ place.behind.now) × IsWithin IsAnyNumber v max_depth)
+removed names t key place s found = go s.0.there s.0.stands (without_part names t) refl (s.0.answers remove)
+  where
+    go : (there : Option Tree) → Stands place.object s.0.name place.spot s.0.behind there → (o : Option Tree) → without_part names t ≡ o
+        → SpotAnswers key_of (λ u. IsWithin IsAnyNumber u max_depth) place.object s.0.name s.0.front s.0.behind place.room (remove there) o
+        → Told (without_part names t) (λ v. (key_of v ≡ s.0.front ++ place.behind.now) × IsWithin IsAnyNumber v max_depth)
+    go None st o e a = absurd (false_true (sym st.0 ∙ found))
+    go (Some w) st None e a = absurd a
+    go (Some w) st (Some v) e a = record { tree = v; is = e; holds = (a.0 ∙ ap (λ b. s.0.front ++ b) s.1, a.1) }
+
+-- the document is appended, and that is told
+pub answered : (answer : Option Tree) (v : Tree) (old mid new : Vec ℕ Global) (tail : List ℕ) → answer ≡ Some v → IsWithin IsAnyNumber v max_depth → mid.items ≡ old.items ++ key_of v → tail ≡ behind_key (zeros_at v) → new.items ≡ mid.items ++ tail → Answers answer (Ok true) old new
+answered answer v old mid new tail is fits appended e more = subst (λ o. Answers o (Ok true) old new) (sym is)
+    (record { ok = more ∙ ap (λ t. mid.items ++ t) e ∙ ap (λ m. m ++ behind_key (zeros_at v)) appended ∙ append_assoc old.items (key_of v) (behind_key (zeros_at v)); fits = fits; errors = tt }, refl)
+
+-- the capacity for the zeros is missing
+pub lacking : (answer : Option Tree) (v : Tree) (error : DocumentError) (old mid new : Vec ℕ Global) (tail : List ℕ) → answer ≡ Some v → mid.items ≡ old.items ++ key_of v → vec_capacity old ≤ vec_capacity mid → tail ≡ behind_key (zeros_at v)
+    → (error ≡ OutOfMemory) × (vec_capacity mid < vec_len mid + length tail) → Answers answer (Err error) old new
+lacking answer v error old mid new tail is appended room e full =
+    let short : vec_capacity old < vec_len old + length (document_of v) = omega (arith, full.1, room, ap length e, old.ok.0, mid.ok.0, ap length appended, length-append old.items (key_of v), length-append (key_of v) (behind_key (zeros_at v))) in
+    subst (λ o. Answers o (Err error) old new) (sym is) (record { ok = tt; fits = tt; errors = subst (λ error. IsLacking v old error) (sym full.0) short }, tt)
+
+-- the key isn't appended
+key_lacks : (v : Tree) (old : Vec ℕ Global) (error : EditError) → KeyLacks v old error → IsLacking v old (as_document_error error)
+key_lacks v old edits.NoKey h = absurd h
+key_lacks v old edits.TooDeep h = h
+key_lacks v old edits.OutOfMemory h = omega (arith, h, length-append (key_of v) (behind_key (zeros_at v)))
+
+pub no_key_told : (answer : Option Tree) (v : Tree) (r : Result Bool DocumentError) (error : EditError) (old new : Vec ℕ Global) → answer ≡ Some v → IsErrAnd r (λ e. e ≡ as_document_error error) → KeyLacks v old error → Answers answer r old new
+no_key_told answer v (Ok b) error old new is h lacks = absurd h
+no_key_told answer v (Err e) error old new is h lacks = subst (λ o. Answers o (Err e) old new) (sym is) (record { ok = tt; fits = tt; errors = subst (λ e. IsLacking v old e) (sym h) (key_lacks v old error lacks) }, tt)
+
+-- the buffer is cut to what was in it
+pub cut_back : {mid : List ℕ} (old new : Vec ℕ Global) → Extends old.items mid → Extends mid new.items → (n : ℕ) → n ≡ vec_len old → take n new.items ≡ old.items
+cut_back old new first second n is =
+    let same : n ≡ length old.items = omega (arith, is, old.ok.0) in
+    ap (take n) (second.extended ∙ ap (λ m. m ++ second.more) first.extended ∙ append_assoc old.items first.more second.more)
+    ∙ ap (λ k. take k (old.items ++ (first.more ++ second.more))) same ∙ take-append_seam old.items (first.more ++ second.more)
+
+-- what is told of a place
+abbrev pub ToldPlace : Tree → List (List ℕ) → List ℕ → Option Place → Type 0
+ToldPlace t names key told = MatchOption told ((change : Option Tree → Outcome) → changed_at change names t ≡ None)
+    (PlaceIn (λ change. changed_at change names t) key)

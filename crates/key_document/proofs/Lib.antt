@@ -1,0 +1,11 @@
+pub mod Counts
+pub mod Splicing
+pub mod Agreeing
+pub mod Merging
+pub mod Endings
+pub mod Backwards
+pub mod Tails
+pub mod Passing
+pub mod Joining
+pub mod Ending
+pub mod Changing

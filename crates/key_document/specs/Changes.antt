@@ -1,0 +1,77 @@
+-- What is appended of a document: a part, or what a change makes of it.
+use Rattle.std.specs.Prelude.{◌≡◌, ℕ, ◌+◌, ◌<◌, ◌≤◌, Bool, true, false, List, ◌++◌, length, Option, Some, None, Result, Ok, OnOk, OnErr, IfOk, IfErr, MatchResult, Vec, vec_len}
+use Rattle.std.specs.Borrow.{Bor}
+use Rattle.std.specs.Vec.{vec_capacity}
+use Rattle.std.specs.declared.alloc.Global.{Global}
+use Rattle.jsonb_key.specs.Readable.{IsAnyNumber}
+use Rattle.jsonb_spec.specs.Grammar.{max_depth}
+use Rattle.jsonb_spec.specs.SortKey.{key_of}
+use Rattle.jsonb_spec.specs.Text.Range.{IsWithin}
+use Rattle.jsonb_spec.specs.Tree.{Tree}
+use Rattle.key_document.specs.Document.{counts_at, document_of, OfDocument}
+use Rattle.stored_zeros.specs.Numbers.{Pends}
+use Rattle.stored_zeros.specs.Zeros.{plain_at_end, zeros_of}
+use Rattle.key_document.specs.declared.error.DocumentError.{DocumentError}
+use Rattle.key_document.specs.declared.error.DocumentError.TheVariants.{NoDocument, TooDeep, OutOfMemory}
+use Rattle.stored_edit.specs.declared.error.EditError.{EditError}
+use Rattle.stored_edit.specs.declared.error.EditError.TheVariants as edits
+
+-- Why the document of the value isn't appended: it has too many arrays and objects in one another, or the capacity for
+-- the document is missing.
+abbrev pub IsLacking : Tree → Vec ℕ Global → DocumentError → Type 0
+IsLacking t old NoDocument = ⊥
+IsLacking t old TooDeep = IsWithin IsAnyNumber t max_depth → ⊥
+IsLacking t old OutOfMemory = vec_capacity old < vec_len old + length (document_of t)
+
+-- The document of the value is appended, which has no more than 512 arrays and objects in one another.
+pub record AppendsDocument {X : Type 0} (t : Tree) (result : Result X DocumentError) (old new : Vec ℕ Global) : Type 0 where
+  pub ok : OnOk result (new.items ≡ old.items ++ document_of t)
+  pub fits : OnOk result (IsWithin IsAnyNumber t max_depth)
+  pub errors : IfErr result (IsLacking t old)
+
+-- Where there is an answer, its document is appended, and that is told. Else nothing is appended.
+abbrev pub Answers : Option Tree → Result Bool DocumentError → Vec ℕ Global → Vec ℕ Global → Type 0
+Answers (Some t) result old new = AppendsDocument t result old new × IfOk result (λ told. told ≡ true)
+Answers None result old new = (result ≡ Ok false) × (new.items ≡ old.items)
+
+-- Whichever value the document is of, what is answered of it is so.
+abbrev pub AnswersOf : (Tree → Option Tree) → List ℕ → Result Bool DocumentError → Vec ℕ Global → Vec ℕ Global → Type 0
+AnswersOf answer document result old new = OfDocument document (λ t. Answers (answer t) result old new)
+
+-- Whichever values the two documents are of, what is answered of the second one in the first is so.
+abbrev pub AnswersOfBoth : (Tree → Tree → Option Tree) → List ℕ → List ℕ → Result Bool DocumentError → Vec ℕ Global
+    → Vec ℕ Global → Type 0
+AnswersOfBoth answer document part result old new =
+    OfDocument document (λ t. OfDocument part (λ u. Answers (answer u t) result old new))
+
+-- After an error the buffer has its old bytes, and its capacity doesn't shrink.
+pub record KeepsOnError {X E : Type 0} (result : Result X E) (old new : Vec ℕ Global) : Type 0 where
+  pub err : OnErr result (new.items ≡ old.items)
+  pub capacity : vec_capacity old ≤ vec_capacity new
+
+-- In a key these bytes come first, and then the key of the part; and so it is with the counts of its bytes.
+pub record IsBehind (key counts before : List ℕ) (part : Tree) : Type 0 where
+  pub counts_before : List ℕ
+  pub one_each : length counts_before ≡ length before
+  pub behind : List ℕ
+  pub counts_behind : List ℕ
+  pub key_is : key ≡ before ++ (key_of part ++ behind)
+  pub counts_are : counts ≡ counts_before ++ (counts_at part ++ counts_behind)
+
+-- so in the key of the value
+abbrev pub IsPartBehind : Tree → List ℕ → Tree → Type 0
+IsPartBehind t before part = IsBehind (key_of t) (counts_at t) before part
+
+-- The zeros of these bytes are appended, it is told how many without any stand at the end, and what pends of those that
+-- are left. Else memory ran out, as the capacity for all of the zeros is missing.
+abbrev pub CopiesOn : ℕ → List ℕ → List ℕ → Result (ℕ × Option (ℕ × ℕ × Bor (List ℕ))) DocumentError → Vec ℕ Global
+    → Vec ℕ Global → Type 0
+CopiesOn plain taken left result old new = MatchResult result
+    (λ r. (new.items ≡ old.items ++ zeros_of plain taken) × (r.0 ≡ plain_at_end plain taken) × Pends left r.1)
+    (λ e. (e ≡ OutOfMemory) × (vec_capacity old < vec_len old + length (zeros_of plain taken)))
+
+-- the error of a change of a key, as one of a change of a document
+abbrev pub as_document_error : EditError → DocumentError
+as_document_error edits.NoKey = NoDocument
+as_document_error edits.TooDeep = TooDeep
+as_document_error edits.OutOfMemory = OutOfMemory

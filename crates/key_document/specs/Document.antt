@@ -1,0 +1,61 @@
+-- What is stored of a value: its sort key, and after it the zeros that end its decimals.
+use Rattle.std.specs.Prelude.{◌≡◌, ◌≢◌, ℕ, zero, suc, ◌-◌, unsigned_abs, List, [], ◌∷◌, ◌++◌, length, replicate, reverse}
+use Rattle.jsonb_key.specs.Readable.{IsReadable}
+use Rattle.jsonb_spec.specs.SortKey.{key_of, number_key, text_key}
+use Rattle.jsonb_spec.specs.Tree.{Tree, number, array, object, Trees, no_trees, more_trees, Members, no_members, more_members}
+use Rattle.stored_text.specs.FewestDigits.{spare_zeros}
+use Rattle.stored_zeros.specs.Zeros.{in_sevens, zeros_of}
+
+abbrev mutual
+  -- Of each byte of a value's key: how many zeros end the digits behind the point of the number whose key begins there;
+  -- 0 where none does.
+  pub counts_at : Tree → List ℕ
+  counts_at (number n) =
+      spare_zeros n.scale (unsigned_abs n.whole) ∷ replicate (length (number_key n) - 1) 0
+  counts_at (array ts) = 0 ∷ counts_at_items ts
+  counts_at (object ms) = 0 ∷ counts_at_members ms
+  counts_at t = replicate (length (key_of t)) 0
+
+  -- those of the items' keys, and of the end
+  pub counts_at_items : Trees → List ℕ
+  counts_at_items no_trees = 0 ∷ []
+  counts_at_items (more_trees t ts) = counts_at t ++ counts_at_items ts
+
+  -- those of the names and of the values' keys, and of the end
+  pub counts_at_members : Members → List ℕ
+  counts_at_members no_members = 0 ∷ 0 ∷ []
+  counts_at_members (more_members key t ms) =
+      replicate (length (text_key key)) 0 ++ (counts_at t ++ counts_at_members ms)
+
+-- the last byte of a document with zeros, which ends no key
+abbrev pub zeros_mark : ℕ
+zeros_mark = 0xFF
+
+-- What follows zeros that take so many bytes: nothing where there are none, and else that number, which is read from the
+-- end: the mark, and seven bits in a byte, the lowest first.
+abbrev pub end_of : ℕ → List ℕ
+end_of zero = []
+end_of (suc size) = reverse (zeros_mark ∷ in_sevens 8 (suc size))
+
+-- what follows a key: the zeros, and their end
+abbrev pub behind_key : List ℕ → List ℕ
+behind_key zeros = zeros ++ end_of (length zeros)
+
+-- the zeros that end a value's decimals, by the bytes of its key
+abbrev pub zeros_at : Tree → List ℕ
+zeros_at t = zeros_of 0 (counts_at t)
+
+-- the document of a value
+abbrev pub document_of : Tree → List ℕ
+document_of t = key_of t ++ behind_key (zeros_at t)
+
+-- Whichever value's document the bytes are, this is so of the value.
+abbrev pub OfDocument : List ℕ → (Tree → Type 0) → Type 0
+OfDocument bytes Is = (t : Tree) → IsReadable t → bytes ≡ document_of t → Is t
+
+-- The bytes end, and with another byte than this.
+pub record EndsUnlike (byte : ℕ) (bytes : List ℕ) : Type 0 where
+  pub front : List ℕ
+  pub last : ℕ
+  pub is : bytes ≡ front ++ last ∷ []
+  pub other : last ≢ byte

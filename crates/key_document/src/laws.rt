@@ -1,0 +1,77 @@
+//! What is known of documents beside their functions.
+
+ghost use Rattle.std.specs.Prelude.{◌≡◌, ◌++◌, [], List, ℕ, length, Option};
+ghost use Rattle.std.specs.declared.cmp.Ordering.TheVariants.{Less, Equal, Greater};
+ghost use Rattle.jsonb_key.specs.Readable.{IsReadable};
+ghost use Rattle.jsonb_spec.specs.Keys.{IsBelowKeys};
+ghost use Rattle.jsonb_stored.specs.Open.{name_key};
+ghost use Rattle.std.specs.Ordering.{ordering_then};
+ghost use Rattle.jsonb_spec.specs.Order.{bytes_cmp, tree_cmp};
+ghost use Rattle.jsonb_spec.specs.Proper.{IsProper};
+ghost use Rattle.jsonb_spec.specs.SortKey.{key_of};
+ghost use Rattle.jsonb_spec.specs.Tree.{Tree, Trees, Members, more_members};
+ghost use Rattle.key_document.specs.Changes.{IsPartBehind};
+ghost use Rattle.key_document.specs.Document.{behind_key, counts_at, counts_at_items, document_of, zeros_at, zeros_mark, EndsUnlike};
+ghost use Rattle.key_document.specs.Merging.{counts_of_items};
+ghost use Rattle.key_document.specs.Splices.{Agrees, AreSplices, Spliced};
+ghost use Rattle.stored_edit.specs.Edit.{Outcome, changed_at, joined_items, merged_members};
+ghost use Rattle.stored_edit.specs.Spots.{PlaceIn};
+ghost use Rattle.stored_edit.specs.declared.place.Place.{Place};
+ghost use Rattle.stored_zeros.specs.Numbers.{counts_taken};
+ghost use Rattle.stored_zeros.specs.PartsOf.{StandsIn};
+
+/// Documents compare as the values do; where these are equal, what stands behind their keys decides. A key alone bounds
+/// the documents of its value and of those above it from below.
+pub fn documents_order()
+    ensures order { (t u : Tree) → IsProper t → IsProper u → bytes_cmp (document_of t) (document_of u)
+        ≡ ordering_then (tree_cmp t u) (bytes_cmp (behind_key (zeros_at t)) (behind_key (zeros_at u))) }
+    ensures bounds { (t u : Tree) → IsProper t → IsProper u → bytes_cmp (document_of t) (key_of u)
+        ≡ ordering_then (tree_cmp t u) (bytes_cmp (behind_key (zeros_at t)) []) }
+{}
+
+/// There is a count for each byte of a key.
+pub fn each_byte_has_a_count()
+    ensures { (t : Tree) → IsProper t → length (counts_at t) ≡ length (key_of t) }
+{}
+
+/// Where the key of a part stands in that of a value, the counts of its bytes stand in the same place. So the zeros of a
+/// part are had by `write_zeros_of_numbers`, with the offset and the size of its key.
+pub fn parts_have_their_zeros()
+    ensures stand { (t part : Tree) → IsProper t → (before : List ℕ) → (numbers : ℕ)
+        → StandsIn t before numbers part → IsPartBehind t before part }
+    ensures taken { (t part : Tree) → IsProper part → (before : List ℕ) → IsPartBehind t before part
+        → counts_taken (length before) (length (key_of part)) (counts_at t) ≡ counts_at part }
+{}
+
+/// A value changed at a path has the key of the value with a splice in it, and the counts of its bytes have the splice in
+/// the same places. So a document is changed by splicing its key, and its zeros at the same offsets.
+pub fn changes_are_splices()
+    ensures { (names : List (List ℕ)) → (t : Tree) → IsProper t
+        → Spliced key_of counts_at t (λ change. changed_at change names t) }
+{}
+
+/// The place that a path leads to in a key is that of the splice.
+pub fn places_are_cuts()
+    ensures { (t : Tree) → (changed : (Option Tree → Outcome) → Option Tree) → (bytes : List ℕ) → (place : Place)
+        → (s : PlaceIn changed bytes place) → (x : AreSplices key_of counts_at t changed)
+        → Agrees s.0.front (name_key place.object s.0.name) place.behind.now x.cut }
+{}
+
+/// The members of two objects are merged from the first ones on: the one with the lower name comes next, and of two with
+/// one name that of the right object. The counts of joined items are those of both.
+pub fn merges_take_members()
+    ensures left { (k l : List ℕ) → (t u : Tree) → (ms ns : Members) → IsBelowKeys l ns → bytes_cmp k l ≡ Less
+        → merged_members (more_members k t ms) (more_members l u ns)
+        ≡ more_members k t (merged_members ms (more_members l u ns)) }
+    ensures right { (k l : List ℕ) → (t u : Tree) → (ms ns : Members) → IsBelowKeys l ns → bytes_cmp k l ≡ Greater
+        → merged_members (more_members k t ms) (more_members l u ns)
+        ≡ more_members l u (merged_members (more_members k t ms) ns) }
+    ensures instead { (k l : List ℕ) → (t u : Tree) → (ms ns : Members) → IsBelowKeys l ns → bytes_cmp k l ≡ Equal
+        → merged_members (more_members k t ms) (more_members l u ns) ≡ more_members l u (merged_members ms ns) }
+    ensures joined { (ts us : Trees) → counts_at_items (joined_items ts us) ≡ counts_of_items ts ++ counts_at_items us }
+{}
+
+/// No key ends with the byte with which zeros behind a key do. So the last byte tells whether there are any.
+pub fn keys_end_unlike_zeros()
+    ensures { (t : Tree) → IsReadable t → EndsUnlike zeros_mark (key_of t) }
+{}

@@ -1,0 +1,13 @@
+//! Values that are kept as their sort keys and the zeros that end their decimals, as one thing: a document.
+#![tactic(auto)]
+
+pub mod document;
+pub mod edit;
+pub mod error;
+pub mod laws;
+mod splice;
+mod zeros;
+
+pub use document::split_document;
+pub use edit::{append_with_part, append_without_part};
+pub use error::DocumentError;

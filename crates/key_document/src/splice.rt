@@ -1,0 +1,69 @@
+//! The zeros of a key in which a part is put, or from which one is taken.
+
+ghost use Rattle.std.specs.Prelude.{List, ℕ};
+ghost use Rattle.key_document.specs.Splices.{AppendsZeros, AreSpliced, spliced_counts};
+ghost use Rattle.key_document.specs.Document.{behind_key};
+ghost use Rattle.stored_text.specs.Writes.{Keeps};
+ghost use Rattle.stored_zeros.specs.Zeros.{zeros_of};
+
+use crate::document::end_zeros;
+use crate::error::DocumentError;
+use crate::zeros::{all_left, copy, more_plain, pass};
+
+/// How many bytes of the new key stand before the place of a change, are the name and the part there, and stand behind
+/// it.
+#[derive(Clone, Copy)]
+pub(crate) struct Lengths {
+    pub(crate) front: usize,
+    pub(crate) name: usize,
+    pub(crate) part: usize,
+    pub(crate) behind: usize,
+}
+
+/// Appends what follows the new key: its zeros, and their end. They are those of the old key, which has so many bytes,
+/// before the place and behind it, and between them those of the part.
+pub(crate) fn splice_zeros(
+    out: &mut Vec<u8>,
+    key_len: usize,
+    zeros: &[u8],
+    part_zeros: &[u8],
+    lengths: &Lengths,
+) -> Result<(), DocumentError>
+    ensures spliced { (front entry part behind : List ℕ)
+        → AreSpliced key_len zeros.now part_zeros.now lengths.now front entry part behind
+        → AppendsZeros result out.old out.new
+        (behind_key (zeros_of 0 (spliced_counts front lengths.now.name part behind))) }
+    ensures keeps { Keeps out.old out.new }
+{
+    let start = out.len();
+    join_zeros(out, key_len, zeros, part_zeros, lengths)?;
+    let size = out.len().saturating_sub(start);
+    end_zeros(size, out)?;
+    Ok(())
+}
+
+// Appends the zeros alone.
+fn join_zeros(
+    out: &mut Vec<u8>,
+    key_len: usize,
+    zeros: &[u8],
+    part_zeros: &[u8],
+    lengths: &Lengths,
+) -> Result<(), DocumentError>
+    ensures joined { (front entry part behind : List ℕ)
+        → AreSpliced key_len zeros.now part_zeros.now lengths.now front entry part behind
+        → AppendsZeros result out.old out.new (zeros_of 0 (spliced_counts front lengths.now.name part behind)) }
+    ensures keeps { Keeps out.old out.new }
+{
+    let all = all_left(zeros)?;
+    let part_all = all_left(part_zeros)?;
+    let entry = key_len
+        .saturating_sub(lengths.front)
+        .saturating_sub(lengths.behind);
+    let (plain, left) = copy(0, all, lengths.front, out)?;
+    let rest = pass(left, entry)?;
+    let named = more_plain(plain, lengths.name)?;
+    let (more, _) = copy(named, part_all, lengths.part, out)?;
+    copy(more, rest, lengths.behind, out)?;
+    Ok(())
+}
