@@ -1,0 +1,11 @@
+//! What the program `vjson` makes of one text: whether it is one, its serialized form, a part of it, its sort key.
+#![tactic(auto)]
+
+pub mod fault;
+pub mod mask;
+pub mod reader;
+pub mod strict;
+pub mod word;
+
+pub use fault::Fault;
+pub use reader::{Grammar, Layout, append, append_key, append_part, append_raw, check};

@@ -1,0 +1,300 @@
+//! The calls on one text, in one of three grammars.
+
+ghost use Rattle.std.specs.Prelude.{◌≡◌, ◌≢◌, ◌++◌, map, string_bytes, IfOk, IfErr, OnOk, OnErr};
+ghost use Rattle.jsonb_spec.specs.Grammar.{IsDocument, IsNoDocument};
+ghost use Rattle.jsonb_spec.specs.Indented.{indented_text};
+ghost use Rattle.jsonb_spec.specs.Tree.{Tree};
+ghost use Rattle.jsonb_scan.specs.Answer.{mode_of};
+ghost use Rattle.jsonb_value.specs.View.{view};
+ghost use Rattle.vjson_text.specs.Json.{AppendsKeyOf, AppendsLaidOut, AppendsPartOf, AppendsTextOf, IsTextOf};
+ghost use Rattle.vjson_text.specs.Read.{IsReadAs, Rejects, parser_mode, read_text};
+
+use crate::fault::{Fault, fault_at, fault_of};
+use crate::mask::masked;
+use crate::strict::strict_fault;
+use jsonb::parser::Mode;
+use jsonb::{Error, ParseErrorCode, Value};
+use plain_numbers::{PlainError, has_exponent, write_masked_numbers, write_plain_numbers};
+use std::alloc::Global;
+
+/// Which texts are read.
+#[derive(Clone, Copy, PartialEq, Eq, Debug)]
+pub enum Grammar {
+    /// RFC 8259, with the exact values of numbers, also of those with exponents.
+    Json,
+    /// Standard mode: numbers are integers of 64 bits.
+    Standard,
+    /// Extended mode.
+    Extended,
+}
+
+/// How a text is laid out.
+#[derive(Clone, Copy, PartialEq, Eq, Debug)]
+pub enum Layout {
+    /// On one line.
+    Compact,
+    /// Over lines, with so many spaces a level.
+    Indent(usize),
+}
+
+// The mode whose parser reads a text of the grammar.
+fn parser_mode(grammar: Grammar) -> Mode
+    ensures { mode_of result ≡ parser_mode grammar }
+{
+    match grammar {
+        Grammar::Standard => Mode::Standard,
+        Grammar::Json | Grammar::Extended => Mode::Extended,
+    }
+}
+
+// What to say of a place that no text of RFC 8259 has.
+fn not_json(alloc: Global, text: &[u8], offset: usize) -> Fault {
+    let message = match text.get(offset) {
+        None => "the text ends too early",
+        Some(0..=31) => "control character in a string: JSON writes it as \\u and four digits",
+        Some(b'\\') => "escape that JSON doesn't have",
+        Some(_) => "JSON doesn't have this (--extended may)",
+    };
+    fault_at(alloc, offset, message)
+}
+
+// The fault of a text that isn't one of RFC 8259 at this offset: what the parser says of what stands before, or there.
+fn json_fault(alloc: Global, text: &[u8], offset: usize) -> Fault {
+    let Ok(mask) = masked(alloc, text) else {
+        return Fault::NoMemory;
+    };
+    match jsonb::check(alloc, &mask, Mode::Standard) {
+        Ok(()) => not_json(alloc, text, offset),
+        Err(error) => match fault_of(alloc, &mask, &error) {
+            Fault::At(place, message) if place <= offset => Fault::At(place, message),
+            Fault::At(_, _) => not_json(alloc, text, offset),
+            Fault::NoMemory => Fault::NoMemory,
+        },
+    }
+}
+
+// Whether the parser is to read the buffer, which has the text with its numbers written out, in place of the text.
+fn prepare(alloc: Global, grammar: Grammar, text: &[u8], plain: &mut Vec<u8>) -> Result<bool, Fault>
+    ensures ok { IfOk result (λ written. IsReadAs grammar text.now (read_text written text.now plain.new.items)) }
+    ensures rejected { Rejects grammar text.now result }
+{
+    match grammar {
+        Grammar::Json => prepare_json(alloc, text, plain),
+        Grammar::Standard => Ok(false),
+        Grammar::Extended => Ok(false),
+    }
+}
+
+// The same of a text of RFC 8259.
+fn prepare_json(alloc: Global, text: &[u8], plain: &mut Vec<u8>) -> Result<bool, Fault>
+    ensures ok { IfOk result (λ written. IsReadAs Grammar.Json text.now (read_text written text.now plain.new.items)) }
+    ensures rejected { Rejects Grammar.Json text.now result }
+{
+    if let Some(offset) = strict_fault(text) {
+        return Err(json_fault(alloc, text, offset));
+    }
+    if !has_exponent(text) {
+        return Ok(false);
+    }
+    plain.clear();
+    match write_plain_numbers(text, plain) {
+        Ok(()) => Ok(true),
+        Err(PlainError::OutOfMemory) => Err(Fault::NoMemory),
+        Err(PlainError::DoesNotFit(position)) => {
+            let error = Error::Syntax(ParseErrorCode::NumberNotCarried, position);
+            Err(fault_of(alloc, text, &error))
+        }
+    }
+}
+
+// What the parser reads.
+fn read_text<'t>(written: bool, text: &'t [u8], plain: &'t [u8]) -> &'t [u8]
+    ensures { result.now ≡ read_text written text.now plain.now }
+{
+    if written { plain } else { text }
+}
+
+// The fault of an error of what the parser read: of the text, or of the text with its numbers written out. Then the
+// error stands where it does in the text with these numbers masked.
+fn explain(alloc: Global, text: &[u8], written: bool, error: &Error) -> Fault
+    ensures memory { error.now ≡ Error.OutOfMemory → result ≡ Fault.NoMemory }
+{
+    if !written || *error == Error::OutOfMemory {
+        return fault_of(alloc, text, error);
+    }
+    let mut mask = Vec::new(alloc);
+    let Ok(()) = write_masked_numbers(text, &mut mask) else {
+        return Fault::NoMemory;
+    };
+    match jsonb::check(alloc, &mask, Mode::Extended) {
+        Ok(()) => fault_of(alloc, text, error),
+        Err(error) => fault_of(alloc, &mask, &error),
+    }
+}
+
+/// Whether it is a text of the grammar. Numbers are written out in `plain`.
+///
+/// # Errors
+///
+/// `At` with a place where the text isn't one, and `NoMemory`, which says nothing of the text.
+pub fn check(alloc: Global, grammar: Grammar, text: &[u8], plain: &mut Vec<u8>) -> Result<(), Fault>
+    ensures ok { OnOk result ((t : Tree) × IsTextOf grammar text.now t) }
+    ensures rejected { Rejects grammar text.now result }
+{
+    let written = prepare(alloc, grammar, text, plain)?;
+    let source = read_text(written, text, plain);
+    match jsonb::check(alloc, source, parser_mode(grammar)) {
+        Ok(()) => Ok(()),
+        Err(error) => Err(explain(alloc, text, written, &error)),
+    }
+}
+
+/// Appends the serialized form of a text's value, on one line or over lines.
+///
+/// # Errors
+///
+/// As of [`check`]. Then `out` holds what it held.
+pub fn append(
+    alloc: Global,
+    grammar: Grammar,
+    layout: Layout,
+    text: &[u8],
+    plain: &mut Vec<u8>,
+    out: &mut Vec<u8>,
+) -> Result<(), Fault>
+    ensures ok { OnOk result (AppendsTextOf grammar layout text.now out.old.items out.new.items) }
+    ensures err { OnErr result (out.new.items ≡ out.old.items) }
+    ensures rejected { Rejects grammar text.now result }
+{
+    let written = prepare(alloc, grammar, text, plain)?;
+    let source = read_text(written, text, plain);
+    match append_as(alloc, layout, source, parser_mode(grammar), out) {
+        Ok(()) => Ok(()),
+        Err(error) => Err(explain(alloc, text, written, &error)),
+    }
+}
+
+/// Appends the sort key of a text's value.
+///
+/// # Errors
+///
+/// As of [`check`]. Then `out` holds what it held.
+pub fn append_key(
+    alloc: Global,
+    grammar: Grammar,
+    text: &[u8],
+    plain: &mut Vec<u8>,
+    out: &mut Vec<u8>,
+) -> Result<(), Fault>
+    ensures ok { OnOk result (AppendsKeyOf grammar text.now out.old.items out.new.items) }
+    ensures err { OnErr result (out.new.items ≡ out.old.items) }
+    ensures rejected { Rejects grammar text.now result }
+{
+    let written = prepare(alloc, grammar, text, plain)?;
+    let source = read_text(written, text, plain);
+    match jsonb::append_sort_key(alloc, source, parser_mode(grammar), out) {
+        Ok(()) => Ok(()),
+        Err(error) => Err(explain(alloc, text, written, &error)),
+    }
+}
+
+/// Appends the serialized form of a part of a text's value. False where there is no such part.
+///
+/// # Errors
+///
+/// As of [`check`]. Then `out` holds what it held.
+pub fn append_part(
+    alloc: Global,
+    grammar: Grammar,
+    path: &[String],
+    text: &[u8],
+    plain: &mut Vec<u8>,
+    out: &mut Vec<u8>,
+) -> Result<bool, Fault>
+    ensures ok { IfOk result (AppendsPartOf grammar (map string_bytes path.now) text.now out.old.items out.new.items) }
+    ensures err { OnErr result (out.new.items ≡ out.old.items) }
+    ensures rejected { Rejects grammar text.now result }
+{
+    let written = prepare(alloc, grammar, text, plain)?;
+    let source = read_text(written, text, plain);
+    match jsonb::append_part(alloc, source, parser_mode(grammar), path, out) {
+        Ok(found) => Ok(found),
+        Err(error) => Err(explain(alloc, text, written, &error)),
+    }
+}
+
+// Appends the text of a document's value, on one line or over lines.
+fn append_as(
+    alloc: Global,
+    layout: Layout,
+    text: &[u8],
+    mode: Mode,
+    out: &mut Vec<u8>,
+) -> Result<(), Error>
+    ensures ok { OnOk result ((t : Tree) × IsDocument (mode_of mode) text.now t
+        × AppendsLaidOut layout t out.old.items out.new.items) }
+    ensures err { OnErr result (out.new.items ≡ out.old.items) }
+    ensures rejected { IfErr result (λ e. e ≢ Error.OutOfMemory → IsNoDocument (mode_of mode) text.now) }
+{
+    match layout {
+        Layout::Compact => {
+            jsonb::append_text(alloc, text, mode, out)?;
+            Ok(())
+        }
+        Layout::Indent(width) => {
+            append_indented(alloc, text, mode, width, out)?;
+            Ok(())
+        }
+    }
+}
+
+// The same over lines.
+fn append_indented(
+    alloc: Global,
+    text: &[u8],
+    mode: Mode,
+    width: usize,
+    out: &mut Vec<u8>,
+) -> Result<(), Error>
+    ensures ok { OnOk result ((t : Tree) × IsDocument (mode_of mode) text.now t
+        × (out.new.items ≡ out.old.items ++ indented_text width 0 t)) }
+    ensures err { OnErr result (out.new.items ≡ out.old.items) }
+    ensures rejected { IfErr result (λ e. e ≢ Error.OutOfMemory → IsNoDocument (mode_of mode) text.now) }
+{
+    match mode {
+        Mode::Standard => {
+            let value = jsonb::parse_value_standard_mode(alloc, text)?;
+            write_value(&value, width, out)?;
+            Ok(())
+        }
+        Mode::Extended => {
+            let value = jsonb::parse_value(alloc, text)?;
+            write_value(&value, width, out)?;
+            Ok(())
+        }
+    }
+}
+
+// Appends a value that was read over lines. It has a text, so only memory can be missing.
+fn write_value(value: &Value<'_>, width: usize, out: &mut Vec<u8>) -> Result<(), Error>
+    ensures ok { OnOk result (out.new.items ≡ out.old.items ++ indented_text width 0 (view value.now)) }
+    ensures err { OnErr result (out.new.items ≡ out.old.items) }
+    ensures memory { IfErr result (λ e. e ≡ Error.OutOfMemory) }
+{
+    match jsonb_pretty::write_text_indented(value, width, out) {
+        Ok(()) => Ok(()),
+        Err(_) => Err(Error::OutOfMemory),
+    }
+}
+
+/// Appends the characters of a string, of which this is the serialized form, and what is no string as it is.
+pub fn append_raw(alloc: Global, text: &[u8], out: &mut Vec<u8>) -> Result<(), Fault> {
+    let Ok(value) = jsonb::parse_value(alloc, text) else {
+        return Err(Fault::NoMemory);
+    };
+    match &value {
+        Value::String(characters) => out.extend_from_slice(characters.as_bytes())?,
+        _ => out.extend_from_slice(text)?,
+    }
+    Ok(())
+}

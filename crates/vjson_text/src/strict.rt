@@ -1,0 +1,157 @@
+//! What extended mode has and RFC 8259 has not: found in a text by its words, its commas and its strings.
+
+ghost use Rattle.std.specs.Prelude.{◌≡◌, ◌≢◌, ◌<◌, ◌≤◌, ◌∷◌, ℕ, suc, List, length, true, false, IfOk, IfSome, IfNone, OnOk, OnErr};
+ghost use Rattle.jsonb_spec.specs.Ascii as ascii;
+ghost use Rattle.vjson_text.specs.Strict.{in_escape, in_string, is_strict, is_strict_from, value};
+ghost use Rattle.vjson_text.specs.View.{last_view};
+ghost use Rattle.vjson_text.specs.Word.{is_word_byte};
+
+use crate::word::{closes, is_json_word, is_word_byte, opens, word_len};
+use jsonb_value::plain::plain_len;
+
+// What was read last.
+#[derive(Clone, Copy, PartialEq, Eq, Debug)]
+enum Last {
+    Nothing,
+    Opened,
+    Comma,
+    Colon,
+    // A word, which begins with so many bytes before the end.
+    Word(usize),
+    Value,
+}
+
+// What stands behind the hexadecimal digit that the bytes begin with; `None` where they begin with none.
+fn after_digit(bytes: &[u8]) -> Option<&[u8]>
+    ensures within { IfSome result (λ rest. length rest.now < length bytes.now) }
+    ensures some { IfSome result (λ rest. (due : ℕ) → in_string (suc due) bytes.now ≡ in_string due rest.now) }
+    ensures none { IfNone result ((due : ℕ) → in_string (suc due) bytes.now ≡ false) }
+{
+    let (digit, rest) = bytes.split_first()?;
+    if digit.is_ascii_hexdigit() {
+        Some(rest)
+    } else {
+        None
+    }
+}
+
+// What stands behind the escape whose backslash stands before the bytes; `None` where RFC 8259 has no such escape.
+fn after_escape(bytes: &[u8]) -> Option<&[u8]>
+    ensures within { IfSome result (λ rest. length rest.now < length bytes.now) }
+    ensures some { IfSome result (λ rest. in_escape bytes.now ≡ in_string 0 rest.now) }
+    ensures none { IfNone result (in_escape bytes.now ≡ false) }
+{
+    match bytes.split_first()? {
+        (b'"' | b'\\' | b'/' | b'b' | b'f' | b'n' | b'r' | b't', rest) => Some(rest),
+        (b'u', rest) => {
+            let behind = after_digit(after_digit(after_digit(after_digit(rest)?)?)?)?;
+            Some(behind)
+        }
+        _ => None,
+    }
+}
+
+// What stands behind a string whose first quote stands before the bytes, or how many bytes there are from a fault on.
+fn after_string(bytes: &[u8]) -> Result<&[u8], usize>
+    ensures within { IfOk result (λ rest. length rest.now ≤ length bytes.now) }
+    ensures ok { IfOk result (λ rest. in_string 0 bytes.now ≡ is_strict_from value rest.now) }
+    ensures err { OnErr result (in_string 0 bytes.now ≡ false) }
+{
+    let mut rest = bytes;
+    'runs: loop {
+        let (_, behind) = rest.split_at(plain_len(rest));
+        let Some((byte, more)) = behind.split_first() else {
+            return Err(0);
+        };
+        if *byte == b'"' {
+            return Ok(more);
+        }
+        if *byte == b'\\' {
+            let Some(next) = after_escape(more) else {
+                return Err(behind.len());
+            };
+            rest = next;
+            continue;
+        }
+        if *byte < b' ' {
+            return Err(behind.len());
+        }
+        rest = more;
+    }
+}
+
+/// The offset of a place that no text of RFC 8259 has; `None` where only its tokens stand in places where it may have
+/// them.
+pub fn strict_fault(text: &[u8]) -> Option<usize>
+    ensures none { IfNone result (is_strict text.now ≡ true) }
+    ensures some { IfSome result (λ _. is_strict text.now ≡ false) }
+{
+    match look_through(text) {
+        Ok(()) => None,
+        Err(left) => Some(text.len().saturating_sub(left)),
+    }
+}
+
+// What was read last once a byte of punctuation or whitespace is read, which stands so many bytes before the end; or
+// how many bytes there are from a fault on.
+fn after_mark(last: Last, byte: u8, here: usize) -> Result<Last, usize>
+    requires word { is_word_byte byte ≡ false }
+    requires quote { byte ≢ ascii.quote }
+    ensures ok { IfOk result (λ next. (bytes : List ℕ)
+        → is_strict_from (last_view last) (byte ∷ bytes) ≡ is_strict_from (last_view next) bytes) }
+    ensures err { OnErr result ((bytes : List ℕ) → is_strict_from (last_view last) (byte ∷ bytes) ≡ false) }
+{
+    if opens(byte) {
+        return Ok(Last::Opened);
+    }
+    if closes(byte) {
+        return match last {
+            Last::Comma => Err(here),
+            _ => Ok(Last::Value),
+        };
+    }
+    if byte == b',' {
+        return match last {
+            Last::Comma | Last::Opened => Err(here),
+            _ => Ok(Last::Comma),
+        };
+    }
+    if byte == b':' {
+        return match last {
+            Last::Word(start) => Err(start),
+            _ => Ok(Last::Colon),
+        };
+    }
+    Ok(last)
+}
+
+// Looks through the text. How many bytes there are from a fault on, where there is one.
+fn look_through(text: &[u8]) -> Result<(), usize>
+    ensures ok { OnOk result (is_strict text.now ≡ true) }
+    ensures err { OnErr result (is_strict text.now ≡ false) }
+{
+    let mut rest = text;
+    let mut last = Last::Nothing;
+    'tokens: while let Some((byte, more)) = rest.split_first() {
+        if is_word_byte(*byte) {
+            let (word, behind) = rest.split_at(1 + word_len(more));
+            if !is_json_word(word) {
+                return Err(rest.len());
+            }
+            last = Last::Word(rest.len());
+            rest = behind;
+            continue;
+        }
+        if *byte == b'"' {
+            rest = after_string(more)?;
+            last = Last::Value;
+            continue;
+        }
+        last = after_mark(last, *byte, rest.len())?;
+        rest = more;
+    }
+    match last {
+        Last::Nothing => Err(0),
+        _ => Ok(()),
+    }
+}
