@@ -1,0 +1,3 @@
+pub mod Firsts
+pub mod KeyLines
+pub mod Ordered

@@ -1,0 +1,8 @@
+//! The commands of the program `vjson`, over any streams.
+#![tactic(auto)]
+
+pub mod lines;
+pub mod options;
+pub mod place;
+pub mod report;
+pub mod session;

@@ -1,0 +1,182 @@
+//! Lines in the order of their values, and lines behind their sort keys.
+
+ghost use Rattle.std.specs.Prelude.{◌≡◌, ◌<◌, ◌++◌, ◌∷◌, [], ℕ, List, OnOk};
+ghost use Rattle.std.specs.List.{dedup, flat_map};
+ghost use Rattle.jsonb_spec.specs.Ascii as ascii;
+ghost use Rattle.std.specs.Ordering.{ordering_then};
+ghost use Rattle.jsonb_spec.specs.Order.{bytes_cmp, tree_cmp};
+ghost use Rattle.jsonb_spec.specs.Tree.{Tree};
+ghost use Rattle.vjson_text.specs.declared.reader.Grammar.{Grammar};
+ghost use Rattle.vjson_run.specs.Lines.{
+  Arranges,
+  ArrangesDown,
+  IsLineOf,
+  IsOneOfEach,
+  hex_digit,
+  hex_text,
+  key_line,
+  line_cmp,
+  line_text,
+  same_key,
+};
+
+use std::alloc::AllocError;
+use std::cmp::Ordering;
+
+/// A line, and the sort key of its value, or of the part that lines are sorted by.
+#[derive(Debug, Drop)]
+pub struct Line {
+    pub key: Vec<u8>,
+    pub text: Vec<u8>,
+}
+
+/// Lines compare by their keys alone.
+impl PartialEq for Line {
+    ghost use Rattle.std.specs.Cmp.{on_per, partial_equiv_from_equiv, eq_by_cmp_equiv};
+    ghost use Rattle.std.specs.Ordering.{on, eq_by_cmp};
+    ghost use Rattle.std.proofs.lemmas.Cmp.{nat_list_cmp_total};
+    ghost use Rattle.jsonb_spec.specs.Order.{bytes_cmp};
+    ghost use Rattle.vjson_run.specs.Lines.{line_key};
+
+    ghost eq = { on line_key (eq_by_cmp bytes_cmp) };
+
+    ghost laws = { on_per line_key (partial_equiv_from_equiv (eq_by_cmp_equiv nat_list_cmp_total)) };
+
+    fn eq(&self, other: &Self) -> bool {
+        self.key.as_slice().cmp(other.key.as_slice()).is_eq()
+    }
+}
+
+impl Eq for Line {
+    ghost use Rattle.std.specs.Cmp.{on_equiv, eq_by_cmp_equiv};
+    ghost use Rattle.std.proofs.lemmas.Cmp.{nat_list_cmp_total};
+    ghost use Rattle.vjson_run.specs.Lines.{line_key};
+
+    ghost laws = { on_equiv line_key (eq_by_cmp_equiv nat_list_cmp_total) };
+}
+
+impl PartialOrd for Line {
+    ghost use Rattle.std.specs.Prelude.{refl};
+    ghost use Rattle.std.specs.Cmp.{on_po, po};
+    ghost use Rattle.std.specs.Ordering.{on, as_partial_cmp};
+    ghost use Rattle.std.proofs.lemmas.Cmp.{nat_list_cmp_total};
+    ghost use Rattle.jsonb_spec.specs.Order.{bytes_cmp};
+    ghost use Rattle.vjson_run.specs.Lines.{line_key};
+
+    ghost partial_cmp = { on line_key (as_partial_cmp bytes_cmp) };
+
+    ghost laws = { on_po line_key (po nat_list_cmp_total (λ k l. refl)) };
+
+    fn partial_cmp(&self, other: &Self) -> Option<Ordering> {
+        Some(self.key.as_slice().cmp(other.key.as_slice()))
+    }
+}
+
+impl Ord for Line {
+    ghost use Rattle.std.specs.Prelude.{refl};
+    ghost use Rattle.std.specs.Cmp.{on_total};
+    ghost use Rattle.std.specs.Ordering.{on, as_partial_cmp};
+    ghost use Rattle.std.proofs.lemmas.Cmp.{nat_list_cmp_total};
+    ghost use Rattle.jsonb_spec.specs.Order.{bytes_cmp};
+    ghost use Rattle.vjson_run.specs.Lines.{line_key};
+
+    ghost cmp = { on line_key bytes_cmp };
+
+    ghost total = { on_total line_key nat_list_cmp_total };
+
+    ghost matches_partial_cmp = { λ v w. refl };
+
+    ghost matches_eq = { λ v w. refl };
+
+    fn cmp(&self, other: &Self) -> Ordering {
+        self.key.as_slice().cmp(other.key.as_slice())
+    }
+}
+
+/// Sorts the lines upwards. Lines of one key stay in their order.
+pub fn sort_up(lines: &mut Vec<Line>) -> Result<(), AllocError>
+    ensures ok { OnOk result (Arranges lines.old.items lines.new.items) }
+{
+    lines.sort()
+}
+
+/// Sorts the lines downwards. Lines of one key stay in their order.
+pub fn sort_down(lines: &mut Vec<Line>) -> Result<(), AllocError>
+    ensures ok { OnOk result (ArrangesDown lines.old.items lines.new.items) }
+{
+    lines.reverse();
+    lines.sort()?;
+    lines.reverse();
+    Ok(())
+}
+
+/// Keeps the first of neighbours with one key.
+pub fn keep_first(lines: &mut Vec<Line>)
+    ensures kept { lines.new.items ≡ dedup same_key lines.old.items }
+{
+    lines.dedup();
+}
+
+/// Appends the lines, each with a line feed.
+pub fn append_lines(lines: &[Line], out: &mut Vec<u8>) -> Result<(), AllocError>
+    ensures ok { OnOk result (out.new.items ≡ out.old.items ++ flat_map line_text lines.now) }
+{
+    'lines: for line in lines {
+        out.extend_from_slice(&line.text)?;
+        out.push(b'\n')?;
+    }
+    Ok(())
+}
+
+/// Appends a line behind its key in hexadecimal and a tab.
+pub fn append_key_line(key: &[u8], text: &[u8], out: &mut Vec<u8>) -> Result<(), AllocError>
+    ensures ok { OnOk result (out.new.items ≡ out.old.items ++ key_line key.now text.now) }
+{
+    append_hex(key, out)?;
+    out.push(b'\t')?;
+    out.extend_from_slice(text)?;
+    out.push(b'\n')?;
+    Ok(())
+}
+
+// Appends the bytes in hexadecimal.
+fn append_hex(bytes: &[u8], out: &mut Vec<u8>) -> Result<(), AllocError>
+    ensures ok { OnOk result (out.new.items ≡ out.old.items ++ flat_map hex_text bytes.now) }
+{
+    'bytes: for byte in bytes {
+        out.push(hex_digit(*byte / 16))?;
+        out.push(hex_digit(*byte % 16))?;
+    }
+    Ok(())
+}
+
+// A hexadecimal digit.
+fn hex_digit(half: u8) -> u8
+    requires { half < 16 }
+    ensures { result ≡ hex_digit half }
+{
+    if half < 10 {
+        b'0' + half
+    } else {
+        b'a' + (half - 10)
+    }
+}
+
+/// Lines whose keys are those of their values compare as the values do.
+pub fn lines_order_as_values()
+    ensures { (g : Grammar) → (l m : Line) → (t u : Tree) → IsLineOf g l t → IsLineOf g m u
+        → line_cmp l m ≡ tree_cmp t u }
+{}
+
+/// Of lines in order the first of neighbours with one key are one line of each key that there is: they ascend strictly,
+/// each was given, and each line that was given has the key of one of them.
+pub fn firsts_are_one_of_each()
+    ensures { (given sorted : List Line) → Arranges given sorted → IsOneOfEach given (dedup same_key sorted) }
+{}
+
+/// The order of lines behind their keys, byte by byte as in the locale C, is that of their keys, and of the lines where
+/// keys are equal.
+pub fn key_lines_order_as_keys()
+    ensures { (k l x y : List ℕ) → bytes_cmp (key_line k x) (key_line l y) ≡ ordering_then (bytes_cmp k l)
+        (bytes_cmp (x ++ ascii.line_feed ∷ []) (y ++ ascii.line_feed ∷ [])) }
+{}

@@ -1,0 +1,356 @@
+//! The words of the command line.
+
+use jsonb_path::read_keys;
+use std::alloc::{AllocError, AllocFailed, Global};
+use std::fmt;
+use vjson_text::{Grammar, Layout};
+
+/// What `--help` prints.
+pub const HELP: &str = "\
+Usage: vjson COMMAND [OPTION]... [FILE]...
+Check, format, sort and compare JSON by value. With no FILE, or where FILE is -,
+standard input is read.
+
+  check                  print nothing, or FILE:LINE:COLUMN: and what is wrong
+  format                 print each text laid out, keys in order
+  get POINTER            print the part at a JSON Pointer, as /items/0/name
+  sort                   sort JSON Lines by value
+  equal A B              status 0 where the values of two files are equal, else 1
+  keys                   print each line behind its sort key and a tab, for
+                         LC_ALL=C sort | cut -f2-
+
+  -l, --lines            each line is a text (sort and keys always)
+      --extended         also comments, single quotes, unquoted keys and more
+      --standard         numbers are integers of 64 bits alone
+  -c, --compact          format: on one line
+      --indent N         format: N spaces, 0 to 16 (2)
+  -r, --raw              get: a string without quotes and escapes
+      --default TEXT     get: what to print where there is no such part
+  -u, --unique           sort: one of equal values, the first
+      --reverse          sort: descending
+      --by POINTER       sort, keys: by this part; lines without it come first
+      --check            sort: only tell whether the lines are in order
+      --canonical        sort, keys: print the values' canonical text
+  -q, --quiet            check, equal: the status alone
+      --progress, --no-progress
+                         tell on a terminal how much was read (after 2 seconds)
+      --help, --version
+
+Status: 0 done; 1 some text is rejected, a part is missing, values differ or lines
+are out of order; 2 wrong usage, or a file or memory failed.
+";
+
+/// What is done with the texts.
+#[derive(Clone, Copy, PartialEq, Eq, Debug)]
+pub enum Command {
+    Check,
+    Format,
+    Get,
+    Sort,
+    Equal,
+    Keys,
+}
+
+/// When it is told how much was read.
+#[derive(Clone, Copy, PartialEq, Eq, Debug)]
+pub enum Progress {
+    Never,
+    /// After two seconds, where errors go to a terminal and the output doesn't.
+    Late,
+    /// Where errors go to a terminal.
+    Always,
+}
+
+/// A command with its options and its files.
+#[derive(Drop)]
+pub struct Options {
+    pub command: Command,
+    pub grammar: Grammar,
+    pub lines: bool,
+    pub layout: Option<Layout>,
+    pub raw: bool,
+    pub unique: bool,
+    pub reverse: bool,
+    pub check: bool,
+    pub canonical: bool,
+    pub quiet: bool,
+    pub progress: Progress,
+    pub default: Option<String>,
+    pub pointer: Option<Vec<String>>,
+    pub files: Vec<String>,
+}
+
+/// What the words ask for.
+#[derive(Drop)]
+pub enum Asked {
+    Help,
+    Version,
+    Run(Options),
+}
+
+/// Why the words ask for nothing.
+#[derive(Debug, Drop)]
+pub enum UsageError {
+    NoCommand,
+    UnknownCommand(String),
+    UnknownOption(String),
+    NotHere(String),
+    NoValue(String),
+    NoPointer(String),
+    NoNumber(String),
+    PointerMissing,
+    TwoFiles,
+    NoMemory,
+}
+
+impl From<AllocError> for UsageError {
+    fn from(_: AllocError) -> UsageError {
+        UsageError::NoMemory
+    }
+}
+
+impl<T: Drop> From<AllocFailed<T>> for UsageError {
+    fn from(_: AllocFailed<T>) -> UsageError {
+        UsageError::NoMemory
+    }
+}
+
+impl fmt::Display for UsageError {
+    fn fmt<W: fmt::Write>(&self, f: &mut fmt::Formatter<W>) -> fmt::Result {
+        match self {
+            UsageError::NoCommand => f.write_str("no command given"),
+            UsageError::UnknownCommand(word) => write!(f, "no such command: {word}"),
+            UsageError::UnknownOption(word) => write!(f, "no such option: {word}"),
+            UsageError::NotHere(word) => write!(f, "this command doesn't take {word}"),
+            UsageError::NoValue(word) => write!(f, "option {word} needs a value"),
+            UsageError::NoPointer(word) => write!(
+                f,
+                "not a JSON Pointer: {word} (write /a/0 for the first item of a, '' for the whole text)"
+            ),
+            UsageError::NoNumber(word) => write!(f, "not a number from 0 to 16: {word}"),
+            UsageError::PointerMissing => f.write_str("get needs a JSON Pointer, as /a/0"),
+            UsageError::TwoFiles => f.write_str("equal needs two files"),
+            UsageError::NoMemory => f.write_str("out of memory"),
+        }
+    }
+}
+
+fn copy(alloc: Global, text: &str) -> Result<String, UsageError> {
+    Ok(String::from_str(alloc, text)?)
+}
+
+fn command_of(alloc: Global, word: &str) -> Result<Command, UsageError> {
+    match word {
+        "check" => Ok(Command::Check),
+        "format" => Ok(Command::Format),
+        "get" => Ok(Command::Get),
+        "sort" => Ok(Command::Sort),
+        "equal" => Ok(Command::Equal),
+        "keys" => Ok(Command::Keys),
+        _ => Err(UsageError::UnknownCommand(copy(alloc, word)?)),
+    }
+}
+
+fn pointer_of(alloc: Global, word: &str) -> Result<Vec<String>, UsageError> {
+    match read_keys(alloc, word.as_bytes())? {
+        Some(keys) => Ok(keys),
+        None => Err(UsageError::NoPointer(copy(alloc, word)?)),
+    }
+}
+
+fn width_of(alloc: Global, word: &str) -> Result<usize, UsageError> {
+    match word.parse::<usize>() {
+        Ok(width) if width <= 16 => Ok(width),
+        _ => Err(UsageError::NoNumber(copy(alloc, word)?)),
+    }
+}
+
+// Whether the command takes the option.
+fn takes(command: Command, option: &str) -> bool {
+    match option {
+        "--lines" => command != Command::Equal,
+        "--compact" | "--indent" => command == Command::Format,
+        "--raw" | "--default" => command == Command::Get,
+        "--unique" | "--reverse" | "--check" => command == Command::Sort,
+        "--by" | "--canonical" => matches!(command, Command::Sort | Command::Keys),
+        "--quiet" => matches!(command, Command::Check | Command::Equal),
+        _ => true,
+    }
+}
+
+// The long name of an option of one letter.
+fn long_name(word: &str) -> &str {
+    match word {
+        "-l" => "--lines",
+        "-c" => "--compact",
+        "-r" => "--raw",
+        "-u" => "--unique",
+        "-q" => "--quiet",
+        "-h" => "--help",
+        "-V" => "--version",
+        _ => word,
+    }
+}
+
+fn new_options(alloc: Global, command: Command) -> Options {
+    Options {
+        command,
+        grammar: Grammar::Json,
+        lines: matches!(command, Command::Sort | Command::Keys),
+        layout: None,
+        raw: false,
+        unique: false,
+        reverse: false,
+        check: false,
+        canonical: false,
+        quiet: false,
+        progress: Progress::Late,
+        default: None,
+        pointer: None,
+        files: Vec::new(alloc),
+    }
+}
+
+impl Options {
+    // Sets what an option without a value says. False where there is none of the name.
+    fn set_flag(&mut self, name: &str) -> bool {
+        match name {
+            "--lines" => self.lines = true,
+            "--extended" => self.grammar = Grammar::Extended,
+            "--standard" => self.grammar = Grammar::Standard,
+            "--compact" => self.layout = Some(Layout::Compact),
+            "--raw" => self.raw = true,
+            "--unique" => self.unique = true,
+            "--reverse" => self.reverse = true,
+            "--check" => self.check = true,
+            "--canonical" => self.canonical = true,
+            "--quiet" => self.quiet = true,
+            "--progress" => self.progress = Progress::Always,
+            "--no-progress" => self.progress = Progress::Never,
+            _ => return false,
+        }
+        true
+    }
+
+    // Sets what an option with a value says. False where there is none of the name.
+    fn set_value(&mut self, alloc: Global, name: &str, value: &str) -> Result<bool, UsageError> {
+        match name {
+            "--indent" => self.layout = Some(Layout::Indent(width_of(alloc, value)?)),
+            "--default" => self.default = Some(copy(alloc, value)?),
+            "--by" => self.pointer = Some(pointer_of(alloc, value)?),
+            _ => return Ok(false),
+        }
+        Ok(true)
+    }
+
+    // Takes a word that is no option.
+    fn take_word(&mut self, alloc: Global, word: &str) -> Result<(), UsageError> {
+        if self.command == Command::Get && self.pointer.is_none() {
+            self.pointer = Some(pointer_of(alloc, word)?);
+            return Ok(());
+        }
+        self.files.push(copy(alloc, word)?)?;
+        Ok(())
+    }
+}
+
+// Whether an option of the name takes a value.
+fn has_value(name: &str) -> bool {
+    matches!(name, "--indent" | "--default" | "--by")
+}
+
+// The words behind the command, as they are read.
+#[derive(Drop)]
+struct Words<'w> {
+    rest: &'w [String],
+    // Whether `--` was read, so that all that follow are files.
+    only_files: bool,
+}
+
+impl Options {
+    // Takes an option, whose value may be the first of the words behind it.
+    fn take_option(
+        &mut self,
+        alloc: Global,
+        word: &str,
+        words: &mut Words<'_>,
+    ) -> Result<(), UsageError> {
+        let (name, value) = match word.split_once("=") {
+            Some((name, value)) => (name, Some(value)),
+            None => (long_name(word), None),
+        };
+        if !takes(self.command, name) {
+            return Err(UsageError::NotHere(copy(alloc, name)?));
+        }
+        if has_value(name) {
+            let value = match value {
+                Some(value) => value,
+                None => next_value(alloc, name, words)?,
+            };
+            self.set_value(alloc, name, value)?;
+        } else if value.is_some() || !self.set_flag(name) {
+            return Err(UsageError::UnknownOption(copy(alloc, word)?));
+        }
+        Ok(())
+    }
+
+    // Whether all is there that the command needs.
+    fn complete(self) -> Result<Asked, UsageError> {
+        if self.command == Command::Get && self.pointer.is_none() {
+            return Err(UsageError::PointerMissing);
+        }
+        if self.command == Command::Equal && self.files.len() != 2 {
+            return Err(UsageError::TwoFiles);
+        }
+        Ok(Asked::Run(self))
+    }
+}
+
+// The word behind an option that takes a value.
+fn next_value<'w>(alloc: Global, name: &str, words: &mut Words<'w>) -> Result<&'w str, UsageError> {
+    let Some((value, behind)) = words.rest.split_first() else {
+        return Err(UsageError::NoValue(copy(alloc, name)?));
+    };
+    words.rest = behind;
+    Ok(value.as_str())
+}
+
+/// What the words ask for.
+///
+/// # Errors
+///
+/// Why they ask for nothing: no command, a word that is none of its options, or a value that is missing.
+pub fn read_words(alloc: Global, words: &[String]) -> Result<Asked, UsageError> {
+    let Some((first, others)) = words.split_first() else {
+        return Err(UsageError::NoCommand);
+    };
+    match long_name(first.as_str()) {
+        "--help" | "help" => return Ok(Asked::Help),
+        "--version" => return Ok(Asked::Version),
+        _ => {}
+    }
+    let mut options = new_options(alloc, command_of(alloc, first.as_str())?);
+    let mut words = Words {
+        rest: others,
+        only_files: false,
+    };
+    'words: for _ in 0..others.len() {
+        let Some((word, behind)) = words.rest.split_first() else {
+            break;
+        };
+        words.rest = behind;
+        let word = word.as_str();
+        if words.only_files || word == "-" || !word.starts_with("-") {
+            options.take_word(alloc, word)?;
+        } else if word == "--" {
+            words.only_files = true;
+        } else {
+            match long_name(word) {
+                "--help" => return Ok(Asked::Help),
+                "--version" => return Ok(Asked::Version),
+                _ => options.take_option(alloc, word, &mut words)?,
+            }
+        }
+    }
+    options.complete()
+}

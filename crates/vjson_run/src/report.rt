@@ -1,0 +1,129 @@
+//! What is told on standard error, and what is written on standard output.
+
+use crate::place::{append_shown, shown_line};
+use std::alloc::{AllocError, Global};
+use std::io;
+use std::io::Write;
+
+// How many bytes are kept at most before they are written.
+const BLOCK: usize = 1 << 16;
+
+/// Standard output, with what isn't written yet, and the error by which it failed.
+#[derive(Drop)]
+pub struct Output<W> {
+    writer: W,
+    pub bytes: Vec<u8>,
+    error: Option<io::Error>,
+}
+
+impl<W: Write> Output<W> {
+    /// An output of which nothing is kept yet.
+    pub fn new(alloc: Global, writer: W) -> Output<W> {
+        Output {
+            writer,
+            bytes: Vec::new(alloc),
+            error: None,
+        }
+    }
+
+    /// The error by which it failed.
+    pub fn error(&self) -> Option<io::Error> {
+        self.error
+    }
+
+    /// Writes what is kept.
+    pub fn flush(&mut self) {
+        if self.error.is_none() {
+            if let Err(error) = self.writer.write_all(&self.bytes) {
+                self.error = Some(error);
+            }
+        }
+        self.bytes.clear();
+    }
+
+    /// Writes what is kept, where it is much.
+    pub fn flush_much(&mut self) {
+        if self.bytes.len() >= BLOCK {
+            self.flush();
+        }
+    }
+}
+
+// An error's words without the system's number.
+fn words_of(alloc: Global, error: &io::Error) -> Result<String, AllocError> {
+    let text = format!(in alloc; "{error}")?;
+    match text.as_str().split_once(" (os error") {
+        Some((words, _)) => String::from_str(alloc, words),
+        None => Ok(text),
+    }
+}
+
+fn try_tell_stream<E: Write>(
+    alloc: Global,
+    err: &mut E,
+    name: &str,
+    error: &io::Error,
+) -> Result<(), AllocError> {
+    let mut line = String::from_str(alloc, "vjson: ")?;
+    append_shown(name.as_bytes(), &mut line)?;
+    line.push_str(": ")?;
+    line.push_str(words_of(alloc, error)?.as_str())?;
+    line.push('\n')?;
+    let _ = err.write_all(line.as_bytes());
+    Ok(())
+}
+
+/// Tells that a file or a stream failed.
+pub fn tell_stream<E: Write>(alloc: Global, err: &mut E, name: &str, error: &io::Error) {
+    if try_tell_stream(alloc, err, name, error).is_err() {
+        tell_memory(err);
+    }
+}
+
+/// Tells that memory ran out.
+pub fn tell_memory<E: Write>(err: &mut E) {
+    let _ = err.write_all(b"vjson: out of memory\n");
+}
+
+/// A place of a file.
+#[derive(Clone, Copy)]
+pub struct Spot<'a> {
+    pub name: &'a str,
+    pub line: u64,
+    pub column: u64,
+}
+
+fn try_tell_fault<E: Write>(
+    alloc: Global,
+    err: &mut E,
+    spot: Spot<'_>,
+    message: &str,
+    text: &[u8],
+    offset: usize,
+) -> Result<(), AllocError> {
+    let mut line = String::new(alloc);
+    append_shown(spot.name.as_bytes(), &mut line)?;
+    let (row, column) = (spot.line, spot.column);
+    let numbers = format!(in alloc; ":{row}:{column}: ")?;
+    line.push_str(numbers.as_str())?;
+    append_shown(message.as_bytes(), &mut line)?;
+    line.push('\n')?;
+    line.push_str(shown_line(alloc, text, offset)?.as_str())?;
+    line.push('\n')?;
+    let _ = err.write_all(line.as_bytes());
+    Ok(())
+}
+
+/// Tells what is wrong with a text, and where.
+pub fn tell_fault<E: Write>(
+    alloc: Global,
+    err: &mut E,
+    spot: Spot<'_>,
+    message: &str,
+    text: &[u8],
+    offset: usize,
+) {
+    if try_tell_fault(alloc, err, spot, message, text, offset).is_err() {
+        tell_memory(err);
+    }
+}
