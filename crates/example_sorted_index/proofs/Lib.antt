@@ -1,3 +1,0 @@
-pub mod LinesRead
-pub mod Sorting
-pub mod IndexTexts

@@ -1,0 +1,112 @@
+//! `vjson`: checks, formats, sorts and compares JSON by value, at a shell.
+#![tactic(auto)]
+
+pub mod meter;
+
+use meter::Meter;
+use std::fs::File;
+use std::io::{BufReader, IsTerminal, Read, Write};
+use std::process::ExitCode;
+use std::rt::Env;
+use std::{env, io};
+use vjson_run::options::{Asked, HELP, Options, Progress, read_words};
+use vjson_run::session::Session;
+
+// How many bytes are read at once.
+const BLOCK: usize = 1 << 16;
+
+const VERSION: &str = "vjson (Vizhoniku) 0.2.0";
+
+// The program's arguments without its own name.
+fn words(rt: &(impl Env + AllocGlobal)) -> io::Result<Vec<String>> {
+    let words: Vec<String> = env::args(rt)?.skip(1).collect(rt.alloc())?;
+    Ok(words)
+}
+
+// When it is told how much was read, at these streams.
+fn delay_of(rt: &HostRuntime, progress: Progress) -> Option<u64> {
+    if !rt.stderr().is_terminal() {
+        return None;
+    }
+    match progress {
+        Progress::Never => None,
+        Progress::Late if rt.stdout().is_terminal() => None,
+        Progress::Late => Some(2),
+        Progress::Always => Some(0),
+    }
+}
+
+// Reads one input.
+fn feed_from<I: Read + Drop, W: Write, E: Write>(
+    rt: &HostRuntime,
+    session: &mut Session<W, E>,
+    name: &str,
+    delay: Option<u64>,
+    input: I,
+) -> io::Result<()> {
+    let meter = Meter::new(rt, delay, input);
+    let mut input = BufReader::with_capacity(rt.alloc(), BLOCK, meter)?;
+    session.feed(name, &mut input)
+}
+
+// Reads one file, or standard input for `-`.
+fn feed<W: Write, E: Write>(
+    rt: &HostRuntime,
+    session: &mut Session<W, E>,
+    name: &str,
+    delay: Option<u64>,
+) {
+    let result = if name == "-" {
+        feed_from(rt, session, "<stdin>", delay, rt.stdin())
+    } else {
+        match File::open(rt, name) {
+            Ok(file) => feed_from(rt, session, name, delay, file),
+            Err(error) => Err(error),
+        }
+    };
+    if let Err(error) = result {
+        let shown = if name == "-" { "<stdin>" } else { name };
+        session.cannot_read(shown, &error);
+    }
+}
+
+fn run(rt: &HostRuntime, options: &Options) -> u8 {
+    let alloc = rt.alloc();
+    let delay = delay_of(rt, options.progress);
+    let mut session = Session::new(alloc, options, rt.stdout(), rt.stderr());
+    if options.files.is_empty() {
+        feed(rt, &mut session, "-", delay);
+    }
+    'files: for name in options.files.iter() {
+        if session.is_over() {
+            break;
+        }
+        feed(rt, &mut session, name.as_str(), delay);
+    }
+    session.finish()
+}
+
+fn main(rt: HostRuntime) -> ExitCode {
+    let Ok(words) = words(&rt) else {
+        let _ = writeln!(
+            rt.stderr(),
+            "vjson: an argument isn't UTF-8, or there is no memory"
+        );
+        return ExitCode::from(2);
+    };
+    match read_words(rt.alloc(), &words) {
+        Ok(Asked::Help) => {
+            let _ = write!(rt.stdout(), "{}", HELP);
+            ExitCode::SUCCESS
+        }
+        Ok(Asked::Version) => {
+            let _ = writeln!(rt.stdout(), "{VERSION}");
+            ExitCode::SUCCESS
+        }
+        Ok(Asked::Run(options)) => ExitCode::from(run(&rt, &options)),
+        Err(message) => {
+            let _ = writeln!(rt.stderr(), "vjson: {message}\nTry 'vjson --help'.");
+            ExitCode::from(2)
+        }
+    }
+}

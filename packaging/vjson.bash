@@ -1,0 +1,27 @@
+# Completion for bash of the program vjson.
+_vjson() {
+    local word=${COMP_WORDS[COMP_CWORD]} before=${COMP_WORDS[COMP_CWORD - 1]} words
+    if [ "$COMP_CWORD" -eq 1 ]; then
+        mapfile -t COMPREPLY < <(compgen -W 'check format get sort equal keys --help --version' -- "$word")
+        return
+    fi
+    case $before in
+        --indent | --default | --by) return ;;
+    esac
+    case $word in
+        -*)
+            words='--extended --standard --progress --no-progress --help'
+            case ${COMP_WORDS[1]} in
+                check) words="$words --lines --quiet" ;;
+                format) words="$words --lines --compact --indent" ;;
+                get) words="$words --lines --raw --default" ;;
+                sort) words="$words --lines --unique --reverse --by --check --canonical" ;;
+                equal) words="$words --quiet" ;;
+                keys) words="$words --lines --by --canonical" ;;
+            esac
+            mapfile -t COMPREPLY < <(compgen -W "$words" -- "$word")
+            ;;
+        *) mapfile -t COMPREPLY < <(compgen -f -- "$word") ;;
+    esac
+}
+complete -o filenames -F _vjson vjson
