@@ -24,7 +24,8 @@ IsLacking t old TooDeep = IsWithin IsAnyNumber t max_depth → ⊥
 IsLacking t old OutOfMemory = vec_capacity old < vec_len old + length (document_of t)
 
 -- The document of the value is appended, which has no more than 512 arrays and objects in one another.
-pub record AppendsDocument {X : Type 0} (t : Tree) (result : Result X DocumentError) (old new : Vec ℕ Global) : Type 0 where
+pub record AppendsDocument {X : Type 0} (t : Tree) (result : Result X DocumentError) (old new : Vec ℕ Global)
+    : Type 0 where
   pub ok : OnOk result (new.items ≡ old.items ++ document_of t)
   pub fits : OnOk result (IsWithin IsAnyNumber t max_depth)
   pub errors : IfErr result (IsLacking t old)

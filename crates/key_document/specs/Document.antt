@@ -31,8 +31,8 @@ abbrev mutual
 abbrev pub zeros_mark : ℕ
 zeros_mark = 0xFF
 
--- What follows zeros that take so many bytes: nothing where there are none, and else that number, which is read from the
--- end: the mark, and seven bits in a byte, the lowest first.
+-- What follows zeros that take so many bytes: nothing where there are none, and else that number, which is read from
+-- the end: the mark, and seven bits in a byte, the lowest first.
 abbrev pub end_of : ℕ → List ℕ
 end_of zero = []
 end_of (suc size) = reverse (zeros_mark ∷ in_sevens 8 (suc size))

@@ -18,8 +18,8 @@ use stored_edit::splice::splice;
 ///
 /// # Errors
 ///
-/// `NoDocument` only where the bytes are no document, and `OutOfMemory` only where the buffer lacks the capacity for the
-/// whole document. After an error the buffer is as before.
+/// `NoDocument` only where the bytes are no document, and `OutOfMemory` only where the buffer lacks the capacity for
+/// the whole document. After an error the buffer is as before.
 pub fn append_without_part(
     out: &mut Vec<u8>,
     document: &[u8],
@@ -83,7 +83,7 @@ pub fn append_with_part(
     if !place.spot.found && !create {
         return Ok(false);
     }
-    let old_len = out.len();
+    let start = out.len();
     put_part(out, key, &place, part_key)?;
     let before = front(key, place.spot.entry).len();
     let others = before
@@ -91,14 +91,14 @@ pub fn append_with_part(
         .saturating_add(place.behind.len());
     let lengths = Lengths {
         front: before,
-        name: out.len().saturating_sub(old_len).saturating_sub(others),
+        name: out.len().saturating_sub(start).saturating_sub(others),
         part: part_key.len(),
         behind: place.behind.len(),
     };
     match splice_zeros(out, key.len(), zeros, part_zeros, &lengths) {
         Ok(()) => Ok(true),
         Err(error) => {
-            out.truncate(old_len);
+            out.truncate(start);
             Err(error)
         }
     }

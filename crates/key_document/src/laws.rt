@@ -34,8 +34,8 @@ pub fn each_byte_has_a_count()
     ensures { (t : Tree) → IsProper t → length (counts_at t) ≡ length (key_of t) }
 {}
 
-/// Where the key of a part stands in that of a value, the counts of its bytes stand in the same place. So the zeros of a
-/// part are had by `write_zeros_of_numbers`, with the offset and the size of its key.
+/// Where the key of a part stands in that of a value, the counts of its bytes stand in the same place. So the zeros of
+/// a part are had by `write_zeros_of_numbers`, with the offset and the size of its key.
 pub fn parts_have_their_zeros()
     ensures stand { (t part : Tree) → IsProper t → (before : List ℕ) → (numbers : ℕ)
         → StandsIn t before numbers part → IsPartBehind t before part }
@@ -43,8 +43,8 @@ pub fn parts_have_their_zeros()
         → counts_taken (length before) (length (key_of part)) (counts_at t) ≡ counts_at part }
 {}
 
-/// A value changed at a path has the key of the value with a splice in it, and the counts of its bytes have the splice in
-/// the same places. So a document is changed by splicing its key, and its zeros at the same offsets.
+/// A value changed at a path has the key of the value with a splice in it, and the counts of its bytes have the splice
+/// in the same places. So a document is changed by splicing its key, and its zeros at the same offsets.
 pub fn changes_are_splices()
     ensures { (names : List (List ℕ)) → (t : Tree) → IsProper t
         → Spliced key_of counts_at t (λ change. changed_at change names t) }
@@ -57,8 +57,8 @@ pub fn places_are_cuts()
         → Agrees s.0.front (name_key place.object s.0.name) place.behind.now x.cut }
 {}
 
-/// The members of two objects are merged from the first ones on: the one with the lower name comes next, and of two with
-/// one name that of the right object. The counts of joined items are those of both.
+/// The members of two objects are merged from the first ones on: the one with the lower name comes next, and of two
+/// with one name that of the right object. The counts of joined items are those of both.
 pub fn merges_take_members()
     ensures left { (k l : List ℕ) → (t u : Tree) → (ms ns : Members) → IsBelowKeys l ns → bytes_cmp k l ≡ Less
         → merged_members (more_members k t ms) (more_members l u ns)

@@ -42,7 +42,7 @@ returns-in-Ok-clause-answers c = λ t r e u ru eu.
     let long = length-append c.args.out.now.items (key_of put.tree) in
     let fit : length (key_of put.tree) < 2 ^ 63 = omega (arith, ap length done, long, c.put_part.new.out.ok.0, c.put_part.new.out.ok.1, c.put_part.new.out.small) in
     let part_len : length c.split_document-2.result.0.now ≡ length (counts_at u) = ap length is_part ∙ sym (one_each u ru.proper) in
-    let name : c.saturating_sub-2.result ≡ x.name = omega (arith, c.saturating_sub-2.ensures, c.saturating_sub.ensures, c.len.ensures, c.len-old_len.ensures, c.saturating_add-others.ensures, c.saturating_add.ensures, x.long, ap length done, long, part_len, ap length front, c.args.out.now.ok.0, c.put_part.new.out.ok.0, fit) in
+    let name : c.saturating_sub-2.result ≡ x.name = omega (arith, c.saturating_sub-2.ensures, c.saturating_sub.ensures, c.len.ensures, c.len-start.ensures, c.saturating_add-others.ensures, c.saturating_add.ensures, x.long, ap length done, long, part_len, ap length front, c.args.out.now.ok.0, c.put_part.new.out.ok.0, fit) in
     let a = are_spliced x c.split_document.result.1.now c.split_document-2.result.1.now (length key) _ r.proper (c.split_document.ensures.zeros t r e) (c.split_document-2.ensures.zeros u ru eu) (ap length is_key) (ap length front) name part_len refl (omega arith) fit in
     answered (with_part names u c.args.create t) put.tree c.args.out.now c.put_part.new.out c.splice_zeros.new.out _ put.is put.holds.fits done (as_tail x _ name) (c.in-Ok.ensures.spliced x.first x.entry (counts_at u) x.last a)
 
@@ -65,12 +65,12 @@ returns-in-Err-clause-answers c = λ t r e u ru eu.
     let long = length-append c.args.out.now.items (key_of put.tree) in
     let fit : length (key_of put.tree) < 2 ^ 63 = omega (arith, ap length done, long, c.put_part.new.out.ok.0, c.put_part.new.out.ok.1, c.put_part.new.out.small) in
     let part_len : length c.split_document-2.result.0.now ≡ length (counts_at u) = ap length is_part ∙ sym (one_each u ru.proper) in
-    let name : c.saturating_sub-2.result ≡ x.name = omega (arith, c.saturating_sub-2.ensures, c.saturating_sub.ensures, c.len.ensures, c.len-old_len.ensures, c.saturating_add-others.ensures, c.saturating_add.ensures, x.long, ap length done, long, part_len, ap length front, c.args.out.now.ok.0, c.put_part.new.out.ok.0, fit) in
+    let name : c.saturating_sub-2.result ≡ x.name = omega (arith, c.saturating_sub-2.ensures, c.saturating_sub.ensures, c.len.ensures, c.len-start.ensures, c.saturating_add-others.ensures, c.saturating_add.ensures, x.long, ap length done, long, part_len, ap length front, c.args.out.now.ok.0, c.put_part.new.out.ok.0, fit) in
     let a = are_spliced x c.split_document.result.1.now c.split_document-2.result.1.now (length key) _ r.proper (c.split_document.ensures.zeros t r e) (c.split_document-2.ensures.zeros u ru eu) (ap length is_key) (ap length front) name part_len refl (omega arith) fit in
     lacking (with_part names u c.args.create t) put.tree c.in-Err.error c.args.out.now c.put_part.new.out c.truncate.new.self _ put.is done c.in_ok-put_part.ensures.keeps.capacity (as_tail x _ name) (c.in-Err.ensures.spliced x.first x.entry (counts_at u) x.last a)
 
 pub returns-in-Err-clause-keeps : goal.returns-in-Err-clause-keeps
 returns-in-Err-clause-keeps c = record {
-  err = c.truncate.ensures.items ∙ cut_back c.args.out.now c.splice_zeros.new.out c.in_ok-put_part.ensures.kept c.in-Err.ensures.keeps.kept c.len-old_len.result c.len-old_len.ensures;
+  err = c.truncate.ensures.items ∙ cut_back c.args.out.now c.splice_zeros.new.out c.in_ok-put_part.ensures.kept c.in-Err.ensures.keeps.kept c.len-start.result c.len-start.ensures;
   capacity = omega (arith, c.in_ok-put_part.ensures.keeps.capacity, c.in-Err.ensures.keeps.capacity, c.truncate.ensures.capacity);
 }
