@@ -1,5 +1,5 @@
 -- What sorting and keeping the first of neighbours leave.
-use Rattle.std.proofs.Common.{◌≡◌, true, Bool, List, IsPermutation, Any, Ordering, Less, Equal, Greater, is_eq, refl}
+use Rattle.std.proofs.Common.{◌≡◌, true, List, Any, Ordering, Less, Equal, Greater, is_eq, refl}
 use Rattle.std.proofs.lemmas.Cmp.{nat_list_cmp_total}
 use Rattle.std.proofs.lemmas.List.Kept.{Any-dedup, Contains-from_dedup, IsStrictlySortedBy-dedup}
 use Rattle.std.proofs.lemmas.List.Sorted.{Contains-permutation, IsPermutation-sym}

@@ -1,5 +1,5 @@
 -- What follows for a text from what was parsed in its place.
-use Rattle.std.proofs.Common.{◌≡◌, ◌≢◌, ℕ, List, [], Result, Ok, Err, IfErr, sym, subst, ap, ◌∙◌}
+use Rattle.std.proofs.Common.{◌≡◌, ◌≢◌, ℕ, List, [], Result, Ok, Err, sym, subst, ap, ◌∙◌}
 use Rattle.jsonb_spec.specs.Grammar.{IsDocument, IsNoDocument}
 use Rattle.jsonb_spec.specs.Mode.{Mode, standard, extended}
 use Rattle.jsonb_spec.specs.Tree.{Tree}

@@ -1,5 +1,5 @@
 -- What is passed in strings.
-use Rattle.std.proofs.Common.{◌≡◌, ◌≢◌, ⊎_elim, ℕ, zero, suc, ◌≤◌, ◌<◌, ◌==◌, ◌&&◌, nat_le, nat_lt, true, false, List, [], ◌∷◌, take, drop, length, refl, sym, ap, ◌∙◌, arith}
+use Rattle.std.proofs.Common.{◌≡◌, ◌≢◌, ⊎_elim, ℕ, zero, suc, ◌≤◌, ◌<◌, ◌==◌, ◌&&◌, nat_lt, true, false, List, [], ◌∷◌, take, drop, length, refl, sym, ap, ◌∙◌, arith}
 use Rattle.std.proofs.lemmas.Bool.{cond-true, cond-false, ne_eqb, lt-ltb, lt-leb, le-leb, cases_lt}
 use Rattle.jsonb_spec.specs.Text.StringText.{ArePlain, byte_text, control_text}
 use Rattle.jsonb_value.proofs.Strings.PlainTexts.{one_plain, rest_plain, no_mark}

@@ -1,10 +1,10 @@
 -- The tokens of RFC 8259, and where commas and words stand: what extended mode has more is found byte by byte.
-use Rattle.std.specs.Prelude.{ℕ, zero, suc, ◌==◌, ◌&&◌, nat_le, Bool, true, false, not, if◌then◌else◌, List, [], ◌∷◌, take}
+use Rattle.std.specs.Prelude.{ℕ, zero, suc, ◌==◌, ◌&&◌, nat_le, Bool, true, false, if◌then◌else◌, List, [], ◌∷◌, take}
 use Rattle.std.specs.Char.{is_ascii_hexdigit}
 use Rattle.std.specs.Option.{is_some}
 use Rattle.jsonb_spec.specs.Ascii as ascii
 use Rattle.jsonb_spec.specs.Grammar.StringBody.{standard_escape}
-use Rattle.vjson_text.specs.Word.{is_blank, opens, closes, is_word_byte, word_length, is_json_word}
+use Rattle.vjson_text.specs.Word.{opens, closes, is_word_byte, word_length, is_json_word}
 
 -- What was read last, outside of strings: nothing; what opens an array or an object; a comma; a colon; a word, which
 -- may go on; a word and whitespace; another value, or what closes one.

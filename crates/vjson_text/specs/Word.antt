@@ -1,5 +1,5 @@
 -- The words of a text, and which of them RFC 8259 has: its literals and its numbers.
-use Rattle.std.specs.Prelude.{ℕ, ◌-◌, ◌==◌, ◌&&◌, ◌||◌, nat_eq, nat_lt, Bool, not, if◌then◌else◌, List, drop, length, slice_index, codes}
+use Rattle.std.specs.Prelude.{ℕ, ◌==◌, ◌&&◌, ◌||◌, nat_eq, nat_lt, Bool, not, if◌then◌else◌, List, drop, length, slice_index, codes}
 use Rattle.std.specs.Cmp.Lexicographic.{pointwise}
 use Rattle.std.specs.List.{prefix_len}
 use Rattle.jsonb_spec.specs.Ascii as ascii
