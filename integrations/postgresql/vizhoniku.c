@@ -260,10 +260,10 @@ hint_of_rejection(const VjsonRejection *why)
 				return errhint("Numbers are integers, decimals of at most 38 digits and hexadecimals, with no "
 							   "exponent.");
 			return errhint("Numbers are integers and decimals of at most 38 digits, where an exponent is written out. "
-						   "vjson_rounded rounds those below 10^38, and vjson_error tells which documents of a table "
+						   "vjson_rounded rounds those below 10^38, and vjson_error says which documents of a table "
 						   "are rejected, and why.");
 		case VIZHONIKU_OBJECT_DUPLICATE_KEY:
-			return errhint("vjson_error tells which documents of a table are rejected, and why.");
+			return errhint("vjson_error says which documents of a table are rejected, and why.");
 		default:
 			return 0;
 	}
