@@ -1,5 +1,5 @@
 -- Where the key of a text ends.
-use Rattle.std.proofs.Common.{◌≡◌, ◌≢◌, ℕ, zero, suc, ◌+◌, ◌<◌, ◌⊎◌, inl, inr, true, true≢false, List, [], ◌∷◌, ◌++◌, Some, None, get_or, drop, length, refl, sym, ap, ◌∙◌, arith, eq-eqb, ◌==◌}
+use Rattle.std.proofs.Common.{◌≡◌, ◌≢◌, ℕ, zero, suc, ◌+◌, ◌<◌, ◌⊎◌, inl, inr, true, true≢false, List, [], ◌∷◌, ◌++◌, Some, None, get_or, drop, take, length, refl, sym, ap, ◌∙◌, arith, eq-eqb, ◌==◌}
 use Rattle.std.proofs.lemmas.Bool.{cases_eq, ne_eqb}
 use Rattle.memchr.specs.Find.{IsFirstByte, is_byte}
 use Rattle.jsonb_spec.specs.SortKey.{text_key}
@@ -36,6 +36,21 @@ at_zero (suc b ∷ left) more rest (suc z) mark others e before zero_there behin
     (λ k l h. before (suc k) (omega (arith, l)) (ap (λ xs. get_or xs (suc k) 0) is ∙ h))
     (sym (ap (λ xs. get_or xs (suc z) 0) is) ∙ zero_there)
     (sym (ap (drop (suc (suc z))) is) ∙ behind)
+
+-- where no zero stands before an end, the whole text does
+pub split_there : (text more bytes : List ℕ) (z : ℕ) (others : List ℕ) → bytes ≡ text_key text ++ more → ((k : ℕ) → k < z → get_or bytes k 0 ≢ 0) → drop z bytes ≡ 0 ∷ 1 ∷ others → (take z bytes ≡ text) × (others ≡ more)
+split_there [] more bytes zero others e none ended = (refl, tails 1 1 others more (tails 0 0 (1 ∷ others) (1 ∷ more) (sym ended ∙ e)))
+split_there [] more bytes (suc z) others e none ended = absurd (none 0 (omega arith) (ap (λ xs. get_or xs 0 0) e))
+split_there (zero ∷ text) more bytes zero others e none ended =
+    absurd (omega (arith, heads 1 255 others (text_key text ++ more) (tails 0 0 (1 ∷ others) (255 ∷ (text_key text ++ more)) (sym ended ∙ e))))
+split_there (zero ∷ text) more bytes (suc z) others e none ended = absurd (none 0 (omega arith) (ap (λ xs. get_or xs 0 0) e))
+split_there (suc b ∷ text) more bytes zero others e none ended =
+    let is : bytes ≡ suc b ∷ (text_key text ++ more) = e ∙ ap (λ key. key ++ more) (text_key-other b text) in
+    absurd (omega (arith, heads 0 (suc b) (1 ∷ others) (text_key text ++ more) (sym ended ∙ is)))
+split_there (suc b ∷ text) more bytes (suc z) others e none ended =
+    let is : bytes ≡ suc b ∷ (text_key text ++ more) = e ∙ ap (λ key. key ++ more) (text_key-other b text) in
+    let inner = split_there text more (text_key text ++ more) z others refl (λ k l h. none (suc k) (omega (arith, l)) (ap (λ xs. get_or xs (suc k) 0) is ∙ h)) (sym (ap (drop (suc z)) is) ∙ ended) in
+    (ap (take (suc z)) is ∙ ap (λ xs. suc b ∷ xs) inner.0, inner.1)
 
 -- a byte stands behind the first zero
 zero_not_last : (left more rest : List ℕ) (z : ℕ) → rest ≡ text_key left ++ more → ((k : ℕ) → k < z → get_or rest k 0 ≢ 0) → get_or rest z 0 ≡ 0 → length (drop (suc z) rest) ≡ 0 → ⊥

@@ -9,14 +9,14 @@ use Rattle.std.specs.Int.{trailing_zeros, w64}
 use Rattle.std.specs.List.{prefix_len}
 use Rattle.std.specs.Simd.Lanes.{chunk, mask_l, top}
 use Rattle.memchr.specs.Find.{IsFirstByte, is_byte}
-use Rattle.jsonb_stored.specs.Frames.{ArePlain, TextFirst, Utf8UpTo}
+use Rattle.jsonb_stored.specs.Frames.{AreNoZeros, ArePlain, TextFirst, Utf8UpTo}
 use Rattle.jsonb_stored.proofs.AfterTexts.{some_zero, is_zero}
 use Rattle.jsonb_stored.proofs.CheckedTexts.{zero_up_to, run_is_utf8}
 
 -- ---- by vectors
 
 -- the byte is no ASCII or a zero
-abbrev is_other : ℕ → Bool
+abbrev pub is_other : ℕ → Bool
 is_other b = eqb b 0 || leb 128 b
 
 plain_byte : (b : ℕ) → is_other b ≡ false → (b ≢ 0) × (b < 128)
@@ -40,10 +40,10 @@ plain_on bytes others n m e front back = λ k l. elim (cases_lt k n) [
     same : (k : ℕ) → n ≤ k → get_or others (k - n) 0 ≡ get_or bytes k 0
     same k high = ap (λ xs. get_or xs (k - n) 0) e ∙ get_or-drop n bytes (k - n) 0 ∙ ap (λ i. get_or bytes i 0) (omega (arith, high))
 
--- the first n bytes in a vector, f of each in another, and r the first of these whose top bit is set
-module _ (bytes : List ℕ) (n r : ℕ) (marks : List ℕ) (f : ℕ → ℕ) (room : n ≤ length bytes) (few : n ≤ 64)
-    (fits : (k : ℕ) → Fits w8 (get_or bytes k 0)) (found : r ≡ cond (eqb (mask_l (map (top 7) marks) % 2 ^ 64) 0) n (trailing_zeros w64 (mask_l (map (top 7) marks) % 2 ^ 64)))
-    (lanes : marks ≡ map f (chunk 0 n bytes)) (exact : agree_below (λ b. top 7 (f b)) is_other 256 ≡ true) where
+-- the first n bytes in a vector, f of each in another, and r the first of these whose top bit is set, by which bytes stop
+module _ (stops : ℕ → Bool) (bytes : List ℕ) (n r : ℕ) (marks : List ℕ) (f : ℕ → ℕ) (room : n ≤ length bytes) (few : n ≤ 64)
+    (found : r ≡ cond (eqb (mask_l (map (top 7) marks) % 2 ^ 64) 0) n (trailing_zeros w64 (mask_l (map (top 7) marks) % 2 ^ 64)))
+    (lanes : marks ≡ map f (chunk 0 n bytes)) where
   abbrev is_marked : ℕ → Bool
   is_marked b = top 7 (f b)
 
@@ -57,11 +57,21 @@ module _ (bytes : List ℕ) (n r : ℕ) (marks : List ℕ) (f : ℕ → ℕ) (ro
   pub marks_within : r ≤ n
   marks_within = run_in_chunk_le is_marked bytes 0 n r 0 (omega (arith, room)) counted
 
-  pub marks_plain : ArePlain bytes r
-  marks_plain = λ k l.
-      plain_byte (get_or bytes k 0)
-      (sym (agree_below_at is_marked is_other 256 (get_or bytes k 0) exact (fits k).fits)
-      ∙ run_in_chunk_fails is_marked bytes 0 n r 0 (omega (arith, room)) counted k (omega arith) (omega (arith, l)))
+  pub marks_pass : agree_below is_marked stops 256 ≡ true → ((k : ℕ) → Fits w8 (get_or bytes k 0)) → (k : ℕ) → k < r → stops (get_or bytes k 0) ≡ false
+  marks_pass exact fits k l =
+      sym (agree_below_at is_marked stops 256 (get_or bytes k 0) exact (fits k).fits)
+      ∙ run_in_chunk_fails is_marked bytes 0 n r 0 (omega (arith, room)) counted k (omega arith) (omega (arith, l))
+
+-- the bytes are plain that don't stop
+pub plain_bytes : (bytes : List ℕ) (r : ℕ) → ((k : ℕ) → k < r → is_other (get_or bytes k 0) ≡ false) → ArePlain bytes r
+plain_bytes bytes r pass = λ k l. plain_byte (get_or bytes k 0) (pass k l)
+
+-- the byte is a zero
+abbrev pub is_zero_byte : ℕ → Bool
+is_zero_byte b = eqb b 0
+
+pub no_zeros : (bytes : List ℕ) (r : ℕ) → ((k : ℕ) → k < r → is_zero_byte (get_or bytes k 0) ≡ false) → AreNoZeros bytes r
+no_zeros bytes r pass = λ k l e. true≢false (sym (eq-eqb (get_or bytes k 0) 0 e) ∙ pass k l)
 
 -- no bit is set
 pub none_set : (mask n : ℕ) → eqb mask 0 ≡ true → n ≡ cond (eqb mask 0) n (trailing_zeros w64 mask)

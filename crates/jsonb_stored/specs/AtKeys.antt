@@ -6,7 +6,8 @@ use Rattle.std.specs.declared.cmp.Ordering.TheVariants.{Equal}
 use Rattle.jsonb_key.specs.Readable.{IsAnyNumber, IsReadable}
 use Rattle.jsonb_spec.specs.PartAt.{IsAt, IsChild}
 use Rattle.jsonb_spec.specs.Proper.{AreProper, HaveProperParts}
-use Rattle.jsonb_spec.specs.SortKey.{items_key, key_of, members_key}
+use Rattle.jsonb_spec.specs.Order.{bytes_cmp}
+use Rattle.jsonb_spec.specs.SortKey.{items_key, key_of, members_key, text_key}
 use Rattle.jsonb_spec.specs.SortKey.Kind as kind
 use Rattle.jsonb_spec.specs.Text.Range.{AreWithin, HaveWithin}
 use Rattle.jsonb_spec.specs.Tree.{Members, Tree, Trees}
@@ -85,6 +86,12 @@ pub record FindsPart (bytes : List ℕ) (part_of : Tree → Option Tree) (result
 pub record TellsOrder (order : Ordering) (more : List ℕ) (result : Ordering × Bor (List ℕ)) : Type 0 where
   pub told : result.0 ≡ order
   pub behind : result.0 ≡ Equal → result.1.now ≡ more
+
+-- The name is compared with the one whose key the bytes begin with, and these bytes are left behind that.
+abbrev pub PassesName : List ℕ → List ℕ → Option (Ordering × Bor (List ℕ)) → Type 0
+PassesName name bytes result =
+    (text more : List ℕ) → bytes ≡ text_key text ++ more
+    → MatchOption result ⊥ (λ r. (r.0 ≡ bytes_cmp name text) × (r.1.now ≡ more))
 
 -- The byte is a whole key: of false, true, 0 or null.
 abbrev pub IsWord : ℕ → Type 0

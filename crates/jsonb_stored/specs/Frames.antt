@@ -103,6 +103,15 @@ pub record PlainRun (bytes : List ℕ) (count : ℕ) : Type 0 where
   pub within : count ≤ length bytes
   pub plain : ArePlain bytes count
 
+-- none of the first bytes is a zero
+abbrev pub AreNoZeros : List ℕ → ℕ → Type 0
+AreNoZeros bytes count = (k : ℕ) → k < count → get_or bytes k 0 ≢ 0
+
+-- So many of the first bytes are no zeros.
+pub record RunBeforeZero (bytes : List ℕ) (count : ℕ) : Type 0 where
+  pub within : count ≤ length bytes
+  pub none : AreNoZeros bytes count
+
 -- The first zero stands at this index, and the bytes before it are UTF-8.
 pub record Utf8UpTo (bytes : List ℕ) (zero : ℕ) : Type 0 where
   pub within : zero < length bytes

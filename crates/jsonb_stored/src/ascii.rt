@@ -3,11 +3,46 @@
 ghost use Rattle.std.specs.Prelude.{◌≡◌, ◌≢◌, ◌<◌, ◌≤◌, ◌↔◌, ◌==◌, ℕ, List, length, get_or, if◌then◌else◌, MatchOption, IsTrue, IsUtf8};
 ghost use Rattle.std.specs.Int.{trailing_zeros, w64};
 ghost use Rattle.memchr.specs.Find.{IsFirstByte, is_byte};
-ghost use Rattle.jsonb_stored.specs.Frames.{ArePlain, PlainRun, TextFirst, Utf8UpTo};
+ghost use Rattle.jsonb_stored.specs.Frames.{AreNoZeros, ArePlain, PlainRun, RunBeforeZero, TextFirst, Utf8UpTo};
 
 use jsonb_value::plain::first_set;
 use memchr::memchr;
 use std::simd::prelude::*;
+
+/// How many bytes are before the first zero, as far as the first 16 are looked at.
+#[inline(always)]
+pub(crate) fn run_before_zero(bytes: &[u8]) -> usize
+    ensures run { RunBeforeZero bytes.now result }
+{
+    if bytes.len() < 16 {
+        return run_by_bytes_before_zero(bytes);
+    }
+    run_of_sixteen_before_zero(bytes)
+}
+
+// How many bytes are before the first zero, up to 16.
+#[inline(always)]
+fn run_of_sixteen_before_zero(bytes: &[u8]) -> usize
+    requires { 16 ≤ length bytes.now }
+    ensures within { result ≤ 16 }
+    ensures none { AreNoZeros bytes.now result }
+{
+    let marks = u8x16::from_slice(bytes).simd_eq(u8x16::splat(0));
+    first_set(marks.to_bitmask(), 16)
+}
+
+// How many bytes are before the first zero, byte by byte.
+#[inline(always)]
+fn run_by_bytes_before_zero(bytes: &[u8]) -> usize
+    ensures run { RunBeforeZero bytes.now result }
+{
+    'bytes: for (i, byte) in bytes.iter().enumerate() {
+        if *byte == 0 {
+            return i;
+        }
+    }
+    bytes.len()
+}
 
 /// The index of the first zero. Most texts are short and ASCII, so 16 bytes are looked at before `memchr` is called.
 #[inline(always)]
@@ -36,7 +71,7 @@ fn zero_behind(bytes: &[u8], run: usize) -> Option<usize>
     Some(run + zero)
 }
 
-// How many bytes stand before the first zero, if they are UTF-8.
+// How many bytes are before the first zero, if they are UTF-8.
 #[inline(always)]
 pub(crate) fn utf8_run(bytes: &[u8]) -> Option<usize>
     ensures { MatchOption result ((more : List ℕ) → ¬ (TextFirst bytes.now more)) (λ zero. Utf8UpTo bytes.now zero) }
@@ -52,7 +87,7 @@ pub(crate) fn utf8_run(bytes: &[u8]) -> Option<usize>
     longer_run(bytes, run)
 }
 
-// How many bytes stand before the first zero, if they are UTF-8, where the first `run` of them are ASCII.
+// How many bytes are before the first zero, if they are UTF-8, where the first `run` of them are ASCII.
 #[inline(never)]
 fn longer_run(bytes: &[u8], run: usize) -> Option<usize>
     requires run { PlainRun bytes.now run }

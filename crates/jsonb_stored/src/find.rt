@@ -7,7 +7,7 @@ ghost use Rattle.jsonb_key.specs.Readable.{IsAnyNumber};
 ghost use Rattle.jsonb_path.specs.Path.{IsPath, IsPlainPath};
 ghost use Rattle.jsonb_spec.specs.PartAt.{child_at, part_at};
 ghost use Rattle.jsonb_stored.specs.Found.{count_of, item_back, item_from, open_len, Finds, IsNext, IsRange, Opens, PartStands};
-ghost use Rattle.jsonb_stored.specs.AtKeys.{AtItems, AtKey, AtParts, FindsPart, FindsWithin, TellsOrder};
+ghost use Rattle.jsonb_stored.specs.AtKeys.{AtItems, AtKey, AtParts, FindsPart, FindsWithin, PassesName, TellsOrder};
 ghost use Rattle.jsonb_stored.specs.Open.{opening_byte};
 ghost use Rattle.jsonb_spec.specs.Accessors.{find_member, get_by_name, item_at};
 ghost use Rattle.jsonb_spec.specs.Keys.{KeysAscend};
@@ -18,7 +18,7 @@ ghost use Rattle.jsonb_spec.specs.Text.Range.{HaveWithin};
 ghost use Rattle.jsonb_spec.specs.Tree.{Tree, Members};
 
 use crate::part::is_over;
-use crate::skip::{after_key, after_name, after_text, opening};
+use crate::skip::{after_key, after_name, after_text, opening, split_text};
 use crate::walk::kind_of;
 use jsonb_key::text::{read_byte, skip_pair};
 use jsonb_path::{index_of, plain_key};
@@ -214,19 +214,52 @@ fn member_from<'k>(members: &'k [u8], name: &[u8]) -> Result<Option<&'k [u8]>, N
         if is_over(true, rest) {
             return Ok(None);
         }
-        let (order, value) = compare_name(name, rest);
+        let Some((order, value)) = pass_name(name, rest) else {
+            return Err(NoKey);
+        };
         match order {
             Ordering::Less => return Ok(None),
             Ordering::Equal => return Ok(Some(value)),
             Ordering::Greater => {}
         }
-        let Some(value) = after_text(rest) else {
-            return Err(NoKey);
-        };
         let Some(others) = after_key(value) else {
             return Err(NoKey);
         };
         rest = others;
+    }
+}
+
+// How the name compares with the one whose key the bytes begin with, and the bytes behind that.
+#[inline(always)]
+fn pass_name<'k>(name: &[u8], bytes: &'k [u8]) -> Option<(Ordering, &'k [u8])>
+    ensures passes { PassesName name.now bytes.now result }
+    ensures shorter { IfSome result (λ r. length r.1.now < length bytes.now) }
+{
+    match split_text(bytes) {
+        Some((text, rest)) => Some((compare_texts(name, text), rest)),
+        None => pass_any_name(name, bytes),
+    }
+}
+
+// The same where the name in the key may be long and have zeros.
+#[inline(never)]
+fn pass_any_name<'k>(name: &[u8], bytes: &'k [u8]) -> Option<(Ordering, &'k [u8])>
+    ensures passes { PassesName name.now bytes.now result }
+    ensures shorter { IfSome result (λ r. length r.1.now < length bytes.now) }
+{
+    let (order, _) = compare_name(name, bytes);
+    let rest = after_text(bytes)?;
+    Some((order, rest))
+}
+
+// How two texts compare. Most differ in the first byte.
+#[inline(always)]
+fn compare_texts(name: &[u8], text: &[u8]) -> Ordering
+    ensures { result ≡ bytes_cmp name.now text.now }
+{
+    match (name, text) {
+        ([wanted, ..], [first, ..]) if *wanted != *first => wanted.cmp(first),
+        _ => name.cmp(text),
     }
 }
 

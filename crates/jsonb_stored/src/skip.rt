@@ -9,7 +9,7 @@ ghost use Rattle.jsonb_spec.specs.SortKey.{key_of, number_key, digits_key, text_
 ghost use Rattle.jsonb_spec.specs.SortKey.Kind as kind;
 ghost use Rattle.jsonb_spec.specs.Tree.{Tree, Num};
 
-use crate::ascii::first_zero;
+use crate::ascii::{first_zero, run_before_zero};
 use jsonb_key::number::{invert_if, read_place};
 use jsonb_key::text::skip_pair;
 use jsonb_value::sort_key::kind;
@@ -19,6 +19,7 @@ pub const MAX_DEPTH: usize = 512;
 
 /// The bytes after the sort key that they begin with, of a value of JSON's kinds with at most 512 nested arrays and
 /// objects. Nothing is allocated, and no function calls itself. Of other bytes it may be any rest of them, or `None`.
+#[inline(always)]
 pub fn after_key(bytes: &[u8]) -> Option<&[u8]>
     ensures found { AtKey bytes.now (λ t more. Leaves result more) }
     ensures shorter { IfSome result (λ rest. length rest.now < length bytes.now) }
@@ -43,6 +44,7 @@ pub fn opening(first: u8) -> Option<bool>
 }
 
 /// The bytes after the key of a value that is no array and no object.
+#[inline(always)]
 pub fn after_scalar(bytes: &[u8]) -> Option<&[u8]>
     ensures found { (depth : ℕ) → (t : Tree) → IsReadableAt depth t → IsScalar t → (more : List ℕ)
         → bytes.now ≡ key_of t ++ more → Leaves result more }
@@ -67,7 +69,34 @@ pub(crate) fn is_word(byte: u8) -> bool
 }
 
 /// The bytes after the key of a text that they begin with.
+#[inline(always)]
 pub fn after_text(bytes: &[u8]) -> Option<&[u8]>
+    ensures found { (text more : List ℕ) → bytes.now ≡ text_key text ++ more → Leaves result more }
+    ensures shorter { IfSome result (λ rest. length rest.now < length bytes.now) }
+{
+    match split_text(bytes) {
+        Some((_, rest)) => Some(rest),
+        None => after_any_text(bytes),
+    }
+}
+
+// The text whose key the bytes begin with, and the bytes after that; `None` where the text has a zero or isn't short.
+#[inline(always)]
+pub(crate) fn split_text(bytes: &[u8]) -> Option<(&[u8], &[u8])>
+    ensures split { (text more : List ℕ) → bytes.now ≡ text_key text ++ more
+        → IfSome result (λ r. (r.0.now ≡ text) × (r.1.now ≡ more)) }
+    ensures shorter { IfSome result (λ r. length r.1.now < length bytes.now) }
+{
+    let (text, end) = bytes.split_at(run_before_zero(bytes));
+    match skip_pair(kind::TEXT_END, end) {
+        Some(rest) => Some((text, rest)),
+        None => None,
+    }
+}
+
+// The bytes after the key of a text that may be long and have zeros.
+#[inline(never)]
+fn after_any_text(bytes: &[u8]) -> Option<&[u8]>
     ensures found { (text more : List ℕ) → bytes.now ≡ text_key text ++ more → Leaves result more }
     ensures shorter { IfSome result (λ rest. length rest.now < length bytes.now) }
 {
@@ -87,6 +116,7 @@ pub fn after_text(bytes: &[u8]) -> Option<&[u8]>
 }
 
 // The bytes after a number that isn't 0.
+#[inline(always)]
 fn after_number(negative: bool, bytes: &[u8]) -> Option<&[u8]>
     ensures found { (n : Num) → IsProperNumber n → (first : ℕ) → (tail : List ℕ) → bytes.now ≡ first ∷ tail
         → first ≢ kind.zero → negative ≡ nat_lt first kind.zero → (more : List ℕ) → bytes.now ≡ number_key n ++ more
@@ -98,6 +128,7 @@ fn after_number(negative: bool, bytes: &[u8]) -> Option<&[u8]>
 }
 
 // The bytes after digits: behind the first even byte.
+#[inline(always)]
 fn after_digits(negative: bool, bytes: &[u8]) -> Option<&[u8]>
     ensures found { (count magnitude : ℕ) → magnitude < 10 ^ count → 0 < magnitude → (more : List ℕ)
         → bytes.now ≡ map (invert_if negative) (digits_key count magnitude) ++ more → Leaves result more }
@@ -143,6 +174,7 @@ pub fn after_name(object: bool, bytes: &[u8]) -> Option<&[u8]>
 
 // The bytes after the parts of an object or an array, and after its end. Most have scalars alone, for which nothing is
 // kept of what is open.
+#[inline(never)]
 pub(crate) fn after_parts(object: bool, bytes: &[u8]) -> Option<&[u8]>
     ensures found { AtParts object bytes.now (λ o more. Leaves result more) }
     ensures shorter { IfSome result (λ rest. length rest.now < length bytes.now) }

@@ -13,31 +13,30 @@ returns-then-is_over-clause-found c = λ ms a p w more e.
 pub returns-in-Less-clause-found : goal.returns-in-Less-clause-found
 returns-in-Less-clause-found c = λ ms a p w more e.
     let n = member_here ms c.args.name.now c.args.members.now c.members.rest.now more (c.members.invariant.walks ms a p w more e) (c.is_over.ensures.no c.if-is_over.false) in
-    let less = sym ((c.compare_name-order.ensures.compares n.key _ n.stands).told) ∙ c.in-Less.is in
+    let less = sym (c.in-Some.ensures.passes n.key _ n.stands).0 ∙ c.in-Less.is in
     found_none c.args.members.now (find_member (bytes_eq c.args.name.now) ms) (member_past ms c.args.name.now c.args.members.now c.members.rest.now more n less)
 
 pub returns-in-Equal-clause-found : goal.returns-in-Equal-clause-found
 returns-in-Equal-clause-found c = λ ms a p w more e.
     let n = member_here ms c.args.name.now c.args.members.now c.members.rest.now more (c.members.invariant.walks ms a p w more e) (c.is_over.ensures.no c.if-is_over.false) in
-    let same = sym ((c.compare_name-order.ensures.compares n.key _ n.stands).told) ∙ c.in-Equal.is in
-    let value = (c.compare_name-order.ensures.compares n.key _ n.stands).behind c.in-Equal.is in
-    found_some c.args.members.now c.compare_name-order.result.1.now c.compare_name-order.result.1 (find_member (bytes_eq c.args.name.now) ms) n.value
+    let passed = c.in-Some.ensures.passes n.key _ n.stands in
+    let same = sym passed.0 ∙ c.in-Equal.is in
+    found_some c.args.members.now c.in-Some.value.now c.in-Some.value (find_member (bytes_eq c.args.name.now) ms) n.value
     (member_is ms c.args.name.now c.args.members.now c.members.rest.now more n same) refl
-    (member_stands ms c.args.name.now c.args.members.now c.members.rest.now more c.compare_name-order.result.1.now n value)
+    (member_stands ms c.args.name.now c.args.members.now c.members.rest.now more c.in-Some.value.now n passed.1)
 
 pub returns-in_default-after_key-clause-found : goal.returns-in_default-after_key-clause-found
 returns-in_default-after_key-clause-found c = λ ms a p w more e.
     let n = member_here ms c.args.name.now c.args.members.now c.members.rest.now more (c.members.invariant.walks ms a p w more e) (c.is_over.ensures.no c.if-is_over.false) in
-    let value = some_same c.in-Some.value.now _ (c.in-Some.ensures.found n.key _ n.stands) in
-    absurd (none_some _ (c.in_default-after_key.ensures.found n.value n.readable _ value))
+    absurd (none_some _ (c.in_default-after_key.ensures.found n.value n.readable _ (c.in-Some.ensures.passes n.key _ n.stands).1))
 
 pub members-preserved : goal.members-preserved
 members-preserved c = record {
   walks = λ ms a p w more e.
       let n = member_here ms c.args.name.now c.args.members.now c.members.rest.now more (c.members.invariant.walks ms a p w more e) (c.is_over.ensures.no c.if-is_over.false) in
-      let above = sym ((c.compare_name-order.ensures.compares n.key _ n.stands).told) ∙ c.in-Greater.is in
-      let value = some_same c.in-Some.value.now _ (c.in-Some.ensures.found n.key _ n.stands) in
-      let others = some_same c.in-Some-after_key.others.now _ (c.in-Some-after_key.ensures.found n.value n.readable _ value) in
-      member_passed ms c.args.name.now c.args.members.now c.members.rest.now more c.in-Some.value.now c.in-Some-after_key.others.now n above value others;
+      let passed = c.in-Some.ensures.passes n.key _ n.stands in
+      let above = sym passed.0 ∙ c.in-Greater.is in
+      let others = some_same c.in-Some-after_key.others.now _ (c.in-Some-after_key.ensures.found n.value n.readable _ passed.1) in
+      member_passed ms c.args.name.now c.args.members.now c.members.rest.now more c.in-Some.value.now c.in-Some-after_key.others.now n above passed.1 others;
   within = omega (arith, c.in-Some-after_key.ensures.shorter, c.in-Some.ensures.shorter, c.members.invariant.within);
 }

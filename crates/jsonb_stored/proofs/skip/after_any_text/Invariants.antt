@@ -1,6 +1,6 @@
 use Rattle.std.proofs.Common.{◌≤◌, length}
 use Rattle.jsonb_stored.proofs.AfterTexts.{SkipsText}
-use Rattle.jsonb_stored.proofs.skip.after_text.Given as goal
+use Rattle.jsonb_stored.proofs.skip.after_any_text.Given as goal
 
 abbrev pub invariant-zeros : goal.invariant-zeros
 invariant-zeros l = record { skips : SkipsText l.bytes l.rest; within : length l.rest ≤ length l.bytes }

@@ -1,6 +1,6 @@
 use Rattle.std.proofs.Common.{Some, ap, arith}
 use Rattle.jsonb_stored.proofs.AfterTexts.{behind_zero, no_more_bytes, zero_there, text_over, text_goes_on, no_other_mark}
-use Rattle.jsonb_stored.proofs.skip.after_text.Goals as goal
+use Rattle.jsonb_stored.proofs.skip.after_any_text.Goals as goal
 
 pub returns-in_err-mark-clause-found : goal.returns-in_err-mark-clause-found
 returns-in_err-mark-clause-found c = λ text more e.
