@@ -52,6 +52,11 @@ split_there (suc b ∷ text) more bytes (suc z) others e none ended =
     let inner = split_there text more (text_key text ++ more) z others refl (λ k l h. none (suc k) (omega (arith, l)) (ap (λ xs. get_or xs (suc k) 0) is ∙ h)) (sym (ap (drop (suc z)) is) ∙ ended) in
     (ap (take (suc z)) is ∙ ap (λ xs. suc b ∷ xs) inner.0, inner.1)
 
+-- and what stands first is no end of an object
+pub not_over : (bytes others tail : List ℕ) (z : ℕ) → ((k : ℕ) → k < z → get_or bytes k 0 ≢ 0) → drop z bytes ≡ 0 ∷ 1 ∷ others → bytes ≡ 0 ∷ 0 ∷ tail → ⊥
+not_over bytes others tail zero none ended e = absurd (omega (arith, heads 1 0 others tail (tails 0 0 (1 ∷ others) (0 ∷ tail) (sym ended ∙ e))))
+not_over bytes others tail (suc z) none ended e = none 0 (omega arith) (ap (λ xs. get_or xs 0 0) e)
+
 -- a byte stands behind the first zero
 zero_not_last : (left more rest : List ℕ) (z : ℕ) → rest ≡ text_key left ++ more → ((k : ℕ) → k < z → get_or rest k 0 ≢ 0) → get_or rest z 0 ≡ 0 → length (drop (suc z) rest) ≡ 0 → ⊥
 zero_not_last [] more rest zero e before zero_at none = absurd (omega (arith, none, ap (λ xs. length (drop 1 xs)) e))

@@ -1,5 +1,5 @@
 -- What a call finds in bytes that begin with the key of a value, or with parts of an array or an object.
-use Rattle.std.specs.Prelude.{◌≡◌, ◌≢◌, ◌↔◌, ◌⊎◌, ◌<◌, ◌≤◌, ℕ, Bool, List, ◌++◌, length, Option, Some, Result, IfOk, IfSome, MatchOption, option_map}
+use Rattle.std.specs.Prelude.{◌≡◌, ◌≢◌, ◌↔◌, ◌⊎◌, ◌<◌, ◌≤◌, ℕ, Bool, true, List, ◌++◌, length, Option, Some, Result, IfOk, IfSome, MatchOption, option_map}
 use Rattle.std.specs.Borrow.{Bor}
 use Rattle.std.specs.declared.cmp.Ordering.{Ordering}
 use Rattle.std.specs.declared.cmp.Ordering.TheVariants.{Equal}
@@ -13,7 +13,7 @@ use Rattle.jsonb_spec.specs.Text.Range.{AreWithin, HaveWithin}
 use Rattle.jsonb_spec.specs.Tree.{Members, Tree, Trees}
 use Rattle.jsonb_stored.specs.declared.find.NoKey.{NoKey}
 use Rattle.jsonb_stored.specs.Found.{Finds}
-use Rattle.jsonb_stored.specs.Open.{Open, is_object, open_key, IsOpen}
+use Rattle.jsonb_stored.specs.Open.{Open, end_key, is_object, open_key, IsOpen}
 use Rattle.jsonb_stored.specs.Parts.{ChildAt, IsKeyAt, StandsAt}
 
 -- Whichever value's key the bytes begin with, this is so of the value, and of the bytes behind its key.
@@ -86,6 +86,10 @@ pub record FindsPart (bytes : List ℕ) (part_of : Tree → Option Tree) (result
 pub record TellsOrder (order : Ordering) (more : List ℕ) (result : Ordering × Bor (List ℕ)) : Type 0 where
   pub told : result.0 ≡ order
   pub behind : result.0 ≡ Equal → result.1.now ≡ more
+
+-- The bytes don't begin with the end of an object.
+abbrev pub NoMembersEnd : List ℕ → Type 0
+NoMembersEnd bytes = (tail : List ℕ) → bytes ≡ end_key true ++ tail → ⊥
 
 -- The name is compared with the one whose key the bytes begin with, and these bytes are left behind that.
 abbrev pub PassesName : List ℕ → List ℕ → Option (Ordering × Bor (List ℕ)) → Type 0

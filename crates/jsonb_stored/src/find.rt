@@ -7,7 +7,7 @@ ghost use Rattle.jsonb_key.specs.Readable.{IsAnyNumber};
 ghost use Rattle.jsonb_path.specs.Path.{IsPath, IsPlainPath};
 ghost use Rattle.jsonb_spec.specs.PartAt.{child_at, part_at};
 ghost use Rattle.jsonb_stored.specs.Found.{count_of, item_back, item_from, open_len, Finds, IsNext, IsRange, Opens, PartStands};
-ghost use Rattle.jsonb_stored.specs.AtKeys.{AtItems, AtKey, AtParts, FindsPart, FindsWithin, PassesName, TellsOrder};
+ghost use Rattle.jsonb_stored.specs.AtKeys.{AtItems, AtKey, AtParts, FindsPart, FindsWithin, NoMembersEnd, PassesName, TellsOrder};
 ghost use Rattle.jsonb_stored.specs.Open.{opening_byte};
 ghost use Rattle.jsonb_spec.specs.Accessors.{find_member, get_by_name, item_at};
 ghost use Rattle.jsonb_spec.specs.Keys.{KeysAscend};
@@ -211,10 +211,10 @@ fn member_from<'k>(members: &'k [u8], name: &[u8]) -> Result<Option<&'k [u8]>, N
 {
     let mut rest = members;
     'members: loop {
-        if is_over(true, rest) {
-            return Ok(None);
-        }
         let Some((order, value)) = pass_name(name, rest) else {
+            if is_over(true, rest) {
+                return Ok(None);
+            }
             return Err(NoKey);
         };
         match order {
@@ -233,6 +233,7 @@ fn member_from<'k>(members: &'k [u8], name: &[u8]) -> Result<Option<&'k [u8]>, N
 #[inline(always)]
 fn pass_name<'k>(name: &[u8], bytes: &'k [u8]) -> Option<(Ordering, &'k [u8])>
     ensures passes { PassesName name.now bytes.now result }
+    ensures not_over { IfSome result (λ r. NoMembersEnd bytes.now) }
     ensures shorter { IfSome result (λ r. length r.1.now < length bytes.now) }
 {
     match split_text(bytes) {
@@ -245,8 +246,12 @@ fn pass_name<'k>(name: &[u8], bytes: &'k [u8]) -> Option<(Ordering, &'k [u8])>
 #[inline(never)]
 fn pass_any_name<'k>(name: &[u8], bytes: &'k [u8]) -> Option<(Ordering, &'k [u8])>
     ensures passes { PassesName name.now bytes.now result }
+    ensures not_over { IfSome result (λ r. NoMembersEnd bytes.now) }
     ensures shorter { IfSome result (λ r. length r.1.now < length bytes.now) }
 {
+    if is_over(true, bytes) {
+        return None;
+    }
     let (order, _) = compare_name(name, bytes);
     let rest = after_text(bytes)?;
     Some((order, rest))

@@ -1,8 +1,9 @@
 //! Where the key of a value ends.
 
-ghost use Rattle.std.specs.Prelude.{◌≡◌, ◌<◌, ◌≤◌, ◌^◌, ◌++◌, ◌∷◌, ◌≢◌, List, ℕ, length, map, nat_lt, IfSome, IsTrue, IsFalse, MatchOption, get_or, false};
+ghost use Rattle.std.specs.Prelude.{◌≡◌, ◌<◌, ◌≤◌, ◌^◌, ◌++◌, ◌∷◌, ◌≢◌, List, ℕ, length, map, nat_lt, IfErr, IfOk, IfSome, IsTrue, IsFalse, MatchOption, get_or, false, Some};
 ghost use Rattle.jsonb_key.specs.Readable.{IsReadableAt};
-ghost use Rattle.jsonb_stored.specs.AtKeys.{AtKey, AtParts, IsNoWord, IsWord, Leaves};
+ghost use Rattle.jsonb_key.specs.Reading.{place_of};
+ghost use Rattle.jsonb_stored.specs.AtKeys.{AtKey, AtParts, IsNoWord, IsWord, Leaves, NoMembersEnd};
 ghost use Rattle.jsonb_stored.specs.Open.{end_key, name_key, opening_byte, IsScalar};
 ghost use Rattle.jsonb_spec.specs.Proper.{IsProperNumber};
 ghost use Rattle.jsonb_spec.specs.SortKey.{key_of, number_key, digits_key, text_key, invert_if};
@@ -10,12 +11,15 @@ ghost use Rattle.jsonb_spec.specs.SortKey.Kind as kind;
 ghost use Rattle.jsonb_spec.specs.Tree.{Tree, Num};
 
 use crate::ascii::{first_zero, run_before_zero};
-use jsonb_key::number::{invert_if, read_place};
+use jsonb_key::number::invert_if;
 use jsonb_key::text::skip_pair;
 use jsonb_value::sort_key::kind;
 
 /// How many arrays and objects may be open at once.
 pub const MAX_DEPTH: usize = 512;
+
+// For how many open arrays and objects there is space at first: all take longer to set than most keys to pass.
+const FEW: usize = 16;
 
 /// The bytes after the sort key that they begin with, of a value of JSON's kinds with at most 512 nested arrays and
 /// objects. Nothing is allocated, and no function calls itself. Of other bytes it may be any rest of them, or `None`.
@@ -85,6 +89,7 @@ pub fn after_text(bytes: &[u8]) -> Option<&[u8]>
 pub(crate) fn split_text(bytes: &[u8]) -> Option<(&[u8], &[u8])>
     ensures split { (text more : List ℕ) → bytes.now ≡ text_key text ++ more
         → IfSome result (λ r. (r.0.now ≡ text) × (r.1.now ≡ more)) }
+    ensures not_over { IfSome result (λ r. NoMembersEnd bytes.now) }
     ensures shorter { IfSome result (λ r. length r.1.now < length bytes.now) }
 {
     let (text, end) = bytes.split_at(run_before_zero(bytes));
@@ -123,8 +128,23 @@ fn after_number(negative: bool, bytes: &[u8]) -> Option<&[u8]>
         → Leaves result more }
     ensures shorter { IfSome result (λ rest. length rest.now < length bytes.now) }
 {
-    let (_, rest) = read_place(negative, bytes)?;
-    after_digits(negative, rest)
+    let digits = after_place(negative, bytes)?;
+    after_digits(negative, digits)
+}
+
+// The bytes after the place of a number's first digit.
+#[inline(always)]
+fn after_place(negative: bool, bytes: &[u8]) -> Option<&[u8]>
+    ensures found { (place : ℕ) → (more : List ℕ) → place_of negative bytes.now ≡ Some (place, more)
+        → Leaves result more }
+    ensures shorter { IfSome result (λ rest. length rest.now < length bytes.now) }
+{
+    let (first, rest) = bytes.split_first()?;
+    if invert_if(negative, *first) != kind::FAR_PLACE {
+        return Some(rest);
+    }
+    let (_, digits) = rest.split_first()?;
+    Some(digits)
 }
 
 // The bytes after digits: behind the first even byte.
@@ -193,39 +213,96 @@ pub(crate) fn after_parts(object: bool, bytes: &[u8]) -> Option<&[u8]>
     }
 }
 
-// The bytes after the parts of an object or an array, and after its end. Which of the open ones are objects stands in
-// an array, outermost first.
+// The bytes after the parts of an object or an array, and after its end.
+#[inline(never)]
 fn after_open(object: bool, bytes: &[u8]) -> Option<&[u8]>
     ensures found { AtParts object bytes.now (λ o more. Leaves result more) }
     ensures shorter { IfSome result (λ rest. length rest.now < length bytes.now) }
 {
-    let mut objects = outermost(object);
+    let mut objects = [false; FEW];
+    match after_within(object, bytes, &mut objects) {
+        Ok(rest) => rest,
+        Err(NoSpace) => after_deep(object, bytes),
+    }
+}
+
+// The same with space for as many open arrays and objects as there may be.
+#[inline(never)]
+fn after_deep(object: bool, bytes: &[u8]) -> Option<&[u8]>
+    ensures found { AtParts object bytes.now (λ o more. Leaves result more) }
+    ensures shorter { IfSome result (λ rest. length rest.now < length bytes.now) }
+{
+    let mut objects = [false; MAX_DEPTH];
+    match after_within(object, bytes, &mut objects) {
+        Ok(rest) => rest,
+        Err(NoSpace) => None,
+    }
+}
+
+// More arrays and objects are open at once than there is space for.
+#[derive(Drop)]
+struct NoSpace;
+
+// The same with this space: it says which of the open ones are objects, outermost first.
+#[inline(always)]
+fn after_within<'k>(
+    object: bool,
+    bytes: &'k [u8],
+    objects: &mut [bool],
+) -> Result<Option<&'k [u8]>, NoSpace>
+    requires some { 0 < length objects.old }
+    requires few { length objects.old ≤ 512 }
+    ensures found { IfOk result (λ rest. AtParts object bytes.now (λ o more. Leaves rest more)) }
+    ensures shorter { IfOk result (λ answer. IfSome answer (λ rest. length rest.now < length bytes.now)) }
+    ensures no_space { IfErr result (λ e. length objects.old < 512) }
+{
+    objects[0] = object;
     let mut depth: usize = 1;
     let mut rest = bytes;
     'parts: loop {
         let Some(top) = depth.checked_sub(1) else {
-            return Some(rest);
+            return Ok(Some(rest));
         };
-        let inside = kind_at(&objects, top);
+        let inside = is_object_at(objects, top);
         if let Some(others) = after_end(inside, rest) {
             depth = top;
             rest = others;
             continue;
         }
-        let value = after_name(inside, rest)?;
-        let (first, others) = value.split_first()?;
+        let Some(value) = after_name(inside, rest) else {
+            return Ok(None);
+        };
+        let Some((first, others)) = value.split_first() else {
+            return Ok(None);
+        };
         match opening(*first) {
             Some(inner) => {
                 if depth == MAX_DEPTH {
-                    return None;
+                    return Ok(None);
+                }
+                if depth == objects.len() {
+                    return Err(NoSpace);
                 }
                 objects[depth] = inner;
                 depth += 1;
                 rest = others;
             }
-            None => rest = after_scalar(value)?,
+            None => {
+                let Some(others) = after_scalar(value) else {
+                    return Ok(None);
+                };
+                rest = others;
+            }
         }
     }
+}
+
+// Whether the open one at this index is an object.
+fn is_object_at(objects: &[bool], index: usize) -> bool
+    requires { index < length objects.now }
+    ensures { result ≡ get_or objects.now index false }
+{
+    objects[index]
 }
 
 /// That the one that is open is an object.

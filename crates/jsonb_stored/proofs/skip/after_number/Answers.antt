@@ -4,15 +4,16 @@ use Rattle.jsonb_spec.specs.SortKey.{digits_key, invert_if}
 use Rattle.jsonb_key.specs.Reading.{place_of}
 use Rattle.jsonb_key.proofs.Numbers.{place_read}
 use Rattle.jsonb_key.proofs.Signs.{signed_read}
-use Rattle.jsonb_key.proofs.Texts.{none_some, some_pair}
+use Rattle.jsonb_key.proofs.Texts.{none_some, some_same}
 use Rattle.jsonb_stored.proofs.skip.after_number.Goals as goal
 
-pub returns-in_err-rest-clause-found : goal.returns-in_err-rest-clause-found
-returns-in_err-rest-clause-found c = λ n proper first tail begins other sign more e.
+pub returns-in_err-digits-clause-found : goal.returns-in_err-digits-clause-found
+returns-in_err-digits-clause-found c = λ n proper first tail begins other sign more e.
     let bytes = c.args.bytes.now in
     let s = signed_read n proper first tail bytes more begins other e in
-    let placed = place_read (nat_lt first 128) s.place (map (invert_if (nat_lt first 128)) (digits_key s.count (unsigned_abs n.whole)) ++ more) s.low in
-    absurd (none_some _ (c.in_err-rest.ensures.place ∙ ap (λ b. place_of b bytes) sign ∙ ap (place_of (nat_lt first 128)) s.stands ∙ placed))
+    let key = map (invert_if (nat_lt first 128)) (digits_key s.count (unsigned_abs n.whole)) ++ more in
+    let placed = place_read (nat_lt first 128) s.place key s.low in
+    absurd (none_some _ (c.in_err-digits.ensures.found s.place key (ap (λ b. place_of b bytes) sign ∙ ap (place_of (nat_lt first 128)) s.stands ∙ placed)))
 
 pub returns-clause-found : goal.returns-clause-found
 returns-clause-found c = λ n proper first tail begins other sign more e.
@@ -20,6 +21,6 @@ returns-clause-found c = λ n proper first tail begins other sign more e.
     let s = signed_read n proper first tail bytes more begins other e in
     let key = map (invert_if (nat_lt first 128)) (digits_key s.count (unsigned_abs n.whole)) ++ more in
     let placed = place_read (nat_lt first 128) s.place key s.low in
-    let at = some_pair c.in_ok-rest.field-0-0 s.place c.in_ok-rest.rest.now key (c.in_ok-rest.ensures.place ∙ ap (λ b. place_of b bytes) sign ∙ ap (place_of (nat_lt first 128)) s.stands ∙ placed) in
+    let at = some_same c.in_ok-digits.digits.now key (c.in_ok-digits.ensures.found s.place key (ap (λ b. place_of b bytes) sign ∙ ap (place_of (nat_lt first 128)) s.stands ∙ placed)) in
     c.after_digits.ensures.found s.count (unsigned_abs n.whole) s.below s.some more
-    (at.1 ∙ ap (λ b. map (invert_if b) (digits_key s.count (unsigned_abs n.whole)) ++ more) (sym sign))
+    (at ∙ ap (λ b. map (invert_if b) (digits_key s.count (unsigned_abs n.whole)) ++ more) (sym sign))
