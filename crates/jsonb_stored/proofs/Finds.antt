@@ -1,153 +1,29 @@
 -- Members by their names and items by their indices, in the keys of objects and arrays.
-use Rattle.std.proofs.Common.{◌≡◌, ℕ, zero, suc, ◌+◌, ◌<◌, ◌≤◌, ◌^◌, Bool, true, false, List, [], ◌∷◌, ◌++◌, Option, Some, None, MatchOption, Bor, length, if◌then◌else◌, refl, sym, ap, subst, ◌∙◌, arith, append_assoc}
+use Rattle.std.proofs.Common.{◌≡◌, ℕ, zero, suc, ◌<◌, ◌≤◌, ◌^◌, Bool, true, false, List, [], ◌∷◌, ◌++◌, Option, Some, None, MatchOption, Bor, Ok, length, refl, sym, ap, subst, ◌∙◌, arith}
 use Rattle.std.proofs.lemmas.List.{length-append}
-use Rattle.std.specs.Str.{bytes_eq}
+use Rattle.std.specs.Option.{option_and_then}
 use Rattle.jsonb_key.specs.Readable.{IsAnyNumber, IsReadable, IsReadableAt}
-use Rattle.jsonb_spec.specs.PartAt.{IsIndex, IsChild, IsAt}
+use Rattle.jsonb_spec.specs.PartAt.{IsIndex, IsChild, IsAt, child_at, index_named}
+use Rattle.jsonb_path.proofs.PartIndex.{is_named, names_index}
+use Rattle.jsonb_stored.specs.Found.{Finds}
 use Rattle.jsonb_path.proofs.PartsReadBack.{part_within, part_proper, deeper}
-use Rattle.jsonb_stored.specs.Open.{Open, items, members, is_object, open_key, IsOpen, end_key, opening_byte, IsScalar}
+use Rattle.jsonb_stored.specs.Open.{Open, items, members, is_object, open_key, IsOpen, opening_byte}
 use Rattle.jsonb_stored.specs.Parts.{opened_tree, ChildAt, StandsAt}
-use Rattle.jsonb_stored.proofs.Opens.{no_end}
-use Rattle.jsonb_spec.specs.Accessors.{find_member, item_at, trees_len}
-use Rattle.jsonb_spec.specs.Proper.{AreProper, HaveProperParts}
+use Rattle.jsonb_spec.specs.Accessors.{item_at, trees_len}
+use Rattle.jsonb_spec.specs.Proper.{AreProper}
 use Rattle.jsonb_spec.specs.SortKey.{key_of, items_key, members_key, text_key}
-use Rattle.jsonb_spec.specs.Text.Range.{AreWithin, HaveWithin}
-use Rattle.jsonb_spec.specs.Tree.{Tree, null, boolean, string, number, array, object, Trees, no_trees, more_trees, Members, no_members, more_members}
+use Rattle.jsonb_spec.specs.Text.Range.{AreWithin}
+use Rattle.jsonb_spec.specs.Tree.{Tree, null, boolean, string, number, array, object, Trees, no_trees, more_trees}
 use Rattle.jsonb_value.proofs.SortKeys.Kinds.{begins, is_small, number_begins}
 use Rattle.jsonb_value.proofs.Trees.Runs.{heads, tails}
 
--- ---- members
-
--- the members that are left, among which the one of that name is the one of all
-pub record MembersStand (ms : Members) (name rest more : List ℕ) : Type 0 where
-  pub left : Members
-  pub proper : HaveProperParts left
-  pub within : HaveWithin IsAnyNumber left 511
-  pub same : find_member (bytes_eq name) ms ≡ find_member (bytes_eq name) left
-  pub stands : rest ≡ members_key left ++ more
-
-abbrev pub SkipsMembers : List ℕ → List ℕ → List ℕ → Type 0
-SkipsMembers bytes name rest = (ms : Members) → HaveProperParts ms → HaveWithin IsAnyNumber ms 511 → (more : List ℕ) → bytes ≡ members_key ms ++ more → MembersStand ms name rest more
-
-pub members_begun : (bytes name : List ℕ) → SkipsMembers bytes name bytes
-members_begun bytes name = λ ms p w more e. record { left = ms; proper = p; within = w; same = refl; stands = e }
-
-split : (name value others more : List ℕ) → (name ++ (value ++ others)) ++ more ≡ name ++ (value ++ (others ++ more))
-split name value others more = simp append_assoc
+-- ---- children
 
 no_tree : (t : Tree) → None ≡ Some t → ⊥
 no_tree t e = cc
 
--- there is none where they are over
-pub no_member_left : (ms : Members) (name rest more tail : List ℕ) → MembersStand ms name rest more → rest ≡ end_key true ++ tail → (u : Tree) → find_member (bytes_eq name) ms ≡ Some u → ⊥
-no_member_left ms name rest more tail m over u is = go m.left m.proper m.within m.same m.stands
-  where
-    go : (left : Members) → HaveProperParts left → HaveWithin IsAnyNumber left 511 → find_member (bytes_eq name) ms ≡ find_member (bytes_eq name) left → rest ≡ members_key left ++ more → ⊥
-    go no_members p w same stands = absurd (no_tree u (sym same ∙ is))
-    go (more_members k t others) p w same stands = absurd (no_end true k t 511 (record { proper = p.1; within = w.0 }) rest tail (members_key others ++ more) over (stands ∙ split (text_key k) (key_of t) (members_key others) more))
-
--- the next of them
-pub record NextLeft (ms : Members) (name rest more : List ℕ) : Type 0 where
-  pub key : List ℕ
-  pub value : Tree
-  pub readable : IsReadableAt 511 value
-  pub others : Members
-  pub proper : HaveProperParts others
-  pub within : HaveWithin IsAnyNumber others 511
-  pub same : find_member (bytes_eq name) ms ≡ (if bytes_eq name key then Some value else find_member (bytes_eq name) others)
-  pub stands : rest ≡ text_key key ++ (key_of value ++ (members_key others ++ more))
-
-pub next_left : (ms : Members) (name rest more : List ℕ) → MembersStand ms name rest more → ((tail : List ℕ) → rest ≡ end_key true ++ tail → ⊥) → NextLeft ms name rest more
-next_left ms name rest more m open_there = go m.left m.proper m.within m.same m.stands
-  where
-    go : (left : Members) → HaveProperParts left → HaveWithin IsAnyNumber left 511 → find_member (bytes_eq name) ms ≡ find_member (bytes_eq name) left → rest ≡ members_key left ++ more → NextLeft ms name rest more
-    go no_members p w same stands = absurd (open_there more stands)
-    go (more_members k t others) p w same stands = record {
-      key = k;
-      value = t;
-      readable = record { proper = p.1; within = w.0 };
-      others = others;
-      proper = p.2;
-      within = w.1;
-      same = same;
-      stands = stands ∙ split (text_key k) (key_of t) (members_key others) more;
-    }
-
-pub member_found : (ms : Members) (name rest more value : List ℕ) (n : NextLeft ms name rest more) → bytes_eq name n.key ≡ true → value ≡ key_of n.value ++ (members_key n.others ++ more) → ChildAt (object ms) name value
-member_found ms name rest more value n found stands = record {
-  child = n.value;
-  is = n.same ∙ ap (λ b. if b then Some n.value else find_member (bytes_eq name) n.others) found;
-  behind = members_key n.others ++ more;
-  stands = stands;
-}
-
-pub member_skipped : (ms : Members) (name rest more others : List ℕ) (n : NextLeft ms name rest more) → bytes_eq name n.key ≡ false → others ≡ members_key n.others ++ more → MembersStand ms name others more
-member_skipped ms name rest more others n other stands = record {
-  left = n.others;
-  proper = n.proper;
-  within = n.within;
-  same = n.same ∙ ap (λ b. if b then Some n.value else find_member (bytes_eq name) n.others) other;
-  stands = stands;
-}
-
--- ---- items
-
-pub record ItemsStand (ts : Trees) (index before : ℕ) (rest more : List ℕ) : Type 0 where
-  pub left : Trees
-  pub proper : AreProper left
-  pub within : AreWithin IsAnyNumber left 511
-  pub same : item_at ts index ≡ item_at left before
-  pub stands : rest ≡ items_key left ++ more
-
-abbrev pub SkipsItems : List ℕ → ℕ → ℕ → List ℕ → Type 0
-SkipsItems bytes index before rest = (ts : Trees) → AreProper ts → AreWithin IsAnyNumber ts 511 → (more : List ℕ) → bytes ≡ items_key ts ++ more → ItemsStand ts index before rest more
-
-pub items_begun : (bytes : List ℕ) (index : ℕ) → SkipsItems bytes index index bytes
-items_begun bytes index = λ ts p w more e. record { left = ts; proper = p; within = w; same = refl; stands = e }
-
 one_index : (name : List ℕ) (i j : ℕ) → IsIndex name i → IsIndex name j → i ≡ j
 one_index name i j p q = p.value ∙ sym q.value
-
-pub no_item_left : (ts : Trees) (name : List ℕ) (index before : ℕ) (rest more tail : List ℕ) → IsIndex name index → ItemsStand ts index before rest more → rest ≡ end_key false ++ tail → (u : Tree) → IsChild (array ts) name u → ⊥
-no_item_left ts name index before rest more tail spells m over u (i, spelled, at) = go m.left m.proper m.within m.same m.stands
-  where
-    here : item_at ts index ≡ Some u
-    here = ap (item_at ts) (one_index name index i spells spelled) ∙ at
-
-    go : (left : Trees) → AreProper left → AreWithin IsAnyNumber left 511 → item_at ts index ≡ item_at left before → rest ≡ items_key left ++ more → ⊥
-    go no_trees p w same stands = absurd (no_tree u (sym same ∙ here))
-    go (more_trees t others) p w same stands = absurd (no_end false [] t 511 (record { proper = p.0; within = w.0 }) rest tail (items_key others ++ more) over (stands ∙ append_assoc (key_of t) (items_key others) more))
-
-pub record NextItemLeft (ts : Trees) (index before : ℕ) (rest more : List ℕ) : Type 0 where
-  pub item : Tree
-  pub readable : IsReadableAt 511 item
-  pub others : Trees
-  pub proper : AreProper others
-  pub within : AreWithin IsAnyNumber others 511
-  pub same : item_at ts index ≡ item_at (more_trees item others) before
-  pub stands : rest ≡ key_of item ++ (items_key others ++ more)
-
-pub next_item_left : (ts : Trees) (index before : ℕ) (rest more : List ℕ) → ItemsStand ts index before rest more → ((tail : List ℕ) → rest ≡ end_key false ++ tail → ⊥) → NextItemLeft ts index before rest more
-next_item_left ts index before rest more m open_there = go m.left m.proper m.within m.same m.stands
-  where
-    go : (left : Trees) → AreProper left → AreWithin IsAnyNumber left 511 → item_at ts index ≡ item_at left before → rest ≡ items_key left ++ more → NextItemLeft ts index before rest more
-    go no_trees p w same stands = absurd (open_there more stands)
-    go (more_trees t others) p w same stands = record { item = t; readable = record { proper = p.0; within = w.0 }; others = others; proper = p.1; within = w.1; same = same; stands = stands ∙ append_assoc (key_of t) (items_key others) more }
-
-pub item_found : (ts : Trees) (name : List ℕ) (index before : ℕ) (rest more : List ℕ) → IsIndex name index → (n : NextItemLeft ts index before rest more) → before ≡ 0 → ChildAt (array ts) name rest
-item_found ts name index before rest more spells n over = record {
-  child = n.item;
-  is = (index, spells, n.same ∙ ap (item_at (more_trees n.item n.others)) over);
-  behind = items_key n.others ++ more;
-  stands = n.stands;
-}
-
-pub item_skipped : (ts : Trees) (index before less : ℕ) (rest more others : List ℕ) (n : NextItemLeft ts index before rest more) → less + 1 ≡ before → others ≡ items_key n.others ++ more → ItemsStand ts index less others more
-item_skipped ts index before less rest more others n one stands =
-    let is : before ≡ suc less = omega (arith, one) in
-    record { left = n.others; proper = n.proper; within = n.within; same = n.same ∙ ap (item_at (more_trees n.item n.others)) is; stands = stands }
-
--- ---- names that spell no index
 
 longer : (ts : Trees) → AreProper ts → AreWithin IsAnyNumber ts 511 → trees_len ts ≤ length (items_key ts)
 longer no_trees p w = omega arith
@@ -161,29 +37,38 @@ item_within no_trees i t e = absurd (no_tree t e)
 item_within (more_trees u ts) zero t e = omega arith
 item_within (more_trees u ts) (suc i) t e = let rest = item_within ts i t e in omega (arith, rest)
 
-pub no_such_item : (ts : Trees) (name bytes more : List ℕ) (count : ℕ) → AreProper ts → AreWithin IsAnyNumber ts 511 → bytes ≡ items_key ts ++ more → count ≡ length bytes → count < 2 ^ 64 → ((index : ℕ) → index < 2 ^ 64 → IsIndex name index → ⊥) → (u : Tree) → IsChild (array ts) name u → ⊥
-no_such_item ts name bytes more count p w e len fits none u (i, spells, at) =
+named_child : (ts : Trees) (name : List ℕ) (u : Tree) (o : Option ℕ) → index_named name ≡ o → option_and_then (item_at ts) o ≡ Some u → IsChild (array ts) name u
+named_child ts name u None is e = absurd (no_tree u e)
+named_child ts name u (Some i) is e = (i, names_index name i is, e)
+
+pub child_there : (name : List ℕ) (t u : Tree) → child_at name t ≡ Some u → IsChild t name u
+child_there name (object ms) u e = e
+child_there name (array ts) u e = named_child ts name u (index_named name) refl e
+child_there name t u e = absurd (no_tree u e)
+
+-- the items of an array are no more than the bytes of its key
+no_child_there : (t : Tree) → IsReadable t → (name key more : List ℕ) (count : ℕ) → key ≡ key_of t ++ more → count ≡ length key → count < 2 ^ 64 → child_at name t ≡ None → (u : Tree) → IsChild t name u → ⊥
+no_child_there (object ms) r name key more count e len fits none u is = no_tree u (sym none ∙ is)
+no_child_there (array ts) r name key more count e len fits none u (i, spells, at) =
     let within = item_within ts i u at in
-    let long = longer ts p w in
-    none i (omega (arith, within, long, len, fits, ap length e, length-append (items_key ts) more)) spells
+    let long = longer ts r.proper r.within in
+    let named = is_named name i spells (omega (arith, within, long, len, fits, ap length e, length-append (items_key ts) more)) in
+    no_tree u (sym none ∙ ap (option_and_then (item_at ts)) named ∙ at)
+no_child_there t r name key more count e len fits none u is = absurd is
+
+some_child : (key name : List ℕ) (t : Tree) (x : Bor (List ℕ)) (o : Option Tree) → child_at name t ≡ o → Finds key o (Ok (Some x)) → ChildAt t name x.now
+some_child key name t x None is f = absurd f
+some_child key name t x (Some u) is f = record { child = u; is = child_there name t u is; behind = f.behind; stands = f.stands }
+
+none_found : (key : List ℕ) (o : Option Tree) → Finds key o (Ok None) → o ≡ None
+none_found key None f = refl
+none_found key (Some u) f = absurd f
+
+pub child_found : (t : Tree) → IsReadable t → (name key more : List ℕ) (count : ℕ) → key ≡ key_of t ++ more → count ≡ length key → count < 2 ^ 64 → (r : Option (Bor (List ℕ))) → Finds key (child_at name t) (Ok r) → MatchOption r ((u : Tree) → IsChild t name u → ⊥) (λ rest. ChildAt t name rest.now)
+child_found t r name key more count e len fits None f = no_child_there t r name key more count e len fits (none_found key (child_at name t) f)
+child_found t r name key more count e len fits (Some x) f = some_child key name t x (child_at name t) refl f
 
 -- ---- an array or an object by what is left of it
-
-pub child_of_object : (r : Option (Bor (List ℕ))) (asked name parts : List ℕ) → asked ≡ name → ((ms : Members) → HaveProperParts ms → HaveWithin IsAnyNumber ms 511 → (more : List ℕ) → parts ≡ members_key ms ++ more → MatchOption r ((u : Tree) → IsChild (object ms) asked u → ⊥) (λ rest. ChildAt (object ms) asked rest.now))
-    → (o : Open) → is_object o ≡ true → IsOpen o 511 → (more : List ℕ) → parts ≡ open_key o ++ more → MatchOption r ((u : Tree) → IsChild (opened_tree o) name u → ⊥) (λ rest. ChildAt (opened_tree o) name rest.now)
-child_of_object r asked name parts same found (items ts) is h more e = absurd (false_true is)
-  where
-    false_true : false ≡ true → ⊥
-    false_true x = cc
-child_of_object r asked name parts same found (members ms) is h more e = subst (λ n. MatchOption r ((u : Tree) → IsChild (object ms) n u → ⊥) (λ rest. ChildAt (object ms) n rest.now)) same (found ms h.0 h.1 more e)
-
-pub child_of_array : (r : Option (Bor (List ℕ))) (name parts : List ℕ) → ((ts : Trees) → AreProper ts → AreWithin IsAnyNumber ts 511 → (more : List ℕ) → parts ≡ items_key ts ++ more → MatchOption r ((u : Tree) → IsChild (array ts) name u → ⊥) (λ rest. ChildAt (array ts) name rest.now))
-    → (o : Open) → is_object o ≡ false → IsOpen o 511 → (more : List ℕ) → parts ≡ open_key o ++ more → MatchOption r ((u : Tree) → IsChild (opened_tree o) name u → ⊥) (λ rest. ChildAt (opened_tree o) name rest.now)
-child_of_array r name parts found (items ts) is h more e = found ts h.0 h.1 more e
-child_of_array r name parts found (members ms) is h more e = absurd (true_false is)
-  where
-    true_false : true ≡ false → ⊥
-    true_false x = cc
 
 -- the array or the object whose key begins with this byte
 pub record Parent (t : Tree) (b : Bool) (rest more : List ℕ) : Type 0 where
@@ -210,11 +95,6 @@ parent_of (array ts) r first rest bytes more e stands false is = record { open_t
 parent_of (object ms) r first rest bytes more e stands true is = record { open_there = members ms; is = refl; fits = (r.proper.1, r.within); stands = tails first 209 rest (members_key ms ++ more) (sym e ∙ stands); whole = refl }
 parent_of (object ms) r first rest bytes more e stands false is = absurd (omega (arith, is, heads first 209 rest (members_key ms ++ more) (sym e ∙ stands)))
 parent_of t r first rest bytes more e stands b is = absurd r.within
-
-pub no_child : (t : Tree) → IsScalar t → (name : List ℕ) (u : Tree) → IsChild t name u → ⊥
-no_child (array ts) s name u is = absurd s
-no_child (object ms) s name u is = absurd s
-no_child t s name u is = absurd is
 
 pub child_readable : (t : Tree) → IsReadable t → (name : List ℕ) (u : Tree) → IsChild t name u → IsReadable u
 child_readable t r name u is = record {

@@ -3,7 +3,6 @@ pub mod AfterDigits
 pub mod Scalars
 pub mod ByFirstByte
 pub mod Opens
-pub mod Names
 pub mod Finds
 pub mod FirstZeros
 pub mod Standing

@@ -12,9 +12,8 @@ ghost use Rattle.jsonb_spec.specs.SortKey.{key_of, items_key, members_key, text_
 ghost use Rattle.jsonb_spec.specs.Tree.{Tree, Trees, Members};
 
 use crate::find::NoKey;
-use crate::part::is_over;
 use crate::skip::{
-    MAX_DEPTH, after_end, after_key, after_parts, after_scalar, after_text, opening,
+    MAX_DEPTH, after_end, after_key, after_parts, after_scalar, after_text, is_over, opening,
 };
 use crate::walk::{front, items_of};
 use std::cmp::Ordering;

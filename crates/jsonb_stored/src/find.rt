@@ -17,8 +17,7 @@ ghost use Rattle.jsonb_spec.specs.SortKey.{key_of, members_key, text_key};
 ghost use Rattle.jsonb_spec.specs.Text.Range.{HaveWithin};
 ghost use Rattle.jsonb_spec.specs.Tree.{Tree, Members};
 
-use crate::part::is_over;
-use crate::skip::{after_key, after_name, after_text, opening, split_text};
+use crate::skip::{after_key, after_name, after_text, is_over, opening, split_text};
 use crate::walk::kind_of;
 use jsonb_key::text::{read_byte, skip_pair};
 use jsonb_path::{index_of, plain_key};
@@ -187,7 +186,7 @@ fn child_of<'k>(
 }
 
 // The bytes from the member of that name on, or from the item of that index on.
-fn find_child<'k>(key: &'k [u8], name: &str) -> Result<Option<&'k [u8]>, NoKey>
+pub(crate) fn find_child<'k>(key: &'k [u8], name: &str) -> Result<Option<&'k [u8]>, NoKey>
     ensures finds { FindsPart key.now (child_at name.now) result }
 {
     let Some((object, parts)) = open_key(key)? else {

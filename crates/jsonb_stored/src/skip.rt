@@ -180,6 +180,17 @@ pub fn after_end(object: bool, bytes: &[u8]) -> Option<&[u8]>
     }
 }
 
+// Whether an object or an array ends here.
+pub(crate) fn is_over(object: bool, bytes: &[u8]) -> bool
+    ensures yes { IsTrue result → (tail : List ℕ) × (bytes.now ≡ end_key object ++ tail) }
+    ensures no { IsFalse result → (tail : List ℕ) → bytes.now ≡ end_key object ++ tail → ⊥ }
+{
+    match after_end(object, bytes) {
+        Some(_) => true,
+        None => false,
+    }
+}
+
 /// The bytes after a member's name, which an item has none of.
 pub fn after_name(object: bool, bytes: &[u8]) -> Option<&[u8]>
     ensures found { (name more : List ℕ) → bytes.now ≡ name_key object name ++ more → Leaves result more }
