@@ -3,16 +3,16 @@ use Rattle.std.proofs.Common.{◌≡◌, ℕ, ◌+◌, ◌-◌, ◌≤◌, ◌==
 use Rattle.std.proofs.lemmas.Bool.{cases_lt}
 use Rattle.std.proofs.lemmas.List.{length-drop, get_or-drop}
 use Rattle.memchr.specs.Find.{IsFirstByte, Nowhere, Passes, is_byte}
-use Rattle.jsonb_stored.specs.Frames.{ArePlain}
+use Rattle.jsonb_stored.specs.Frames.{AreNoZeros}
 use Rattle.jsonb_stored.proofs.AfterTexts.{is_zero}
 
-module _ (bytes : List ℕ) (run : ℕ) (plain : ArePlain bytes run) where
+module _ (bytes : List ℕ) (run : ℕ) (none_before : AreNoZeros bytes run) where
   moved_back : (k : ℕ) → run ≤ k → get_or (drop run bytes) (k - run) 0 ≡ get_or bytes k 0
   moved_back k high = get_or-drop run bytes (k - run) 0 ∙ ap (λ i. get_or bytes i 0) (omega (arith, high))
 
   none_up_to : (n : ℕ) → Nowhere (Passes (is_byte 0) (drop run bytes)) 0 n → Nowhere (Passes (is_byte 0) bytes) 0 (run + n)
   none_up_to n none = λ k low high h. elim (cases_lt k run) [
-    | inl l ↦ (plain k l).0 (is_zero (get_or bytes k 0) h)
+    | inl l ↦ none_before k l (is_zero (get_or bytes k 0) h)
     | inr m ↦ none (k - run) (omega arith) (omega (arith, high, m)) (ap (λ b. b == 0) (moved_back k m) ∙ h)
   ]
 

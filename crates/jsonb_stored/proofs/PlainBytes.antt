@@ -73,6 +73,13 @@ is_zero_byte b = eqb b 0
 pub no_zeros : (bytes : List ℕ) (r : ℕ) → ((k : ℕ) → k < r → is_zero_byte (get_or bytes k 0) ≡ false) → AreNoZeros bytes r
 no_zeros bytes r pass = λ k l e. true≢false (sym (eq-eqb (get_or bytes k 0) 0 e) ∙ pass k l)
 
+-- a run without zeros after another
+pub no_zeros_on : (bytes others : List ℕ) (n m : ℕ) → others ≡ drop n bytes → AreNoZeros bytes n → AreNoZeros others m → AreNoZeros bytes (n + m)
+no_zeros_on bytes others n m e front back = λ k l. elim (cases_lt k n) [
+  | inl low ↦ front k low
+  | inr high ↦ subst (λ b. b ≢ 0) (ap (λ xs. get_or xs (k - n) 0) e ∙ get_or-drop n bytes (k - n) 0 ∙ ap (λ i. get_or bytes i 0) (omega (arith, high))) (back (k - n) (omega (arith, l, high)))
+]
+
 -- no bit is set
 pub none_set : (mask n : ℕ) → eqb mask 0 ≡ true → n ≡ cond (eqb mask 0) n (trailing_zeros w64 mask)
 none_set mask n e = sym (ap (λ b. cond b n (trailing_zeros w64 mask)) e)

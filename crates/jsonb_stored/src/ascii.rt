@@ -44,26 +44,38 @@ fn run_by_bytes_before_zero(bytes: &[u8]) -> usize
     bytes.len()
 }
 
-/// The index of the first zero. Most texts are short and ASCII, so 16 bytes are looked at before `memchr` is called.
+/// The index of the first zero. Most texts are short, so some vectors are looked at before `memchr` is called.
 #[inline(always)]
 pub(crate) fn first_zero(bytes: &[u8]) -> Option<usize>
     ensures { IsFirstByte (is_byte 0) bytes.now result }
 {
-    let run = if bytes.len() < 16 {
-        run_by_bytes(bytes)
-    } else {
-        run_of_sixteen(bytes)
-    };
+    let run = run_by_vectors_before_zero(bytes);
     if run < bytes.len() && bytes[run] == 0 {
         return Some(run);
     }
     zero_behind(bytes, run)
 }
 
+// How many bytes are before the first zero, as far as the first 48 are looked at.
+#[inline(always)]
+fn run_by_vectors_before_zero(bytes: &[u8]) -> usize
+    ensures run { RunBeforeZero bytes.now result }
+{
+    let mut len = 0;
+    'vectors: while len < 32 && bytes.len() - len >= 16 {
+        let run = run_of_sixteen_before_zero(&bytes[len..]);
+        len += run;
+        if run < 16 {
+            return len;
+        }
+    }
+    len + run_before_zero(&bytes[len..])
+}
+
 // The index of the first zero, which isn't among the first `run` bytes.
 #[inline(never)]
 fn zero_behind(bytes: &[u8], run: usize) -> Option<usize>
-    requires run { PlainRun bytes.now run }
+    requires run { RunBeforeZero bytes.now run }
     ensures { IsFirstByte (is_byte 0) bytes.now result }
 {
     let (_, rest) = bytes.split_at(run);
