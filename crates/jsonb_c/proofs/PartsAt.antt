@@ -4,10 +4,11 @@ use Rattle.std.specs.Option.{option_and_then}
 use Rattle.std.specs.Str.{bytes_eq}
 use Rattle.jsonb_spec.specs.Accessors.{find_member, item_at}
 use Rattle.jsonb_spec.specs.Tree.{Tree, array, object, Trees, no_trees, more_trees, Members, no_members, more_members}
-use Rattle.jsonb_spec.specs.PartAt.{IsAt, IsChild, child_at, index_named, part_at}
-use Rattle.jsonb_path.proofs.PartIndex.{is_named, names_index}
+use Rattle.jsonb_spec.specs.PartAt.{IsAt, IsChild, child_at, part_at}
+use Rattle.jsonb_path.proofs.PartIndex.{is_named}
 use Rattle.jsonb_c.proofs.ArraySizes.{AreBelow, ItemsBelow, MembersBelow}
 use Rattle.jsonb.proofs.Children.{item_within}
+use Rattle.jsonb_stored.proofs.Finds.{child_there}
 
 same_tree : (t u : Tree) → Some t ≡ Some u → t ≡ u
 same_tree t u e = cc
@@ -16,15 +17,6 @@ no_tree : (t : Tree) → None ≡ Some t → ⊥
 no_tree t e = cc
 
 -- ---- children
-
-named_child : (ts : Trees) (key : List ℕ) (u : Tree) (o : Option ℕ) → index_named key ≡ o → option_and_then (item_at ts) o ≡ Some u → IsChild (array ts) key u
-named_child ts key u None is e = absurd (no_tree u e)
-named_child ts key u (Some i) is e = (i, names_index key i is, e)
-
-pub child_there : (key : List ℕ) (t u : Tree) → child_at key t ≡ Some u → IsChild t key u
-child_there key (object ms) u e = e
-child_there key (array ts) u e = named_child ts key u (index_named key) refl e
-child_there key t u e = absurd (no_tree u e)
 
 pub child_found : (n : ℕ) → n < 2 ^ 64 → (key : List ℕ) (t u : Tree) → AreBelow n t → IsChild t key u → child_at key t ≡ Some u
 child_found n small key (object ms) u below child = child
