@@ -24,3 +24,4 @@ pub mod Naming
 pub mod Walked
 pub mod Beside
 pub mod Turns
+pub mod LesserBytes

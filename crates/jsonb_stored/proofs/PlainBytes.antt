@@ -57,9 +57,9 @@ module _ (stops : ℕ → Bool) (bytes : List ℕ) (n r : ℕ) (marks : List ℕ
   pub marks_within : r ≤ n
   marks_within = run_in_chunk_le is_marked bytes 0 n r 0 (omega (arith, room)) counted
 
-  pub marks_pass : agree_below is_marked stops 256 ≡ true → ((k : ℕ) → Fits w8 (get_or bytes k 0)) → (k : ℕ) → k < r → stops (get_or bytes k 0) ≡ false
-  marks_pass exact fits k l =
-      sym (agree_below_at is_marked stops 256 (get_or bytes k 0) exact (fits k).fits)
+  pub marks_pass : agree_below is_marked stops 256 ≡ true → (k : ℕ) → k < r → Fits w8 (get_or bytes k 0) → stops (get_or bytes k 0) ≡ false
+  marks_pass exact k l fit =
+      sym (agree_below_at is_marked stops 256 (get_or bytes k 0) exact fit.fits)
       ∙ run_in_chunk_fails is_marked bytes 0 n r 0 (omega (arith, room)) counted k (omega arith) (omega (arith, l))
 
 -- the bytes are plain that don't stop

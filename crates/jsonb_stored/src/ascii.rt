@@ -78,9 +78,26 @@ fn zero_behind(bytes: &[u8], run: usize) -> Option<usize>
     requires run { RunBeforeZero bytes.now run }
     ensures { IsFirstByte (is_byte 0) bytes.now result }
 {
-    let (_, rest) = bytes.split_at(run);
+    let mut len = run;
+    'wide: while bytes.len() - len >= 128 {
+        if !have_no_zero(&bytes[len..], &bytes[len + 64..]) {
+            break;
+        }
+        len += 128;
+    }
+    let (_, rest) = bytes.split_at(len);
     let zero = memchr(0, rest)?;
-    Some(run + zero)
+    Some(len + zero)
+}
+
+// Whether there is no zero among the first 64 bytes of both: it would be the lesser one of two.
+#[inline(always)]
+fn have_no_zero(bytes: &[u8], others: &[u8]) -> bool
+    requires { (64 ≤ length bytes.now) × (64 ≤ length others.now) }
+    ensures { IsTrue result → AreNoZeros bytes.now 64 × AreNoZeros others.now 64 }
+{
+    let least = u8x64::from_slice(bytes).simd_min(u8x64::from_slice(others));
+    least.simd_eq(u8x64::splat(0)).to_bitmask() == 0
 }
 
 // How many bytes are before the first zero, if they are UTF-8.

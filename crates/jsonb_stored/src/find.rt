@@ -186,6 +186,7 @@ fn child_of<'k>(
 }
 
 // The bytes from the member of that name on, or from the item of that index on.
+#[inline(always)]
 pub(crate) fn find_child<'k>(key: &'k [u8], name: &str) -> Result<Option<&'k [u8]>, NoKey>
     ensures finds { FindsPart key.now (child_at name.now) result }
 {

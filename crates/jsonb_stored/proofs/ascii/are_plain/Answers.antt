@@ -9,5 +9,5 @@ returns c all =
     let v = chunk 0 64 c.args.bytes.now in
     let long = length-chunk 0 64 c.args.bytes.now c.requires in
     plain_bytes c.args.bytes.now 64
-    (marks_pass is_other c.args.bytes.now 64 64 _ _ c.requires (omega arith) (none_set _ 64 all)
-    (zip2_of_maps _ _ _ v (zip2_splat _ v 64 0 long) (zip2_splat_left (λ (a b : ℕ). cond (leb a b) 255 0) 128 64 v long)) refl c.type_inv.bytes)
+    (λ k l. marks_pass is_other c.args.bytes.now 64 64 _ _ c.requires (omega arith) (none_set _ 64 all)
+    (zip2_of_maps _ _ _ v (zip2_splat _ v 64 0 long) (zip2_splat_left (λ (a b : ℕ). cond (leb a b) 255 0) 128 64 v long)) refl k l (c.type_inv.bytes k))

@@ -16,5 +16,5 @@ returns-clause-plain c =
     let v = chunk 0 16 c.args.bytes.now in
     let long = length-chunk 0 16 c.args.bytes.now c.requires in
     plain_bytes c.args.bytes.now c.first_set.result
-    (marks_pass is_other c.args.bytes.now 16 _ _ _ c.requires (omega arith) c.first_set.ensures
-    (zip2_of_maps _ _ _ v (zip2_splat _ v 16 0 long) (zip2_splat_left (λ (a b : ℕ). cond (leb a b) 255 0) 128 16 v long)) refl c.type_inv.bytes)
+    (λ k l. marks_pass is_other c.args.bytes.now 16 _ _ _ c.requires (omega arith) c.first_set.ensures
+    (zip2_of_maps _ _ _ v (zip2_splat _ v 16 0 long) (zip2_splat_left (λ (a b : ℕ). cond (leb a b) 255 0) 128 16 v long)) refl k l (c.type_inv.bytes k))

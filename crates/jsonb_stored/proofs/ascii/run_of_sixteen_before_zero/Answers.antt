@@ -15,4 +15,4 @@ returns-clause-none c =
     let v = chunk 0 16 c.args.bytes.now in
     let long = length-chunk 0 16 c.args.bytes.now c.requires in
     no_zeros c.args.bytes.now c.first_set.result
-    (marks_pass is_zero_byte c.args.bytes.now 16 _ _ _ c.requires (omega arith) c.first_set.ensures (zip2_splat _ v 16 0 long) refl c.type_inv.bytes)
+    (λ k l. marks_pass is_zero_byte c.args.bytes.now 16 _ _ _ c.requires (omega arith) c.first_set.ensures (zip2_splat _ v 16 0 long) refl k l (c.type_inv.bytes k))
