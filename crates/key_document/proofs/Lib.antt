@@ -9,3 +9,5 @@ pub mod Passing
 pub mod Joining
 pub mod Ending
 pub mod Changing
+pub mod Building
+pub mod Short
