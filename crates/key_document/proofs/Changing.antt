@@ -10,7 +10,7 @@ use Rattle.jsonb_spec.specs.SortKey.{key_of}
 use Rattle.jsonb_spec.specs.Text.Appending.{Extends}
 use Rattle.jsonb_spec.specs.Text.Range.{IsWithin}
 use Rattle.jsonb_spec.specs.Tree.{Tree}
-use Rattle.key_document.specs.Changes.{Answers, IsLacking, KeepsOnError, as_document_error}
+use Rattle.key_document.specs.Changes.{Answers, AppendsDocument, IsLacking, KeepsOnError, as_document_error}
 use Rattle.key_document.specs.Document.{behind_key, counts_at, document_of, zeros_at}
 use Rattle.key_document.specs.Splices.{AppendsZeros, Cut, CutsOnError, IsSplice, AreSpliced, Spliced, entry_counts, spliced_counts}
 use Rattle.key_document.specs.declared.error.DocumentError.{DocumentError}
@@ -182,3 +182,8 @@ ToldPlace t names key told = MatchOption told ((change : Option Tree → Outcome
 -- there is no answer
 pub nothing_appended : (answer : Option Tree) (old : Vec ℕ Global) → answer ≡ None → Answers answer (Ok false) old old
 nothing_appended answer old e = subst (λ o. Answers o (Ok false) old old) (sym e) (refl, refl)
+
+-- the capacity for the key is missing
+pub key_lacking : {X : Type 0} (v : Tree) (r : Result X DocumentError) (old new : Vec ℕ Global) → IsErrAnd r (λ e. e ≡ OutOfMemory) → vec_capacity old < vec_len old + length (key_of v) → AppendsDocument v r old new
+key_lacking v (Ok x) old new is full = absurd is
+key_lacking v (Err e) old new is full = record { ok = tt; fits = tt; errors = subst (λ e. IsLacking v old e) (sym is) (omega (arith, full, length-append (key_of v) (behind_key (zeros_at v)))) }

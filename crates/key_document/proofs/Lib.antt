@@ -11,3 +11,5 @@ pub mod Ending
 pub mod Changing
 pub mod Building
 pub mod Short
+pub mod Reaching
+pub mod Slots

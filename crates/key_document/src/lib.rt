@@ -7,6 +7,7 @@ pub mod edit;
 pub mod error;
 pub mod laws;
 pub mod order;
+pub mod part;
 mod splice;
 mod zeros;
 
@@ -15,3 +16,4 @@ pub use document::split_document;
 pub use edit::{append_with_part, append_without_part};
 pub use error::DocumentError;
 pub use order::compare_documents;
+pub use part::{append_part, append_range};

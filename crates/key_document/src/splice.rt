@@ -1,6 +1,6 @@
 //! The zeros of a key in which a part is put, or from which one is taken.
 
-ghost use Rattle.std.specs.Prelude.{◌≡◌, List, ℕ, IfOk, true};
+ghost use Rattle.std.specs.Prelude.{◌≡◌, ◌<◌, ◌^◌, ◌++◌, List, ℕ, IfOk, length, true};
 ghost use Rattle.key_document.specs.Splices.{AppendsZeros, AreSpliced, CutsOnError, spliced_counts};
 ghost use Rattle.key_document.specs.Document.{behind_key};
 ghost use Rattle.stored_text.specs.Writes.{Keeps};
@@ -91,5 +91,27 @@ fn join_zeros(
     let named = more_plain(plain, lengths.name)?;
     let (more, _) = copy(named, part_all, lengths.part, out)?;
     copy(more, rest, lengths.behind, out)?;
+    Ok(())
+}
+
+/// Appends what follows the key of a part, which is at this offset in that of the value, and has this size: of the
+/// zeros those of the part, and their end.
+pub(crate) fn cut_zeros(
+    out: &mut Vec<u8>,
+    zeros: &[u8],
+    offset: usize,
+    size: usize,
+) -> Result<(), DocumentError>
+    ensures cut { (before part behind : List ℕ) → zeros.now ≡ zeros_of 0 (before ++ (part ++ behind))
+        → length before ≡ offset → length part ≡ size → length (before ++ (part ++ behind)) < 2 ^ 63
+        → AppendsZeros result out.old out.new (behind_key (zeros_of 0 part)) }
+    ensures keeps { Keeps out.old out.new }
+{
+    let start = out.len();
+    let all = all_left(zeros)?;
+    let rest = pass(all, offset)?;
+    copy(0, rest, size, out)?;
+    let zeros_len = out.len().saturating_sub(start);
+    end_zeros(zeros_len, out)?;
     Ok(())
 }
