@@ -187,3 +187,8 @@ nothing_appended answer old e = subst (λ o. Answers o (Ok false) old old) (sym 
 pub key_lacking : {X : Type 0} (v : Tree) (r : Result X DocumentError) (old new : Vec ℕ Global) → IsErrAnd r (λ e. e ≡ OutOfMemory) → vec_capacity old < vec_len old + length (key_of v) → AppendsDocument v r old new
 key_lacking v (Ok x) old new is full = absurd is
 key_lacking v (Err e) old new is full = record { ok = tt; fits = tt; errors = subst (λ e. IsLacking v old e) (sym is) (omega (arith, full, length-append (key_of v) (behind_key (zeros_at v)))) }
+
+-- the key of the changed value isn't appended
+pub edit_lacking : {X : Type 0} (v : Tree) (r : Result X DocumentError) (error : EditError) (old new : Vec ℕ Global) → IsErrAnd r (λ e. e ≡ as_document_error error) → KeyLacks v old error → AppendsDocument v r old new
+edit_lacking v (Ok x) error old new h lacks = absurd h
+edit_lacking v (Err e) error old new h lacks = record { ok = tt; fits = tt; errors = subst (λ e. IsLacking v old e) (sym h) (key_lacks v old error lacks) }

@@ -13,3 +13,6 @@ pub mod Building
 pub mod Short
 pub mod Reaching
 pub mod Slots
+pub mod ItemsJoined
+pub mod MembersJoined
+pub mod NoZeros

@@ -45,6 +45,12 @@ abbrev pub AnswersOfBoth : (Tree → Tree → Option Tree) → List ℕ → List
 AnswersOfBoth answer document part result old new =
     OfDocument document (λ t. OfDocument part (λ u. Answers (answer u t) result old new))
 
+-- Whichever values the two documents are of, the document of both in one is appended.
+abbrev pub AppendsBoth : {X : Type 0} → (Tree → Tree → Tree) → List ℕ → List ℕ → Result X DocumentError → Vec ℕ Global
+    → Vec ℕ Global → Type 0
+AppendsBoth both left right result old new =
+    OfDocument left (λ t. OfDocument right (λ u. AppendsDocument (both t u) result old new))
+
 -- After an error the buffer has its old bytes, and its capacity doesn't shrink.
 pub record KeepsOnError {X E : Type 0} (result : Result X E) (old new : Vec ℕ Global) : Type 0 where
   pub err : OnErr result (new.items ≡ old.items)

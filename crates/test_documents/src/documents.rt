@@ -1,8 +1,8 @@
 use crate::rows::ROWS;
 use jsonb_path::read_keys;
 use key_document::{
-    append_part, append_with_item, append_with_member, append_with_part, append_without_part,
-    compare_documents,
+    append_merged, append_part, append_with_item, append_with_member, append_with_part,
+    append_without_part, compare_documents,
 };
 use std::cmp::Ordering;
 use std::process::Abort;
@@ -62,6 +62,7 @@ fn documents_are_those_of_the_reference(rt: HostRuntime) -> Result<(), Fail> {
             "set" => append_with_part(&mut out, &document, &names, &other, true),
             "remove" => append_without_part(&mut out, &document, &names),
             "push" => append_with_item(&mut out, &document, &other),
+            "merge" => append_merged(&mut out, &document, &other).map(|()| true),
             _ => {
                 let (name, _) = names.split_first().expect(&rt, "no name");
                 append_with_member(&mut out, &document, name.as_str(), &other)

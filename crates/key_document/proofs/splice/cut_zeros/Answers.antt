@@ -17,7 +17,7 @@ returns-in_err-copy-clause-cut c = λ before part behind z o s fit.
     let passed : drop c.args.offset all ≡ part ++ behind = ap (λ n. drop n all) (sym o) ∙ drop-append_seam before (part ++ behind) in
     let taken : take c.args.size (part ++ behind) ≡ part = ap (λ n. take n (part ++ behind)) (sym s) ∙ take-append_seam part behind in
     let rest = subst (λ l. Pends l c.in_ok-rest.rest) passed (c.in_ok-rest.ensures.found all fit (c.in_ok-all.ensures.found all fit z) (omega (arith, o, long))) in
-    let w = c.in_err-copy.ensures.found (part ++ behind) rest (omega (arith, s, more)) (omega (arith, fit, long)) in
+    let w = c.in_err-copy.ensures.found (part ++ behind) rest (omega (arith, s, more)) (omega (arith, fit, long)) (omega (arith, s, fit, long, more)) in
     let full = subst (λ l. vec_capacity c.args.out.now < vec_len c.args.out.now + length (zeros_of 0 l)) taken w.1 in
     lacks_zeros c.from_residual-in_err-copy.result c.in_err-copy.field-0.0 c.args.out.now c.copy.new.out (zeros_of 0 part) (behind_key (zeros_of 0 part)) c.from_residual-in_err-copy.ensures.1 w.0 full (omega (arith, length-append (zeros_of 0 part) (end_of (length (zeros_of 0 part)))))
 
@@ -31,7 +31,7 @@ returns-in_err-end_zeros-clause-cut c = λ before part behind z o s fit.
     let passed : drop c.args.offset all ≡ part ++ behind = ap (λ n. drop n all) (sym o) ∙ drop-append_seam before (part ++ behind) in
     let taken : take c.args.size (part ++ behind) ≡ part = ap (λ n. take n (part ++ behind)) (sym s) ∙ take-append_seam part behind in
     let rest = subst (λ l. Pends l c.in_ok-rest.rest) passed (c.in_ok-rest.ensures.found all fit (c.in_ok-all.ensures.found all fit z) (omega (arith, o, long))) in
-    let w = c.in_ok-copy.ensures.found (part ++ behind) rest (omega (arith, s, more)) (omega (arith, fit, long)) in
+    let w = c.in_ok-copy.ensures.found (part ++ behind) rest (omega (arith, s, more)) (omega (arith, fit, long)) (omega (arith, s, fit, long, more)) in
     let joined : mid.items ≡ c.args.out.now.items ++ zeros = w.0 ∙ ap (λ l. c.args.out.now.items ++ zeros_of 0 l) taken in
     let sum = length-append c.args.out.now.items zeros in
     let size : c.saturating_sub-zeros_len.result ≡ length zeros = omega (arith, c.saturating_sub-zeros_len.ensures, c.len.ensures, c.len-start.ensures, c.args.out.now.ok.0, mid.ok.0, ap length joined, sum) in
@@ -50,7 +50,7 @@ returns-clause-cut c = λ before part behind z o s fit.
     let passed : drop c.args.offset all ≡ part ++ behind = ap (λ n. drop n all) (sym o) ∙ drop-append_seam before (part ++ behind) in
     let taken : take c.args.size (part ++ behind) ≡ part = ap (λ n. take n (part ++ behind)) (sym s) ∙ take-append_seam part behind in
     let rest = subst (λ l. Pends l c.in_ok-rest.rest) passed (c.in_ok-rest.ensures.found all fit (c.in_ok-all.ensures.found all fit z) (omega (arith, o, long))) in
-    let w = c.in_ok-copy.ensures.found (part ++ behind) rest (omega (arith, s, more)) (omega (arith, fit, long)) in
+    let w = c.in_ok-copy.ensures.found (part ++ behind) rest (omega (arith, s, more)) (omega (arith, fit, long)) (omega (arith, s, fit, long, more)) in
     let joined : mid.items ≡ c.args.out.now.items ++ zeros = w.0 ∙ ap (λ l. c.args.out.now.items ++ zeros_of 0 l) taken in
     let sum = length-append c.args.out.now.items zeros in
     let size : c.saturating_sub-zeros_len.result ≡ length zeros = omega (arith, c.saturating_sub-zeros_len.ensures, c.len.ensures, c.len-start.ensures, c.args.out.now.ok.0, mid.ok.0, ap length joined, sum) in
