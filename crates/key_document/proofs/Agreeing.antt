@@ -30,13 +30,13 @@ same_cut (x ∷ a) b (y ∷ c) d e f =
     let rest = same_cut a b c d (ap tail_of e) (ap tail_of f) in
     ((λ i. p i ∷ rest.0 i), rest.1)
 
-same_front : (a c b : List ℕ) → a ++ b ≡ c ++ b → a ≡ c
+pub same_front : (a c b : List ℕ) → a ++ b ≡ c ++ b → a ≡ c
 same_front [] [] b e = refl
 same_front [] (x ∷ c) b e = absurd (omega (arith, ap length e, length-append (x ∷ c) b))
 same_front (x ∷ a) [] b e = absurd (omega (arith, ap length e, length-append (x ∷ a) b))
 same_front (x ∷ a) (y ∷ c) b e = let p : x ≡ y = ap head_of e in λ i. p i ∷ same_front a c b (ap tail_of e) i
 
-same_back : (a b c : List ℕ) → a ++ b ≡ a ++ c → b ≡ c
+pub same_back : (a b c : List ℕ) → a ++ b ≡ a ++ c → b ≡ c
 same_back [] b c e = e
 same_back (x ∷ a) b c e = same_back a b c (ap tail_of e)
 

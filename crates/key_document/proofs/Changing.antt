@@ -1,6 +1,6 @@
 -- Documents of changed values, from what is appended of their keys and their zeros.
 use Rattle.std.proofs.Common.{◌≡◌, ℕ, ◌+◌, ◌^◌, ◌<◌, ◌≤◌, Bool, true, false, inl, inr, List, [], ◌++◌, Option, Some, None, MatchOption, Result, Ok, Err, length, take, refl, sym, ap, subst, ◌∙◌, arith, append_assoc, length-append}
-use Rattle.std.specs.Prelude.{IsErrAnd, Vec, vec_len, vec_capacity}
+use Rattle.std.specs.Prelude.{IfOk, IsErrAnd, Vec, vec_len, vec_capacity}
 use Rattle.std.specs.declared.alloc.Global.{Global}
 use Rattle.std.proofs.Math.Seq.{take-append_seam}
 use Rattle.jsonb_key.specs.Readable.{IsAnyNumber}
@@ -10,16 +10,15 @@ use Rattle.jsonb_spec.specs.SortKey.{key_of}
 use Rattle.jsonb_spec.specs.Text.Appending.{Extends}
 use Rattle.jsonb_spec.specs.Text.Range.{IsWithin}
 use Rattle.jsonb_spec.specs.Tree.{Tree}
-use Rattle.key_document.specs.Changes.{Answers, IsLacking, as_document_error}
+use Rattle.key_document.specs.Changes.{Answers, AppendsDocument, IsLacking, KeepsOnError, as_document_error}
 use Rattle.key_document.specs.Document.{behind_key, counts_at, document_of, zeros_at}
-use Rattle.key_document.specs.Splices.{Cut, IsSplice, AreSpliced, entry_counts, spliced_counts}
+use Rattle.key_document.specs.Splices.{AppendsZeros, Cut, CutsOnError, IsSplice, AreSpliced, Spliced, entry_counts, spliced_counts}
 use Rattle.key_document.specs.declared.error.DocumentError.{DocumentError}
 use Rattle.key_document.specs.declared.error.DocumentError.TheVariants.{OutOfMemory}
 use Rattle.key_document.specs.declared.splice.Lengths.{Lengths}
 use Rattle.key_document.proofs.Agreeing.{agree}
 use Rattle.key_document.proofs.Counts.{one_each}
-use Rattle.key_document.proofs.Splicing.{at_splice}
-use Rattle.stored_edit.specs.Edit.{Outcome, goes, becomes, changed_at, remove, set_to, without_part, with_part}
+use Rattle.stored_edit.specs.Edit.{Outcome, goes, becomes, changed_at, remove, set_to, without_part}
 use Rattle.stored_edit.specs.Edit.{IsLacking as KeyLacks}
 use Rattle.stored_edit.specs.Spots.{Answers as SpotAnswers, PlaceIn, Stands}
 use Rattle.stored_edit.specs.declared.error.EditError.{EditError}
@@ -57,12 +56,12 @@ remove_splice : (cut : Cut) (v : Tree) (there : Option Tree) → IsSplice key_of
 remove_splice cut v (Some w) h = h
 remove_splice cut v None h = absurd h
 
-module _ (names : List (List ℕ)) (t v : Tree) (key : List ℕ) (place : Place) (p : IsProper t) (s : PlaceIn (λ change. changed_at change names t) key place) where
-  pub set_changes : (u : Tree) (create : Bool) → IsProper u → with_part names u create t ≡ Some v → ChangedAt t v (counts_at u) (length s.0.front) (length place.behind.now)
-  set_changes u create q is = elim (at_splice names t p) [
+module _ (t v : Tree) (changed : (Option Tree → Outcome) → Option Tree) (key : List ℕ) (place : Place) (splices : Spliced key_of counts_at t changed) (s : PlaceIn changed key place) where
+  pub set_changes : (u : Tree) (create : Bool) → IsProper u → changed (set_to u create) ≡ Some v → ChangedAt t v (counts_at u) (length s.0.front) (length place.behind.now)
+  set_changes u create q is = elim splices [
     | inl none ↦ absurd (none_some (sym (none (set_to u create)) ∙ is))
     | inr x ↦
-        let a = agree t (λ change. changed_at change names t) key place s x in
+        let a = agree t changed key place s x in
         let h = set_splice x.cut u v create x.there (subst (λ o. IsSplice key_of counts_at x.cut (set_to u create x.there) o) is (x.answers (set_to u create))) in
         record {
           first = x.cut.counts_front;
@@ -77,11 +76,11 @@ module _ (names : List (List ℕ)) (t v : Tree) (key : List ℕ) (place : Place)
         }
   ]
 
-  pub remove_changes : without_part names t ≡ Some v → ChangedAt t v [] (length s.0.front) (length place.behind.now)
-  remove_changes is = elim (at_splice names t p) [
+  pub remove_changes : changed remove ≡ Some v → ChangedAt t v [] (length s.0.front) (length place.behind.now)
+  remove_changes is = elim splices [
     | inl none ↦ absurd (none_some (sym (none remove) ∙ is))
     | inr x ↦
-        let a = agree t (λ change. changed_at change names t) key place s x in
+        let a = agree t changed key place s x in
         let h = remove_splice x.cut v x.there (subst (λ o. IsSplice key_of counts_at x.cut (remove x.there) o) is (x.answers remove)) in
         record {
           first = x.cut.counts_front;
@@ -138,16 +137,22 @@ removed names t key place s found = go s.0.there s.0.stands (without_part names 
     go (Some w) st (Some v) e a = record { tree = v; is = e; holds = (a.0 ∙ ap (λ b. s.0.front ++ b) s.1, a.1) }
 
 -- the document is appended, and that is told
-pub answered : (answer : Option Tree) (v : Tree) (old mid new : Vec ℕ Global) (tail : List ℕ) → answer ≡ Some v → IsWithin IsAnyNumber v max_depth → mid.items ≡ old.items ++ key_of v → tail ≡ behind_key (zeros_at v) → new.items ≡ mid.items ++ tail → Answers answer (Ok true) old new
-answered answer v old mid new tail is fits appended e more = subst (λ o. Answers o (Ok true) old new) (sym is)
-    (record { ok = more ∙ ap (λ t. mid.items ++ t) e ∙ ap (λ m. m ++ behind_key (zeros_at v)) appended ∙ append_assoc old.items (key_of v) (behind_key (zeros_at v)); fits = fits; errors = tt }, refl)
+answered : (answer : Option Tree) (v : Tree) (told : Bool) (old mid new : Vec ℕ Global) (tail : List ℕ) → answer ≡ Some v → IsWithin IsAnyNumber v max_depth → mid.items ≡ old.items ++ key_of v → tail ≡ behind_key (zeros_at v) → new.items ≡ mid.items ++ tail → told ≡ true → Answers answer (Ok told) old new
+answered answer v told old mid new tail is fits appended e more so = subst (λ o. Answers o (Ok told) old new) (sym is)
+    (record { ok = more ∙ ap (λ t. mid.items ++ t) e ∙ ap (λ m. m ++ behind_key (zeros_at v)) appended ∙ append_assoc old.items (key_of v) (behind_key (zeros_at v)); fits = fits; errors = tt }, so)
 
 -- the capacity for the zeros is missing
-pub lacking : (answer : Option Tree) (v : Tree) (error : DocumentError) (old mid new : Vec ℕ Global) (tail : List ℕ) → answer ≡ Some v → mid.items ≡ old.items ++ key_of v → vec_capacity old ≤ vec_capacity mid → tail ≡ behind_key (zeros_at v)
+lacking : (answer : Option Tree) (v : Tree) (error : DocumentError) (old mid new : Vec ℕ Global) (tail : List ℕ) → answer ≡ Some v → mid.items ≡ old.items ++ key_of v → vec_capacity old ≤ vec_capacity mid → tail ≡ behind_key (zeros_at v)
     → (error ≡ OutOfMemory) × (vec_capacity mid < vec_len mid + length tail) → Answers answer (Err error) old new
 lacking answer v error old mid new tail is appended room e full =
     let short : vec_capacity old < vec_len old + length (document_of v) = omega (arith, full.1, room, ap length e, old.ok.0, mid.ok.0, ap length appended, length-append old.items (key_of v), length-append (key_of v) (behind_key (zeros_at v))) in
     subst (λ o. Answers o (Err error) old new) (sym is) (record { ok = tt; fits = tt; errors = subst (λ error. IsLacking v old error) (sym full.0) short }, tt)
+
+-- the zeros follow the key that was appended, or the capacity for them is missing
+pub finished : (answer : Option Tree) (v : Tree) (r : Result Bool DocumentError) (old mid new : Vec ℕ Global) (tail : List ℕ) → answer ≡ Some v → IsWithin IsAnyNumber v max_depth → mid.items ≡ old.items ++ key_of v → vec_capacity old ≤ vec_capacity mid → tail ≡ behind_key (zeros_at v)
+    → AppendsZeros r mid new tail → IfOk r (λ told. told ≡ true) → Answers answer r old new
+finished answer v (Ok told) old mid new tail is fits appended room e more so = answered answer v told old mid new tail is fits appended e more so
+finished answer v (Err error) old mid new tail is fits appended room e full so = lacking answer v error old mid new tail is appended room e full
 
 -- the key isn't appended
 key_lacks : (v : Tree) (old : Vec ℕ Global) (error : EditError) → KeyLacks v old error → IsLacking v old (as_document_error error)
@@ -155,18 +160,35 @@ key_lacks v old edits.NoKey h = absurd h
 key_lacks v old edits.TooDeep h = h
 key_lacks v old edits.OutOfMemory h = omega (arith, h, length-append (key_of v) (behind_key (zeros_at v)))
 
-pub no_key_told : (answer : Option Tree) (v : Tree) (r : Result Bool DocumentError) (error : EditError) (old new : Vec ℕ Global) → answer ≡ Some v → IsErrAnd r (λ e. e ≡ as_document_error error) → KeyLacks v old error → Answers answer r old new
-no_key_told answer v (Ok b) error old new is h lacks = absurd h
-no_key_told answer v (Err e) error old new is h lacks = subst (λ o. Answers o (Err e) old new) (sym is) (record { ok = tt; fits = tt; errors = subst (λ e. IsLacking v old e) (sym h) (key_lacks v old error lacks) }, tt)
+pub no_key_appended : (answer : Option Tree) (v : Tree) (r : Result Bool DocumentError) (error : EditError) (old new : Vec ℕ Global) → answer ≡ Some v → IsErrAnd r (λ e. e ≡ as_document_error error) → KeyLacks v old error → Answers answer r old new
+no_key_appended answer v (Ok b) error old new is h lacks = absurd h
+no_key_appended answer v (Err e) error old new is h lacks = subst (λ o. Answers o (Err e) old new) (sym is) (record { ok = tt; fits = tt; errors = subst (λ e. IsLacking v old e) (sym h) (key_lacks v old error lacks) }, tt)
 
 -- the buffer is cut to what was in it
-pub cut_back : {mid : List ℕ} (old new : Vec ℕ Global) → Extends old.items mid → Extends mid new.items → (n : ℕ) → n ≡ vec_len old → take n new.items ≡ old.items
-cut_back old new first second n is =
-    let same : n ≡ length old.items = omega (arith, is, old.ok.0) in
-    ap (take n) (second.extended ∙ ap (λ m. m ++ second.more) first.extended ∙ append_assoc old.items first.more second.more)
-    ∙ ap (λ k. take k (old.items ++ (first.more ++ second.more))) same ∙ take-append_seam old.items (first.more ++ second.more)
+pub cut_back : (before mid new : List ℕ) → Extends before mid → Extends mid new → (n : ℕ) → length before ≡ n → take n new ≡ before
+cut_back before mid new first second n is =
+    ap (take n) (second.extended ∙ ap (λ m. m ++ second.more) first.extended ∙ append_assoc before first.more second.more)
+    ∙ ap (λ k. take k (before ++ (first.more ++ second.more))) (sym is) ∙ take-append_seam before (first.more ++ second.more)
+
+pub cuts : (start : ℕ) (r : Result Bool DocumentError) (old mid new : Vec ℕ Global) → CutsOnError start r mid new → start ≡ vec_len old → Extends old.items mid.items → vec_capacity old ≤ vec_capacity mid → KeepsOnError r old new
+cuts start (Ok told) old mid new c is more room = record { err = tt; capacity = omega (arith, c.capacity, room) }
+cuts start (Err error) old mid new c is more room = record { err = c.err old.items (omega (arith, is, old.ok.0)) more; capacity = omega (arith, c.capacity, room) }
 
 -- what is told of a place
 abbrev pub ToldPlace : Tree → List (List ℕ) → List ℕ → Option Place → Type 0
 ToldPlace t names key told = MatchOption told ((change : Option Tree → Outcome) → changed_at change names t ≡ None)
     (PlaceIn (λ change. changed_at change names t) key)
+
+-- there is no answer
+pub nothing_appended : (answer : Option Tree) (old : Vec ℕ Global) → answer ≡ None → Answers answer (Ok false) old old
+nothing_appended answer old e = subst (λ o. Answers o (Ok false) old old) (sym e) (refl, refl)
+
+-- the capacity for the key is missing
+pub key_lacking : {X : Type 0} (v : Tree) (r : Result X DocumentError) (old new : Vec ℕ Global) → IsErrAnd r (λ e. e ≡ OutOfMemory) → vec_capacity old < vec_len old + length (key_of v) → AppendsDocument v r old new
+key_lacking v (Ok x) old new is full = absurd is
+key_lacking v (Err e) old new is full = record { ok = tt; fits = tt; errors = subst (λ e. IsLacking v old e) (sym is) (omega (arith, full, length-append (key_of v) (behind_key (zeros_at v)))) }
+
+-- the key of the changed value isn't appended
+pub edit_lacking : {X : Type 0} (v : Tree) (r : Result X DocumentError) (error : EditError) (old new : Vec ℕ Global) → IsErrAnd r (λ e. e ≡ as_document_error error) → KeyLacks v old error → AppendsDocument v r old new
+edit_lacking v (Ok x) error old new h lacks = absurd h
+edit_lacking v (Err e) error old new h lacks = record { ok = tt; fits = tt; errors = subst (λ e. IsLacking v old e) (sym h) (key_lacks v old error lacks) }

@@ -19,7 +19,7 @@ plain_bound plain (suc c ∷ counts) =
     let e : plain_behind plain (suc c) ≡ 0 = cond-false (suc c == 0) (suc plain) 0 (ne_eqb (suc c) 0 (λ e. omega (arith, e))) in
     omega (arith, ap (λ p. plain_at_end p counts) {x = plain_behind plain (suc c)} {y = 0} e, plain_bound 0 counts)
 
-zeros_behind_plain : (n plain : ℕ) (xs : List ℕ) → zeros_of plain (replicate n 0 ++ xs) ≡ zeros_of (plain + n) xs
+pub zeros_behind_plain : (n plain : ℕ) (xs : List ℕ) → zeros_of plain (replicate n 0 ++ xs) ≡ zeros_of (plain + n) xs
 zeros_behind_plain zero plain xs = ap (λ p. zeros_of p xs) {x = plain} {y = plain + 0} (omega arith)
 zeros_behind_plain (suc n) plain xs = zeros_behind_plain n (suc plain) xs ∙ ap (λ p. zeros_of p xs) {x = suc plain + n} {y = plain + suc n} (omega arith)
 

@@ -9,3 +9,10 @@ pub mod Passing
 pub mod Joining
 pub mod Ending
 pub mod Changing
+pub mod Building
+pub mod Short
+pub mod Reaching
+pub mod Slots
+pub mod ItemsJoined
+pub mod MembersJoined
+pub mod NoZeros

@@ -1,5 +1,5 @@
 -- Members merged, from the first ones on.
-use Rattle.std.proofs.Common.{◌≡◌, ℕ, List, ◌++◌, refl, sym, ap, subst, ◌∙◌, append_assoc}
+use Rattle.std.proofs.Common.{◌≡◌, ℕ, List, [], ◌∷◌, ◌++◌, refl, sym, ap, subst, ◌∙◌, append_assoc}
 use Rattle.std.specs.Cmp.Lexicographic.{nat_list_cmp_total}
 use Rattle.std.specs.Ordering.{match_ordering, ordering_reverse}
 use Rattle.std.specs.declared.cmp.Ordering.TheVariants.{Less, Equal, Greater}
@@ -43,3 +43,7 @@ right_instead k l t u ms ns b equal =
 pub joined_counts : (ts us : Trees) → counts_at_items (joined_items ts us) ≡ counts_of_items ts ++ counts_at_items us
 joined_counts no_trees us = refl
 joined_counts (more_trees t ts) us = ap (λ l. counts_at t ++ l) (joined_counts ts us) ∙ sym (append_assoc (counts_at t) (counts_of_items ts) (counts_at_items us))
+
+pub items_counts_end : (ts : Trees) → counts_at_items ts ≡ counts_of_items ts ++ 0 ∷ []
+items_counts_end no_trees = refl
+items_counts_end (more_trees t ts) = ap (λ l. counts_at t ++ l) (items_counts_end ts) ∙ sym (append_assoc (counts_at t) (counts_of_items ts) (0 ∷ []))

@@ -7,7 +7,7 @@ use Rattle.key_document.specs.declared.error.DocumentError.{DocumentError}
 use Rattle.key_document.specs.declared.error.DocumentError.TheVariants.{OutOfMemory}
 use Rattle.stored_zeros.specs.Numbers.{Pends, PendsAt}
 use Rattle.stored_zeros.specs.Zeros.{zeros_of}
-use Rattle.stored_zeros.proofs.Taking.{SkipLeft, CopyLeft, copies, none_skipped, entry_reached}
+use Rattle.stored_zeros.proofs.Taking.{SkipLeft, CopyLeft, copies_some, none_skipped, entry_reached}
 
 -- what pends of the counts that are left, of which so many are still to be passed
 pub record PassLeft (counts : List ℕ) (bytes left : ℕ) (next : Option (ℕ × ℕ × Bor (List ℕ))) : Type 0 where
@@ -33,8 +33,8 @@ pub record CopyOn (counts : List ℕ) (plain bytes : ℕ) (old now : List ℕ) (
   pub same : drop left others ≡ drop bytes counts
   pub fewer : length others ≤ length counts
 
-pub copies_on : (counts : List ℕ) (plain bytes : ℕ) (old : List ℕ) (next : Option (ℕ × ℕ × Bor (List ℕ))) → Pends counts next → bytes ≤ length counts → plain + length counts < 2 ^ 63 → CopyOn counts plain bytes old old bytes plain next
-copies_on counts plain bytes old next p enough fit = record { others = counts; pends = p; copy = copies plain bytes counts old enough fit; same = refl; fewer = omega arith }
+pub copies_on : (counts : List ℕ) (plain bytes : ℕ) (old : List ℕ) (next : Option (ℕ × ℕ × Bor (List ℕ))) → Pends counts next → bytes ≤ length counts → length counts < 2 ^ 63 → plain + bytes < 2 ^ 63 → CopyOn counts plain bytes old old bytes plain next
+copies_on counts plain bytes old next p enough short fit = record { others = counts; pends = p; copy = copies_some plain bytes counts old enough short fit; same = refl; fewer = omega arith }
 
 abbrev as_skip : (counts : List ℕ) (plain bytes : ℕ) (old now : List ℕ) (left more : ℕ) (next : Option (ℕ × ℕ × Bor (List ℕ))) (x : CopyOn counts plain bytes old now left more next) → SkipLeft counts bytes left (zeros_of 0 x.others)
 as_skip counts plain bytes old now left more next x = record { others = x.others; stands = refl; same = x.same; enough = x.copy.enough; fewer = x.fewer }

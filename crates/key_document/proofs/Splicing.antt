@@ -11,7 +11,7 @@ use Rattle.jsonb_spec.specs.Order.{bytes_cmp}
 use Rattle.jsonb_spec.specs.Proper.{IsProper, AreProper, HaveProperParts}
 use Rattle.jsonb_spec.specs.SortKey.{key_of, items_key, members_key, text_key}
 use Rattle.jsonb_spec.specs.Tree.{Tree, null, boolean, string, number, array, object, binary, date, timestamp, timestamp_tz, interval, Trees, no_trees, more_trees, Members, no_members, more_members}
-use Rattle.stored_edit.specs.Edit.{Outcome, stays, goes, becomes, member_before, changed_member, item_before, changed_item, changed_item_back, step_named, changed_at_step, changed_part, part_with, within, changed_at}
+use Rattle.stored_edit.specs.Edit.{Outcome, stays, goes, becomes, member_before, changed_member, item_before, changed_item, changed_item_back, step_named, changed_at_member, changed_at_step, changed_part, part_with, within, changed_at}
 use Rattle.key_document.specs.Document.{counts_at, counts_at_items, counts_at_members}
 use Rattle.key_document.specs.Splices.{Cut, IsSplice, AreSplices, Spliced, entry_key, entry_counts}
 use Rattle.key_document.proofs.Counts.{one_each, items_each, members_each}
@@ -155,9 +155,15 @@ back_splice back ts p = by (nat_lt (trees_len ts) back)
 
 -- ---- a part, and a part within it
 
+member_splice : (name : List ℕ) (ms : Members) → IsProper (object ms) → AreSplices key_of counts_at (object ms) (λ change. option_map object (changed_member change name ms))
+member_splice name ms p = moved_splices members_key counts_at_members key_of counts_at (209 ∷ []) (0 ∷ []) object refl (λ ms. refl) (λ ms. refl) ms (λ change. changed_member change name ms) (members_splice name ms p.1)
+
+pub at_member_splice : (name : List ℕ) (t : Tree) → IsProper t → Spliced key_of counts_at t (λ change. changed_at_member change name t)
+at_member_splice name (object ms) p = inr (member_splice name ms p)
+at_member_splice name t p = inl (λ change. refl)
+
 part_splice : (name : List ℕ) (t : Tree) → IsProper t → Spliced key_of counts_at t (λ change. changed_part change name t)
-part_splice name (object ms) p =
-    inr (moved_splices members_key counts_at_members key_of counts_at (209 ∷ []) (0 ∷ []) object refl (λ ms. refl) (λ ms. refl) ms (λ change. changed_member change name ms) (members_splice name ms p.1))
+part_splice name (object ms) p = inr (member_splice name ms p)
 part_splice name (array ts) p = by (step_named name)
   where
     by : (step : Option (Bool × ℕ)) → Spliced key_of counts_at (array ts) (λ change. option_map array (option_and_then (changed_at_step change ts) step))

@@ -1,9 +1,9 @@
 -- What is appended of a document: a part, or what a change makes of it.
-use Rattle.std.specs.Prelude.{◌≡◌, ℕ, ◌+◌, ◌<◌, ◌≤◌, Bool, true, false, List, ◌++◌, length, Option, Some, None, Result, Ok, OnOk, OnErr, IfOk, IfErr, MatchResult, Vec, vec_len}
+use Rattle.std.specs.Prelude.{◌≡◌, ℕ, ◌+◌, ◌<◌, ◌≤◌, Bool, true, false, List, ◌++◌, length, Option, Some, None, Result, Ok, OnOk, OnErr, IfOk, IfErr, MatchResult, Vec, vec_len, ⊤}
 use Rattle.std.specs.Borrow.{Bor}
 use Rattle.std.specs.Vec.{vec_capacity}
 use Rattle.std.specs.declared.alloc.Global.{Global}
-use Rattle.jsonb_key.specs.Readable.{IsAnyNumber}
+use Rattle.jsonb_key.specs.Readable.{IsAnyNumber, IsReadable}
 use Rattle.jsonb_spec.specs.Grammar.{max_depth}
 use Rattle.jsonb_spec.specs.SortKey.{key_of}
 use Rattle.jsonb_spec.specs.Text.Range.{IsWithin}
@@ -45,6 +45,12 @@ abbrev pub AnswersOfBoth : (Tree → Tree → Option Tree) → List ℕ → List
 AnswersOfBoth answer document part result old new =
     OfDocument document (λ t. OfDocument part (λ u. Answers (answer u t) result old new))
 
+-- Whichever values the two documents are of, the document of both in one is appended.
+abbrev pub AppendsBoth : {X : Type 0} → (Tree → Tree → Tree) → List ℕ → List ℕ → Result X DocumentError → Vec ℕ Global
+    → Vec ℕ Global → Type 0
+AppendsBoth both left right result old new =
+    OfDocument left (λ t. OfDocument right (λ u. AppendsDocument (both t u) result old new))
+
 -- After an error the buffer has its old bytes, and its capacity doesn't shrink.
 pub record KeepsOnError {X E : Type 0} (result : Result X E) (old new : Vec ℕ Global) : Type 0 where
   pub err : OnErr result (new.items ≡ old.items)
@@ -62,6 +68,22 @@ pub record IsBehind (key counts before : List ℕ) (part : Tree) : Type 0 where
 -- so in the key of the value
 abbrev pub IsPartBehind : Tree → List ℕ → Tree → Type 0
 IsPartBehind t before part = IsBehind (key_of t) (counts_at t) before part
+
+-- The key of the part begins at this offset in that of the value, and so do the counts of its bytes.
+abbrev pub IsPartAt : Tree → ℕ → Tree → Type 0
+IsPartAt t offset part = (before : List ℕ) × (length before ≡ offset) × IsPartBehind t before part
+
+-- Whichever part of the value is at this offset, and has a key of this size, this is so of it.
+abbrev pub OfPartAt : Tree → ℕ → ℕ → (Tree → Type 0) → Type 0
+OfPartAt t offset size Is =
+    (part : Tree) → IsReadable part → IsPartAt t offset part → size ≡ length (key_of part) → Is part
+
+-- What is found is the offset of the part and its key; or nothing where there is no part.
+abbrev pub FindsSlot : Tree → Option Tree → Result (Option (ℕ × Bor (List ℕ))) DocumentError → Type 0
+FindsSlot t (Some part) (Ok (Some slot)) =
+    IsReadable part × IsPartAt t slot.0 part × (slot.1.now ≡ key_of part)
+FindsSlot t None (Ok None) = ⊤
+FindsSlot t part found = ⊥
 
 -- The zeros of these bytes are appended, it is told how many without any stand at the end, and what pends of those that
 -- are left. Else memory ran out, as the capacity for all of the zeros is missing.

@@ -1,9 +1,10 @@
 -- A change of a value as a splice: of its key, and in the same places of the counts of its bytes.
-use Rattle.std.specs.Prelude.{◌≡◌, ⊤, ℕ, ◌+◌, ◌<◌, ◌^◌, List, [], ◌++◌, length, replicate, Option, Some, None, IfSome, ◌⊎◌, MatchResult, Result, Vec, vec_len}
+use Rattle.std.specs.Prelude.{◌≡◌, ⊤, ℕ, ◌+◌, ◌<◌, ◌≤◌, ◌^◌, OnErr, List, [], ◌++◌, length, replicate, Option, Some, None, IfSome, ◌⊎◌, MatchResult, Result, Vec, vec_len}
 use Rattle.std.specs.Vec.{vec_capacity}
 use Rattle.std.specs.declared.alloc.Global.{Global}
 use Rattle.jsonb_spec.specs.Proper.{IsProper}
 use Rattle.jsonb_spec.specs.SortKey.{key_of}
+use Rattle.jsonb_spec.specs.Text.Appending.{Extends}
 use Rattle.jsonb_spec.specs.Tree.{Tree}
 use Rattle.key_document.specs.Document.{counts_at}
 use Rattle.key_document.specs.declared.error.DocumentError.{DocumentError}
@@ -90,3 +91,10 @@ pub record AreSpliced (key_len : ℕ) (zeros part_zeros : List ℕ) (lengths : L
 abbrev pub AppendsZeros : {X : Type 0} → Result X DocumentError → Vec ℕ Global → Vec ℕ Global → List ℕ → Type 0
 AppendsZeros result old new bytes = MatchResult result (λ x. new.items ≡ old.items ++ bytes)
     (λ e. (e ≡ OutOfMemory) × (vec_capacity old < vec_len old + length bytes))
+
+-- Bytes are appended. After an error those are left that stood before the start of what was appended before, where they
+-- stood there. The capacity doesn't shrink.
+pub record CutsOnError {X : Type 0} (start : ℕ) (result : Result X DocumentError) (old new : Vec ℕ Global)
+    : Type 0 where
+  pub err : OnErr result ((before : List ℕ) → length before ≡ start → Extends before old.items → new.items ≡ before)
+  pub capacity : vec_capacity old ≤ vec_capacity new

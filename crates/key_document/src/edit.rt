@@ -1,15 +1,21 @@
 //! Parts of documents, set and removed.
 
-ghost use Rattle.std.specs.Prelude.{map, string_bytes};
-ghost use Rattle.key_document.specs.Changes.{AnswersOf, AnswersOfBoth, KeepsOnError};
-ghost use Rattle.stored_edit.specs.Edit.{with_part, without_part};
+ghost use Rattle.std.specs.Prelude.{◌≡◌, ◌≤◌, Bool, Option, map, string_bytes};
+ghost use Rattle.jsonb_key.specs.Readable.{IsReadable};
+ghost use Rattle.jsonb_spec.specs.SortKey.{key_of};
+ghost use Rattle.jsonb_spec.specs.Tree.{Tree};
+ghost use Rattle.key_document.specs.Changes.{Answers, AnswersOf, AnswersOfBoth, KeepsOnError};
+ghost use Rattle.key_document.specs.Document.{counts_at, zeros_at, OfDocument};
+ghost use Rattle.key_document.specs.Splices.{Spliced};
+ghost use Rattle.stored_edit.specs.Edit.{Outcome, becomes, set_to, with_part, without_part};
+ghost use Rattle.stored_edit.specs.Spots.{PlaceIn};
 
 use crate::document::split_document;
 use crate::error::DocumentError;
-use crate::splice::{Lengths, splice_zeros};
+use crate::splice::{Lengths, splice_tail};
 use jsonb_stored::walk::front;
 use stored_edit::edit::put_part;
-use stored_edit::place::find_place;
+use stored_edit::place::{Place, find_place};
 use stored_edit::splice::splice;
 
 /// Appends the document of the value without its part at the path of these names, and tells whether there is one. Where
@@ -35,7 +41,7 @@ pub fn append_without_part(
     if !place.spot.found {
         return Ok(false);
     }
-    let old_len = out.len();
+    let start = out.len();
     let before = front(key, place.spot.entry);
     if splice(out, before, &[], &[], place.behind).is_err() {
         return Err(DocumentError::OutOfMemory);
@@ -46,13 +52,7 @@ pub fn append_without_part(
         part: 0,
         behind: place.behind.len(),
     };
-    match splice_zeros(out, key.len(), zeros, &[], &lengths) {
-        Ok(()) => Ok(true),
-        Err(error) => {
-            out.truncate(old_len);
-            Err(error)
-        }
-    }
+    splice_tail(out, start, key.len(), zeros, &[], &lengths)
 }
 
 /// Appends the document of the value with this part, of which the document is passed, at the path of these names, and
@@ -76,15 +76,33 @@ pub fn append_with_part(
     ensures keeps { KeepsOnError result out.old out.new }
 {
     let (key, zeros) = split_document(document);
-    let (part_key, part_zeros) = split_document(part);
     let Some(place) = find_place(key, names)? else {
         return Ok(false);
     };
     if !place.spot.found && !create {
         return Ok(false);
     }
+    put_document(out, key, zeros, &place, part)
+}
+
+/// Appends the document with this part, of which the document is passed, at the place in the key, and returns true.
+pub(crate) fn put_document(
+    out: &mut Vec<u8>,
+    key: &[u8],
+    zeros: &[u8],
+    place: &Place,
+    part: &[u8],
+) -> Result<bool, DocumentError>
+    requires { place.now.room ≤ 511 }
+    ensures put { (t : Tree) → IsReadable t → key.now ≡ key_of t → zeros.now ≡ zeros_at t
+        → (changed : (Option Tree → Outcome) → Option Tree) → Spliced key_of counts_at t changed
+        → (s : PlaceIn changed key.now place.now) → OfDocument part.now (λ u. (create : Bool)
+        → set_to u create s.0.there ≡ becomes u → Answers (changed (set_to u create)) result out.old out.new) }
+    ensures keeps { KeepsOnError result out.old out.new }
+{
+    let (part_key, part_zeros) = split_document(part);
     let start = out.len();
-    put_part(out, key, &place, part_key)?;
+    put_part(out, key, place, part_key)?;
     let before = front(key, place.spot.entry).len();
     let others = before
         .saturating_add(part_key.len())
@@ -95,11 +113,5 @@ pub fn append_with_part(
         part: part_key.len(),
         behind: place.behind.len(),
     };
-    match splice_zeros(out, key.len(), zeros, part_zeros, &lengths) {
-        Ok(()) => Ok(true),
-        Err(error) => {
-            out.truncate(start);
-            Err(error)
-        }
-    }
+    splice_tail(out, start, key.len(), zeros, part_zeros, &lengths)
 }

@@ -1,6 +1,6 @@
 //! What is known of documents beside their functions.
 
-ghost use Rattle.std.specs.Prelude.{◌≡◌, ◌++◌, [], List, ℕ, length, Option};
+ghost use Rattle.std.specs.Prelude.{◌≡◌, ◌≤◌, ◌+◌, ◌*◌, ◌++◌, [], List, ℕ, length, Option};
 ghost use Rattle.std.specs.declared.cmp.Ordering.TheVariants.{Less, Equal, Greater};
 ghost use Rattle.jsonb_key.specs.Readable.{IsReadable};
 ghost use Rattle.jsonb_spec.specs.Keys.{IsBelowKeys};
@@ -74,4 +74,9 @@ pub fn merges_take_members()
 /// No key ends with the byte with which zeros behind a key do. So the last byte tells whether there are any.
 pub fn keys_end_unlike_zeros()
     ensures { (t : Tree) → IsReadable t → EndsUnlike zeros_mark (key_of t) }
+{}
+
+/// What stands behind a key is short: at most two bytes for each byte of the key, and ten.
+pub fn tails_are_short()
+    ensures { (t : Tree) → IsProper t → length (behind_key (zeros_at t)) ≤ 2 * length (key_of t) + 10 }
 {}

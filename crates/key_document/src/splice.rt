@@ -1,7 +1,7 @@
 //! The zeros of a key in which a part is put, or from which one is taken.
 
-ghost use Rattle.std.specs.Prelude.{List, ℕ};
-ghost use Rattle.key_document.specs.Splices.{AppendsZeros, AreSpliced, spliced_counts};
+ghost use Rattle.std.specs.Prelude.{◌≡◌, ◌<◌, ◌^◌, ◌++◌, List, ℕ, IfOk, length, true};
+ghost use Rattle.key_document.specs.Splices.{AppendsZeros, AreSpliced, CutsOnError, spliced_counts};
 ghost use Rattle.key_document.specs.Document.{behind_key};
 ghost use Rattle.stored_text.specs.Writes.{Keeps};
 ghost use Rattle.stored_zeros.specs.Zeros.{zeros_of};
@@ -20,9 +20,35 @@ pub(crate) struct Lengths {
     pub(crate) behind: usize,
 }
 
-/// Appends what follows the new key: its zeros, and their end. They are those of the old key, which has so many bytes,
-/// before the place and behind it, and between them those of the part.
-pub(crate) fn splice_zeros(
+/// Appends what follows the new key, which begins at `start`, and returns true: its zeros, and their end. They are those of
+/// the old key, which has so many bytes, before the place and behind it, and between them those of the part. After an
+/// error the new key is gone too.
+pub(crate) fn splice_tail(
+    out: &mut Vec<u8>,
+    start: usize,
+    key_len: usize,
+    zeros: &[u8],
+    part_zeros: &[u8],
+    lengths: &Lengths,
+) -> Result<bool, DocumentError>
+    ensures spliced { (front entry part behind : List ℕ)
+        → AreSpliced key_len zeros.now part_zeros.now lengths.now front entry part behind
+        → AppendsZeros result out.old out.new
+        (behind_key (zeros_of 0 (spliced_counts front lengths.now.name part behind))) }
+    ensures answer { IfOk result (λ answer. answer ≡ true) }
+    ensures keeps { CutsOnError start result out.old out.new }
+{
+    match splice_zeros(out, key_len, zeros, part_zeros, lengths) {
+        Ok(()) => Ok(true),
+        Err(error) => {
+            out.truncate(start);
+            Err(error)
+        }
+    }
+}
+
+// Appends the zeros, and their end.
+fn splice_zeros(
     out: &mut Vec<u8>,
     key_len: usize,
     zeros: &[u8],
@@ -65,5 +91,27 @@ fn join_zeros(
     let named = more_plain(plain, lengths.name)?;
     let (more, _) = copy(named, part_all, lengths.part, out)?;
     copy(more, rest, lengths.behind, out)?;
+    Ok(())
+}
+
+/// Appends what follows the key of a part, which is at this offset in that of the value, and has this size: of the
+/// zeros those of the part, and their end.
+pub(crate) fn cut_zeros(
+    out: &mut Vec<u8>,
+    zeros: &[u8],
+    offset: usize,
+    size: usize,
+) -> Result<(), DocumentError>
+    ensures cut { (before part behind : List ℕ) → zeros.now ≡ zeros_of 0 (before ++ (part ++ behind))
+        → length before ≡ offset → length part ≡ size → length (before ++ (part ++ behind)) < 2 ^ 63
+        → AppendsZeros result out.old out.new (behind_key (zeros_of 0 part)) }
+    ensures keeps { Keeps out.old out.new }
+{
+    let start = out.len();
+    let all = all_left(zeros)?;
+    let rest = pass(all, offset)?;
+    copy(0, rest, size, out)?;
+    let zeros_len = out.len().saturating_sub(start);
+    end_zeros(zeros_len, out)?;
     Ok(())
 }

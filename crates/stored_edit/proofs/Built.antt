@@ -1,17 +1,18 @@
 -- Objects and arrays with a part more.
-use Rattle.std.proofs.Common.{◌≡◌, ℕ, Bool, true, false, List, [], ◌∷◌, ◌++◌, Option, Some, None, option_map, MatchOption, Result, Ok, Ordering, Less, Equal, Greater, Vec, Global, refl, sym, ap, subst, ◌∙◌, append-nil}
+use Rattle.std.proofs.Common.{◌≡◌, ℕ, Bool, true, false, List, [], ◌∷◌, ◌++◌, Option, Some, None, option_map, MatchOption, Result, Ok, Ordering, Less, Equal, Greater, Vec, Global, refl, sym, ap, subst, ◌∙◌, append-nil, arith}
 use Rattle.std.specs.Ordering.{match_ordering}
 use Rattle.jsonb_key.proofs.Texts.{none_some}
-use Rattle.jsonb_stored.specs.Open.{members}
+use Rattle.jsonb_stored.specs.Open.{members, IsScalar}
 use Rattle.jsonb_spec.specs.Grammar.{max_depth}
 use Rattle.jsonb_spec.specs.Order.{bytes_cmp}
 use Rattle.jsonb_spec.specs.SortKey.{key_of, items_key, members_key}
-use Rattle.jsonb_spec.specs.Tree.{Tree, array, object, Trees, no_trees, more_trees, Members, no_members, more_members, put}
-use Rattle.stored_edit.specs.Edit.{Outcome, becomes, changed_member, joined_items, set_to, with_item, with_member, AppendsKey, Edits}
-use Rattle.stored_edit.specs.Spots.{SpotIn}
+use Rattle.jsonb_spec.specs.Tree.{Tree, null, boolean, string, number, array, object, binary, date, timestamp, timestamp_tz, interval, Trees, no_trees, more_trees, Members, no_members, more_members, put}
+use Rattle.stored_edit.specs.Edit.{Outcome, becomes, changed_at_member, changed_member, joined_items, set_to, with_item, with_member, AppendsKey, Edits}
+use Rattle.stored_edit.specs.Spots.{PlaceIn, SpotIn}
 use Rattle.stored_edit.specs.declared.error.EditError.{EditError}
+use Rattle.stored_edit.specs.declared.place.Place.{Place}
 use Rattle.stored_edit.specs.declared.spot.Spot.{Spot}
-use Rattle.stored_edit.proofs.Joined.{MembersThere}
+use Rattle.jsonb_value.proofs.Trees.Runs.{heads}
 use Rattle.stored_edit.proofs.Lifting.{Lifts, lifted}
 use Rattle.stored_edit.proofs.Placed.{tree_fits}
 use Rattle.stored_edit.proofs.Spotted.{fits_in, key_before}
@@ -29,13 +30,9 @@ set_member k u (more_members l t ms) =
     ap (λ x. match_ordering (bytes_cmp k l) (Some (more_members k u (more_members l t ms))) (Some (more_members l u ms)) (option_map (more_members l t) x)) (set_member k u ms)
     ∙ one_of (bytes_cmp k l) (more_members k u (more_members l t ms)) (more_members l u ms) (more_members l t (put k u ms))
 
--- the object, changed at the name
-abbrev pub changed_object : List ℕ → Members → (Option Tree → Outcome) → Option Tree
-changed_object name ms change = option_map object (changed_member change name ms)
-
 -- a spot among the members is one in the object
 pub object_spot : (name key rest : List ℕ) (ms : Members) (spot : Spot) → key ≡ 0xD1 ∷ rest → SpotIn (key_before []) (fits_in 511) (λ change. option_map members (changed_member change name ms)) true name rest 511 spot
-    → SpotIn key_of (tree_fits max_depth) (changed_object name ms) true name key 511 spot
+    → SpotIn key_of (tree_fits max_depth) (λ change. changed_at_member change name (object ms)) true name key 511 spot
 object_spot name key rest ms spot begins s = record {
   there = s.there;
   name = s.name;
@@ -53,15 +50,41 @@ object_spot name key rest ms spot begins s = record {
     bare None = tt
     bare (Some ns) = (ap (λ l. 0xD1 ∷ l) (sym (append-nil (members_key ns))), (λ h. h, λ h. h))
 
-abbrev ToldKey : (old new : Vec ℕ Global) → Result (Unit {0}) EditError → Option Tree → Type 0
+abbrev pub ToldKey : (old new : Vec ℕ Global) → Result (Unit {0}) EditError → Option Tree → Type 0
 ToldKey old new told x = MatchOption x ⊥ (λ v. AppendsKey v told old new)
 
-pub member_told : (t u : Tree) (name rest : List ℕ) (old new : Vec ℕ Global) (told : Result (Unit {0}) EditError) (m : MembersThere t rest) → ToldKey old new told (changed_object name m.ms (set_to u true)) → ToldKey old new told (with_member name u t)
-member_told t u name rest old new told m h = subst (λ v. ToldKey old new told (with_member name u v)) (sym m.is) (subst (λ x. ToldKey old new told (option_map object x)) (set_member name u m.ms) h)
+-- the object with the member is the one changed at its name
+pub member_set : (name : List ℕ) (u t : Tree) → changed_at_member (set_to u true) name t ≡ with_member name u t
+member_set name u (object ms) = ap (option_map object) (set_member name u ms)
+member_set name u null = refl
+member_set name u (boolean b) = refl
+member_set name u (string mark bytes) = refl
+member_set name u (number n) = refl
+member_set name u (array ts) = refl
+member_set name u (binary bytes) = refl
+member_set name u (date days) = refl
+member_set name u (timestamp micros) = refl
+member_set name u (timestamp_tz offset micros) = refl
+member_set name u (interval months days micros) = refl
 
-pub no_object : (t : Tree) (u : Tree) (name key : List ℕ) → key ≡ key_of t → ((ms : Members) → (more : List ℕ) → key ≡ key_of (object ms) ++ more → None ≡ Some (members_key ms ++ more)) → with_member name u t ≡ None
-no_object (object ms) u name key e none = absurd (none_some _ (none ms [] (e ∙ sym (append-nil (key_of (object ms))))))
-no_object t u name key e none = refl
+-- no member is in another value
+pub scalar_place : (name : List ℕ) (t : Tree) → IsScalar t → (change : Option Tree → Outcome) → changed_at_member change name t ≡ None
+scalar_place name (array ts) s change = refl
+scalar_place name (object ms) s change = absurd s
+scalar_place name t s change = refl
+
+pub array_place : (name key rest : List ℕ) (t : Tree) → key ≡ key_of t → key ≡ 0xD2 ∷ rest → (change : Option Tree → Outcome) → changed_at_member change name t ≡ None
+array_place name key rest (object ms) e begins change = absurd (let h : 0xD1 ≡ 0xD2 = heads 0xD1 0xD2 (members_key ms) rest (sym e ∙ begins) in omega (arith, h))
+array_place name key rest t e begins change = refl
+
+-- the spot of a member in the key of a value, and what is behind it
+abbrev pub MemberSpot : Tree → List ℕ → List ℕ → Spot → List ℕ → Type 0
+MemberSpot t name key spot behind = (s : SpotIn key_of (tree_fits max_depth) (λ change. changed_at_member change name t) true name key 511 spot) × (s.behind ≡ behind)
+
+-- the member's slot is found, or there is none
+abbrev pub FindsMember : Tree → List ℕ → List ℕ → Option Place → Type 0
+FindsMember t name key told = MatchOption told ((change : Option Tree → Outcome) → changed_at_member change name t ≡ None)
+    (PlaceIn (λ change. changed_at_member change name t) key)
 
 pub set_always : (u : Tree) (there : Option Tree) → set_to u true there ≡ becomes u
 set_always u None = refl

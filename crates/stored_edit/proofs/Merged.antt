@@ -16,7 +16,9 @@ use Rattle.jsonb_spec.specs.Tree.{Tree, Members, no_members, more_members, put}
 use Rattle.jsonb_value.proofs.Values.Members.{turned}
 use Rattle.text_common.proofs.Repeats.{same_key}
 use Rattle.stored_edit.specs.Edit.{merged_members}
-use Rattle.stored_edit.specs.Merging.{IsStep, StepsOn}
+use Rattle.stored_edit.specs.Merging.{IsLast, IsStep, StepsOn}
+use Rattle.stored_edit.specs.declared.merge.Side.{Side}
+use Rattle.stored_edit.specs.declared.merge.Side.TheVariants.{Left, Right, Both}
 use Rattle.stored_edit.specs.declared.merge.Step.{Step}
 
 -- ---- members, merged
@@ -76,15 +78,23 @@ member_first (more_members k t ms) left h e some = record {
   stands = e;
 }
 
-pub left_over : (ms ns : Members) (step : Step) (right : List ℕ) → HaveReadable ns → right ≡ members_key ns → ms ≡ no_members → (step.over ≡ true) × (step.part.now ≡ right) → IsStep ms ns step
-left_over ms ns step right h e none s = subst (λ b. MatchBool b (step.part.now ≡ members_key (merged_members ms ns)) (StepsOn ms ns step.part.now step.members.now step.others.now)) (sym s.0)
-    (s.1 ∙ e ∙ ap members_key (sym (into_none ns h.ascend) ∙ ap (λ m. merged_members m ns) (sym none)))
+abbrev StepOf : (ms ns : Members) (step : Step) → Side → Bool → Type 0
+StepOf ms ns step side over = MatchBool over (IsLast side ms ns × (step.part.now ≡ members_key (merged_members ms ns))) (StepsOn ms ns side step.part.now step.members.now step.others.now)
 
-pub right_over : (ms ns : Members) (step : Step) (left : List ℕ) → left ≡ members_key ms → ns ≡ no_members → (step.over ≡ true) × (step.part.now ≡ left) → IsStep ms ns step
-right_over ms ns step left e none s = subst (λ b. MatchBool b (step.part.now ≡ members_key (merged_members ms ns)) (StepsOn ms ns step.part.now step.members.now step.others.now)) (sym s.0)
-    (s.1 ∙ e ∙ ap (λ n. members_key (merged_members ms n)) (sym none))
+last_of : (ms ns : Members) (step : Step) (side : Side) → step.over ≡ true → step.side ≡ side → IsLast side ms ns → step.part.now ≡ members_key (merged_members ms ns) → IsStep ms ns step
+last_of ms ns step side over is l part = subst (StepOf ms ns step step.side) (sym over) (subst (λ s. StepOf ms ns step s true) (sym is) (l, part))
 
-pub less_step : (ms ns : Members) (left right part rest : List ℕ) → HaveReadable ns → right ≡ members_key ns → (a : MemberFirst ms left) (b : MemberFirst ns right) → bytes_cmp a.key b.key ≡ Less → part ≡ text_key a.key ++ key_of a.value → rest ≡ members_key a.others → StepsOn ms ns part rest right
+pub left_over : (ms ns : Members) (step : Step) (right : List ℕ) → HaveReadable ns → right ≡ members_key ns → ms ≡ no_members → (step.over ≡ true) × (step.part.now ≡ right) × (step.side ≡ Right) → IsStep ms ns step
+left_over ms ns step right h e none s =
+    let all : merged_members ms ns ≡ ns = ap (λ m. merged_members m ns) none ∙ into_none ns h.ascend in
+    last_of ms ns step Right s.0 s.2 all (s.1 ∙ e ∙ ap members_key (sym all))
+
+pub right_over : (ms ns : Members) (step : Step) (left : List ℕ) → left ≡ members_key ms → ns ≡ no_members → (step.over ≡ true) × (step.part.now ≡ left) × (step.side ≡ Left) → IsStep ms ns step
+right_over ms ns step left e none s =
+    let all : merged_members ms ns ≡ ms = ap (λ n. merged_members ms n) none in
+    last_of ms ns step Left s.0 s.2 all (s.1 ∙ e ∙ ap members_key (sym all))
+
+pub less_step : (ms ns : Members) (left right part rest : List ℕ) → HaveReadable ns → right ≡ members_key ns → (a : MemberFirst ms left) (b : MemberFirst ns right) → bytes_cmp a.key b.key ≡ Less → part ≡ text_key a.key ++ key_of a.value → rest ≡ members_key a.others → StepsOn ms ns Left part rest right
 less_step ms ns left right part rest h e a b less first others = record {
   members = a.others;
   others = ns;
@@ -92,12 +102,16 @@ less_step ms ns left right part rest h e a b less first others = record {
   others_readable = h;
   left_is = others;
   right_is = e;
-  key_is =
+  key = a.key;
+  value = a.value;
+  part_is = first;
+  from = (a.is, refl);
+  merged_is =
       let below : IsBelowKeys a.key ns = subst (IsBelowKeys a.key) (sym b.is) (less, below_others a.key b.key b.others less b.below) in
-      ap (λ m. members_key (merged_members m ns)) a.is ∙ ap members_key (stays_first a.key a.value ns a.others below) ∙ sym (append_assoc (text_key a.key) (key_of a.value) (members_key (merged_members a.others ns))) ∙ ap (λ l. l ++ members_key (merged_members a.others ns)) (sym first);
+      ap (λ m. merged_members m ns) a.is ∙ stays_first a.key a.value ns a.others below;
 }
 
-pub greater_step : (ms ns : Members) (left right part rest : List ℕ) → HaveReadable ms → left ≡ members_key ms → (a : MemberFirst ms left) (b : MemberFirst ns right) → bytes_cmp a.key b.key ≡ Greater → part ≡ text_key b.key ++ key_of b.value → rest ≡ members_key b.others → StepsOn ms ns part left rest
+pub greater_step : (ms ns : Members) (left right part rest : List ℕ) → HaveReadable ms → left ≡ members_key ms → (a : MemberFirst ms left) (b : MemberFirst ns right) → bytes_cmp a.key b.key ≡ Greater → part ≡ text_key b.key ++ key_of b.value → rest ≡ members_key b.others → StepsOn ms ns Right part left rest
 greater_step ms ns left right part rest h e a b greater first others = record {
   members = ms;
   others = b.others;
@@ -105,27 +119,37 @@ greater_step ms ns left right part rest h e a b greater first others = record {
   others_readable = b.others_readable;
   left_is = e;
   right_is = others;
-  key_is =
+  key = b.key;
+  value = b.value;
+  part_is = first;
+  from = (refl, b.is);
+  merged_is =
       let less : bytes_cmp b.key a.key ≡ Less = nat_list_cmp_total.antisymm b.key a.key ∙ ap ordering_reverse greater in
       let placed : put b.key b.value ms ≡ more_members b.key b.value ms = ap (put b.key b.value) a.is ∙ ap (λ o. match_ordering o (more_members b.key b.value (more_members a.key a.value a.others)) (more_members a.key b.value a.others) (more_members a.key a.value (put b.key b.value a.others))) less ∙ ap (more_members b.key b.value) (sym a.is) in
-      ap (λ n. members_key (merged_members ms n)) b.is ∙ ap (λ m. members_key (merged_members m b.others)) placed ∙ ap members_key (stays_first b.key b.value b.others ms b.below) ∙ sym (append_assoc (text_key b.key) (key_of b.value) (members_key (merged_members ms b.others))) ∙ ap (λ l. l ++ members_key (merged_members ms b.others)) (sym first);
+      ap (λ n. merged_members ms n) b.is ∙ ap (λ m. merged_members m b.others) placed ∙ stays_first b.key b.value b.others ms b.below;
 }
 
-pub equal_step : (ms ns : Members) (left right part rest members : List ℕ) → (a : MemberFirst ms left) (b : MemberFirst ns right) → bytes_cmp a.key b.key ≡ Equal → part ≡ text_key b.key ++ key_of b.value → rest ≡ members_key b.others → members ≡ members_key a.others → StepsOn ms ns part members rest
-equal_step ms ns left right part rest members a b equal first others more = record {
-  members = a.others;
-  others = b.others;
-  readable = a.others_readable;
-  others_readable = b.others_readable;
-  left_is = more;
-  right_is = others;
-  key_is =
-      let same : a.key ≡ b.key = same_key a.key b.key equal in
-      let turned_equal : bytes_cmp b.key a.key ≡ Equal = nat_list_cmp_total.antisymm b.key a.key ∙ ap ordering_reverse equal in
-      let placed : put b.key b.value ms ≡ more_members a.key b.value a.others = ap (put b.key b.value) a.is ∙ ap (λ o. match_ordering o (more_members b.key b.value (more_members a.key a.value a.others)) (more_members a.key b.value a.others) (more_members a.key a.value (put b.key b.value a.others))) turned_equal in
-      let below : IsBelowKeys a.key b.others = subst (λ k. IsBelowKeys k b.others) (sym same) b.below in
-      ap (λ n. members_key (merged_members ms n)) b.is ∙ ap (λ m. members_key (merged_members m b.others)) placed ∙ ap members_key (stays_first a.key b.value b.others a.others below) ∙ sym (append_assoc (text_key a.key) (key_of b.value) (members_key (merged_members a.others b.others))) ∙ ap (λ l. l ++ members_key (merged_members a.others b.others)) (ap (λ k. text_key k ++ key_of b.value) same ∙ sym first);
-}
+pub equal_step : (ms ns : Members) (left right part rest members : List ℕ) → (a : MemberFirst ms left) (b : MemberFirst ns right) → bytes_cmp a.key b.key ≡ Equal → part ≡ text_key b.key ++ key_of b.value → rest ≡ members_key b.others → members ≡ members_key a.others → StepsOn ms ns Both part members rest
+equal_step ms ns left right part rest members a b equal first others more =
+    let same : a.key ≡ b.key = same_key a.key b.key equal in
+    record {
+      members = a.others;
+      others = b.others;
+      readable = a.others_readable;
+      others_readable = b.others_readable;
+      left_is = more;
+      right_is = others;
+      key = b.key;
+      value = b.value;
+      part_is = first;
+      from = (a.value, a.is ∙ ap (λ k. more_members k a.value a.others) same, b.is);
+      merged_is =
+          let turned_equal : bytes_cmp b.key a.key ≡ Equal = nat_list_cmp_total.antisymm b.key a.key ∙ ap ordering_reverse equal in
+          let placed : put b.key b.value ms ≡ more_members a.key b.value a.others = ap (put b.key b.value) a.is ∙ ap (λ o. match_ordering o (more_members b.key b.value (more_members a.key a.value a.others)) (more_members a.key b.value a.others) (more_members a.key a.value (put b.key b.value a.others))) turned_equal in
+          let below : IsBelowKeys a.key b.others = subst (λ k. IsBelowKeys k b.others) (sym same) b.below in
+          ap (λ n. merged_members ms n) b.is ∙ ap (λ m. merged_members m b.others) placed ∙ stays_first a.key b.value b.others a.others below
+          ∙ ap (λ k. more_members k b.value (merged_members a.others b.others)) same;
+    }
 
 pub ended_none : (ms : Members) (bytes rest : List ℕ) → HaveReadable ms → bytes ≡ members_key ms → bytes ≡ end_key true ++ rest → ms ≡ no_members
 ended_none no_members bytes rest h e over = refl
@@ -139,6 +163,12 @@ no_order e o x = cc
 
 pub one_order : (o p : Ordering) → ◌≡◌ {A = Result Ordering NoKey} (Ok o) (Ok p) → p ≡ o
 one_order o p x = cc
+
+-- the bytes of a step come first
+step_key : (ms ns : Members) (side : Side) (part left right : List ℕ) (s : StepsOn ms ns side part left right) → members_key (merged_members ms ns) ≡ part ++ members_key (merged_members s.members s.others)
+step_key ms ns side part left right s =
+    ap members_key s.merged_is ∙ sym (append_assoc (text_key s.key) (key_of s.value) (members_key (merged_members s.members s.others)))
+    ∙ ap (λ l. l ++ members_key (merged_members s.members s.others)) (sym s.part_is)
 
 -- ---- the walk
 
@@ -161,9 +191,9 @@ pub merge_begun : (left right old out : List ℕ) → out ≡ old ++ 0xD1 ∷ []
 merge_begun left right old out e = λ ms ns h i l r. record { members = ms; others = ns; readable = h; others_readable = i; left_is = l; right_is = r; front = []; appended = e; key_is = refl }
 
 pub merge_goes_on : (ms ns : Members) (old out left right next : List ℕ) (step : Step) (l : MergeLeft ms ns old out left right) → step.over ≡ false → IsStep l.members l.others step → next ≡ out ++ step.part.now → MergeLeft ms ns old next step.members.now step.others.now
-merge_goes_on ms ns old out left right next step l on s e = go (subst (λ b. MatchBool b (step.part.now ≡ members_key (merged_members l.members l.others)) (StepsOn l.members l.others step.part.now step.members.now step.others.now)) on s)
+merge_goes_on ms ns old out left right next step l on s e = go (subst (StepOf l.members l.others step step.side) on s)
   where
-    go : StepsOn l.members l.others step.part.now step.members.now step.others.now → MergeLeft ms ns old next step.members.now step.others.now
+    go : StepsOn l.members l.others step.side step.part.now step.members.now step.others.now → MergeLeft ms ns old next step.members.now step.others.now
     go s = record {
       members = s.members;
       others = s.others;
@@ -173,18 +203,18 @@ merge_goes_on ms ns old out left right next step l on s e = go (subst (λ b. Mat
       right_is = s.right_is;
       front = l.front ++ step.part.now;
       appended = e ∙ ap (λ o. o ++ step.part.now) l.appended ∙ append_assoc old (0xD1 ∷ l.front) step.part.now;
-      key_is = l.key_is ∙ ap (λ k. l.front ++ k) s.key_is ∙ sym (append_assoc l.front step.part.now (members_key (merged_members s.members s.others)));
+      key_is = l.key_is ∙ ap (λ k. l.front ++ k) (step_key l.members l.others step.side step.part.now step.members.now step.others.now s) ∙ sym (append_assoc l.front step.part.now (members_key (merged_members s.members s.others)));
     }
 
 pub merge_ended : (ms ns : Members) (old out left right next : List ℕ) (step : Step) (l : MergeLeft ms ns old out left right) → step.over ≡ true → IsStep l.members l.others step → next ≡ out ++ step.part.now → next ≡ old ++ 0xD1 ∷ members_key (merged_members ms ns)
 merge_ended ms ns old out left right next step l over s e =
-    let last : step.part.now ≡ members_key (merged_members l.members l.others) = subst (λ b. MatchBool b (step.part.now ≡ members_key (merged_members l.members l.others)) (StepsOn l.members l.others step.part.now step.members.now step.others.now)) over s in
+    let last : step.part.now ≡ members_key (merged_members l.members l.others) = (subst (StepOf l.members l.others step step.side) over s).1 in
     e ∙ ap (λ o. o ++ step.part.now) l.appended ∙ append_assoc old (0xD1 ∷ l.front) step.part.now ∙ ap (λ k. old ++ 0xD1 ∷ k) (ap (λ k. l.front ++ k) last ∙ sym l.key_is)
 
 -- what comes next is a part of the whole
 pub merge_longer : (ms ns : Members) (old out left right : List ℕ) (step : Step) (l : MergeLeft ms ns old out left right) → IsStep l.members l.others step → length out + length step.part.now ≤ length old + length (0xD1 ∷ members_key (merged_members ms ns))
 merge_longer ms ns old out left right step l s = go step.over s
   where
-    go : (over : Bool) → MatchBool over (step.part.now ≡ members_key (merged_members l.members l.others)) (StepsOn l.members l.others step.part.now step.members.now step.others.now) → length out + length step.part.now ≤ length old + length (0xD1 ∷ members_key (merged_members ms ns))
-    go true last = omega (arith, ap length l.appended, length-append old (0xD1 ∷ l.front), ap length l.key_is, length-append l.front (members_key (merged_members l.members l.others)), ap length last)
-    go false on = omega (arith, ap length l.appended, length-append old (0xD1 ∷ l.front), ap length l.key_is, length-append l.front (members_key (merged_members l.members l.others)), ap length on.key_is, length-append step.part.now (members_key (merged_members on.members on.others)))
+    go : (over : Bool) → StepOf l.members l.others step step.side over → length out + length step.part.now ≤ length old + length (0xD1 ∷ members_key (merged_members ms ns))
+    go true last = omega (arith, ap length l.appended, length-append old (0xD1 ∷ l.front), ap length l.key_is, length-append l.front (members_key (merged_members l.members l.others)), ap length last.1)
+    go false on = omega (arith, ap length l.appended, length-append old (0xD1 ∷ l.front), ap length l.key_is, length-append l.front (members_key (merged_members l.members l.others)), ap length (step_key l.members l.others step.side step.part.now step.members.now step.others.now on), length-append step.part.now (members_key (merged_members on.members on.others)))

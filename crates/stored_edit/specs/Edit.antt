@@ -84,6 +84,11 @@ changed_part change name (object ms) = option_map object (changed_member change 
 changed_part change name (array ts) = option_map array (changed_items change name ts)
 changed_part change name t = None
 
+-- the object, changed at its member of that name; None for another value
+abbrev pub changed_at_member : (Option Tree → Outcome) → List ℕ → Tree → Option Tree
+changed_at_member change name (object ms) = option_map object (changed_member change name ms)
+changed_at_member change name t = None
+
 -- a part in which something changes
 abbrev pub part_with : Option Tree → Outcome
 part_with None = stays

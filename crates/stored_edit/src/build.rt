@@ -3,6 +3,7 @@
 ghost use Rattle.std.specs.Prelude.{◌≡◌, Ok, false};
 ghost use Rattle.jsonb_key.specs.Readable.{IsAnyNumber};
 ghost use Rattle.jsonb_spec.specs.SortKey.{items_key};
+ghost use Rattle.jsonb_spec.specs.Text.Appending.{Extends};
 ghost use Rattle.jsonb_spec.specs.Text.Range.{AreWithin};
 ghost use Rattle.jsonb_spec.specs.Tree.{Trees, array, more_trees, no_trees};
 ghost use Rattle.stored_edit.specs.Edit.{joined_items, with_item, with_member, AppendsKey, EditsKeys, KeepsOnError};
@@ -11,11 +12,9 @@ ghost use Rattle.jsonb_stored.specs.AtKeys.{OfKey};
 use crate::edit::put_part;
 use crate::error::EditError;
 use crate::merge::{as_item, without_end};
-use crate::place::Place;
+use crate::place::member_slot;
 use crate::splice::splice;
-use crate::spot::{behind_part, member_spot};
-use jsonb_stored::skip::MAX_DEPTH;
-use jsonb_stored::walk::{items_of, kind_of, members_of};
+use jsonb_stored::walk::{items_of, kind_of};
 use jsonb_value::sort_key::kind;
 
 /// The sort key of an object without members.
@@ -39,17 +38,8 @@ pub fn append_with_member(
     ensures edits { EditsKeys (with_member name.now) key.now value.now result out.old out.new }
     ensures keeps { KeepsOnError result out.old out.new }
 {
-    let Some(members) = members_of(key) else {
-        return other_value(key);
-    };
-    let spot = member_spot(members, name.as_bytes())?;
-    let behind = behind_part(&spot)?;
-    let place = Place {
-        spot,
-        behind,
-        object: true,
-        name,
-        room: MAX_DEPTH - 1,
+    let Some(place) = member_slot(key, name)? else {
+        return Ok(false);
     };
     match put_part(out, key, &place, value) {
         Ok(()) => Ok(true),
@@ -66,6 +56,7 @@ pub fn append_with_member(
 pub fn append_with_item(out: &mut Vec<u8>, key: &[u8], item: &[u8]) -> Result<bool, EditError>
     ensures edits { EditsKeys with_item key.now item.now result out.old out.new }
     ensures keeps { KeepsOnError result out.old out.new }
+    ensures kept { Extends out.old.items out.new.items }
 {
     let Some(items) = items_of(key) else {
         return other_value(key);
@@ -76,7 +67,7 @@ pub fn append_with_item(out: &mut Vec<u8>, key: &[u8], item: &[u8]) -> Result<bo
     }
 }
 
-// What is told of a value that is no object, or no array.
+// What is told of a value that is no array.
 fn other_value(key: &[u8]) -> Result<bool, EditError>
     ensures { OfKey key.now (λ t. result ≡ Ok false) }
 {
@@ -91,6 +82,7 @@ fn push_item(out: &mut Vec<u8>, items: &[u8], item: &[u8]) -> Result<(), EditErr
     ensures pushed { (ts : Trees) → AreWithin IsAnyNumber ts 511 → items.now ≡ items_key ts → OfKey item.now (λ u.
         AppendsKey (array (joined_items ts (more_trees u no_trees))) result out.old out.new) }
     ensures keeps { KeepsOnError result out.old out.new }
+    ensures kept { Extends out.old.items out.new.items }
 {
     let items = match without_end(items) {
         Ok(items) => items,

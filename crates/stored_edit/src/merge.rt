@@ -35,6 +35,7 @@ use std::cmp::Ordering;
 pub fn append_merged(out: &mut Vec<u8>, left: &[u8], right: &[u8]) -> Result<(), EditError>
     ensures merges { AppendsBoth merge left.now right.now result out.old out.new }
     ensures keeps { KeepsOnError result out.old out.new }
+    ensures kept { Extends out.old.items out.new.items }
 {
     match both_members(left, right) {
         Some((members, others)) => merge_objects(out, members, others),
@@ -42,8 +43,8 @@ pub fn append_merged(out: &mut Vec<u8>, left: &[u8], right: &[u8]) -> Result<(),
     }
 }
 
-// What stands behind the first bytes of the keys, where both are of objects.
-fn both_members<'k, 'l>(left: &'k [u8], right: &'l [u8]) -> Option<(&'k [u8], &'l [u8])>
+/// What stands behind the first bytes of the keys, where both are of objects.
+pub fn both_members<'k, 'l>(left: &'k [u8], right: &'l [u8]) -> Option<(&'k [u8], &'l [u8])>
     ensures { MatchOption result
         ((ms ns : Members) → left.now ≡ key_of (object ms) → right.now ≡ key_of (object ns) → ⊥)
         (λ r. (left.now ≡ kind.object ∷ r.0.now) × (right.now ≡ kind.object ∷ r.1.now)) }
@@ -61,6 +62,7 @@ fn both_members<'k, 'l>(left: &'k [u8], right: &'l [u8]) -> Option<(&'k [u8], &'
 fn merge_objects(out: &mut Vec<u8>, left: &[u8], right: &[u8]) -> Result<(), EditError>
     ensures merges { AppendsMembersOfBoth left.now right.now result out.old out.new }
     ensures keeps { KeepsOnError result out.old out.new }
+    ensures kept { Extends out.old.items out.new.items }
 {
     let old_len = out.len();
     let room = left.len().saturating_add(right.len());
@@ -100,32 +102,43 @@ fn append_members(out: &mut Vec<u8>, left: &[u8], right: &[u8]) -> Result<(), Ed
     }
 }
 
-// One step of a merge: the bytes that come next, and what is left on both sides; or the bytes are the last ones.
+/// Where the bytes of a step come from: from the left side, from the right one, or from the right one in the place of
+/// the left one's first member.
 #[derive(Clone, Copy)]
-pub(crate) struct Step<'k> {
-    pub(crate) part: &'k [u8],
-    pub(crate) members: &'k [u8],
-    pub(crate) others: &'k [u8],
-    pub(crate) over: bool,
+pub enum Side {
+    Left,
+    Right,
+    Both,
 }
 
-// The first of the members on both sides, of which that on the right wins.
-fn merge_step<'k>(left: &'k [u8], right: &'k [u8]) -> Result<Step<'k>, NoKey>
+/// One step of a merge: the bytes that come next, and what is left on both sides; or the bytes are the last ones.
+#[derive(Clone, Copy)]
+pub struct Step<'k> {
+    pub side: Side,
+    pub part: &'k [u8],
+    pub members: &'k [u8],
+    pub others: &'k [u8],
+    pub over: bool,
+}
+
+/// The first of the members on both sides, of which that on the right wins.
+pub fn merge_step<'k>(left: &'k [u8], right: &'k [u8]) -> Result<Step<'k>, NoKey>
     ensures step { (ms ns : Members) → HaveReadable ms → HaveReadable ns → left.now ≡ members_key ms
         → right.now ≡ members_key ns → MatchResult result (IsStep ms ns) (λ e. ⊥) }
     ensures shorter { IfOk result (λ step. step.over ≡ false
         → length step.members.now + length step.others.now < length left.now + length right.now) }
 {
     if is_end(left) {
-        return Ok(last_step(right));
+        return Ok(last_step(Side::Right, right));
     }
     if is_end(right) {
-        return Ok(last_step(left));
+        return Ok(last_step(Side::Left, left));
     }
     match order_of_names(left, right)? {
         Ordering::Less => {
             let rest = after_member(left)?;
             Ok(Step {
+                side: Side::Left,
                 part: front(left, rest),
                 members: rest,
                 others: right,
@@ -136,6 +149,7 @@ fn merge_step<'k>(left: &'k [u8], right: &'k [u8]) -> Result<Step<'k>, NoKey>
             let members = after_member(left)?;
             let rest = after_member(right)?;
             Ok(Step {
+                side: Side::Both,
                 part: front(right, rest),
                 members,
                 others: rest,
@@ -145,6 +159,7 @@ fn merge_step<'k>(left: &'k [u8], right: &'k [u8]) -> Result<Step<'k>, NoKey>
         Ordering::Greater => {
             let rest = after_member(right)?;
             Ok(Step {
+                side: Side::Right,
                 part: front(right, rest),
                 members: left,
                 others: rest,
@@ -155,10 +170,11 @@ fn merge_step<'k>(left: &'k [u8], right: &'k [u8]) -> Result<Step<'k>, NoKey>
 }
 
 // The bytes are the last ones.
-fn last_step(part: &[u8]) -> Step<'_>
-    ensures { (result.over ≡ true) × (result.part.now ≡ part.now) }
+fn last_step(side: Side, part: &[u8]) -> Step<'_>
+    ensures { (result.over ≡ true) × (result.part.now ≡ part.now) × (result.side ≡ side) }
 {
     Step {
+        side,
         part,
         members: part,
         others: part,
@@ -211,6 +227,7 @@ fn join_items(out: &mut Vec<u8>, left: &[u8], right: &[u8]) -> Result<(), EditEr
     ensures joins { AppendsBoth (λ t u. array (joined_items (as_items t) (as_items u))) left.now right.now result
         out.old out.new }
     ensures keeps { KeepsOnError result out.old out.new }
+    ensures kept { Extends out.old.items out.new.items }
 {
     let items = match item_keys(left) {
         Ok(items) => items,

@@ -3,10 +3,10 @@
 ghost use Rattle.std.specs.Prelude.{◌≡◌, ◌≤◌, length, map, string_bytes, Option, None, IfOk, IfSome, MatchBool, MatchResult, MatchOption};
 ghost use Rattle.jsonb_stored.specs.AtKeys.{OfKey};
 ghost use Rattle.jsonb_spec.specs.Tree.{Tree};
-ghost use Rattle.stored_edit.specs.Edit.{Outcome, changed_at};
+ghost use Rattle.stored_edit.specs.Edit.{Outcome, changed_at, changed_at_member};
 ghost use Rattle.stored_edit.specs.Spots.{PlaceIn};
 
-use crate::spot::{Spot, behind_part, part_spot};
+use crate::spot::{Spot, behind_part, member_spot, part_spot};
 use jsonb_stored::find::{NoKey, open_key};
 use jsonb_stored::skip::MAX_DEPTH;
 
@@ -63,6 +63,30 @@ pub fn find_place<'k, 'n>(
         room = inner;
     }
     Ok(None)
+}
+
+/// Where the member of that name is in an object, or would be; `None` for another value.
+pub fn member_slot<'k, 'n>(key: &'k [u8], name: &'n str) -> Result<Option<Place<'k, 'n>>, NoKey>
+    ensures slot { OfKey key.now (λ t. MatchResult result (λ answer. MatchOption answer
+        ((change : Option Tree → Outcome) → changed_at_member change name.now t ≡ None)
+        (PlaceIn (λ change. changed_at_member change name.now t) key.now)) (λ e. ⊥)) }
+    ensures room { IfOk result (λ answer. IfSome answer (λ place. place.room ≤ 511)) }
+{
+    let Some((object, members)) = open_key(key)? else {
+        return Ok(None);
+    };
+    if !object {
+        return Ok(None);
+    }
+    let spot = member_spot(members, name.as_bytes())?;
+    let behind = behind_part(&spot)?;
+    Ok(Some(Place {
+        spot,
+        behind,
+        object: true,
+        name,
+        room: MAX_DEPTH - 1,
+    }))
 }
 
 fn are_none(names: &[String]) -> bool

@@ -155,10 +155,14 @@ pub record CopyLeft (plain : ℕ) (taken old now : List ℕ) (others : List ℕ)
   pub underway : IsUnderway old now (zeros_of plain taken) (zeros_of more (take left others))
   pub at_end : plain_at_end plain taken ≡ plain_at_end more (take left others)
   pub enough : left ≤ length others
-  pub fit : more + length others < 2 ^ 63
+  pub fit : more + left < 2 ^ 63
+  pub short : length others < 2 ^ 63
+
+pub copies_some : (plain numbers : ℕ) (counts old : List ℕ) → numbers ≤ length counts → length counts < 2 ^ 63 → plain + numbers < 2 ^ 63 → CopyLeft plain (take numbers counts) old old counts numbers plain
+copies_some plain numbers counts old enough short fit = record { underway = begun old (zeros_of plain (take numbers counts)); at_end = refl; enough = enough; fit = fit; short = short }
 
 pub copies : (plain numbers : ℕ) (counts old : List ℕ) → numbers ≤ length counts → plain + length counts < 2 ^ 63 → CopyLeft plain (take numbers counts) old old counts numbers plain
-copies plain numbers counts old enough fit = record { underway = begun old (zeros_of plain (take numbers counts)); at_end = refl; enough = enough; fit = fit }
+copies plain numbers counts old enough fit = copies_some plain numbers counts old enough (omega (arith, fit)) (omega (arith, enough, fit))
 
 -- all that are left to append are 0
 pub plain_copied : (plain : ℕ) (taken old now others : List ℕ) (left more sum : ℕ) → CopyLeft plain taken old now others left more → take left others ≡ replicate left 0 → more + left ≡ sum → (now ≡ old ++ zeros_of plain taken) × (sum ≡ plain_at_end plain taken)
@@ -184,7 +188,7 @@ module _ (plain : ℕ) (taken old now others : List ℕ) (left more before count
   later_zeros = ap (zeros_of more) split ∙ zeros_behind_plain before more (count ∷ take (left - (before + 1)) p.later) ∙ ap (λ g. zeros_of g (count ∷ take (left - (before + 1)) p.later)) is_gap
 
   pub gap_small : gap < 2 ^ 63
-  gap_small = omega (arith, is_gap, c.fit, counts_long others before count p.later p.is)
+  gap_small = omega (arith, is_gap, c.fit, less)
 
   pub entry_room : length now + length (entry_of gap count) ≤ length old + length (zeros_of plain taken)
   entry_room = fits (entry_of gap count) (zeros_of (plain_behind gap count) (take (left - (before + 1)) p.later)) c.underway later_zeros
@@ -198,7 +202,8 @@ module _ (plain : ℕ) (taken old now others : List ℕ) (left more before count
         at_end = c.at_end ∙ ap (plain_at_end more) split ∙ end_behind_plain before more (count ∷ take (left - (before + 1)) p.later) ∙ ap (λ g. plain_at_end g (count ∷ take (left - (before + 1)) p.later)) is_gap
             ∙ ap (λ n. plain_at_end n (take (left - (before + 1)) p.later)) (sym is);
         enough = omega (arith, c.enough, long, less);
-        fit = omega (arith, c.fit, long, is_gap, is, cond-false (count == 0) (suc gap) 0 (ne_eqb count 0 (λ e. omega (arith, e, p.some))));
+        fit = omega (arith, c.fit, less, is_gap, is, cond-false (count == 0) (suc gap) 0 (ne_eqb count 0 (λ e. omega (arith, e, p.some))));
+        short = omega (arith, c.short, long);
       }
 
 -- ---- what is told

@@ -23,7 +23,7 @@ pub returns-in_err-plain-clause-found : goal.returns-in_err-plain-clause-found
 returns-in_err-plain-clause-found c = λ counts pends enough fit.
     let y = c.entries.invariant.copies counts pends enough fit in
     let p = subst (Pends y.0) c.in-Some.is y.1 in
-    let small : c.entries.plain + c.in-Some.before < 2 ^ 63 = omega (arith, y.2.fit, counts_long y.0 c.in-Some.before c.in-Some.count p.later p.is) in
+    let small : c.entries.plain + c.in-Some.before < 2 ^ 63 = omega (arith, y.2.fit, c.if-before-left.false) in
     let gap : c.in_ok-gap.gap ≡ c.entries.plain + c.in-Some.before = c.in_ok-gap.ensures small in
     let gap_small : c.in_ok-gap.gap < 2 ^ 63 = omega (arith, small, gap) in
     let room = entry_room c.args.plain (take c.args.numbers counts) c.args.buf.now.items c.entries.buf.items y.0 c.entries.left c.entries.plain c.in-Some.before c.in-Some.count c.in-Some.others.now y.2 p c.if-before-left.false c.in_ok-gap.gap (omega (arith, gap)) in
@@ -36,11 +36,11 @@ entries-preserved c = record {
       let y = c.entries.invariant.copies counts pends enough fit in
       let p = subst (Pends y.0) c.in-Some.is y.1 in
       let long = counts_long y.0 c.in-Some.before c.in-Some.count p.later p.is in
-      let small : c.entries.plain + c.in-Some.before < 2 ^ 63 = omega (arith, y.2.fit, long) in
+      let small : c.entries.plain + c.in-Some.before < 2 ^ 63 = omega (arith, y.2.fit, c.if-before-left.false) in
       let gap : c.in_ok-gap.gap ≡ c.entries.plain + c.in-Some.before = c.in_ok-gap.ensures small in
       let gap_small : c.in_ok-gap.gap < 2 ^ 63 = omega (arith, small, gap) in (
         p.later,
-        c.in-Ok.ensures.found p.later (omega (arith, y.2.fit, long)) p.zeros,
+        c.in-Ok.ensures.found p.later (omega (arith, y.2.short, long)) p.zeros,
         entry_copied c.args.plain (take c.args.numbers counts) c.args.buf.now.items c.entries.buf.items y.0 c.entries.left c.entries.plain c.in-Some.before c.in-Some.count c.in-Some.others.now y.2 p c.if-before-left.false c.in_ok-gap.gap (omega (arith, gap))
             c.append_entry.new.buf.items c.in_ok-plain.plain (c.in_ok-plain.ensures.appends gap_small).ok (c.in_ok-plain.ensures.plain gap_small),
       );

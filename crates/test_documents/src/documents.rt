@@ -1,0 +1,81 @@
+use crate::rows::ROWS;
+use jsonb_path::read_keys;
+use key_document::{
+    append_merged, append_part, append_with_item, append_with_member, append_with_part,
+    append_without_part, compare_documents,
+};
+use std::cmp::Ordering;
+use std::process::Abort;
+use std::test::Fail;
+
+// The bytes that a word has in hexadecimal digits. One that is repeated has `*`, a count and a point behind it.
+fn bytes_of(rt: &(impl AllocGlobal + Abort), word: &str) -> Result<Vec<u8>, Fail> {
+    let mut bytes = Vec::new(rt.alloc());
+    for piece in word.split('.') {
+        let (digits, count) = piece.split_once('*').unwrap_or((piece, "1"));
+        let run = hex::decode(rt.alloc(), digits.as_bytes())
+            .ok()
+            .expect(rt, "no bytes");
+        bytes.extend_from_slice(&run)?;
+        let copies: u16 = count.parse().ok().expect(rt, "no count");
+        for _ in 1..copies {
+            if let Some(last) = run.last() {
+                bytes.push(*last)?;
+            }
+        }
+    }
+    Ok(bytes)
+}
+
+// Cuts a word off a row.
+fn cut<'t>(rt: &impl Abort, row: &'t str) -> (&'t str, &'t str) {
+    row.split_once(' ').expect(rt, "a row is short")
+}
+
+// The order of two documents in a word.
+fn order_of(left: &[u8], right: &[u8]) -> &'static str {
+    match compare_documents(left, right) {
+        Ordering::Less => "less",
+        Ordering::Equal => "equal",
+        Ordering::Greater => "greater",
+    }
+}
+
+// A call, two documents, a path, and what the call gives.
+#[test]
+fn documents_are_those_of_the_reference(rt: HostRuntime) -> Result<(), Fail> {
+    for row in ROWS.lines() {
+        let (call, one) = cut(&rt, row);
+        let (left, two) = cut(&rt, one);
+        let (right, three) = cut(&rt, two);
+        let (path, answer) = cut(&rt, three);
+        let document = bytes_of(&rt, left)?;
+        let other = bytes_of(&rt, right)?;
+        if call == "order" {
+            assert_eq!(&rt; order_of(&document, &other), answer);
+            continue;
+        }
+        let names = read_keys(rt.alloc(), path.as_bytes())?.expect(&rt, "no path");
+        let mut out = bytes_of(&rt, "78")?;
+        let made = match call {
+            "part" => append_part(&mut out, &document, &names),
+            "set" => append_with_part(&mut out, &document, &names, &other, true),
+            "remove" => append_without_part(&mut out, &document, &names),
+            "push" => append_with_item(&mut out, &document, &other),
+            "merge" => append_merged(&mut out, &document, &other).map(|()| true),
+            _ => {
+                let (name, _) = names.split_first().expect(&rt, "no name");
+                append_with_member(&mut out, &document, name.as_str(), &other)
+            }
+        };
+        assert_eq!(&rt; made.ok().expect(&rt, "an error"), answer != "-");
+        let (first, appended) = out.split_first().expect(&rt, "what was there is gone");
+        assert_eq!(&rt; *first, b'x');
+        if answer == "-" {
+            assert!(&rt; appended.is_empty());
+            continue;
+        }
+        assert!(&rt; *appended == *bytes_of(&rt, answer)?);
+    }
+    Ok(())
+}
