@@ -11,7 +11,7 @@ use Rattle.jsonb_spec.specs.Tree.{Tree}
 use Rattle.jsonb_stored.specs.Found.{Finds}
 use Rattle.jsonb_stored.specs.Open.{name_key}
 use Rattle.jsonb_stored.specs.declared.find.NoKey.{NoKey}
-use Rattle.key_document.specs.Changes.{FindsSlot, IsPartBehind}
+use Rattle.key_document.specs.Changes.{FindsRange, IsPartBehind}
 use Rattle.key_document.specs.Document.{counts_at}
 use Rattle.key_document.specs.Splices.{IsSplice, AreSplices, entry_counts, entry_key}
 use Rattle.key_document.proofs.Agreeing.{agree, same_back, same_front}
@@ -100,7 +100,7 @@ module _ (t part : Tree) (changed : (Option Tree → Outcome) → Option Tree) (
 -- ---- what is found
 
 -- there is no part
-pub none_found : (t : Tree) (bytes : List ℕ) (o : Option Tree) → Finds bytes o (Ok None) → FindsSlot t o (Ok None)
+pub none_found : (t : Tree) (bytes : List ℕ) (o : Option Tree) → Finds bytes o (Ok None) → FindsRange t o (Ok None)
 none_found t bytes None f = tt
 none_found t bytes (Some part) f = absurd f
 
@@ -119,7 +119,7 @@ part_there bytes None rest f = absurd f
 part_there bytes (Some part) rest f = record { part = part; is = refl; readable = f.readable }
 
 -- it is the value
-pub whole_found : (t : Tree) (names : List (List ℕ)) (key : Bor (List ℕ)) → IsReadable t → key.now ≡ key_of t → length names ≡ 0 → FindsSlot t (part_at names t) (Ok (Some (0, key)))
+pub whole_found : (t : Tree) (names : List (List ℕ)) (key : Bor (List ℕ)) → IsReadable t → key.now ≡ key_of t → length names ≡ 0 → FindsRange t (part_at names t) (Ok (Some (0, key)))
 whole_found t (name ∷ names) key r e none = absurd (omega (arith, none))
 whole_found t [] key r e none = (
   r,
@@ -129,13 +129,13 @@ whole_found t [] key r e none = (
 
 -- or it stands at the place that is found
 pub slot_found : (t : Tree) (names : List (List ℕ)) (o : PartThere (part_at names t)) (key : List ℕ) (place : Place) (offset : ℕ) (bytes : Bor (List ℕ)) → (length names ≡ 0 → ⊥) → IsReadable t → key ≡ key_of t → PlaceIn (λ change. changed_at change names t) key place
-    → offset ≡ length key - length place.spot.value.now → ((before : List ℕ) → place.spot.value.now ≡ before ++ place.behind.now → bytes.now ≡ before) → FindsSlot t (part_at names t) (Ok (Some (offset, bytes)))
+    → offset ≡ length key - length place.spot.value.now → ((before : List ℕ) → place.spot.value.now ≡ before ++ place.behind.now → bytes.now ≡ before) → FindsRange t (part_at names t) (Ok (Some (offset, bytes)))
 slot_found t names o key place offset bytes some r e s at is = elim (at_splice names t r.proper) [
   | inl none ↦ absurd ((part_changes names t o.part some r.proper o.is).some (λ there. goes) goes_stays (none (λ there. goes)))
   | inr x ↦
       let c = part_changes names t o.part some r.proper o.is in
       let changed : (Option Tree → Outcome) → Option Tree = λ change. changed_at change names t in
-      subst (λ p. FindsSlot t p (Ok (Some (offset, bytes)))) (sym o.is)
+      subst (λ p. FindsRange t p (Ok (Some (offset, bytes)))) (sym o.is)
       (o.readable, (x.cut.front ++ x.cut.name, sym (at ∙ offset_is t o.part changed x c key place s e), part_behind t o.part changed x c), is (key_of o.part) (value_is t o.part changed x c key place s e))
 ]
 

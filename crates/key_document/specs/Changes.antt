@@ -79,11 +79,11 @@ OfPartAt t offset size Is =
     (part : Tree) → IsReadable part → IsPartAt t offset part → size ≡ length (key_of part) → Is part
 
 -- What is found is the offset of the part and its key; or nothing where there is no part.
-abbrev pub FindsSlot : Tree → Option Tree → Result (Option (ℕ × Bor (List ℕ))) DocumentError → Type 0
-FindsSlot t (Some part) (Ok (Some slot)) =
+abbrev pub FindsRange : Tree → Option Tree → Result (Option (ℕ × Bor (List ℕ))) DocumentError → Type 0
+FindsRange t (Some part) (Ok (Some slot)) =
     IsReadable part × IsPartAt t slot.0 part × (slot.1.now ≡ key_of part)
-FindsSlot t None (Ok None) = ⊤
-FindsSlot t part found = ⊥
+FindsRange t None (Ok None) = ⊤
+FindsRange t part found = ⊥
 
 -- The zeros of these bytes are appended, it is told how many without any stand at the end, and what pends of those that
 -- are left. Else memory ran out, as the capacity for all of the zeros is missing.

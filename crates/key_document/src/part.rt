@@ -7,7 +7,7 @@ ghost use Rattle.jsonb_spec.specs.Proper.{IsProper};
 ghost use Rattle.jsonb_spec.specs.SortKey.{key_of};
 ghost use Rattle.jsonb_spec.specs.Tree.{Tree};
 ghost use Rattle.jsonb_stored.specs.AtKeys.{OfKey};
-ghost use Rattle.key_document.specs.Changes.{AnswersOf, AppendsDocument, FindsSlot, IsPartAt, KeepsOnError, OfPartAt};
+ghost use Rattle.key_document.specs.Changes.{AnswersOf, AppendsDocument, FindsRange, IsPartAt, KeepsOnError, OfPartAt};
 ghost use Rattle.key_document.specs.Document.{zeros_at, OfDocument};
 
 use crate::document::split_document;
@@ -33,7 +33,7 @@ pub fn append_part(
     ensures keeps { KeepsOnError result out.old out.new }
 {
     let (key, zeros) = split_document(document);
-    let Some((offset, part)) = find_slot(key, names)? else {
+    let Some((offset, part)) = find_range(key, names)? else {
         return Ok(false);
     };
     match append_slot(out, zeros, offset, part) {
@@ -65,11 +65,11 @@ pub fn append_range(
 }
 
 // The offset of the key of the part at the path of these names, and that key.
-fn find_slot<'k>(
+fn find_range<'k>(
     key: &'k [u8],
     names: &[String],
 ) -> Result<Option<(usize, &'k [u8])>, DocumentError>
-    ensures found { OfKey key.now (λ t. FindsSlot t (part_at (map string_bytes names.now) t) result) }
+    ensures found { OfKey key.now (λ t. FindsRange t (part_at (map string_bytes names.now) t) result) }
 {
     let Some(_) = find_part(key, names)? else {
         return Ok(None);

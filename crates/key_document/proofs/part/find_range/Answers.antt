@@ -6,7 +6,7 @@ use Rattle.jsonb_spec.specs.SortKey.{key_of}
 use Rattle.jsonb_stored.specs.Found.{Finds}
 use Rattle.key_document.proofs.Changing.{ToldPlace}
 use Rattle.key_document.proofs.Slots.{no_error, no_place, none_found, part_there, slot_found, whole_found}
-use Rattle.key_document.proofs.part.find_slot.Goals as goal
+use Rattle.key_document.proofs.part.find_range.Goals as goal
 
 pub returns-in_err-find_part : goal.returns-in_err-find_part
 returns-in_err-find_part c = record { found = λ t r e. absurd (no_error c.args.key.now (part_at (map string_bytes c.args.names.now) t) _ (c.in_err-find_part.ensures.finds.found t r [] (e ∙ sym (append-nil (key_of t))))) }
