@@ -19,7 +19,7 @@ static void check(uint32_t mode, const char *text) {
   print_error(&error);
 }
 
-/* The buffer holds points, and the library is told of its first bytes alone. */
+/* The buffer holds points, and the library is reported of its first bytes alone. */
 static void write_text(uint32_t mode, const char *text, size_t buffer_size) {
   unsigned char buffer[12];
   size_t size = 99;
@@ -293,7 +293,7 @@ static void pass_null(uint32_t mode) {
   size_t size = 99, key_size = 99;
   int32_t order = 99;
   struct vizhoniku_error error = {0, 0, 0};
-  struct vizhoniku_location place = {0, 0, 0};
+  struct vizhoniku_location location = {0, 0, 0};
   printf("null: check %u,", (unsigned)vizhoniku_check(mode, NULL, 0, &error));
   printf(" text %u", (unsigned)vizhoniku_text(mode, NULL, 0, NULL, 0, &size, &error));
   printf(" size %zu,", size);
@@ -311,8 +311,8 @@ static void pass_null(uint32_t mode) {
   printf(" order %d,", (int)order);
   printf(" message %u", (unsigned)vizhoniku_message(mode, NULL, 0, NULL, 0, &size));
   printf(" size %zu,", size);
-  vizhoniku_place(NULL, 0, &error, &place);
-  printf(" place %zu %zu %zu\n", place.index, place.line, place.column);
+  vizhoniku_place(NULL, 0, &error, &location);
+  printf(" place %zu %zu %zu\n", location.index, location.line, location.column);
 }
 
 static void pass_null_keys(void) {

@@ -1,23 +1,23 @@
-/* Prints the text of the value that a JSON text on standard input stands for, or compares two texts:
+/* Prints the text of the value that a JSON text on standard input means, or compares two texts:
  *
  *   main [--extended] < FILE           prints the text of the value, or says on standard error where the text is wrong
  *   main [--extended] LEFT RIGHT       prints <, = or >
  *
- * The status is 0, or 1 where a text is refused, or 2 where the words are wrong or anything else fails. */
+ * The status is 0, or 1 where a text is rejected, or 2 where the words are wrong or anything else fails. */
 #include <stdio.h>
 #include <stdlib.h>
 #include <string.h>
 
 #include "vizhoniku.h"
 
-/* The line of the text in which the place stands, and under it a caret. Tabs stay tabs, so that the caret stands right;
+/* The line of the text in which the location is, and under it a caret. Tabs stay tabs, so that the caret is right;
  * the second and later bytes of a character take no column. */
-static void print_line(const unsigned char *text, size_t text_size, const struct vizhoniku_location *place) {
-  size_t start = place->index - (place->column - 1), end = start;
+static void print_line(const unsigned char *text, size_t text_size, const struct vizhoniku_location *location) {
+  size_t start = location->index - (location->column - 1), end = start;
   while (end < text_size && text[end] != '\n' && text[end] != '\r') end++;
   fwrite(text + start, 1, end - start, stderr);
   fputc('\n', stderr);
-  for (size_t i = start; i < place->index; i++)
+  for (size_t i = start; i < location->index; i++)
     if (text[i] == '\t' || (text[i] & 0xC0) != 0x80) fputc(text[i] == '\t' ? '\t' : ' ', stderr);
   fputs("^\n", stderr);
 }
@@ -27,31 +27,31 @@ static int print_failure(uint32_t mode, uint32_t status, const struct vizhoniku_
                          size_t text_size) {
   unsigned char words[256];
   size_t size;
-  struct vizhoniku_location place;
+  struct vizhoniku_location location;
   if (status != VIZHONIKU_REJECTED) {
     fprintf(stderr, "status %u\n", (unsigned)status);
     return 2;
   }
-  vizhoniku_place(text, text_size, error, &place);
-  fprintf(stderr, "line %zu, column %zu: ", place.line, place.column);
+  vizhoniku_place(text, text_size, error, &location);
+  fprintf(stderr, "line %zu, column %zu: ", location.line, location.column);
   if (vizhoniku_message(mode, text, text_size, words, sizeof words, &size) == VIZHONIKU_REJECTED)
     fwrite(words, 1, size, stderr);
   else
     fprintf(stderr, "code %u", (unsigned)error->code); /* a long key, or no memory */
   fputc('\n', stderr);
-  print_line(text, text_size, &place);
+  print_line(text, text_size, &location);
   return 1;
 }
 
 /* All bytes of a file, in memory that the caller frees, or a null pointer where that fails. */
 static unsigned char *read_all(FILE *in, size_t *size) {
-  size_t room = 4096;
-  unsigned char *bytes = malloc(room);
+  size_t capacity = 4096;
+  unsigned char *bytes = malloc(capacity);
   *size = 0;
   while (bytes) {
-    *size += fread(bytes + *size, 1, room - *size, in);
-    if (*size < room) break;
-    unsigned char *longer = room <= SIZE_MAX / 2 ? realloc(bytes, room *= 2) : NULL;
+    *size += fread(bytes + *size, 1, capacity - *size, in);
+    if (*size < capacity) break;
+    unsigned char *longer = capacity <= SIZE_MAX / 2 ? realloc(bytes, capacity *= 2) : NULL;
     if (!longer) free(bytes);
     bytes = longer;
   }

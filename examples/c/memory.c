@@ -1,6 +1,6 @@
 /* Refuses memory to each function of the library, one request after the other, and counts what is kept after a call.
  *
- * The linker puts the three functions below in the place of the C library's (--wrap). The status is 1 where a call kept
+ * The linker puts the three functions below instead of the C library's (--wrap). The status is 1 where a call kept
  * memory, or answered neither as with ample memory nor VIZHONIKU_OUT_OF_MEMORY. */
 #include <stdint.h>
 #include <stdio.h>
@@ -13,18 +13,18 @@ void *__real_malloc(size_t size);
 void *__real_realloc(void *block, size_t size);
 void __real_free(void *block);
 
-/* Blocks that are held, requests since the call began, and which of them is refused, from 0 on, or -1. */
-static long held, asked, refused;
+/* Blocks that are held, requests since the call began, and which of them is rejected, from 0 on, or -1. */
+static long held, asked, failed;
 
 void *__wrap_malloc(size_t size) {
-  if (asked++ == refused) return NULL;
+  if (asked++ == failed) return NULL;
   void *block = __real_malloc(size);
   if (block) held++;
   return block;
 }
 
 void *__wrap_realloc(void *block, size_t size) {
-  if (asked++ == refused) return NULL;
+  if (asked++ == failed) return NULL;
   void *grown = __real_realloc(block, size);
   if (grown && !block) held++;
   return grown;
@@ -51,7 +51,7 @@ static const char *const texts[] = {
 /* Each function of the library that takes memory, by a number below this one. */
 #define FUNCTIONS 21
 
-static uint32_t call(int which, uint32_t mode, const unsigned char *text, size_t text_size, size_t room) {
+static uint32_t call(int which, uint32_t mode, const unsigned char *text, size_t text_size, size_t capacity) {
   static const unsigned char path[] = {'/', 'c', '/', 'k'};
   static const unsigned char key[] = {0xD2, 0xD0, 'a', '\n', 0, 1, 0xA1, 0x1E, 0xD1, 0, 0, 0};
   static const unsigned char object_key[] = {0xD1, 'c', 0, 1, 0xD1, 'k', 0, 1, 0xD3, 0, 0, 0, 0};
@@ -62,31 +62,33 @@ static uint32_t call(int which, uint32_t mode, const unsigned char *text, size_t
   int32_t order;
   switch (which) {
     case 0: return vizhoniku_check(mode, text, text_size, &error);
-    case 1: return vizhoniku_text(mode, text, text_size, buffer, room, &size, &error);
-    case 2: return vizhoniku_sort_key(mode, text, text_size, buffer, room, &size, &error);
-    case 3: return vizhoniku_part(mode, path, sizeof path, text, text_size, buffer, room, &size, &error);
-    case 4: return vizhoniku_message(mode, text, text_size, buffer, room, &size);
+    case 1: return vizhoniku_text(mode, text, text_size, buffer, capacity, &size, &error);
+    case 2: return vizhoniku_sort_key(mode, text, text_size, buffer, capacity, &size, &error);
+    case 3: return vizhoniku_part(mode, path, sizeof path, text, text_size, buffer, capacity, &size, &error);
+    case 4: return vizhoniku_message(mode, text, text_size, buffer, capacity, &size);
     case 5:
-      return vizhoniku_text_and_key(mode, text, text_size, buffer, room, &size, key_buffer, room, &key_size, &error);
-    case 6: return vizhoniku_key_text(key, sizeof key, buffer, room, &size);
+      return vizhoniku_text_and_key(mode, text, text_size, buffer, capacity, &size, key_buffer, capacity, &key_size,
+                                    &error);
+    case 6: return vizhoniku_key_text(key, sizeof key, buffer, capacity, &size);
     case 7: return vizhoniku_key_part(object_key, sizeof object_key, path, sizeof path, &size, &key_size);
     case 8:
-      return vizhoniku_key_set(object_key, sizeof object_key, path, sizeof path, key, sizeof key, 1, buffer, room, &size);
-    case 9: return vizhoniku_key_remove(object_key, sizeof object_key, path, sizeof path, buffer, room, &size);
-    case 10: return vizhoniku_key_merge(object_key, sizeof object_key, key, sizeof key, buffer, room, &size);
-    case 12: return vizhoniku_key_put(object_key, sizeof object_key, path, 2, key, sizeof key, buffer, room, &size);
-    case 14: return vizhoniku_zeros_of_text(decimals, sizeof decimals - 1, buffer, room, &size);
+      return vizhoniku_key_set(object_key, sizeof object_key, path, sizeof path, key, sizeof key, 1, buffer, capacity,
+                               &size);
+    case 9: return vizhoniku_key_remove(object_key, sizeof object_key, path, sizeof path, buffer, capacity, &size);
+    case 10: return vizhoniku_key_merge(object_key, sizeof object_key, key, sizeof key, buffer, capacity, &size);
+    case 12: return vizhoniku_key_put(object_key, sizeof object_key, path, 2, key, sizeof key, buffer, capacity, &size);
+    case 14: return vizhoniku_zeros_of_text(decimals, sizeof decimals - 1, buffer, capacity, &size);
     case 15:
-      return vizhoniku_text_with_zeros(shortest, sizeof shortest - 1, zeros, sizeof zeros, buffer, room, &size);
+      return vizhoniku_text_with_zeros(shortest, sizeof shortest - 1, zeros, sizeof zeros, buffer, capacity, &size);
     case 16:
       size = 0;
-      return vizhoniku_zeros_of_numbers(zeros, sizeof zeros, 0, 3, &size, buffer, room, &key_size);
-    case 13: return vizhoniku_key_push(key, sizeof key, key, sizeof key, buffer, room, &size);
+      return vizhoniku_zeros_of_numbers(zeros, sizeof zeros, 0, 3, &size, buffer, capacity, &key_size);
+    case 13: return vizhoniku_key_push(key, sizeof key, key, sizeof key, buffer, capacity, &size);
     case 11:
-      return vizhoniku_key_merge(object_key, sizeof object_key, object_key, sizeof object_key, buffer, room, &size);
-    case 17: return vizhoniku_reason(mode, text, text_size, buffer, room, &size);
-    case 18: return vizhoniku_key_of_string(key + 2, 2, buffer, room, &size);
-    case 19: return vizhoniku_path_step(path, sizeof path, buffer, room, &size);
+      return vizhoniku_key_merge(object_key, sizeof object_key, object_key, sizeof object_key, buffer, capacity, &size);
+    case 17: return vizhoniku_reason(mode, text, text_size, buffer, capacity, &size);
+    case 18: return vizhoniku_key_of_string(key + 2, 2, buffer, capacity, &size);
+    case 19: return vizhoniku_path_step(path, sizeof path, buffer, capacity, &size);
     default: return vizhoniku_compare(mode, text, text_size, text, text_size, &order, &error);
   }
 }
@@ -95,14 +97,14 @@ int main(void) {
   long kept = 0, wrong = 0;
   for (size_t i = 0; i < 2 * 2 * FUNCTIONS * (sizeof texts / sizeof *texts); i++) {
     const unsigned char *text = (const unsigned char *)texts[i / (4 * FUNCTIONS)];
-    size_t text_size = strlen(texts[i / (4 * FUNCTIONS)]), room = i % 2 ? 400 : 3;
+    size_t text_size = strlen(texts[i / (4 * FUNCTIONS)]), capacity = i % 2 ? 400 : 3;
     int which = (int)(i / 2 % FUNCTIONS);
     uint32_t mode = (uint32_t)(i / (2 * FUNCTIONS) % 2), whole = 0;
-    for (refused = -1; refused < 0 || asked >= refused; refused++) {
+    for (failed = -1; failed < 0 || asked >= failed; failed++) {
       long before = held;
       asked = 0;
-      uint32_t status = call(which, mode, text, text_size, room);
-      if (refused < 0) whole = status;
+      uint32_t status = call(which, mode, text, text_size, capacity);
+      if (failed < 0) whole = status;
       if (held != before) kept++;
       if (status != whole && status != VIZHONIKU_OUT_OF_MEMORY) wrong++;
     }

@@ -63,14 +63,14 @@ class Documents:
         self._timeout = timeout
 
     def _ask(self, path: str, request: Dict[str, Any]) -> Dict[str, Any]:
-        data, until, told = json.dumps(request).encode(), time.monotonic() + self._timeout, "no member answers"
+        data, until, outcome = json.dumps(request).encode(), time.monotonic() + self._timeout, "no member answers"
         while True:
             for endpoint in list(self._endpoints):
                 left = until - time.monotonic()
                 if left <= 0:
-                    raise Unavailable(told)
+                    raise Unavailable(outcome)
                 try:
-                    # A member that lives answers or refuses in seconds; half of what is left is kept for the others.
+                    # A member that lives answers or rejects in seconds; half of what is left is kept for the others.
                     sent = urllib.request.Request(endpoint + path, data)
                     with _opener.open(sent, timeout=max(left / 2, 0.1)) as answer:
                         answered: Dict[str, Any] = json.loads(answer.read())
@@ -78,14 +78,14 @@ class Documents:
                 except urllib.error.HTTPError as error:
                     body = error.read().decode("utf-8", "replace")
                     try:
-                        refused = json.loads(body)
-                        told, code = refused["error"], refused["code"]
+                        rejected = json.loads(body)
+                        outcome, code = rejected["error"], rejected["code"]
                     except (ValueError, KeyError, TypeError):
-                        told, code = body or str(error), None
+                        outcome, code = body or str(error), None
                     if code not in _LATER:
-                        raise EtcdError(told) from None
-                except OSError as error:  # refused, reset or timed out
-                    told = f"{endpoint}: {getattr(error, 'reason', error)}"
+                        raise EtcdError(outcome) from None
+                except OSError as error:  # rejected, reset or timed out
+                    outcome = f"{endpoint}: {getattr(error, 'reason', error)}"
                 # The member goes to the end, so that the next request doesn't begin with it.
                 self._endpoints.remove(endpoint)
                 self._endpoints.append(endpoint)

@@ -195,15 +195,15 @@ class InTheCluster(unittest.TestCase):
             self.assertEqual(len(list(self.documents)), 76)
 
     def test_writers_at_once(self) -> None:
-        spellings = ["{}", "{}.0", "0x{:X}", " {} "]
+        forms = ["{}", "{}.0", "0x{:X}", " {} "]
         new: List[bool] = []
 
-        def put(spelling: str, i: int) -> None:
+        def put(form: str, i: int) -> None:
             documents = self.by_member(i)
             for n in range(20):
-                new.append(documents.put(spelling.format(n)))
+                new.append(documents.put(form.format(n)))
 
-        threads = [threading.Thread(target=put, args=(spelling, i % 3)) for i, spelling in enumerate(spellings)]
+        threads = [threading.Thread(target=put, args=(form, i % 3)) for i, form in enumerate(forms)]
         for thread in threads:
             thread.start()
         for thread in threads:
@@ -281,36 +281,37 @@ class InTheCluster(unittest.TestCase):
                                    ",".join(cluster.endpoints), "--prefix", "program/", *words],
                                   stdout=subprocess.PIPE, stderr=subprocess.PIPE, universal_newlines=True, check=False)
 
-        def told(*words: str) -> Tuple[int, str, str]:
+        def outcome(*words: str) -> Tuple[int, str, str]:
             ran = run(*words)
             return ran.returncode, ran.stdout, ran.stderr
 
-        self.assertEqual(told("put", "[10]", "9.5", "{b: 1, a: 2}", '{"a": 2.0, "b": 1}', "-1")[:2],
+        self.assertEqual(outcome("put", "[10]", "9.5", "{b: 1, a: 2}", '{"a": 2.0, "b": 1}', "-1")[:2],
                          (0, "new\nnew\nnew\nthere already\nnew\n"))
-        self.assertEqual(told("list")[1], '-1\n9.5\n{"a":2,"b":1}\n[10]\n')
-        self.assertEqual(told("between", "0", "[]")[1], '9.5\n{"a":2,"b":1}\n')
-        self.assertEqual(told("get", "[0xA]"), (0, "[10]\n", ""))
-        self.assertEqual(told("get", "[11]"), (1, "", ""))
-        self.assertEqual(told("put", "7", "[7"), (2, "", "documents.py: line 1, column 3: EOF while parsing a value\n"))
-        self.assertEqual(told("get", "7")[0], 1)
-        self.assertEqual(told("--standard", "put", "1.5"),
+        self.assertEqual(outcome("list")[1], '-1\n9.5\n{"a":2,"b":1}\n[10]\n')
+        self.assertEqual(outcome("between", "0", "[]")[1], '9.5\n{"a":2,"b":1}\n')
+        self.assertEqual(outcome("get", "[0xA]"), (0, "[10]\n", ""))
+        self.assertEqual(outcome("get", "[11]"), (1, "", ""))
+        self.assertEqual(outcome("put", "7", "[7"),
+                         (2, "", "documents.py: line 1, column 3: EOF while parsing a value\n"))
+        self.assertEqual(outcome("get", "7")[0], 1)
+        self.assertEqual(outcome("--standard", "put", "1.5"),
                          (2, "", "documents.py: line 1, column 3: number not carried\n"))
-        self.assertEqual(told("where", "/a", "2.00"), (0, '{"a":2,"b":1}\n', ""))
-        self.assertEqual(told("where", "/a", "2.5"), (0, "", ""))
-        self.assertEqual(told("where", "", "-5", "9.5"), (0, "-1\n", ""))
-        self.assertEqual(told("parts", "/b"), (0, "1\n", ""))
-        self.assertEqual(told("parts", ""), (0, '-1\n9.5\n{"a":2,"b":1}\n[10]\n', ""))
-        self.assertEqual(told("parts", "b")[:2], (2, ""))
-        self.assertEqual(told("put", '{"share": 1e-07}', '{"share": 0.0000001}')[:2], (0, "new\nthere already\n"))
-        self.assertEqual(told("where", "/share", "1e-7"), (0, '{"share":0.0000001}\n', ""))
-        self.assertEqual(told("put", "1e300"), (2, "", "documents.py: line 1, column 5: number not carried\n"))
-        self.assertEqual(told("delete", "9.50"), (0, "", ""))
-        self.assertEqual(told("delete", "9.50"), (1, "", ""))
+        self.assertEqual(outcome("where", "/a", "2.00"), (0, '{"a":2,"b":1}\n', ""))
+        self.assertEqual(outcome("where", "/a", "2.5"), (0, "", ""))
+        self.assertEqual(outcome("where", "", "-5", "9.5"), (0, "-1\n", ""))
+        self.assertEqual(outcome("parts", "/b"), (0, "1\n", ""))
+        self.assertEqual(outcome("parts", ""), (0, '-1\n9.5\n{"a":2,"b":1}\n[10]\n', ""))
+        self.assertEqual(outcome("parts", "b")[:2], (2, ""))
+        self.assertEqual(outcome("put", '{"share": 1e-07}', '{"share": 0.0000001}')[:2], (0, "new\nthere already\n"))
+        self.assertEqual(outcome("where", "/share", "1e-7"), (0, '{"share":0.0000001}\n', ""))
+        self.assertEqual(outcome("put", "1e300"), (2, "", "documents.py: line 1, column 5: number not carried\n"))
+        self.assertEqual(outcome("delete", "9.50"), (0, "", ""))
+        self.assertEqual(outcome("delete", "9.50"), (1, "", ""))
 
     @unittest.skipIf(shutil.which("etcdctl") is None, "etcd-client is missing")
     def test_seen_by_etcdctl(self) -> None:
         wanted = self.put_shuffled()
-        told = subprocess.run(
+        outcome = subprocess.run(
             ["etcdctl", "--endpoints", cluster.endpoints[1], "get", "--prefix", self.prefix.decode(),
              "--print-value-only"], env={**os.environ, "ETCDCTL_API": "3"}, stdout=subprocess.PIPE, check=True)
-        self.assertEqual(told.stdout.decode().splitlines(), wanted)
+        self.assertEqual(outcome.stdout.decode().splitlines(), wanted)

@@ -66,45 +66,46 @@ const (
 	DepthLimitExceeded                     Code = C.VIZHONIKU_DEPTH_LIMIT_EXCEEDED
 )
 
-// The error of a text that is rejected, also with its numbers written out. What is told is what is wrong with the text
-// whose numbers are masked, in which all has its place.
+// The error of a text that is rejected, also with its numbers written out. What is reported is what is wrong with the
+// text whose numbers are masked, in which all has its offset.
 func rejection(text []byte, mode Mode, second bool) error {
 	masked := text
 	if mode == Extended {
-		var told C.struct_told
-		masked, told = maskedNumbers(text)
-		if told.status != C.VIZHONIKU_ACCEPTED {
+		var outcome C.struct_outcome
+		masked, outcome = maskedNumbers(text)
+		if outcome.status != C.VIZHONIKU_ACCEPTED {
 			return ErrOutOfMemory
 		}
 	}
 	of := C.uint32_t(mode)
 	checked := C.call_check(of, begin(masked), size(len(masked)))
-	message, told := appended(nil, 128, func(buffer *C.uchar, room C.size_t) C.struct_told {
-		return C.call_reason(of, begin(masked), size(len(masked)), buffer, room)
+	message, outcome := appended(nil, 128, func(buffer *C.uchar, capacity C.size_t) C.struct_outcome {
+		return C.call_reason(of, begin(masked), size(len(masked)), buffer, capacity)
 	})
-	path, found := appended(nil, 128, func(buffer *C.uchar, room C.size_t) C.struct_told {
-		return C.call_error_path(of, begin(masked), size(len(masked)), checked.error, buffer, room)
+	path, found := appended(nil, 128, func(buffer *C.uchar, capacity C.size_t) C.struct_outcome {
+		return C.call_error_path(of, begin(masked), size(len(masked)), checked.error, buffer, capacity)
 	})
-	if checked.status != C.VIZHONIKU_REJECTED || told.status != C.VIZHONIKU_REJECTED || found.status != C.VIZHONIKU_ACCEPTED {
+	if checked.status != C.VIZHONIKU_REJECTED || outcome.status != C.VIZHONIKU_REJECTED ||
+		found.status != C.VIZHONIKU_ACCEPTED {
 		return ErrOutOfMemory
 	}
-	place := C.call_place(begin(text), size(len(text)), checked.error)
+	location := C.call_location(begin(text), size(len(text)), checked.error)
 	return &Error{
 		Code:     Code(checked.error.code),
 		Second:   second,
 		Position: int(checked.error.position),
-		Offset:   int(place.index),
-		Line:     int(place.line),
-		Column:   int(place.column),
+		Offset:   int(location.index),
+		Line:     int(location.line),
+		Column:   int(location.column),
 		Path:     string(path),
 		Message:  string(message),
 	}
 }
 
 // The text with each number masked that has an exponent and isn't too long.
-func maskedNumbers(text []byte) ([]byte, C.struct_told) {
-	return appended(nil, len(text), func(buffer *C.uchar, room C.size_t) C.struct_told {
-		return C.call_masked_numbers(begin(text), size(len(text)), buffer, room)
+func maskedNumbers(text []byte) ([]byte, C.struct_outcome) {
+	return appended(nil, len(text), func(buffer *C.uchar, capacity C.size_t) C.struct_outcome {
+		return C.call_masked_numbers(begin(text), size(len(text)), buffer, capacity)
 	})
 }
 

@@ -10,7 +10,7 @@ import (
 	"testing"
 )
 
-// What each call tells of a text that is rejected.
+// What each call says of a text that is rejected.
 func faultOf(t *testing.T, text string, mode Mode) Error {
 	t.Helper()
 	var fault *Error
@@ -98,7 +98,7 @@ func TestLongNumbers(t *testing.T) {
 	}
 }
 
-// Errors have their place in the text that was passed.
+// Errors have their location in the text that was passed.
 func TestErrorsAndExponents(t *testing.T) {
 	for _, c := range []struct {
 		text    string

@@ -28,7 +28,7 @@ func (kind Kind) String() string {
 	return kinds[kind]
 }
 
-// A Key is the sort key of a value: bytes that compare as the values do, and in which the keys of parts stand. The parts
+// A Key is the sort key of a value: bytes that compare as the values do, and in which the keys of parts are. The parts
 // that its methods return share its memory.
 //
 // string(key) has the bytes to store, and KeyOf takes them back. Key(bytes) does so without a check: of bytes that are
@@ -55,10 +55,10 @@ func (key Key) Text() ([]byte, error) {
 
 // AppendText appends what Text returns. With an error it returns the bytes that were there.
 func (key Key) AppendText(to []byte) ([]byte, error) {
-	to, told := appended(to, len(key)+16, func(buffer *C.uchar, room C.size_t) C.struct_told {
-		return C.call_key_text(key.begin(), key.size(), buffer, room)
+	to, outcome := appended(to, len(key)+16, func(buffer *C.uchar, capacity C.size_t) C.struct_outcome {
+		return C.call_key_text(key.begin(), key.size(), buffer, capacity)
 	})
-	return to, errorOfStatus(told.status)
+	return to, errorOfStatus(outcome.status)
 }
 
 // String returns the text of the value, or what is wrong.
@@ -87,12 +87,12 @@ func (key Key) Kind() Kind { return Kind(C.vizhoniku_key_kind(key.begin(), key.s
 
 // Count returns how many items an array or members an object has. It is false for other kinds.
 func (key Key) Count() (int, bool) {
-	told := C.call_key_count(key.begin(), key.size())
-	return int(told.size), told.status == C.VIZHONIKU_ACCEPTED
+	outcome := C.call_key_count(key.begin(), key.size())
+	return int(outcome.size), outcome.status == C.VIZHONIKU_ACCEPTED
 }
 
-func (key Key) found(told C.struct_told) (Key, error) {
-	return key[told.offset : told.offset+told.size], errorOfStatus(told.status)
+func (key Key) found(outcome C.struct_outcome) (Key, error) {
+	return key[outcome.offset : outcome.offset+outcome.size], errorOfStatus(outcome.status)
 }
 
 // Member returns the member of an object by its name. It is false where there is none.
@@ -147,18 +147,18 @@ func (parts *Parts) Value() Key {
 func (parts *Parts) Name() string {
 	entry := parts.part.entry
 	name := string(parts.key[entry.name_offset : entry.name_offset+entry.name_size])
-	written, _ := appended(nil, len(name), func(buffer *C.uchar, room C.size_t) C.struct_told {
-		return C.call_key_name(beginOf(name), size(len(name)), buffer, room)
+	written, _ := appended(nil, len(name), func(buffer *C.uchar, capacity C.size_t) C.struct_outcome {
+		return C.call_key_name(beginOf(name), size(len(name)), buffer, capacity)
 	})
 	return stringOf(written)
 }
 
 // AsString returns the text of a string, without quotes and escapes. It is false for other kinds.
 func (key Key) AsString() (string, bool) {
-	written, told := appended(nil, len(key), func(buffer *C.uchar, room C.size_t) C.struct_told {
-		return C.call_key_string(key.begin(), key.size(), buffer, room)
+	written, outcome := appended(nil, len(key), func(buffer *C.uchar, capacity C.size_t) C.struct_outcome {
+		return C.call_key_string(key.begin(), key.size(), buffer, capacity)
 	})
-	return stringOf(written), told.status == C.VIZHONIKU_ACCEPTED
+	return stringOf(written), outcome.status == C.VIZHONIKU_ACCEPTED
 }
 
 // AsBool returns a boolean. It is false for other kinds.
@@ -188,17 +188,17 @@ func (key Key) AsFloat64() (float64, bool) {
 	return value, err == nil
 }
 
-// Contains tells whether the value contains the other, as @> of PostgreSQL's jsonb does: an object each member of the
+// Contains says whether the value contains the other, as @> of PostgreSQL's jsonb does: an object each member of the
 // other, an array each item, and a scalar an equal one.
 func (key Key) Contains(other Key) bool {
 	status := C.vizhoniku_key_contains(key.begin(), key.size(), other.begin(), other.size())
 	return status == C.VIZHONIKU_ACCEPTED
 }
 
-// The key that a call writes, with room for so many bytes more than the key has at first.
-func (key Key) changed(more int, call func(buffer *C.uchar, room C.size_t) C.struct_told) (Key, error) {
-	written, told := appended(nil, len(key)+more+16, call)
-	return Key(stringOf(written)), errorOfStatus(told.status)
+// The key that a call writes, with space for so many bytes more than the key has at first.
+func (key Key) changed(more int, call func(buffer *C.uchar, capacity C.size_t) C.struct_outcome) (Key, error) {
+	written, outcome := appended(nil, len(key)+more+16, call)
+	return Key(stringOf(written)), errorOfStatus(outcome.status)
 }
 
 // Set returns the key with this part at the path. A part that is there is replaced. Where only the last step leads
@@ -209,40 +209,40 @@ func (key Key) Set(path string, part Key, create bool) (Key, error) {
 	if create {
 		creates = 1
 	}
-	return key.changed(len(path)+len(part), func(buffer *C.uchar, room C.size_t) C.struct_told {
+	return key.changed(len(path)+len(part), func(buffer *C.uchar, capacity C.size_t) C.struct_outcome {
 		return C.call_key_set(key.begin(), key.size(), beginOf(path), size(len(path)), part.begin(), part.size(), creates,
-			buffer, room)
+			buffer, capacity)
 	})
 }
 
 // Remove returns the key without the part at the path. The error is ErrNoPart where there is none, or ErrPath.
 func (key Key) Remove(path string) (Key, error) {
-	return key.changed(0, func(buffer *C.uchar, room C.size_t) C.struct_told {
-		return C.call_key_remove(key.begin(), key.size(), beginOf(path), size(len(path)), buffer, room)
+	return key.changed(0, func(buffer *C.uchar, capacity C.size_t) C.struct_outcome {
+		return C.call_key_remove(key.begin(), key.size(), beginOf(path), size(len(path)), buffer, capacity)
 	})
 }
 
-// Put returns the key of an object with this member, in place of one of the name. The error is ErrNoPart where the value
+// Put returns the key of an object with this member, instead of one of the name. The error is ErrNoPart where the value
 // is no object, ErrPath where the name isn't UTF-8, or ErrTooDeep.
 func (key Key) Put(name string, value Key) (Key, error) {
-	return key.changed(len(name)+len(value), func(buffer *C.uchar, room C.size_t) C.struct_told {
+	return key.changed(len(name)+len(value), func(buffer *C.uchar, capacity C.size_t) C.struct_outcome {
 		return C.call_key_put(key.begin(), key.size(), beginOf(name), size(len(name)), value.begin(), value.size(), buffer,
-			room)
+			capacity)
 	})
 }
 
 // Push returns the key of an array with this item at its end. The error is ErrNoPart where the value is no array, or
 // ErrTooDeep.
 func (key Key) Push(item Key) (Key, error) {
-	return key.changed(len(item), func(buffer *C.uchar, room C.size_t) C.struct_told {
-		return C.call_key_push(key.begin(), key.size(), item.begin(), item.size(), buffer, room)
+	return key.changed(len(item), func(buffer *C.uchar, capacity C.size_t) C.struct_outcome {
+		return C.call_key_push(key.begin(), key.size(), item.begin(), item.size(), buffer, capacity)
 	})
 }
 
 // Merge returns the key of both values in one, as || of PostgreSQL's jsonb has it: two objects to one with the members of
 // both, where those of the other win; else two arrays to one, where a value that is no array is one of itself.
 func (key Key) Merge(other Key) (Key, error) {
-	return key.changed(len(other), func(buffer *C.uchar, room C.size_t) C.struct_told {
-		return C.call_key_merge(key.begin(), key.size(), other.begin(), other.size(), buffer, room)
+	return key.changed(len(other), func(buffer *C.uchar, capacity C.size_t) C.struct_outcome {
+		return C.call_key_merge(key.begin(), key.size(), other.begin(), other.size(), buffer, capacity)
 	})
 }

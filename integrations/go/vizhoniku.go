@@ -52,23 +52,25 @@ func stringOf(data []byte) string {
 
 func size(length int) C.size_t { return C.size_t(length) }
 
-// Appends what a call writes. The call gets room for so many bytes, and again as many as it asks for where these are too
-// few. With an error the bytes that were there are returned.
-func appended(to []byte, room int, call func(buffer *C.uchar, room C.size_t) C.struct_told) ([]byte, C.struct_told) {
+// Appends what a call writes. The call gets space for so many bytes, and then for as many as it asks for where these
+// are too few. With an error the bytes that were there are returned.
+func appended(
+	to []byte, capacity int, call func(buffer *C.uchar, capacity C.size_t) C.struct_outcome,
+) ([]byte, C.struct_outcome) {
 	for {
-		if cap(to)-len(to) < room {
-			to = append(to, make([]byte, room)...)[:len(to)]
+		if cap(to)-len(to) < capacity {
+			to = append(to, make([]byte, capacity)...)[:len(to)]
 		}
 		free := to[len(to):cap(to)]
-		told := call(begin(free), size(len(free)))
-		if told.status != C.VIZHONIKU_TOO_SHORT {
-			return to[:len(to)+int(told.size)], told
+		outcome := call(begin(free), size(len(free)))
+		if outcome.status != C.VIZHONIKU_TOO_SHORT {
+			return to[:len(to)+int(outcome.size)], outcome
 		}
-		room = int(told.size)
+		capacity = int(outcome.size)
 	}
 }
 
-// Check tells whether the text is a document: the error is nil, or an *Error that says what is wrong and where.
+// Check says whether the text is a document: the error is nil, or an *Error that says what is wrong and where.
 func Check(text []byte, mode Mode) error {
 	it := parsing{mode: mode, left: input{given: text}}
 	it.check()
@@ -76,16 +78,16 @@ func Check(text []byte, mode Mode) error {
 }
 
 func (it *parsing) check() {
-	it.run(func(text, _ []byte) C.struct_told {
+	it.run(func(text, _ []byte) C.struct_outcome {
 		return C.call_check(C.uint32_t(it.mode), begin(text), size(len(text)))
 	})
 }
 
-// Valid tells whether the text is a document. It is false where memory ran out too.
+// Valid says whether the text is a document. It is false where memory ran out too.
 func Valid(text []byte, mode Mode) bool {
 	it := parsing{mode: mode, left: input{given: text}}
 	it.check()
-	return it.told.status == C.VIZHONIKU_ACCEPTED
+	return it.outcome.status == C.VIZHONIKU_ACCEPTED
 }
 
 // Text returns the text of the document's value: without whitespace, and members in the order of the bytes of their
@@ -101,11 +103,11 @@ func Text(text []byte, mode Mode) ([]byte, error) {
 // AppendText appends what Text returns. With an error it returns the bytes that were there.
 func AppendText(to, text []byte, mode Mode) ([]byte, error) {
 	it := parsing{mode: mode, left: input{given: text}}
-	it.run(func(text, _ []byte) (told C.struct_told) {
-		to, told = appended(to, len(text)+16, func(buffer *C.uchar, room C.size_t) C.struct_told {
-			return C.call_text(C.uint32_t(mode), begin(text), size(len(text)), buffer, room)
+	it.run(func(text, _ []byte) (outcome C.struct_outcome) {
+		to, outcome = appended(to, len(text)+16, func(buffer *C.uchar, capacity C.size_t) C.struct_outcome {
+			return C.call_text(C.uint32_t(mode), begin(text), size(len(text)), buffer, capacity)
 		})
-		return told
+		return outcome
 	})
 	return to, it.err()
 }
@@ -122,11 +124,11 @@ func SortKey(text []byte, mode Mode) (Key, error) {
 // AppendSortKey appends the bytes of the key. With an error it returns the bytes that were there.
 func AppendSortKey(to, text []byte, mode Mode) ([]byte, error) {
 	it := parsing{mode: mode, left: input{given: text}}
-	it.run(func(text, _ []byte) (told C.struct_told) {
-		to, told = appended(to, len(text)+16, func(buffer *C.uchar, room C.size_t) C.struct_told {
-			return C.call_sort_key(C.uint32_t(mode), begin(text), size(len(text)), buffer, room)
+	it.run(func(text, _ []byte) (outcome C.struct_outcome) {
+		to, outcome = appended(to, len(text)+16, func(buffer *C.uchar, capacity C.size_t) C.struct_outcome {
+			return C.call_sort_key(C.uint32_t(mode), begin(text), size(len(text)), buffer, capacity)
 		})
-		return told
+		return outcome
 	})
 	return to, it.err()
 }
@@ -135,32 +137,32 @@ func AppendSortKey(to, text []byte, mode Mode) ([]byte, error) {
 func TextAndKey(text []byte, mode Mode) ([]byte, Key, error) {
 	var written, key []byte
 	it := parsing{mode: mode, left: input{given: text}}
-	it.run(func(text, _ []byte) (told C.struct_told) {
+	it.run(func(text, _ []byte) (outcome C.struct_outcome) {
 		key = make([]byte, len(text)+16)
-		written, told = appended(nil, len(text)+16, func(buffer *C.uchar, room C.size_t) C.struct_told {
-			told := C.call_text_and_key(C.uint32_t(mode), begin(text), size(len(text)), buffer, room, begin(key),
+		written, outcome = appended(nil, len(text)+16, func(buffer *C.uchar, capacity C.size_t) C.struct_outcome {
+			outcome := C.call_text_and_key(C.uint32_t(mode), begin(text), size(len(text)), buffer, capacity, begin(key),
 				size(len(key)))
-			if told.status == C.VIZHONIKU_TOO_SHORT && int(told.key_size) > len(key) {
-				key = make([]byte, told.key_size)
+			if outcome.status == C.VIZHONIKU_TOO_SHORT && int(outcome.key_size) > len(key) {
+				key = make([]byte, outcome.key_size)
 			}
-			return told
+			return outcome
 		})
-		return told
+		return outcome
 	})
 	if err := it.err(); err != nil {
 		return nil, "", err
 	}
-	return written, Key(stringOf(key[:it.told.key_size])), nil
+	return written, Key(stringOf(key[:it.outcome.key_size])), nil
 }
 
 // Compare returns -1, 0 or 1 where the value of the left document is below that of the right one, equal to it, or above
 // it. The error is an *Error where a text is no document, of the first that is none.
 func Compare(left, right []byte, mode Mode) (int, error) {
 	it := parsing{mode: mode, left: input{given: left}, right: input{given: right}}
-	it.run(func(left, right []byte) C.struct_told {
+	it.run(func(left, right []byte) C.struct_outcome {
 		return C.call_compare(C.uint32_t(mode), begin(left), size(len(left)), begin(right), size(len(right)))
 	})
-	return int(it.told.order), it.err()
+	return int(it.outcome.order), it.err()
 }
 
 // Part returns the text of the part at the path, a JSON Pointer (RFC 6901). The error is ErrNoPart where there is none,
@@ -169,11 +171,11 @@ func Compare(left, right []byte, mode Mode) (int, error) {
 func Part(text []byte, path string, mode Mode) ([]byte, error) {
 	var written []byte
 	it := parsing{mode: mode, left: input{given: text}}
-	it.run(func(text, _ []byte) (told C.struct_told) {
-		written, told = appended(nil, 64, func(buffer *C.uchar, room C.size_t) C.struct_told {
-			return C.call_part(C.uint32_t(mode), beginOf(path), size(len(path)), begin(text), size(len(text)), buffer, room)
+	it.run(func(text, _ []byte) (outcome C.struct_outcome) {
+		written, outcome = appended(nil, 64, func(buffer *C.uchar, capacity C.size_t) C.struct_outcome {
+			return C.call_part(C.uint32_t(mode), beginOf(path), size(len(path)), begin(text), size(len(text)), buffer, capacity)
 		})
-		return told
+		return outcome
 	})
 	if err := it.err(); err != nil {
 		return nil, err

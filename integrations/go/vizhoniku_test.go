@@ -53,7 +53,7 @@ func keyOf(t testing.TB, text string) Key {
 }
 
 // The text of a changed key, or the error.
-func told(key Key, err error) string {
+func outcome(key Key, err error) string {
 	if err != nil {
 		return err.Error()
 	}
@@ -153,7 +153,7 @@ func TestParts(t *testing.T) {
 		"//a~1b~0": "-7", "": document.String(), "/tags/4": ErrNoPart.Error(), "tags": ErrPath.Error(),
 		"/~2": ErrPath.Error(),
 	} {
-		equal(t, told(document.Part(path)), wanted)
+		equal(t, outcome(document.Part(path)), wanted)
 	}
 	var names []string
 	for parts := document.Parts(); parts.Next(); {
@@ -186,20 +186,20 @@ func TestChanges(t *testing.T) {
 	document, one := keyOf(t, "{a: {b: [1, 2]}, c: 3}"), keyOf(t, "1")
 	long := strings.Repeat("x", 10000)
 	deep := keyOf(t, strings.Repeat("[", 512)+strings.Repeat("]", 512))
-	equal(t, told(document.Set("/a/b/0", keyOf(t, "9"), false)), `{"a":{"b":[9,2]},"c":3}`)
-	equal(t, told(document.Set("/d", keyOf(t, "{}"), true)), `{"a":{"b":[1,2]},"c":3,"d":{}}`)
-	equal(t, told(document.Set("/d", one, false)), ErrNoPart.Error())
-	equal(t, told(document.Set("d", one, false)), ErrPath.Error())
-	equal(t, told(document.Remove("/a/b")), `{"a":{},"c":3}`)
-	equal(t, told(document.Remove("/x")), ErrNoPart.Error())
-	equal(t, told(document.Put("c", keyOf(t, "[]"))), `{"a":{"b":[1,2]},"c":[]}`)
-	equal(t, told(document.Put("\xff", one)), ErrPath.Error())
-	equal(t, told(document.Push(one)), ErrNoPart.Error())
-	equal(t, told(keyOf(t, "[1]").Push(keyOf(t, "'x'"))), `[1,"x"]`)
-	equal(t, told(keyOf(t, "[]").Push(deep)), ErrTooDeep.Error())
-	equal(t, told(document.Merge(keyOf(t, "{c: 4, d: 5}"))), `{"a":{"b":[1,2]},"c":4,"d":5}`)
-	equal(t, told(document.Merge(keyOf(t, "{}"))), document.String())
-	equal(t, told(keyOf(t, "{}").Put(long, keyOf(t, `"`+long+`"`))), `{"`+long+`":"`+long+`"}`)
+	equal(t, outcome(document.Set("/a/b/0", keyOf(t, "9"), false)), `{"a":{"b":[9,2]},"c":3}`)
+	equal(t, outcome(document.Set("/d", keyOf(t, "{}"), true)), `{"a":{"b":[1,2]},"c":3,"d":{}}`)
+	equal(t, outcome(document.Set("/d", one, false)), ErrNoPart.Error())
+	equal(t, outcome(document.Set("d", one, false)), ErrPath.Error())
+	equal(t, outcome(document.Remove("/a/b")), `{"a":{},"c":3}`)
+	equal(t, outcome(document.Remove("/x")), ErrNoPart.Error())
+	equal(t, outcome(document.Put("c", keyOf(t, "[]"))), `{"a":{"b":[1,2]},"c":[]}`)
+	equal(t, outcome(document.Put("\xff", one)), ErrPath.Error())
+	equal(t, outcome(document.Push(one)), ErrNoPart.Error())
+	equal(t, outcome(keyOf(t, "[1]").Push(keyOf(t, "'x'"))), `[1,"x"]`)
+	equal(t, outcome(keyOf(t, "[]").Push(deep)), ErrTooDeep.Error())
+	equal(t, outcome(document.Merge(keyOf(t, "{c: 4, d: 5}"))), `{"a":{"b":[1,2]},"c":4,"d":5}`)
+	equal(t, outcome(document.Merge(keyOf(t, "{}"))), document.String())
+	equal(t, outcome(keyOf(t, "{}").Put(long, keyOf(t, `"`+long+`"`))), `{"`+long+`":"`+long+`"}`)
 	equal(t, document.Contains(keyOf(t, "{a: {b: [2.0]}}")), true)
 	equal(t, document.Contains(keyOf(t, "{a: {b: [3]}}")), false)
 	equal(t, document.String(), `{"a":{"b":[1,2]},"c":3}`)
@@ -225,9 +225,9 @@ func TestErrors(t *testing.T) {
 		equal(t, err, ErrKey)
 	}
 	key, err := KeyOf([]byte(keyOf(t, "[1, null]")))
-	equal(t, told(key, err), "[1,null]")
+	equal(t, outcome(key, err), "[1,null]")
 	equal(t, Key("").Kind(), NoKind)
-	equal(t, told(Key("").Merge(key)), ErrKey.Error())
+	equal(t, outcome(Key("").Merge(key)), ErrKey.Error())
 	equal(t, Key("").String(), ErrKey.Error())
 	for _, call := range []func() (any, error){
 		func() (any, error) { return Text([]byte("[1"), Standard) },
@@ -240,8 +240,8 @@ func TestErrors(t *testing.T) {
 }
 
 func TestAppend(t *testing.T) {
-	for _, room := range []int{0, 3, 100} {
-		to := make([]byte, 2, 2+room)
+	for _, capacity := range []int{0, 3, 100} {
+		to := make([]byte, 2, 2+capacity)
 		copy(to, "> ")
 		to, err := AppendText(to, []byte("{b: [,], a: 1.50}"), Extended)
 		equal(t, []any{string(to), err}, []any{`> {"a":1.50,"b":[null,null]}`, nil})

@@ -33,7 +33,7 @@
 
 #include "vjson.h"
 
-/* Members for which there is room at first. */
+/* Members for which there is space at first. */
 #define FIRST_ROOM		16
 
 PG_FUNCTION_INFO_V1(to_vjson);
@@ -207,7 +207,7 @@ typedef struct
 	MemoryContext context;
 	Member	   *at;
 	size_t		count;
-	size_t		room;
+	size_t		capacity;
 	StringInfoData values;
 } Members;
 
@@ -217,7 +217,7 @@ begin_members(Members *members)
 	members->context = CurrentMemoryContext;
 	members->at = palloc(FIRST_ROOM * sizeof(Member));
 	members->count = 0;
-	members->room = FIRST_ROOM;
+	members->capacity = FIRST_ROOM;
 	initStringInfo(&members->values);
 }
 
@@ -227,10 +227,10 @@ add_member(Members *members, char *name, int start)
 {
 	char	   *utf8 = utf8_of(name);
 
-	if (members->count == members->room)
+	if (members->count == members->capacity)
 	{
-		members->room *= 2;
-		members->at = repalloc_huge(members->at, members->room * sizeof(Member));
+		members->capacity *= 2;
+		members->at = repalloc_huge(members->at, members->capacity * sizeof(Member));
 	}
 	members->at[members->count].name = MemoryContextStrdup(members->context, utf8);
 	members->at[members->count].start = start;

@@ -51,7 +51,7 @@ typedef enum
 {
 	FOUND,
 	NOT_THERE,
-	UNKNOWN						/* the server's function tells */
+	UNKNOWN						/* the server's function says */
 } Finding;
 
 
@@ -85,22 +85,22 @@ call_by_jsonb(FunctionCallInfo fcinfo, PGFunction function, int documents, const
  * What a jsonpath looks at
  */
 
-/* Add the name at its place, if it isn't there yet. False if there are too many. */
+/* Add the name at its location, if it isn't there yet. False if there are too many. */
 static bool
 add_name(VjsonWanted *wanted, Range name)
 {
 	Range	   *names = wanted->names;
-	int			place = wanted->count;
+	int			location = wanted->count;
 
-	while (place > 0 && compare_ranges(&names[place - 1], &name) >= 0)
-		place--;
-	if (place < wanted->count && same_bytes(names[place], name))
+	while (location > 0 && compare_ranges(&names[location - 1], &name) >= 0)
+		location--;
+	if (location < wanted->count && same_bytes(names[location], name))
 		return true;
 	if (wanted->count == MOST_NAMES)
 		return false;
-	for (int i = wanted->count++; i > place; i--)
+	for (int i = wanted->count++; i > location; i--)
 		names[i] = names[i - 1];
-	names[place] = name;
+	names[location] = name;
 	return true;
 }
 
@@ -216,7 +216,7 @@ add_names(VjsonWanted *wanted, JsonPathItem item)
 
 /*
  * Keep the steps that lead from the document to the parts that the jsonpath
- * answers, as far as names tell them.  What doesn't begin at the document
+ * answers, as far as names say them.  What doesn't begin at the document
  * answers with none of its parts.  False if there are too many.
  */
 static bool

@@ -28,7 +28,7 @@ def check(name, got, want):
         print("%s: %s: got %.600r, not %.600r" % (part, name, got, want), flush=True)
 
 
-def refused(server, statement, **options):
+def rejected(server, statement, **options):
     """What the server says against the statement."""
     try:
         return "accepted: " + server.sql(statement, **options)

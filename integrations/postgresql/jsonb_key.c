@@ -6,7 +6,7 @@
  * The jsonb is read once.  The members of an object, which it has in the order
  * of the lengths of their names, are put into the order of a key, that of the
  * bytes.  What isn't made so goes by the jsonb's text, which the library reads,
- * so that it tells what is rejected: strings of another encoding, numbers that
+ * so that it says what is rejected: strings of another encoding, numbers that
  * are out of range, and more arrays and objects in one another than a value has.
  *
  *-------------------------------------------------------------------------
@@ -30,7 +30,7 @@
 
 PG_FUNCTION_INFO_V1(vjson_from_jsonb);
 
-/* A key that is written, into memory that has room for all of it. */
+/* A key that is written, into memory that has space for all of it. */
 typedef struct
 {
 	unsigned char *at;
@@ -50,7 +50,7 @@ typedef struct
 
 typedef struct
 {
-	JEntry		entry;			/* which tells the kind */
+	JEntry		entry;			/* which reports the kind */
 	const char *data;			/* of all that the array or object has */
 	uint32		start;			/* of what this one has */
 	uint32		end;
@@ -257,10 +257,10 @@ write_container(Writer *writer, const JsonbContainer *container)
 static struct varlena *
 value_of_child(const Child *child)
 {
-	size_t		room = child->end - child->start + sizeof(JEntry);
+	size_t		capacity = child->end - child->start + sizeof(JEntry);
 	unsigned char small[SMALL_KEY];
-	unsigned char *key = room <= sizeof small ? small : palloc_extended(room, MCXT_ALLOC_HUGE);
-	Writer		writer = {.at = key, .end = key + room, .ascii_alone = GetDatabaseEncoding() != PG_UTF8};
+	unsigned char *key = capacity <= sizeof small ? small : palloc_extended(capacity, MCXT_ALLOC_HUGE);
+	Writer		writer = {.at = key, .end = key + capacity, .ascii_alone = GetDatabaseEncoding() != PG_UTF8};
 	struct varlena *value = NULL;
 
 	if (write_child(&writer, child))

@@ -3,7 +3,7 @@
  * jsonb_write.c
  *	  A jsonb of values that were put together.
  *
- * The server has JsonbValueToJsonb for that, which takes room in a buffer for
+ * The server has JsonbValueToJsonb for that, which takes space in a buffer for
  * each part, and a third of the time of a jsonpath over a short document.  What
  * is written here has the same bytes.
  *
@@ -27,7 +27,7 @@ typedef struct
 
 static JEntry write_part(char **at, const JsonbValue *part);
 
-/* Add an entry. Of so many one has where its part ends, in place of the size. */
+/* Add an entry. Of so many one has where its part ends, instead of the size. */
 static inline void
 add_entry(Entries *entries, JEntry entry)
 {
@@ -117,16 +117,16 @@ write_part(char **at, const JsonbValue *part)
 }
 
 Jsonb *
-vjson_write_jsonb(const JsonbValue *value, size_t room)
+vjson_write_jsonb(const JsonbValue *value, size_t capacity)
 {
-	Jsonb	   *result = palloc(VARHDRSZ + room);
+	Jsonb	   *result = palloc(VARHDRSZ + capacity);
 	char	   *at = VARDATA(result);
 
 	if (value->type == jbvArray || value->type == jbvObject)
 		write_part(&at, value);
 	else
 		write_items(&at, value, 1, JB_FARRAY | JB_FSCALAR);
-	Assert(at <= (char *) result + VARHDRSZ + room);
+	Assert(at <= (char *) result + VARHDRSZ + capacity);
 	SET_VARSIZE(result, at - (char *) result);
 	return result;
 }

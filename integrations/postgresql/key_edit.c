@@ -4,7 +4,7 @@
  *	  Documents changed: the library splices their sort keys.
  *
  * The names, the arguments and the NULLs of the functions are those of jsonb.
- * A key doesn't tell how many zeros end its decimals, so the zeros of the
+ * A key doesn't say how many zeros end its decimals, so the zeros of the
  * answer are put together here, of those of the documents that it is made of.
  *
  *-------------------------------------------------------------------------
@@ -87,7 +87,7 @@ make_datum(const Document *document)
  */
 
 static uint32
-call_library(Range key, const Change *change, unsigned char *buffer, size_t room, size_t *size)
+call_library(Range key, const Change *change, unsigned char *buffer, size_t capacity, size_t *size)
 {
 	Range		path = change->path;
 	Range		part = change->part;
@@ -96,11 +96,11 @@ call_library(Range key, const Change *change, unsigned char *buffer, size_t room
 	{
 		case SET:
 			return vizhoniku_key_set(key.at, key.size, path.at, path.size, part.at, part.size, change->create,
-									 buffer, room, size);
+									 buffer, capacity, size);
 		case REMOVE:
-			return vizhoniku_key_remove(key.at, key.size, path.at, path.size, buffer, room, size);
+			return vizhoniku_key_remove(key.at, key.size, path.at, path.size, buffer, capacity, size);
 		default:
-			return vizhoniku_key_merge(key.at, key.size, part.at, part.size, buffer, room, size);
+			return vizhoniku_key_merge(key.at, key.size, part.at, part.size, buffer, capacity, size);
 	}
 }
 
@@ -108,14 +108,14 @@ call_library(Range key, const Change *change, unsigned char *buffer, size_t room
 static bool
 change_key(Range key, const Change *change, Range *changed)
 {
-	size_t		room = key.size + change->path.size + change->part.size + 16;
+	size_t		capacity = key.size + change->path.size + change->part.size + 16;
 
 	CHECK_FOR_INTERRUPTS();
 	for (;;)
 	{
-		unsigned char *buffer = palloc_extended(room, MCXT_ALLOC_HUGE);
+		unsigned char *buffer = palloc_extended(capacity, MCXT_ALLOC_HUGE);
 		size_t		size;
-		uint32		status = call_library(key, change, buffer, room, &size);
+		uint32		status = call_library(key, change, buffer, capacity, &size);
 
 		if (status == VIZHONIKU_ACCEPTED)
 		{
@@ -132,7 +132,7 @@ change_key(Range key, const Change *change, Range *changed)
 					 errmsg("vjson value has more than 512 nested arrays and objects")));
 		if (status != VIZHONIKU_TOO_SHORT)
 			return is_found(status);
-		room = size;
+		capacity = size;
 	}
 }
 
@@ -160,8 +160,8 @@ append_zeros(KeyZeros *zeros, const Document *document, size_t first, size_t num
 }
 
 /*
- * How many numbers stay before the place of a change, and how many after it.
- * The place is where two answers differ that have null and true there.
+ * How many numbers stay before the location of a change, and how many after it.
+ * The location is where two answers differ that have null and true there.
  */
 static void
 count_kept(Range key, const Change *change, size_t *before, size_t *after)
@@ -170,16 +170,16 @@ count_kept(Range key, const Change *change, size_t *before, size_t *after)
 	Range		one;
 	Range		other;
 	size_t		none;
-	size_t		place = 0;
+	size_t		slot = 0;
 
 	if (!change_key(key, &mark, &one))
 		vjson_raise_corrupted();
 	mark.part.at = true_key;
 	if (!change_key(key, &mark, &other) || one.size != other.size)
 		vjson_raise_corrupted();
-	while (place < one.size && one.at[place] == other.at[place])
-		place++;
-	if (!key_numbers(one.at, one.size, place, 1, before, &none))
+	while (slot < one.size && one.at[slot] == other.at[slot])
+		slot++;
+	if (!key_numbers(one.at, one.size, slot, 1, before, &none))
 		vjson_raise_corrupted();
 	*after = count_numbers(one) - *before;
 	pfree(unconstify(unsigned char *, one.at));
@@ -286,11 +286,11 @@ raise_wrong_kind(const char *words)
 static Range
 path_of_name(Range name)
 {
-	size_t		room = 2 * name.size + 1;
-	unsigned char *path = palloc_extended(room, MCXT_ALLOC_HUGE);
+	size_t		capacity = 2 * name.size + 1;
+	unsigned char *path = palloc_extended(capacity, MCXT_ALLOC_HUGE);
 	Range		result = {path, 0};
 
-	is_found(vizhoniku_path_step(name.at, name.size, path, room, &result.size));
+	is_found(vizhoniku_path_step(name.at, name.size, path, capacity, &result.size));
 	return result;
 }
 
@@ -723,7 +723,7 @@ vjson_take_step(Range key, const VjsonStep *step, Range *part)
 
 /* The index of a step in an array of so many items, from the front. */
 static int64
-place_of_step(const VjsonStep *step, int number, size_t count)
+slot_of_step(const VjsonStep *step, int number, size_t count)
 {
 	int64		index;
 
@@ -821,7 +821,7 @@ vjson_assign(Datum datum, const VjsonStep *steps, int count, Datum part_datum)
 
 			if (!is_found(vizhoniku_key_count(at.at, at.size, &items)))
 				vjson_raise_corrupted();
-			index = place_of_step(step, taken, items);
+			index = slot_of_step(step, taken, items);
 			if (index >= (int64) items)
 			{
 				gap = index - (int64) items;

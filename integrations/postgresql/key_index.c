@@ -7,7 +7,7 @@
  * lead to it.  Items have no index in it, so that an array leads to the same
  * entries in whatever order its items are.  A document that contains another
  * has all of the other's entries, and so has one that is equal to it; which of
- * those that have them do is told by the operator.  Empty arrays and objects
+ * those that have them do is determined by the operator.  Empty arrays and objects
  * have no entries: what has none is looked for in the whole index.
  *
  * vjson_ops has these entries, and hashes of the names that ? finds: of the
@@ -31,7 +31,7 @@
 #include "key_walk.h"
 #include "vjson.h"
 
-/* Entries for which there is room at first. */
+/* Entries for which there is space at first. */
 #define FIRST_ROOM		16
 
 /* What distinguishes the hash of a name that ? finds from other entries. */
@@ -50,7 +50,7 @@ typedef struct
 {
 	Datum	   *at;
 	int32		count;
-	int32		room;
+	int32		capacity;
 } Entries;
 
 /* The hash of a path and of what comes next on it: a name's key, or a scalar's. */
@@ -63,10 +63,10 @@ hash_on(uint64 path, Range key)
 static inline void
 add_entry(Entries *entries, uint64 hash)
 {
-	if (entries->count == entries->room)
+	if (entries->count == entries->capacity)
 	{
-		entries->room *= 2;
-		entries->at = repalloc_huge(entries->at, entries->room * sizeof(Datum));
+		entries->capacity *= 2;
+		entries->at = repalloc_huge(entries->at, entries->capacity * sizeof(Datum));
 	}
 	entries->at[entries->count++] = Int32GetDatum((int32) hash);
 }

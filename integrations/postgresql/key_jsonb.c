@@ -6,7 +6,7 @@
  * The key is read once, from its first byte to its last, as docs/SORT_KEYS.md
  * describes it.  Names and strings stay where they are in it until the server
  * writes the jsonb.  What isn't made so goes by the text that the server reads:
- * strings with a zero byte or of another encoding, of which it tells what is
+ * strings with a zero byte or of another encoding, of which it says what is
  * wrong, and what is too large for a jsonb.
  *
  *-------------------------------------------------------------------------
@@ -39,7 +39,7 @@
 /* Steps that aren't those of a jsonpath. */
 #define OTHER_STEPS		(-1)
 
-/* Names and values for which there is room at first, and at most: those of as many members as may be allocated. */
+/* Names and values for which there is space at first, and at most: those of as many members as may be allocated. */
 #define FIRST_ROOM		64
 #define MOST_PARTS		(2 * (MaxAllocSize / sizeof(JsonbPair)))
 
@@ -55,7 +55,7 @@ PG_FUNCTION_INFO_V1(vjson_to_jsonb);
 /*
  * A key that is read.  The parts are those of arrays and objects whose end
  * isn't reached, of a member its name and its value: where one ends, its parts
- * leave their places for an array of their own.
+ * leave their locations for an array of their own.
  */
 typedef struct
 {
@@ -65,7 +65,7 @@ typedef struct
 	size_t		passed;			/* numbers whose zeros aren't passed yet */
 	JsonbValue *parts;
 	size_t		count;
-	size_t		room;
+	size_t		capacity;
 	size_t		size;			/* what the jsonb takes at most of the parts that were read */
 	char	   *block;			/* what is left of the last one */
 	size_t		block_size;
@@ -242,21 +242,21 @@ read_number(Reader *reader)
  * Arrays and objects
  */
 
-/* Make room for a name and a value more.  False if there are too many. */
+/* Make space for a name and a value more.  False if there are too many. */
 static inline bool
-make_room(Reader *reader)
+reserve(Reader *reader)
 {
 	JsonbValue *more;
 
-	if (likely(reader->count + 2 <= reader->room))
+	if (likely(reader->count + 2 <= reader->capacity))
 		return true;
-	if (reader->room == MOST_PARTS)
+	if (reader->capacity == MOST_PARTS)
 		return false;
-	more = palloc(Min(2 * reader->room, MOST_PARTS) * sizeof(JsonbValue));
+	more = palloc(Min(2 * reader->capacity, MOST_PARTS) * sizeof(JsonbValue));
 	memcpy(more, reader->parts, reader->count * sizeof(JsonbValue));
-	if (reader->room > FIRST_ROOM)
+	if (reader->capacity > FIRST_ROOM)
 		pfree(reader->parts);
-	reader->room = Min(2 * reader->room, MOST_PARTS);
+	reader->capacity = Min(2 * reader->capacity, MOST_PARTS);
 	reader->parts = more;
 	return true;
 }
@@ -294,7 +294,7 @@ check_order(const JsonbValue *before, const JsonbValue *name)
 }
 
 static int
-compare_places(const void *left, const void *right)
+compare_slots(const void *left, const void *right)
 {
 	uint64		one = *(const uint64 *) left;
 	uint64		other = *(const uint64 *) right;
@@ -303,26 +303,26 @@ compare_places(const void *left, const void *right)
 }
 
 /*
- * The places of the members in the order of a jsonb: by the length of their
- * names, and of one length as they are.  Each place has the length before it,
+ * The locations of the members in the order of a jsonb: by the length of their
+ * names, and of one length as they are.  Each location has the length before it,
  * in its higher half.
  */
 static void
-sort_members(const JsonbValue *parts, uint32 count, uint64 *places)
+sort_members(const JsonbValue *parts, uint32 count, uint64 *slots)
 {
 	bool		is_few = count <= FEW_MEMBERS;
 
 	for (uint32 i = 0; i < count; i++)
 	{
-		uint64		place = ((uint64) parts[2 * i].val.string.len << 32) | i;
+		uint64		slot = ((uint64) parts[2 * i].val.string.len << 32) | i;
 		uint32		to = i;
 
-		for (; is_few && to > 0 && places[to - 1] > place; to--)
-			places[to] = places[to - 1];
-		places[to] = place;
+		for (; is_few && to > 0 && slots[to - 1] > slot; to--)
+			slots[to] = slots[to - 1];
+		slots[to] = slot;
 	}
 	if (!is_few)
-		qsort(places, count, sizeof(uint64), compare_places);
+		qsort(slots, count, sizeof(uint64), compare_slots);
 }
 
 /* Put the object together of its names and values. */
@@ -330,20 +330,20 @@ static void
 make_object(Reader *reader, const JsonbValue *parts, uint32 count, JsonbValue *value)
 {
 	uint64		few[FEW_MEMBERS];
-	uint64	   *places = count <= FEW_MEMBERS ? few : palloc(count * sizeof(uint64));
+	uint64	   *slots = count <= FEW_MEMBERS ? few : palloc(count * sizeof(uint64));
 	JsonbPair  *pairs = take_memory(reader, count * sizeof(JsonbPair));
 
-	sort_members(parts, count, places);
+	sort_members(parts, count, slots);
 	for (uint32 i = 0; i < count; i++)
 	{
-		const JsonbValue *member = parts + 2 * (uint32) places[i];
+		const JsonbValue *member = parts + 2 * (uint32) slots[i];
 
 		pairs[i].key = member[0];
 		pairs[i].value = member[1];
 		pairs[i].order = i;
 	}
-	if (places != few)
-		pfree(places);
+	if (slots != few)
+		pfree(slots);
 	value->type = jbvObject;
 	value->val.object.nPairs = (int) count;
 	value->val.object.pairs = pairs;
@@ -580,7 +580,7 @@ pass_members(Reader *reader, const Level *level, bool is_outermost)
  * Values
  */
 
-/* Take the value that begins here, if it is a scalar. *opened tells whether it isn't. False if it goes by the text. */
+/* Take the value that begins here, if it is a scalar. *opened says whether it isn't. False if it goes by the text. */
 static inline bool
 read_scalar(Reader *reader, JsonbValue *value, bool *opened)
 {
@@ -631,7 +631,7 @@ close_level(Reader *reader, const Level *level)
 static inline bool
 read_part(Reader *reader, const Level *level, bool *opened)
 {
-	if (!make_room(reader))
+	if (!reserve(reader))
 		return false;
 	reader->size += MOST_OF_PART;
 	if (level != NULL && level->is_object)
@@ -697,7 +697,7 @@ vjson_jsonb(Datum document, const VjsonWanted *wanted)
 	JsonbValue	value;
 
 	reader.parts = first_parts;
-	reader.room = FIRST_ROOM;
+	reader.capacity = FIRST_ROOM;
 	reader.block = (char *) first_block;
 	reader.block_size = sizeof first_block;
 	reader.ascii_alone = GetDatabaseEncoding() != PG_UTF8;

@@ -37,7 +37,7 @@
 /*
  * The kind of these statistics, of those for private use.  The values are
  * entries in their order as integers, the numbers the share of the documents
- * that each is in; behind them stands the share below which none is kept.
+ * that each is in; behind them is the share below which none is kept.
  */
 #define KIND_ENTRIES	18574
 
@@ -64,17 +64,17 @@ typedef struct
 {
 	int32	   *at;
 	size_t		count;
-	size_t		room;
+	size_t		capacity;
 } Hashes;
 
 static void
 add_hash(Hashes *hashes, int32 hash)
 {
-	if (hashes->count == hashes->room)
+	if (hashes->count == hashes->capacity)
 	{
-		hashes->room = Max(64, 2 * hashes->room);
-		hashes->at = hashes->at ? repalloc_huge(hashes->at, hashes->room * sizeof(int32)) :
-			palloc_extended(hashes->room * sizeof(int32), MCXT_ALLOC_HUGE);
+		hashes->capacity = Max(64, 2 * hashes->capacity);
+		hashes->at = hashes->at ? repalloc_huge(hashes->at, hashes->capacity * sizeof(int32)) :
+			palloc_extended(hashes->capacity * sizeof(int32), MCXT_ALLOC_HUGE);
 	}
 	hashes->at[hashes->count++] = hash;
 }
@@ -225,7 +225,7 @@ keep_entries(VacAttrStats *stats, int slot, Hashes *hashes, int documents, size_
 		for (next = i + 1; next < hashes->count && hashes->at[next] == hashes->at[i]; next++)
 			;
 		if (next - i == 1)
-			continue;			/* one document tells little */
+			continue;			/* one document says little */
 		counted[count].hash = hashes->at[i];
 		counted[count++].count = (int32) (next - i);
 	}
@@ -363,7 +363,7 @@ share_of_any(const AttStatsSlot *kept, const Hashes *hashes)
 	return 1 - none;
 }
 
-/* The share of the documents of which the operator is true. False if the entries don't tell it. */
+/* The share of the documents of which the operator is true. False if the entries don't say it. */
 static bool
 share_by_entries(const AttStatsSlot *kept, const char *operator, bool is_left, const Const *other, double *share)
 {

@@ -23,25 +23,25 @@ is_done(uint32 status, size_t size)
 }
 
 /*
- * The text of a key with the fewest digits in each number, in a block with room
+ * The text of a key with the fewest digits in each number, in a block with space
  * for a zero byte behind it.  NULL if the bytes are no key.
  */
 static char *
 shortest_text(const unsigned char *key, size_t key_size, size_t *text_size)
 {
-	size_t		room = key_size + key_size / 4 + 64;
+	size_t		capacity = key_size + key_size / 4 + 64;
 
 	for (;;)
 	{
-		char	   *text = palloc_extended(room + 1, MCXT_ALLOC_HUGE);
-		uint32		status = vizhoniku_key_text(key, key_size, (unsigned char *) text, room, text_size);
+		char	   *text = palloc_extended(capacity + 1, MCXT_ALLOC_HUGE);
+		uint32		status = vizhoniku_key_text(key, key_size, (unsigned char *) text, capacity, text_size);
 
 		if (is_done(status, key_size))
 			return text;
 		pfree(text);
 		if (status != VIZHONIKU_TOO_SHORT)
 			return NULL;
-		room = *text_size;
+		capacity = *text_size;
 	}
 }
 
@@ -78,7 +78,7 @@ key_text_write(const unsigned char *key, size_t key_size, const unsigned char *z
 {
 	size_t		size;
 	char	   *shortest = shortest_text(key, key_size, &size);
-	size_t		room = size + 4 * zeros_size;
+	size_t		capacity = size + 4 * zeros_size;
 
 	if (shortest == NULL)
 		return NULL;
@@ -90,11 +90,11 @@ key_text_write(const unsigned char *key, size_t key_size, const unsigned char *z
 	}
 	for (;;)
 	{
-		char	   *text = palloc_extended(room + 1, MCXT_ALLOC_HUGE);
+		char	   *text = palloc_extended(capacity + 1, MCXT_ALLOC_HUGE);
 		uint32		status = vizhoniku_text_with_zeros((const unsigned char *) shortest, size, zeros, zeros_size,
-													   (unsigned char *) text, room, text_size);
+													   (unsigned char *) text, capacity, text_size);
 
-		if (is_done(status, room))
+		if (is_done(status, capacity))
 		{
 			pfree(shortest);
 			text[*text_size] = '\0';
@@ -103,7 +103,7 @@ key_text_write(const unsigned char *key, size_t key_size, const unsigned char *z
 		pfree(text);
 		if (status != VIZHONIKU_TOO_SHORT)
 			return NULL;
-		room = *text_size;
+		capacity = *text_size;
 	}
 }
 
@@ -132,7 +132,7 @@ key_zeros_append(KeyZeros *into, const unsigned char *zeros, size_t zeros_size, 
 	{
 		size_t		size;
 		uint32		status = vizhoniku_zeros_of_numbers(zeros, zeros_size, first, numbers, &into->plain,
-														into->bytes + into->size, into->room - into->size, &size);
+														into->bytes + into->size, into->capacity - into->size, &size);
 
 		if (is_done(status, zeros_size))
 		{
@@ -141,9 +141,9 @@ key_zeros_append(KeyZeros *into, const unsigned char *zeros, size_t zeros_size, 
 		}
 		if (status != VIZHONIKU_TOO_SHORT)
 			return false;
-		into->room = Max(2 * into->room, into->size + size);
-		into->bytes = into->bytes ? repalloc_huge(into->bytes, into->room) :
-			palloc_extended(into->room, MCXT_ALLOC_HUGE);
+		into->capacity = Max(2 * into->capacity, into->size + size);
+		into->bytes = into->bytes ? repalloc_huge(into->bytes, into->capacity) :
+			palloc_extended(into->capacity, MCXT_ALLOC_HUGE);
 	}
 }
 
@@ -187,11 +187,11 @@ key_zeros_add(KeyZeros *into, unsigned char zeros)
 		into->plain++;
 		return;
 	}
-	if (into->room - into->size < 16)
+	if (into->capacity - into->size < 16)
 	{
-		into->room = Max(64, 2 * into->room);
-		into->bytes = into->bytes ? repalloc_huge(into->bytes, into->room) :
-			palloc_extended(into->room, MCXT_ALLOC_HUGE);
+		into->capacity = Max(64, 2 * into->capacity);
+		into->bytes = into->bytes ? repalloc_huge(into->bytes, into->capacity) :
+			palloc_extended(into->capacity, MCXT_ALLOC_HUGE);
 	}
 	for (; into->plain >= 0x80; into->plain >>= 7)
 		into->bytes[into->size++] = (unsigned char) (into->plain | 0x80);

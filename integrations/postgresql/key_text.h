@@ -12,14 +12,14 @@
 
 /*
  * A sort key has all of a value but how many zeros end its decimals: 1, 1.0 and
- * 1.00 have one key.  These are told apart by the key's zeros, which the header
+ * 1.00 have one key.  These are distinguished by the key's zeros, which the header
  * of the library describes.
  */
 
 /* The zeros of the value whose text the library wrote. *zeros is NULL if the text has no point. */
 extern void key_text_zeros(const char *text, size_t text_size, unsigned char **zeros, size_t *zeros_size);
 
-/* Put the zeros in the place of the text, where a value was stored with it by an older version. */
+/* Put the zeros instead of the text, where a value was stored with it by an older version. */
 extern void key_text_to_zeros(VjsonParts *parts);
 
 /*
@@ -49,7 +49,7 @@ typedef struct
 {
 	unsigned char *bytes;
 	size_t		size;
-	size_t		room;
+	size_t		capacity;
 	size_t		plain;			/* numbers without zeros since the last with some */
 } KeyZeros;
 

@@ -153,7 +153,7 @@ next_in_walk(Walk *walk)
 	return true;
 }
 
-/* The name of the member, or the string that is the item, as it stands in a key. False if the item is no string. */
+/* The name of the member, or the string that is the item, as it is in a key. False if the item is no string. */
 static inline bool
 name_in_walk(const Walk *walk, Range *name)
 {
@@ -167,7 +167,7 @@ name_in_walk(const Walk *walk, Range *name)
 	return true;
 }
 
-/* Words of the server as a name stands in a key: as a string does, without the first byte, which tells the kind. */
+/* Words of the server as a name is in a key: as a string does, without the first byte, which reports the kind. */
 static inline Range
 name_as_in_key(text *words)
 {

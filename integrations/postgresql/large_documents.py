@@ -172,13 +172,13 @@ class Clock:
     def seconds(self, statements):
         """Of the processor, that the statements took."""
         self.session.ask("SET log_statement_stats = on")
-        told = self.session.ask(statements)
+        outcome = self.session.ask(statements)
         self.session.ask("SET log_statement_stats = off")
-        if "ERROR: " in told:
-            raise cluster.Failed("%s: %s" % (statements, re.search("ERROR: .*", told).group()))
-        times = re.findall(r"^!\s+([0-9.]+) s user, ([0-9.]+) s system, [0-9.]+ s elapsed", told, re.M)
+        if "ERROR: " in outcome:
+            raise cluster.Failed("%s: %s" % (statements, re.search("ERROR: .*", outcome).group()))
+        times = re.findall(r"^!\s+([0-9.]+) s user, ([0-9.]+) s system, [0-9.]+ s elapsed", outcome, re.M)
         if not times:
-            raise cluster.Failed("the server tells no times: " + told)
+            raise cluster.Failed("the server tells no times: " + outcome)
         return sum(float(user) + float(system) for user, system in times)
 
 
@@ -208,10 +208,10 @@ def time_all(server):
                     return clock.seconds(statements_of(timed, "%s_%d" % (kind, size), calls))
 
                 try:
-                    told = growth.too_fast(time_of)
+                    outcome = growth.too_fast(time_of)
                 except cluster.Failed as failure:
-                    told = str(failure)
-                check("growth, %s: %s" % (kind, timed), told, None)
+                    outcome = str(failure)
+                check("growth, %s: %s" % (kind, timed), outcome, None)
     clock.session.close()
 
 

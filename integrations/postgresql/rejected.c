@@ -1,7 +1,7 @@
 /*-------------------------------------------------------------------------
  *
  * rejected.c
- *	  What is told of texts that are no documents, and texts whose numbers are
+ *	  What is reported of texts that are no documents, and texts whose numbers are
  *	  rounded so that they become ones: for those who bring a table of json,
  *	  jsonb or text to vjson.
  *
@@ -26,7 +26,7 @@
 /* The most digits that a number has. */
 #define MOST_DIGITS		38
 
-/* The columns of what is told. */
+/* The columns of what is reported. */
 #define COLUMNS			5
 
 PG_FUNCTION_INFO_V1(vjson_error);
@@ -158,7 +158,7 @@ text_of_numeric(Datum numeric)
 	return DatumGetCString(DirectFunctionCall1(numeric_out, numeric));
 }
 
-/* How many digits stand before the point, without the zeros at their front. */
+/* How many digits are before the point, without the zeros at their front. */
 static int
 whole_digits(const char *number)
 {
@@ -246,7 +246,7 @@ try_text(Range *text, bool is_rounded, VjsonRejection *why)
 
 /*
  * The document of a text whose numbers may have exponents and any number of
- * digits.  What else is wrong with the text is told as of input.
+ * digits.  What else is wrong with the text is reported as of input.
  */
 Datum
 vjson_rounded(PG_FUNCTION_ARGS)
@@ -288,14 +288,14 @@ vjson_path_of_rejection(const VjsonRejection *why)
 {
 	bool		is_of_server = why->error.code == VIZHONIKU_NO_CODE;
 	size_t		size = is_of_server ? Min(why->error.position, why->size) : why->size;
-	size_t		room = 256;
+	size_t		capacity = 256;
 
 	for (;;)
 	{
-		char	   *path = palloc_extended(room + 1, MCXT_ALLOC_HUGE);
+		char	   *path = palloc_extended(capacity + 1, MCXT_ALLOC_HUGE);
 		size_t		length;
 		uint32		status = vizhoniku_error_path(why->mode, (const unsigned char *) why->parsed, size, &why->error,
-												  (unsigned char *) path, room, &length);
+												  (unsigned char *) path, capacity, &length);
 
 		if (status == VIZHONIKU_ACCEPTED)
 		{
@@ -305,7 +305,7 @@ vjson_path_of_rejection(const VjsonRejection *why)
 		pfree(path);
 		if (status != VIZHONIKU_TOO_SHORT)
 			return NULL;
-		room = length;
+		capacity = length;
 	}
 }
 
@@ -337,13 +337,13 @@ words_of_fault(const VjsonRejection *why)
 
 /* Why the text is rejected, or the text with its numbers rounded where that is asked for. */
 static Datum
-tell_rejection(FunctionCallInfo fcinfo, Range input)
+report_rejection(FunctionCallInfo fcinfo, Range input)
 {
 	TupleDesc	columns;
 	Datum		values[COLUMNS] = {0};
 	bool		nulls[COLUMNS] = {true, true, true, true, true};
 	VjsonRejection why;
-	VjsonPlace	place;
+	VjsonLocation	location;
 	struct varlena *value = try_text(&input, PG_GETARG_BOOL(1), &why);
 
 	if (get_call_result_type(fcinfo, NULL, &columns) != TYPEFUNC_COMPOSITE)
@@ -352,12 +352,12 @@ tell_rejection(FunctionCallInfo fcinfo, Range input)
 	{
 		char	   *path;
 
-		vjson_locate(&why, &place);
+		vjson_locate(&why, &location);
 		path = vjson_path_of_rejection(&why);
 		values[0] = CStringGetTextDatum(words_of_fault(&why));
-		values[2] = Int32GetDatum((int32) place.line);
-		values[3] = Int32GetDatum((int32) place.column);
-		values[4] = CStringGetTextDatum(place.shown);
+		values[2] = Int32GetDatum((int32) location.line);
+		values[3] = Int32GetDatum((int32) location.column);
+		values[4] = CStringGetTextDatum(location.shown);
 		nulls[0] = nulls[2] = nulls[3] = nulls[4] = false;
 		if (path != NULL)
 		{
@@ -371,7 +371,7 @@ tell_rejection(FunctionCallInfo fcinfo, Range input)
 Datum
 vjson_error(PG_FUNCTION_ARGS)
 {
-	return tell_rejection(fcinfo, utf8_of(PG_GETARG_TEXT_PP(0)));
+	return report_rejection(fcinfo, utf8_of(PG_GETARG_TEXT_PP(0)));
 }
 
 Datum
@@ -382,5 +382,5 @@ vjson_error_of_jsonb(PG_FUNCTION_ARGS)
 	char	   *text = pg_server_to_any(words, (int) strlen(words), PG_UTF8);
 	Range		input = {(const unsigned char *) text, strlen(text)};
 
-	return tell_rejection(fcinfo, input);
+	return report_rejection(fcinfo, input);
 }

@@ -62,7 +62,7 @@ check_objects(Datum document)
 	}
 }
 
-/* The columns, with jsonb in the place of vjson, so that a string becomes a document. NULL if none is of vjson. */
+/* The columns, with jsonb instead of vjson, so that a string becomes a document. NULL if none is of vjson. */
 static TupleDesc
 columns_of_jsonb(FunctionCallInfo fcinfo, TupleDesc columns)
 {

@@ -109,7 +109,7 @@ vjson_pretty(PG_FUNCTION_ARGS)
  * Without nulls
  */
 
-/* Whether null stands here, as a whole value. */
+/* Whether null is here, as a whole value. */
 static inline bool
 is_null_at(const char *text, size_t at)
 {

@@ -33,7 +33,7 @@ typedef struct
 } Steps;
 
 /*
- * The expression as text or as integer.  A string that stands there as it is is
+ * The expression as text or as integer.  A string that is there as it is is
  * a text, and so is what isn't an integer but has an implicit cast to text.
  */
 static Node *
@@ -156,7 +156,7 @@ assign_part(ExprState *state, ExprEvalStep *op, ExprContext *econtext)
 	*op->resnull = false;
 }
 
-/* What is at the place of an assignment before it. */
+/* What is at the location of an assignment before it. */
 static void
 fetch_old_part(ExprState *state, ExprEvalStep *op, ExprContext *econtext)
 {

@@ -52,10 +52,10 @@
 
 PG_MODULE_MAGIC;
 
-/* Room beyond the size of the text that is read; more is asked for if needed. */
+/* Space beyond the size of the text that is read; more is asked for if needed. */
 #define SPARE_ROOM		16
 
-/* What is told of a text where memory lacks for the words of the library. */
+/* What is reported of a text where memory lacks for the words of the library. */
 #define NO_WORDS		"not a document"
 
 /* How many bytes before a fault are shown. */
@@ -157,14 +157,14 @@ printable(char *words, size_t size)
 static char *
 message_of_error(uint32 mode, const char *text, size_t size)
 {
-	size_t		room = 256;
+	size_t		capacity = 256;
 
 	for (;;)
 	{
-		char	   *words = palloc_extended(room + 1, MCXT_ALLOC_HUGE);
+		char	   *words = palloc_extended(capacity + 1, MCXT_ALLOC_HUGE);
 		size_t		length;
 		uint32		status = vizhoniku_reason(mode, (const unsigned char *) text, size,
-											  (unsigned char *) words, room, &length);
+											  (unsigned char *) words, capacity, &length);
 
 		if (status == VIZHONIKU_REJECTED)
 		{
@@ -174,16 +174,16 @@ message_of_error(uint32 mode, const char *text, size_t size)
 		pfree(words);
 		if (status != VIZHONIKU_TOO_SHORT)
 			return NULL;
-		room = length;
+		capacity = length;
 	}
 }
 
 /* The line with the fault, up to the fault, as it is shown to the user. */
 static char *
-shown_line(const char *text, size_t size, const struct vizhoniku_location *place)
+shown_line(const char *text, size_t size, const struct vizhoniku_location *where)
 {
-	size_t		line = place->index - (place->column - 1);
-	size_t		end = Min(place->index, size);
+	size_t		line = where->index - (where->column - 1);
+	size_t		end = Min(where->index, size);
 	size_t		start = Min(line, end);
 	StringInfoData shown;
 	char	   *part;
@@ -211,13 +211,13 @@ shown_line(const char *text, size_t size, const struct vizhoniku_location *place
 	return shown.data;
 }
 
-/* The column counted in characters, as users count it, of a place that counts bytes. */
+/* The column counted in characters, as users count it, of a location that counts bytes. */
 static size_t
-column_in_characters(const char *text, size_t size, const struct vizhoniku_location *place)
+column_in_characters(const char *text, size_t size, const struct vizhoniku_location *where)
 {
 	size_t		column = 1;
 
-	for (size_t i = place->index - (place->column - 1) + 1; i <= place->index; i++)
+	for (size_t i = where->index - (where->column - 1) + 1; i <= where->index; i++)
 	{
 		if (i >= size || ((unsigned char) text[i] & 0xC0) != 0x80)
 			column++;
@@ -226,15 +226,15 @@ column_in_characters(const char *text, size_t size, const struct vizhoniku_locat
 }
 
 void
-vjson_locate(const VjsonRejection *why, VjsonPlace *place)
+vjson_locate(const VjsonRejection *why, VjsonLocation *where)
 {
 	struct vizhoniku_location location;
 
 	vizhoniku_place((const unsigned char *) why->text, why->size, &why->error, &location);
-	place->index = location.index;
-	place->line = location.line;
-	place->column = column_in_characters(why->text, why->size, &location);
-	place->shown = shown_line(why->text, why->size, &location);
+	where->index = location.index;
+	where->line = location.line;
+	where->column = column_in_characters(why->text, why->size, &location);
+	where->shown = shown_line(why->text, why->size, &location);
 }
 
 /* Where a number or a name is rejected: the path, as the end of a sentence. Empty for the whole text or a long path. */
@@ -276,16 +276,16 @@ hint_of_rejection(const VjsonRejection *why)
 static void
 report_rejection(Node *context, const VjsonRejection *why)
 {
-	VjsonPlace	place;
+	VjsonLocation	where;
 	const char *at = words_of_path(why);
 
-	vjson_locate(why, &place);
+	vjson_locate(why, &where);
 	vjson_report(context,
 				 (errcode(ERRCODE_INVALID_TEXT_REPRESENTATION),
 				  errmsg("invalid input syntax for type %s", "vjson"),
-				  errdetail_internal("%s (line %zu, column %zu)%s", why->words, place.line, place.column, at),
+				  errdetail_internal("%s (line %zu, column %zu)%s", why->words, where.line, where.column, at),
 				  hint_of_rejection(why),
-				  errcontext("vjson text, line %zu: %s", place.line, place.shown)));
+				  errcontext("vjson text, line %zu: %s", where.line, where.shown)));
 }
 
 void
@@ -309,14 +309,14 @@ vjson_raise_unexpected(uint32 status)
  */
 
 /*
- * Raise an error unless the machine stack has room for a call with this text.
+ * Raise an error unless the machine stack has space for a call with this text.
  *
  * The library doesn't look at the stack itself.  It is enough for each text
  * where the most that a call takes is left below max_stack_depth, as it nearly
  * always is.  Else the brackets of the text bound how deep it nests.
  */
 static void
-check_stack_room(const char *text, size_t size)
+check_stack(const char *text, size_t size)
 {
 	char		here;
 	pg_stack_base_t base = set_stack_base();
@@ -349,7 +349,7 @@ check_stack_room(const char *text, size_t size)
 
 /*
  * Make the value of a key and its text.  The result has the key behind the byte
- * of the form, and room for as much as the text and 4 bytes more; the text lies
+ * of the form, and space for as much as the text and 4 bytes more; the text lies
  * elsewhere in it, behind these.
  */
 static void
@@ -397,15 +397,15 @@ size_of_key_alone(size_t key_size)
 static uint32
 make_key_value(uint32 mode, const char *text, size_t size, struct varlena **value, struct vizhoniku_error *error)
 {
-	size_t		key_room = size + SPARE_ROOM;
+	size_t		key_capacity = size + SPARE_ROOM;
 
 	for (;;)
 	{
-		char	   *result = palloc_extended(VARHDRSZ + FORM_SIZE + key_room, MCXT_ALLOC_HUGE);
+		char	   *result = palloc_extended(VARHDRSZ + FORM_SIZE + key_capacity, MCXT_ALLOC_HUGE);
 		char	   *form = result + VARHDRSZ;
 		size_t		key_size;
 		uint32		status = vizhoniku_sort_key(mode, (const unsigned char *) text, size,
-												(unsigned char *) form + FORM_SIZE, key_room, &key_size, error);
+												(unsigned char *) form + FORM_SIZE, key_capacity, &key_size, error);
 
 		if (status == VIZHONIKU_ACCEPTED)
 		{
@@ -417,7 +417,7 @@ make_key_value(uint32 mode, const char *text, size_t size, struct varlena **valu
 		pfree(result);
 		if (status != VIZHONIKU_TOO_SHORT)
 			return status;
-		key_room = key_size;
+		key_capacity = key_size;
 	}
 }
 
@@ -425,20 +425,20 @@ make_key_value(uint32 mode, const char *text, size_t size, struct varlena **valu
 static uint32
 make_zeros_value(const char *text, size_t size, struct varlena **value, struct vizhoniku_error *error)
 {
-	size_t		key_room = size + SPARE_ROOM;
-	size_t		text_room = size + SPARE_ROOM;
+	size_t		key_capacity = size + SPARE_ROOM;
+	size_t		text_capacity = size + SPARE_ROOM;
 
 	for (;;)
 	{
-		char	   *result = palloc_extended(VARHDRSZ + FORM_SIZE + key_room + KEY_SIZE_SIZE + text_room,
+		char	   *result = palloc_extended(VARHDRSZ + FORM_SIZE + key_capacity + KEY_SIZE_SIZE + text_capacity,
 											 MCXT_ALLOC_HUGE);
 		char	   *key = result + VARHDRSZ + FORM_SIZE;
-		char	   *written = key + key_room + KEY_SIZE_SIZE;
+		char	   *written = key + key_capacity + KEY_SIZE_SIZE;
 		size_t		key_size;
 		size_t		text_size;
 		uint32		status = vizhoniku_text_and_key(VIZHONIKU_EXTENDED, (const unsigned char *) text, size,
-													(unsigned char *) written, text_room, &text_size,
-													(unsigned char *) key, key_room, &key_size, error);
+													(unsigned char *) written, text_capacity, &text_size,
+													(unsigned char *) key, key_capacity, &key_size, error);
 
 		if (status == VIZHONIKU_ACCEPTED)
 		{
@@ -455,8 +455,8 @@ make_zeros_value(const char *text, size_t size, struct varlena **value, struct v
 		pfree(result);
 		if (status != VIZHONIKU_TOO_SHORT)
 			return status;
-		key_room = Max(key_room, key_size);
-		text_room = Max(text_room, text_size);
+		key_capacity = Max(key_capacity, key_size);
+		text_capacity = Max(text_capacity, text_size);
 	}
 }
 
@@ -469,7 +469,7 @@ make_value(uint32 mode, bool has_zeros, const char *text, size_t size, struct va
 		   struct vizhoniku_error *error)
 {
 	CHECK_FOR_INTERRUPTS();
-	check_stack_room(text, size);
+	check_stack(text, size);
 	if (has_zeros)
 		return make_zeros_value(text, size, value, error);
 	return make_key_value(mode, text, size, value, error);
@@ -478,11 +478,11 @@ make_value(uint32 mode, bool has_zeros, const char *text, size_t size, struct va
 /*
  * Say why a text is no JSON, and none of standard mode: in the words of the
  * library for the text without its numbers, so that a fault has the same words
- * whatever numbers stand before it.  Where standard mode takes that, the server
+ * whatever numbers are before it.  Where standard mode takes that, the server
  * alone rejects it, and at this position.
  */
 static void
-tell_no_json(const char *text, size_t size, JsonParseErrorType error, size_t position, VjsonRejection *why)
+report_no_json(const char *text, size_t size, JsonParseErrorType error, size_t position, VjsonRejection *why)
 {
 	char	   *rest = vjson_without_numbers(text, size);
 	uint32		status = vizhoniku_check(VIZHONIKU_STANDARD, (const unsigned char *) rest, size, &why->error);
@@ -516,7 +516,7 @@ is_json(const char *text, size_t size, VjsonRejection *why)
 	if (error != JSON_SUCCESS)
 	{
 		if (why != NULL)
-			tell_no_json(text, size, error, lex->token_start ? (size_t) (lex->token_start - lex->input) : size, why);
+			report_no_json(text, size, error, lex->token_start ? (size_t) (lex->token_start - lex->input) : size, why);
 		return false;
 	}
 	pfree(lex);
@@ -531,13 +531,13 @@ static uint32
 write_plain_numbers(const char *text, size_t size, char **plain, size_t *plain_size,
 					struct vizhoniku_error *error)
 {
-	size_t		room = size + size / 4 + SPARE_ROOM;
+	size_t		capacity = size + size / 4 + SPARE_ROOM;
 
 	for (;;)
 	{
-		char	   *written = palloc_extended(room, MCXT_ALLOC_HUGE);
+		char	   *written = palloc_extended(capacity, MCXT_ALLOC_HUGE);
 		uint32		status = vizhoniku_plain_numbers((const unsigned char *) text, size,
-													 (unsigned char *) written, room, plain_size, error);
+													 (unsigned char *) written, capacity, plain_size, error);
 
 		if (status == VIZHONIKU_ACCEPTED)
 		{
@@ -547,11 +547,11 @@ write_plain_numbers(const char *text, size_t size, char **plain, size_t *plain_s
 		pfree(written);
 		if (status != VIZHONIKU_TOO_SHORT)
 			return status;
-		room = *plain_size;
+		capacity = *plain_size;
 	}
 }
 
-/* The text with its numbers masked that have an exponent and aren't too long, so that all else has its place. */
+/* The text with its numbers masked that have an exponent and aren't too long, so that all else has its location. */
 static char *
 masked_numbers(const char *text, size_t size)
 {
@@ -625,7 +625,7 @@ look_at_numbers(const char *text, size_t size)
 				continue;
 			case 'e':
 			case 'E':
-				/* Those of true and false stand behind a letter. */
+				/* Those of true and false are behind a letter. */
 				numbers.some_exponent |= at > text && (unsigned char) (at[-1] - '0') <= 9;
 				break;
 		}
@@ -671,7 +671,7 @@ try_json(const char *text, size_t size, bool is_known)
 {
 	Numbers		numbers;
 
-	check_stack_room(text, size);
+	check_stack(text, size);
 	numbers = look_at_numbers(text, size);
 	if (numbers.is_deep)
 		return NULL;
@@ -688,10 +688,10 @@ try_json(const char *text, size_t size, bool is_known)
  * mode is a number that isn't carried is also read where it is JSON and
  * extended mode carries all of its numbers.  No mode has numbers with an
  * exponent: those of JSON are written out first, as jsonb does.  What else is
- * wrong then is told of the text without these, in which it has its place.
+ * wrong then is reported of the text without these, in which it has its location.
  *
  * What is accepted is mostly found at once by try_json.  What is rejected is
- * then read step by step, so that the first fault is told.
+ * then read step by step, so that the first fault is reported.
  */
 static struct varlena *
 try_utf8(const char *text, size_t size, ReadAs as, VjsonRejection *why)
@@ -971,7 +971,7 @@ report_no_path(Node *context, const char *path)
 }
 
 /*
- * The status of the library for the part at a path, and where it stands in the
+ * The status of the library for the part at a path, and where it is in the
  * key.
  */
 static uint32
@@ -1044,7 +1044,7 @@ path_of_array(char *words, Node *context)
 }
 
 /*
- * A path is kept as a text, in the encoding of the database.  The library tells
+ * A path is kept as a text, in the encoding of the database.  The library says
  * by any key whether it is one.  NULL if it isn't and no error is raised.
  */
 static text *
@@ -1235,7 +1235,7 @@ get_front(Datum datum, VjsonParts *parts)
 /*
  * Compare values of which one is compressed by what is cheaper than whole keys:
  * by the compressed bytes, which are the same only for the same value, and by
- * the fronts of the keys.  False if that doesn't tell the order.
+ * the fronts of the keys.  False if that doesn't say the order.
  */
 static bool
 compare_compressed(Datum left, Datum right, int *order)
@@ -1383,7 +1383,7 @@ vjson_fast_cmp(Datum x, Datum y, SortSupport ssup)
  * An abbreviated key, compared as an unsigned number.
  *
  * Documents of one table often begin alike, so that the first bytes of their
- * sort keys tell little.  So a key is told by where it leaves the first key
+ * sort keys say little.  So a key is reported by where it leaves the first key
  * that came, the pivot:
  *
  *	- the highest bit: whether it is below the pivot (0) or not (1),

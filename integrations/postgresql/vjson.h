@@ -77,23 +77,23 @@ typedef struct
 	bool		is_extended;	/* whether comments and names without quotes were allowed in it */
 } VjsonRejection;
 
-/* The place of that: the offset of a byte, and what of its line is shown. */
+/* The location of that: the offset of a byte, and what of its line is shown. */
 typedef struct
 {
 	size_t		index;
 	size_t		line;
 	size_t		column;			/* in characters */
 	char	   *shown;
-} VjsonPlace;
+} VjsonLocation;
 
-extern void vjson_locate(const VjsonRejection *why, VjsonPlace *place);
+extern void vjson_locate(const VjsonRejection *why, VjsonLocation *location);
 
 /* The path of the innermost part in which the fault is, in the encoding of the database. NULL if it can't be shown. */
 extern char *vjson_path_of_rejection(const VjsonRejection *why);
 
 /*
- * A copy of the text with zeros and spaces in the place of its numbers.  So what
- * else is wrong has the same place in it.
+ * A copy of the text with zeros and spaces instead of its numbers.  So what
+ * else is wrong has the same location in it.
  */
 extern char *vjson_without_numbers(const char *text, size_t size);
 
@@ -111,7 +111,7 @@ extern bool vjson_take_step(Range key, const VjsonStep *step, Range *part);
 /* The entries of a document in a GIN index: hashes of its scalars and of the names that lead to them. */
 extern Datum *vjson_entries(Datum document, int32 *count);
 
-/* The entries of the names that ? finds, and that of a name as it stands in a key. */
+/* The entries of the names that ? finds, and that of a name as it is in a key. */
 extern Datum *vjson_name_entries(Datum document, int32 *count);
 extern int32 vjson_name_entry(Range name);
 
@@ -154,13 +154,13 @@ typedef struct
 } VjsonWanted;
 
 /*
- * A document as a jsonb.  Where it is told which members are wanted others may
- * be left out, and then it isn't told what is wrong in them.
+ * A document as a jsonb.  Where it is reported which members are wanted others may
+ * be left out, and then it isn't reported what is wrong in them.
  */
 extern Datum vjson_jsonb(Datum document, const VjsonWanted *wanted);
 
-/* The bytes that JsonbValueToJsonb gives of a value whose members are in order, for which there is room. */
-extern Jsonb *vjson_write_jsonb(const JsonbValue *value, size_t room);
+/* The bytes that JsonbValueToJsonb gives of a value whose members are in order, for which there is space. */
+extern Jsonb *vjson_write_jsonb(const JsonbValue *value, size_t capacity);
 
 /* A jsonb as a document. */
 extern Datum vjson_of_jsonb(Datum jsonb);

@@ -11,7 +11,7 @@ from typing import Any, Dict
 from setuptools import Extension, setup
 
 
-def told(variable: str) -> str:
+def outcome(variable: str) -> str:
     """What pkg-config tells of the library, or nothing."""
     try:
         ran = subprocess.run(["pkg-config", "--variable=" + variable, "vizhoniku"], stdin=subprocess.DEVNULL,
@@ -22,10 +22,10 @@ def told(variable: str) -> str:
 
 
 def options() -> Dict[str, Any]:
-    library = os.path.join(told("libdir"), "libvizhoniku.a")
+    library = os.path.join(outcome("libdir"), "libvizhoniku.a")
     if sys.version_info < (3, 10) or not os.path.isabs(library) or not os.path.exists(library):
         return {}
-    module = Extension("vizhoniku._native", ["vizhoniku/_native.c"], include_dirs=[told("includedir")],
+    module = Extension("vizhoniku._native", ["vizhoniku/_native.c"], include_dirs=[outcome("includedir")],
                        define_macros=[("Py_LIMITED_API", "0x030A0000")], py_limited_api=True, extra_objects=[library],
                        extra_compile_args=["-std=c99", "-Wall", "-Wextra", "-fvisibility=hidden"],
                        extra_link_args=["-Wl,--exclude-libs,ALL"], depends=[library])

@@ -56,9 +56,9 @@ def answer(block: str, names: Dict[str, Any]) -> None:
     lines, wanted = block.rstrip("\n").rsplit("  # ", 1)
     front, last = lines.rsplit("\n", 1)
     exec(front, names)
-    told = repr(eval(last, names))
-    if told != wanted:
-        raise AssertionError(f"{told}, and the page has {wanted}")
+    outcome = repr(eval(last, names))
+    if outcome != wanted:
+        raise AssertionError(f"{outcome}, and the page has {wanted}")
 
 
 @unittest.skipIf(MISSING is not None, f"{MISSING} is missing")
@@ -79,8 +79,8 @@ class OfThePage(unittest.TestCase):
 
     def stored(self, value: Any) -> Any:
         """The only document, as the server has it, by jsonb; there is none any more then."""
-        told = self.server.sql("SELECT doc::jsonb FROM docs; DELETE FROM docs")
-        self.assertEqual(json.loads(told), value)
+        outcome = self.server.sql("SELECT doc::jsonb FROM docs; DELETE FROM docs")
+        self.assertEqual(json.loads(outcome), value)
 
     @unittest.skipIf(psycopg is None, "python3-psycopg is missing")
     def test_psycopg(self) -> None:
@@ -158,8 +158,8 @@ class OfThePage(unittest.TestCase):
             self.assertEqual(self.server.sql("SELECT format_type(atttypid, NULL) FROM pg_attribute WHERE attnum = 1 "
                                              "AND attrelid = 'docs'::regclass"), "vjson")
             typed = names["Vjson"](functools.partial(json.loads, parse_float=decimal.Decimal))
-            told = connection.execute(select(sqlalchemy.literal("[1.50]").cast(typed))).fetchone()
-            self.assertEqual(repr(told[0]), "[Decimal('1.50')]")
+            outcome = connection.execute(select(sqlalchemy.literal("[1.50]").cast(typed))).fetchone()
+            self.assertEqual(repr(outcome[0]), "[Decimal('1.50')]")
 
 
 if __name__ == "__main__":

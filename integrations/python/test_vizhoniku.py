@@ -135,7 +135,7 @@ class Calls(unittest.TestCase):
         self.assertEqual(self.rejected("1e5", v.STANDARD).message, "number not carried")
         self.assertEqual(self.rejected('{"a":1e1,"a":2}').code, 17)
 
-    def test_places_behind_exponents(self) -> None:
+    def test_locations_behind_exponents(self) -> None:
         """What is wrong behind a number with an exponent has its place in the text that was passed."""
         long = "1" * 39
         rows: List[Tuple[str, str, Optional[str], int]] = [
@@ -151,19 +151,19 @@ class Calls(unittest.TestCase):
                 index = text.index(at) + len(at) - 1
                 in_bytes = len(text[:index].encode())
                 passed: List[Tuple[Any, int, Any]] = [(text, index, "\n"), (text.encode(), in_bytes, b"\n")]
-                for one, place, feed in passed:
-                    wanted = (place, 1 + one.count(feed, 0, place), place - one[:place].rfind(feed), code)
+                for one, location, feed in passed:
+                    wanted = (location, 1 + one.count(feed, 0, location), location - one[:location].rfind(feed), code)
                     for call in calls:
                         with self.assertRaises(v.RejectedText) as raised:
                             call(one)
                         fault = raised.exception
                         self.assertEqual((fault.index, fault.line, fault.column, fault.code), wanted, one)
                         self.assertIn(path, (fault.path, None))
-        for text, place, code in (("[1e5, x, 1e300]", 7, 5), ("[1e300, x]", 6, 20), ("[1e5, 1e300, x]", 11, 20)):
+        for text, location, code in (("[1e5, x, 1e300]", 7, 5), ("[1e300, x]", 6, 20), ("[1e5, 1e300, x]", 11, 20)):
             for call in calls:  # the first fault
                 with self.assertRaises(v.RejectedText) as raised:
                     call(text)
-                self.assertEqual((raised.exception.column, raised.exception.code), (place, code), text)
+                self.assertEqual((raised.exception.column, raised.exception.code), (location, code), text)
                 self.assertIn(raised.exception.message, ("expected value", "number not carried"))
         with self.assertRaises(v.RejectedText) as raised:
             v.compare("1e1", "[2e1,\n3e1 x]")
@@ -218,7 +218,7 @@ class Calls(unittest.TestCase):
         fault = self.rejected('["é\ud800"]')
         self.assertEqual((str(fault), fault.index), ("line 1, column 5: invalid string", 4))
 
-    def test_a_long_key_is_told_whole(self) -> None:
+    def test_a_long_key_is_named_whole(self) -> None:
         key = "k" * 100_000
         self.assertEqual(self.rejected('{"%s":1,"%s":2}' % (key, key)).message,
                          'duplicate object attribute "%s"' % key)
@@ -259,8 +259,8 @@ class Calls(unittest.TestCase):
         random.Random(1).shuffle(texts)
         by_key = sorted(texts, key=v.sort_key)
         self.assertEqual(by_key, sorted(texts, key=functools.cmp_to_key(v.compare)))
-        place = {text: i for i, line in enumerate(IN_ORDER) for text in line}
-        self.assertEqual([place[text] for text in by_key], sorted(place.values()))
+        location = {text: i for i, line in enumerate(IN_ORDER) for text in line}
+        self.assertEqual([location[text] for text in by_key], sorted(location.values()))
 
     def test_text_and_key(self) -> None:
         longer = ['"' + "\x01" * 1000 + '"', '"' + "\0" * 1000 + '"', "[" + "," * 1000 + "]"]
@@ -928,8 +928,8 @@ class Both(unittest.TestCase):
                 elif call.name.startswith("__") and call.name != "__new__":
                     self.assertTrue(callable(found))
                 else:
-                    told = [(name, one.default) for name, one in inspect.signature(found).parameters.items()]
-                    self.assertEqual(told, self.parameters_of(call), call.name)
+                    outcome = [(name, one.default) for name, one in inspect.signature(found).parameters.items()]
+                    self.assertEqual(outcome, self.parameters_of(call), call.name)
                     compared += 1
         self.assertEqual(compared, 20)
 
@@ -940,8 +940,8 @@ class Both(unittest.TestCase):
             for call in entry.body if isinstance(entry, ast.ClassDef) else [entry]:
                 if isinstance(call, ast.FunctionDef) and calls and not call.name.startswith("_"):
                     words = ast.get_docstring(call) or ""
-                    told = getattr(calls, call.name).__doc__
-                    self.assertEqual(" ".join(told.split()), " ".join(words.split()), call.name)
+                    outcome = getattr(calls, call.name).__doc__
+                    self.assertEqual(" ".join(outcome.split()), " ".join(words.split()), call.name)
 
     def test_version(self) -> None:
         with open(os.path.join(TOP, "include", "vizhoniku.h"), encoding="utf-8") as file:
@@ -1141,7 +1141,7 @@ class InAnInterpreter(unittest.TestCase):
 class Memory(InAnInterpreter):
     def test_out_of_memory(self) -> None:
         """A call that has no memory for the value raises MemoryError, and the process goes on."""
-        told = self.run_with("""
+        outcome = self.run_with("""
 import resource
 import vizhoniku
 # Objects out of order at many levels hold the items, so the library makes a value of the text.
@@ -1154,7 +1154,7 @@ except MemoryError:
     print("MemoryError")
 print(vizhoniku.text("[1, 2]"))
 """)
-        self.assertEqual(told, "MemoryError\n[1,2]")
+        self.assertEqual(outcome, "MemoryError\n[1,2]")
 
 @unittest.skipIf(v.NATIVE, "")
 class Loading(InAnInterpreter):
@@ -1165,20 +1165,20 @@ class Loading(InAnInterpreter):
             return next(line.split(maxsplit=5)[5].strip() for line in maps if "libvizhoniku.so" in line)
 
     def test_by_the_environment_variable(self) -> None:
-        told = self.run_with("import vizhoniku; print(vizhoniku.text('[ ]'))", VIZHONIKU=self.library(),
+        outcome = self.run_with("import vizhoniku; print(vizhoniku.text('[ ]'))", VIZHONIKU=self.library(),
                              LD_LIBRARY_PATH="", PKG_CONFIG_PATH="")
-        self.assertEqual(told, "[]")
+        self.assertEqual(outcome, "[]")
 
-    def test_a_wrong_path_is_told(self) -> None:
-        told = self.run_with("import vizhoniku", VIZHONIKU="/nowhere/libvizhoniku.so.0")
-        self.assertIn("ImportError: the library that VIZHONIKU names can't be loaded: /nowhere/", told)
+    def test_a_wrong_path_is_reported(self) -> None:
+        outcome = self.run_with("import vizhoniku", VIZHONIKU="/nowhere/libvizhoniku.so.0")
+        self.assertIn("ImportError: the library that VIZHONIKU names can't be loaded: /nowhere/", outcome)
 
-    def test_another_library_is_told(self) -> None:
-        told = self.run_with("import vizhoniku", VIZHONIKU="libc.so.6")
-        self.assertIn("ImportError: the library lacks a function: ", told)
+    def test_another_library_is_reported(self) -> None:
+        outcome = self.run_with("import vizhoniku", VIZHONIKU="libc.so.6")
+        self.assertIn("ImportError: the library lacks a function: ", outcome)
 
 
-# A library that stands in for the real one. Each call answers `status`, and rejects a text at its start. Where `waits`
+# A library that is in for the real one. Each call answers `status`, and rejects a text at its start. Where `waits`
 # is set it first waits for `goes_on`, which another thread has to set, for ten seconds at most.
 STAND_IN = r"""
 #define _POSIX_C_SOURCE 200809L
@@ -1347,17 +1347,17 @@ class StandIn(InAnInterpreter):
     def library_of(cls, version: int) -> str:
         return os.path.join(cls.folder_of(version), "libvizhoniku.so.0")
 
-    def test_an_older_library_is_refused(self) -> None:
+    def test_an_older_library_is_rejected(self) -> None:
         for version, wanted in ((VERSION, "0"), (VERSION + 1, "0")):
             self.assertEqual(self.run_with("import vizhoniku; print(vizhoniku.compare('', ''))",
                                            VIZHONIKU=self.library_of(version)), wanted)
-        told = self.run_with("import vizhoniku", VIZHONIKU=self.library_of(VERSION - 1))
-        self.assertEqual(told.splitlines()[-1], f"ImportError: libvizhoniku has interface version {VERSION - 1}, "
+        outcome = self.run_with("import vizhoniku", VIZHONIKU=self.library_of(VERSION - 1))
+        self.assertEqual(outcome.splitlines()[-1], f"ImportError: libvizhoniku has interface version {VERSION - 1}, "
                                                 f"and {VERSION} is needed")
 
     def test_statuses(self) -> None:
         """Each call without memory, with a status that there isn't, and a rejected text without memory for words."""
-        told = self.run_with(OVER_STAND_IN + """
+        outcome = self.run_with(OVER_STAND_IN + """
 for status.value in (2, 3, 4_000_000_000):
     print(status.value, *sorted({told(call) for call in calls.values()}))
 status.value = 1
@@ -1372,15 +1372,15 @@ for path_status.value in (0, 2, 3):
     except MemoryError:
         print("MemoryError")
 """, VIZHONIKU=self.library_of(VERSION))
-        self.assertEqual(told.splitlines(), [
+        self.assertEqual(outcome.splitlines(), [
             "2 MemoryError", "3 RuntimeError", "4000000000 RuntimeError",
             "RejectedText False" + " RejectedText" * 5, "MemoryError False" + " MemoryError" * 5,
             "''", "MemoryError", "None",
         ])
 
     def goes_on(self, **environment: str) -> None:
-        told = self.run_with(WHILE_A_CALL_READS, **environment)
-        self.assertEqual(told.splitlines(), ["check None", "is_valid True", "text ", "sort_key b''",
+        outcome = self.run_with(WHILE_A_CALL_READS, **environment)
+        self.assertEqual(outcome.splitlines(), ["check None", "is_valid True", "text ", "sort_key b''",
                                              "text_and_key ('', b'')", "get ", "compare 0"])
 
     def test_other_threads_go_on(self) -> None:
@@ -1388,24 +1388,24 @@ for path_status.value in (0, 2, 3):
         self.goes_on(VIZHONIKU="", LD_LIBRARY_PATH=self.folder_of(VERSION), PKG_CONFIG_PATH="")
 
     @unittest.skipIf(shutil.which("pkg-config") is None, "pkg-config is missing")
-    def test_where_pkg_config_tells(self) -> None:
+    def test_where_pkg_config_says(self) -> None:
         elsewhere = self.run_with("import ctypes; ctypes.CDLL('libvizhoniku.so.0'); print('found')", LD_LIBRARY_PATH="")
         if elsewhere == "found":
             self.skipTest("the system has a library, which comes first")
         with tempfile.TemporaryDirectory(prefix="two words ") as folder:
-            def tell(libdir: str) -> None:
+            def report(libdir: str) -> None:
                 with open(os.path.join(folder, "vizhoniku.pc"), "w", encoding="utf-8") as file:
                     file.write(f"prefix={folder}\nincludedir={folder}\nlibdir={libdir}\n\n"
                                "Name: vizhoniku\nDescription: stands in\nVersion: 0\n")
 
-            tell(self.folder_of(VERSION))
+            report(self.folder_of(VERSION))
             self.goes_on(VIZHONIKU="", LD_LIBRARY_PATH="", PKG_CONFIG_PATH=folder)
             shutil.copy(self.library_of(VERSION), folder)
-            tell(folder)
+            report(folder)
             self.goes_on(VIZHONIKU="", LD_LIBRARY_PATH="", PKG_CONFIG_PATH=folder)
-            tell(os.path.join(folder, "nowhere"))
-            told = self.run_with("import vizhoniku", VIZHONIKU="", LD_LIBRARY_PATH="", PKG_CONFIG_PATH=folder)
-            self.assertIn("ImportError: libvizhoniku.so.0 is not found", told)
+            report(os.path.join(folder, "nowhere"))
+            outcome = self.run_with("import vizhoniku", VIZHONIKU="", LD_LIBRARY_PATH="", PKG_CONFIG_PATH=folder)
+            self.assertIn("ImportError: libvizhoniku.so.0 is not found", outcome)
 
 
 @unittest.skipIf(lmdb is None, "python3-lmdb is missing")
@@ -1436,7 +1436,7 @@ class InLmdb(unittest.TestCase):
 
     def test_keys_past_the_bound(self) -> None:
         bound = self.environment.max_key_size()
-        front = "x" * (bound - 16 - 1)  # one byte of the key stands before it: such a string is cut behind its x
+        front = "x" * (bound - 16 - 1)  # one byte of the key is before it: such a string is cut behind its x
         texts = [f'"{front[:length]}"' for length in range(len(front) - 5, len(front) + 1)]
         texts += [f'"{front}{end}"' for end in ("a", "b", "c" * 1000, "c" * 1001, "d", "\x00", "")]
         texts += [f'["{front}",{n}]' for n in (3, 1, 2)] + [f'{{"{front}{n}":1}}' for n in range(3)] + ["1", "null"]
@@ -1571,9 +1571,9 @@ class InLmdb(unittest.TestCase):
 class Page(unittest.TestCase):
     @unittest.skipIf(lmdb is None, "python3-lmdb is missing")
     def test_the_examples_of_the_page(self) -> None:
-        told = doctest.testfile(os.path.join(HERE, "README.md"), module_relative=False, encoding="utf-8")
-        self.assertEqual(told.failed, 0)
-        self.assertGreater(told.attempted, 10)
+        outcome = doctest.testfile(os.path.join(HERE, "README.md"), module_relative=False, encoding="utf-8")
+        self.assertEqual(outcome.failed, 0)
+        self.assertGreater(outcome.attempted, 10)
 
 
 if __name__ == "__main__":

@@ -74,10 +74,10 @@ class Shell:
         lines = []
         for line in self.process.stdout:
             if line == "-- that was it\n":
-                told = "".join(lines)
-                if re.search("(?m)^(Parse|Runtime|Error)\\b", told):
-                    raise ValueError(told)
-                return told
+                outcome = "".join(lines)
+                if re.search("(?m)^(Parse|Runtime|Error)\\b", outcome):
+                    raise ValueError(outcome)
+                return outcome
             lines.append(line)
         raise ValueError("sqlite3 ended: " + "".join(lines))
 
@@ -87,10 +87,10 @@ class Shell:
 
     def seconds(self, query):
         """Of the processor, that the query took."""
-        told = self.ask(".timer on\n%s;\n.timer off" % query)
-        times = re.findall(r"^Run Time: real [0-9.]+ user ([0-9.]+) sys ([0-9.]+)$", told, re.M)
+        outcome = self.ask(".timer on\n%s;\n.timer off" % query)
+        times = re.findall(r"^Run Time: real [0-9.]+ user ([0-9.]+) sys ([0-9.]+)$", outcome, re.M)
         if len(times) != 1:
-            raise ValueError("sqlite3 tells no time: " + told)
+            raise ValueError("sqlite3 tells no time: " + outcome)
         return float(times[0][0]) + float(times[0][1])
 
 
@@ -113,10 +113,10 @@ def main():
                     return shell.seconds("SELECT count(%s) FROM counted CROSS JOIN %s_%d WHERE n <= %d"
                                          % (timed.replace("LAST", str(size - 1)), kind, size, calls))
 
-                told = growth.too_fast(time_of)
+                outcome = growth.too_fast(time_of)
                 count += 1
-                if told:
-                    print("%s: %s: %s" % (kind, timed, told))
+                if outcome:
+                    print("%s: %s: %s" % (kind, timed, outcome))
     shell.close()
     print("%d timed" % count)
 

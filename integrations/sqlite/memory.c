@@ -1,7 +1,7 @@
 /* Refuses memory to SQLite and to the extension, one request after the other, and counts what a statement keeps.
  *
  * Linked with vjson.c, compiled with SQLITE_CORE, and with the static library. The linker puts the three functions
- * below in the place of the C library's (--wrap) for both; SQLite is given them too. The status is 1 where a statement
+ * below instead of the C library's (--wrap) for both; SQLite is given them too. The status is 1 where a statement
  * kept memory, or had neither its result nor an error that says that memory is out, or where it changed the database
  * and failed. */
 #include <sqlite3.h>
@@ -14,24 +14,24 @@ void *__real_realloc(void *block, size_t size);
 void __real_free(void *block);
 int sqlite3_vjson_init(sqlite3 *database, char **message, const sqlite3_api_routines *routines);
 
-/* Blocks that are held, requests since the statement began, and which of them is refused, from 0 on, or -1. Where `all`
- * is set, the requests behind that one are refused too. */
-static long held, asked, refused = -1;
+/* Blocks that are held, requests since the statement began, and which of them fails, from 0 on, or -1. Where `all` is
+ * set, the requests behind that one fail too. */
+static long held, asked, failed = -1;
 static int all;
 
-static int is_refused(void) {
+static int is_failing(void) {
   long number = asked++;
-  return refused >= 0 && (number == refused || (all && number > refused));
+  return failed >= 0 && (number == failed || (all && number > failed));
 }
 
 void *__wrap_malloc(size_t size) {
-  void *block = is_refused() ? NULL : __real_malloc(size);
+  void *block = is_failing() ? NULL : __real_malloc(size);
   if (block) held++;
   return block;
 }
 
 void *__wrap_realloc(void *block, size_t size) {
-  void *grown = is_refused() ? NULL : __real_realloc(block, size);
+  void *grown = is_failing() ? NULL : __real_realloc(block, size);
   if (grown && !block) held++;
   return grown;
 }
@@ -110,13 +110,13 @@ static const char *const statements[] = {
     "SELECT * FROM vjson_each('[1]')",
 };
 
-static char told[2][2000];
+static char outcome[2][2000];
 
-/* Runs a statement, and writes its rows or its error to told[at]. */
+/* Runs a statement, and writes its rows or its error to reported[at]. */
 static int run(sqlite3 *database, const char *statement, int at) {
   sqlite3_stmt *prepared = NULL;
   size_t size = 0;
-  told[at][0] = 0;
+  outcome[at][0] = 0;
   int status = sqlite3_prepare_v2(database, statement, -1, &prepared, NULL);
   while (status == SQLITE_OK || status == SQLITE_ROW) {
     status = sqlite3_step(prepared);
@@ -124,12 +124,12 @@ static int run(sqlite3 *database, const char *statement, int at) {
     for (int i = 0; i < sqlite3_column_count(prepared); i++) {
       const char *text = (const char *)sqlite3_column_text(prepared, i);
       if (!text && sqlite3_column_type(prepared, i) != SQLITE_NULL) status = SQLITE_NOMEM;
-      int written = snprintf(told[at] + size, sizeof told[at] - size, "%s|", text ? text : "NULL");
-      size = size + (size_t)written < sizeof told[at] ? size + (size_t)written : sizeof told[at] - 1;
+      int written = snprintf(outcome[at] + size, sizeof outcome[at] - size, "%s|", text ? text : "NULL");
+      size = size + (size_t)written < sizeof outcome[at] ? size + (size_t)written : sizeof outcome[at] - 1;
     }
   }
   if (status != SQLITE_DONE && status != SQLITE_NOMEM)
-    snprintf(told[at], sizeof told[at], "error: %s", sqlite3_errmsg(database));
+    snprintf(outcome[at], sizeof outcome[at], "error: %s", sqlite3_errmsg(database));
   sqlite3_finalize(prepared);
   return status;
 }
@@ -138,9 +138,9 @@ static int run(sqlite3 *database, const char *statement, int at) {
 static unsigned long content_of(sqlite3 *database) {
   run(database, "SELECT count(*) || group_concat(body) FROM docs", 1);
   unsigned long sum = 1;
-  for (const char *at = told[1]; *at; at++) sum = sum * 31 + (unsigned char)*at;
+  for (const char *at = outcome[1]; *at; at++) sum = sum * 31 + (unsigned char)*at;
   run(database, "PRAGMA integrity_check", 1);
-  return strcmp(told[1], "ok|") ? 0 : sum;
+  return strcmp(outcome[1], "ok|") ? 0 : sum;
 }
 
 int main(void) {
@@ -155,7 +155,7 @@ int main(void) {
       long before = held;
       sqlite3 *database;
       char *message = NULL;
-      refused = -1;
+      failed = -1;
       if (sqlite3_open(":memory:", &database) || sqlite3_vjson_init(database, &message, NULL) ||
           sqlite3_exec(database, "CREATE TABLE docs(body TEXT NOT NULL);"
                        "CREATE UNIQUE INDEX by_value ON docs(vjson_key(body));"
@@ -170,16 +170,17 @@ int main(void) {
         sqlite3_close(database);
         continue;
       }
-      char wanted[sizeof told[0]];
-      memcpy(wanted, told[0], sizeof wanted);
+      char wanted[sizeof outcome[0]];
+      memcpy(wanted, outcome[0], sizeof wanted);
       asked = 0;
-      refused = at;
+      failed = at;
       int status = run(database, statement, 1);
       int is_over = asked <= at;
-      refused = -1;
+      failed = -1;
       int is_out = status == SQLITE_NOMEM || status == SQLITE_INTERRUPT;
-      /* Where there is no memory for its words, an error is told in SQLite's own. */
-      int is_right = !strcmp(told[1], wanted) || (!strncmp(told[1], "error: ", 7) && !strncmp(wanted, "error: ", 7));
+      /* Where there is no memory for its words, an error is reported in SQLite's own. */
+      int are_errors = !strncmp(outcome[1], "error: ", 7) && !strncmp(wanted, "error: ", 7);
+      int is_right = !strcmp(outcome[1], wanted) || are_errors;
       int is_done = status == SQLITE_DONE;
       unsigned long now = content_of(database);
       if ((!is_out && !is_right) || !now || (!is_done && now != old)) {

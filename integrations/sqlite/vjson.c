@@ -5,7 +5,7 @@
  *   vjson_error_position(X [, MODE])  0 where X is a document, else the character of the fault, counted from 1
  *   vjson_error(X [, MODE])           what is wrong with X, with line and column; NULL where X is a document
  *   vjson_error_path(X [, MODE])      the path of the innermost part at which X is wrong; NULL where X is a document
- *   vjson_get(X, PATH [, MODE])       the text of X's part at the path (RFC 6901); NULL where nothing stands there
+ *   vjson_get(X, PATH [, MODE])       the text of X's part at the path (RFC 6901); NULL where nothing is there
  *   vjson_key(X [, MODE])             the sort key of X's value, a BLOB: for indexes on expressions
  *   COLLATE VJSON                     texts in the order of their values
  *
@@ -33,7 +33,7 @@ int vjson_read_bytes(sqlite3_context *context, sqlite3_value *value, const unsig
   return 0;
 }
 
-/* Reads the argument that may name a mode. Returns 0 where it names none, which has been told. */
+/* Reads the argument that may name a mode. Returns 0 where it names none, which has been reported. */
 static int read_mode(sqlite3_context *context, int count, sqlite3_value **values, int at, uint32_t *mode) {
   *mode = VIZHONIKU_EXTENDED;
   if (count <= at) return 1;
@@ -45,7 +45,7 @@ static int read_mode(sqlite3_context *context, int count, sqlite3_value **values
   return 0;
 }
 
-/* Reads the arguments of a function that takes a text and perhaps a mode. Returns 0 where the result stands already. */
+/* Reads the arguments of a function that takes a text and perhaps a mode. Returns 0 where the result is already. */
 static int read_arguments(sqlite3_context *context, int count, sqlite3_value **values, const unsigned char **text,
                           size_t *size, uint32_t *mode) {
   if (sqlite3_value_type(values[0]) == SQLITE_NULL) return 0;
@@ -85,17 +85,17 @@ static int read_again(uint32_t mode, uint32_t *status, struct vizhoniku_error *e
   if (*status != VIZHONIKU_REJECTED || mode != VIZHONIKU_EXTENDED || error->code != VIZHONIKU_NUMBER_NOT_CARRIED ||
       text->made)
     return 0;
-  size_t room = text->size + 64, size = 0;
+  size_t capacity = text->size + 64, size = 0;
   unsigned char *made = NULL;
   do {
     sqlite3_free(made);
-    made = sqlite3_malloc64(room);
+    made = sqlite3_malloc64(capacity);
     if (!made) {
       *status = VIZHONIKU_OUT_OF_MEMORY;
       return 0;
     }
-    *status = vizhoniku_plain_numbers(text->at, text->size, made, room, &size, error);
-    room = size;
+    *status = vizhoniku_plain_numbers(text->at, text->size, made, capacity, &size, error);
+    capacity = size;
   } while (*status == VIZHONIKU_TOO_SHORT);
   if (*status != VIZHONIKU_ACCEPTED) {
     sqlite3_free(made);
@@ -138,41 +138,41 @@ static uint32_t find_in_passed(struct read_text *text, struct vizhoniku_error *e
   return status;
 }
 
-/* Checks a text to tell its fault, in the text that was passed. */
+/* Checks a text to say its fault, in the text that was passed. */
 static uint32_t find_fault(uint32_t mode, struct read_text *text, struct vizhoniku_error *error) {
   uint32_t status = check(mode, text, error);
   return status == VIZHONIKU_REJECTED ? find_in_passed(text, error) : status;
 }
 
-/* Writes the place of a fault in words, and returns their size. */
-static size_t write_place(char *words, size_t room, const struct read_text *text, const struct vizhoniku_error *error,
-                          int is_error) {
-  struct vizhoniku_location place;
-  vizhoniku_place(text->at, text->size, error, &place);
-  size_t first = place.index - (place.column - 1);
-  size_t column = text->size ? character_at(text->at, text->size, first, place.index) : 1;
-  return (size_t)snprintf(words, room, "%sline %zu, column %zu: ", is_error ? "malformed JSON: " : "", place.line,
-                          column);
+/* Writes the location of a fault in words, and returns their size. */
+static size_t write_location(char *words, size_t capacity, const struct read_text *text,
+                             const struct vizhoniku_error *error, int is_error) {
+  struct vizhoniku_location location;
+  vizhoniku_place(text->at, text->size, error, &location);
+  size_t first = location.index - (location.column - 1);
+  size_t column = text->size ? character_at(text->at, text->size, first, location.index) : 1;
+  return (size_t)snprintf(words, capacity, "%sline %zu, column %zu: ", is_error ? "malformed JSON: " : "",
+                          location.line, column);
 }
 
-#define TOO_LONG "number not carried" /* as the library tells it of a number without an exponent */
+#define TOO_LONG "number not carried" /* as the library reports it of a number without an exponent */
 
 /* The library's words for an error, after so many bytes that are left free. They have to be freed. Returns NULL where
  * there is no memory. */
 static char *words_of(uint32_t mode, const struct read_text *text, size_t front, size_t *size) {
   char *words = NULL;
-  size_t room = 256;
+  size_t capacity = 256;
   uint32_t status;
   do {
     sqlite3_free(words);
-    if (!(words = sqlite3_malloc64(front + room))) return NULL;
+    if (!(words = sqlite3_malloc64(front + capacity))) return NULL;
     if (text->too_long) {
       *size = sizeof TOO_LONG - 1;
       memcpy(words + front, TOO_LONG, *size);
       return words;
     }
-    status = vizhoniku_reason(mode, text->at, text->size, (unsigned char *)words + front, room, size);
-    room = *size;
+    status = vizhoniku_reason(mode, text->at, text->size, (unsigned char *)words + front, capacity, size);
+    capacity = *size;
   } while (status == VIZHONIKU_TOO_SHORT);
   if (status != VIZHONIKU_REJECTED) {
     sqlite3_free(words);
@@ -182,12 +182,12 @@ static char *words_of(uint32_t mode, const struct read_text *text, size_t front,
 }
 
 /* Gives what is wrong with the text, in words: as the error of the statement, or as the result. */
-static void tell(sqlite3_context *context, uint32_t mode, uint32_t status, const struct vizhoniku_error *error,
-                 const struct read_text *text, int is_error) {
+static void report(sqlite3_context *context, uint32_t mode, uint32_t status, const struct vizhoniku_error *error,
+                   const struct read_text *text, int is_error) {
   char front[128], *words = NULL;
   size_t front_size = 0, size;
   if (status == VIZHONIKU_REJECTED) {
-    front_size = write_place(front, sizeof front, text, error, is_error);
+    front_size = write_location(front, sizeof front, text, error, is_error);
     words = words_of(mode, text, front_size, &size);
   }
   if (!words) {
@@ -224,7 +224,7 @@ static void call_error_position(sqlite3_context *context, int count, sqlite3_val
   size_t size;
   const unsigned char *text;
   struct vizhoniku_error error;
-  struct vizhoniku_location place;
+  struct vizhoniku_location location;
   if (!read_arguments(context, count, values, &text, &size, &mode)) return;
   struct read_text read = as_passed(text, size);
   uint32_t status = find_fault(mode, &read, &error);
@@ -233,8 +233,8 @@ static void call_error_position(sqlite3_context *context, int count, sqlite3_val
   } else if (status == VIZHONIKU_ACCEPTED) {
     sqlite3_result_int(context, 0);
   } else {
-    vizhoniku_place(read.at, read.size, &error, &place);
-    sqlite3_result_int64(context, size ? (sqlite3_int64)character_at(read.at, read.size, 0, place.index) : 1);
+    vizhoniku_place(read.at, read.size, &error, &location);
+    sqlite3_result_int64(context, size ? (sqlite3_int64)character_at(read.at, read.size, 0, location.index) : 1);
   }
   sqlite3_free(read.made);
 }
@@ -247,13 +247,13 @@ static void call_error(sqlite3_context *context, int count, sqlite3_value **valu
   if (!read_arguments(context, count, values, &text, &size, &mode)) return;
   struct read_text read = as_passed(text, size);
   uint32_t status = find_fault(mode, &read, &error);
-  if (status != VIZHONIKU_ACCEPTED) tell(context, mode, status, &error, &read, 0);
+  if (status != VIZHONIKU_ACCEPTED) report(context, mode, status, &error, &read, 0);
   sqlite3_free(read.made);
 }
 
 static void call_error_path(sqlite3_context *context, int count, sqlite3_value **values) {
   uint32_t mode;
-  size_t size, room = 256;
+  size_t size, capacity = 256;
   const unsigned char *text;
   unsigned char *path = NULL;
   struct vizhoniku_error error;
@@ -265,11 +265,12 @@ static void call_error_path(sqlite3_context *context, int count, sqlite3_value *
   if (status == VIZHONIKU_REJECTED) status = VIZHONIKU_TOO_SHORT;
   while (status == VIZHONIKU_TOO_SHORT) {
     sqlite3_free(path);
-    path = sqlite3_malloc64(room);
-    status = !path ? VIZHONIKU_OUT_OF_MEMORY : vizhoniku_error_path(mode, text, size, &error, path, room, &room);
+    path = sqlite3_malloc64(capacity);
+    status = !path ? VIZHONIKU_OUT_OF_MEMORY
+                   : vizhoniku_error_path(mode, text, size, &error, path, capacity, &capacity);
   }
   if (status == VIZHONIKU_ACCEPTED) {
-    sqlite3_result_text64(context, (char *)path, room, sqlite3_free, SQLITE_UTF8);
+    sqlite3_result_text64(context, (char *)path, capacity, sqlite3_free, SQLITE_UTF8);
     return;
   }
   sqlite3_free(path);
@@ -287,26 +288,26 @@ static void give_written(sqlite3_context *context, enum what what, uint32_t mode
   struct vizhoniku_error error;
   struct read_text read = as_passed(text, size);
   unsigned char small[1024], *buffer = small;
-  size_t room = what == PART || size <= sizeof small - 64 ? sizeof small : size + 64;
+  size_t capacity = what == PART || size <= sizeof small - 64 ? sizeof small : size + 64;
   for (;;) {
-    if (room > sizeof small && !(buffer = sqlite3_malloc64(room))) {
+    if (capacity > sizeof small && !(buffer = sqlite3_malloc64(capacity))) {
       sqlite3_free(read.made);
       sqlite3_result_error_nomem(context);
       return;
     }
     if (what == TEXT)
-      status = vizhoniku_text(mode, read.at, read.size, buffer, room, &written, &error);
+      status = vizhoniku_text(mode, read.at, read.size, buffer, capacity, &written, &error);
     else if (what == KEY)
-      status = vizhoniku_sort_key(mode, read.at, read.size, buffer, room, &written, &error);
+      status = vizhoniku_sort_key(mode, read.at, read.size, buffer, capacity, &written, &error);
     else
-      status = vizhoniku_part(mode, path, path_size, read.at, read.size, buffer, room, &written, &error);
+      status = vizhoniku_part(mode, path, path_size, read.at, read.size, buffer, capacity, &written, &error);
     if (read_again(mode, &status, &error, &read))
-      written = room;
+      written = capacity;
     else if (status != VIZHONIKU_TOO_SHORT)
       break;
     if (buffer != small) sqlite3_free(buffer);
     buffer = small;
-    room = written;
+    capacity = written;
   }
   if (status == VIZHONIKU_ACCEPTED) {
     sqlite3_free(read.made);
@@ -323,7 +324,7 @@ static void give_written(sqlite3_context *context, enum what what, uint32_t mode
   if (status == VIZHONIKU_NO_PATH)
     sqlite3_result_error(context, MALFORMED_PATH, -1);
   else if (status != VIZHONIKU_NO_PART)
-    tell(context, mode, status == VIZHONIKU_REJECTED ? find_in_passed(&read, &error) : status, &error, &read, 1);
+    report(context, mode, status == VIZHONIKU_REJECTED ? find_in_passed(&read, &error) : status, &error, &read, 1);
   sqlite3_free(read.made);
 }
 

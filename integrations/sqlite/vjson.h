@@ -15,7 +15,7 @@
 
 #define MALFORMED_PATH "malformed path: it is empty or begins with /, and ~ stands only in ~0 and ~1"
 
-/* Reads an argument's bytes. Returns 0 where there is no memory for them, which has been told. */
+/* Reads an argument's bytes. Returns 0 where there is no memory for them, which has been reported. */
 int vjson_read_bytes(sqlite3_context *context, sqlite3_value *value, const unsigned char **bytes, size_t *size);
 
 /* Adds the functions over sort keys, and the tables vjson_each and vjson_tree. */

@@ -1,4 +1,4 @@
-/* Sort keys as stored documents: what stands in them, found by the library in their bytes.
+/* Sort keys as stored documents: what is in them, found by the library in their bytes.
  *
  *   vjson_key_valid(KEY)            1 where KEY is a sort key, else 0
  *   vjson_key_get(KEY, PATH)        the key of the part at the path (RFC 6901), a BLOB; NULL where there is none
@@ -33,9 +33,9 @@ struct key {
   size_t size;
 };
 
-/* Tells what is wrong, by the status of a call that didn't find what it was asked for. That nothing is there is no
+/* Says what is wrong, by the status of a call that didn't find what it was asked for. That nothing is there is no
  * error. */
-static void tell_status(sqlite3_context *context, uint32_t status) {
+static void report_status(sqlite3_context *context, uint32_t status) {
   if (status == VIZHONIKU_OUT_OF_MEMORY)
     sqlite3_result_error_nomem(context);
   else if (status == VIZHONIKU_NO_PATH)
@@ -44,7 +44,7 @@ static void tell_status(sqlite3_context *context, uint32_t status) {
     sqlite3_result_error(context, NO_KEY, -1);
 }
 
-/* Reads a key and, where there is a second argument, finds the part at that path. Returns 0 where the result stands
+/* Reads a key and, where there is a second argument, finds the part at that path. Returns 0 where the result is
  * already: NULL, or an error. */
 static int read_part(sqlite3_context *context, int count, sqlite3_value **values, struct key *part) {
   const unsigned char *path;
@@ -52,7 +52,7 @@ static int read_part(sqlite3_context *context, int count, sqlite3_value **values
   if (sqlite3_value_type(values[0]) == SQLITE_NULL) return 0;
   if (count > 1 && sqlite3_value_type(values[1]) == SQLITE_NULL) return 0;
   if (sqlite3_value_type(values[0]) != SQLITE_BLOB) {
-    tell_status(context, VIZHONIKU_NO_KEY);
+    report_status(context, VIZHONIKU_NO_KEY);
     return 0;
   }
   if (!vjson_read_bytes(context, values[0], &part->at, &part->size)) return 0;
@@ -60,7 +60,7 @@ static int read_part(sqlite3_context *context, int count, sqlite3_value **values
   if (!vjson_read_bytes(context, values[1], &path, &path_size)) return 0;
   uint32_t status = vizhoniku_key_part(part->at, part->size, path, path_size, &offset, &part->size);
   if (status != VIZHONIKU_ACCEPTED) {
-    tell_status(context, status);
+    report_status(context, status);
     return 0;
   }
   part->at += offset;
@@ -81,19 +81,19 @@ static void free_written(struct written *written) {
 /* Writes the text of a value or, where `is_string` is set, what a string is made of. */
 static uint32_t write_text(struct key key, int is_string, struct written *written) {
   uint32_t status;
-  size_t room = key.size <= SMALL ? SMALL : key.size + 64;
+  size_t capacity = key.size <= SMALL ? SMALL : key.size + 64;
   written->at = written->small;
   for (;;) {
-    if (room > SMALL && !(written->at = sqlite3_malloc64(room))) return VIZHONIKU_OUT_OF_MEMORY;
+    if (capacity > SMALL && !(written->at = sqlite3_malloc64(capacity))) return VIZHONIKU_OUT_OF_MEMORY;
     if (is_string)
-      status = vizhoniku_key_string(key.at, key.size, written->at, room, &written->size);
+      status = vizhoniku_key_string(key.at, key.size, written->at, capacity, &written->size);
     else
-      status = vizhoniku_key_text(key.at, key.size, written->at, room, &written->size);
+      status = vizhoniku_key_text(key.at, key.size, written->at, capacity, &written->size);
     if (status == VIZHONIKU_ACCEPTED) return status;
     free_written(written);
     written->at = written->small;
     if (status != VIZHONIKU_TOO_SHORT) return status;
-    room = written->size > SMALL ? written->size : SMALL + 1;
+    capacity = written->size > SMALL ? written->size : SMALL + 1;
   }
 }
 
@@ -101,7 +101,7 @@ static void give_text(sqlite3_context *context, struct key key, int is_string) {
   struct written written;
   uint32_t status = write_text(key, is_string, &written);
   if (status != VIZHONIKU_ACCEPTED)
-    tell_status(context, status);
+    report_status(context, status);
   else
     sqlite3_result_text64(context, (char *)written.at, written.size,
                           written.at == written.small ? SQLITE_TRANSIENT : sqlite3_free, SQLITE_UTF8);
@@ -118,7 +118,7 @@ static void give_number(sqlite3_context *context, struct key key) {
   struct written written;
   uint32_t status = write_text(key, 0, &written);
   if (status != VIZHONIKU_ACCEPTED) {
-    tell_status(context, status);
+    report_status(context, status);
     return;
   }
   if (written.size < 32 && !memchr(written.at, '.', written.size)) {
@@ -159,7 +159,7 @@ static int give_scalar(sqlite3_context *context, struct key key) {
     give_text(context, key, 1);
     return 1;
   case VIZHONIKU_NO_KIND:
-    tell_status(context, VIZHONIKU_NO_KEY);
+    report_status(context, VIZHONIKU_NO_KEY);
     return 1;
   default:
     return 0;
@@ -175,7 +175,7 @@ static void give_type(sqlite3_context *context, struct key key) {
   uint32_t status;
   switch (kind) {
   case VIZHONIKU_NO_KIND:
-    tell_status(context, VIZHONIKU_NO_KEY);
+    report_status(context, VIZHONIKU_NO_KEY);
     return;
   case VIZHONIKU_BOOLEAN:
     sqlite3_result_text(context, is_true(key) ? "true" : "false", -1, SQLITE_STATIC);
@@ -183,7 +183,7 @@ static void give_type(sqlite3_context *context, struct key key) {
   case VIZHONIKU_NUMBER:
     status = write_text(key, 0, &written);
     if (status != VIZHONIKU_ACCEPTED) {
-      tell_status(context, status);
+      report_status(context, status);
       return;
     }
     sqlite3_result_text(context, memchr(written.at, '.', written.size) ? "real" : "integer", -1, SQLITE_STATIC);
@@ -253,9 +253,9 @@ struct walk {
   char *root; /* the path of the argument */
   size_t root_size;
   char *path; /* of the innermost level */
-  size_t path_room;
+  size_t path_capacity;
   struct level *levels; /* the innermost one last */
-  size_t depth, room;
+  size_t depth, capacity;
   int is_over, is_root; /* whether the row is the root */
   sqlite3_int64 row;
   struct key part; /* of the row */
@@ -274,7 +274,7 @@ static int fail_with(struct walk *walk, uint32_t status) {
   return fail(walk, status == VIZHONIKU_NO_PATH ? MALFORMED_PATH : NO_KEY);
 }
 
-/* Writes the name or the index of the row as it stands in a path: behind a slash, with ~ as ~0 and / as ~1. */
+/* Writes the name or the index of the row as it is in a path: behind a slash, with ~ as ~0 and / as ~1. */
 static uint32_t write_step(const struct walk *walk, const struct level *level, char **step, size_t *size) {
   size_t name_size;
   *step = sqlite3_malloc64(3 * walk->name.size + 24);
@@ -300,11 +300,11 @@ static int enter(struct walk *walk) {
   struct level level = {walk->part, {0, 0}, 0, walk->root_size};
   uint32_t status = vizhoniku_key_begin(level.key.at, level.key.size, &level.next);
   if (status != VIZHONIKU_ACCEPTED) return fail_with(walk, status);
-  if (walk->depth == walk->room) {
-    struct level *grown = sqlite3_realloc64(walk->levels, (2 * walk->room + 8) * sizeof *grown);
+  if (walk->depth == walk->capacity) {
+    struct level *grown = sqlite3_realloc64(walk->levels, (2 * walk->capacity + 8) * sizeof *grown);
     if (!grown) return SQLITE_NOMEM;
     walk->levels = grown;
-    walk->room = 2 * walk->room + 8;
+    walk->capacity = 2 * walk->capacity + 8;
   }
   if (!walk->is_root) {
     const struct level *around = &walk->levels[walk->depth - 1];
@@ -313,14 +313,14 @@ static int enter(struct walk *walk) {
     status = write_step(walk, around, &step, &size);
     if (status != VIZHONIKU_ACCEPTED) return fail_with(walk, status);
     level.path_size = around->path_size + size;
-    if (level.path_size > walk->path_room) {
+    if (level.path_size > walk->path_capacity) {
       char *grown = sqlite3_realloc64(walk->path, 2 * level.path_size);
       if (!grown) {
         sqlite3_free(step);
         return SQLITE_NOMEM;
       }
       walk->path = grown;
-      walk->path_room = 2 * level.path_size;
+      walk->path_capacity = 2 * level.path_size;
     }
     memcpy(walk->path + around->path_size, step, size);
     sqlite3_free(step);
@@ -389,7 +389,7 @@ static void *copy_of(sqlite3_value *value, size_t *size) {
   return copy;
 }
 
-/* Begins a walk over the part at the path. `index` tells whether there is a key and a path. */
+/* Begins a walk over the part at the path. `index` says whether there is a key and a path. */
 static int walk_filter(sqlite3_vtab_cursor *cursor, int index, const char *words, int count, sqlite3_value **values) {
   struct walk *walk = (struct walk *)cursor;
   size_t offset;
@@ -403,7 +403,7 @@ static int walk_filter(sqlite3_vtab_cursor *cursor, int index, const char *words
     if (!(walk->root = copy_of(values[1], &walk->root_size))) return SQLITE_NOMEM;
     if (!(walk->path = sqlite3_malloc64(walk->root_size + 1))) return SQLITE_NOMEM;
     memcpy(walk->path, walk->root, walk->root_size);
-    walk->path_room = walk->root_size;
+    walk->path_capacity = walk->root_size;
   }
   walk->part.at = walk->key;
   uint32_t status = vizhoniku_key_part(walk->key, walk->key_size, (const unsigned char *)walk->root, walk->root_size,
@@ -446,7 +446,7 @@ static void give_root_name(sqlite3_context *context, const struct walk *walk) {
   uint32_t status =
       vizhoniku_key_part(walk->key, walk->key_size, (const unsigned char *)walk->root, front, &offset, &size);
   if (status != VIZHONIKU_ACCEPTED)
-    tell_status(context, status);
+    report_status(context, status);
   else if (vizhoniku_key_kind(walk->key + offset, size) == VIZHONIKU_ARRAY)
     sqlite3_result_int64(context, strtoll(name, NULL, 10));
   else
@@ -465,7 +465,7 @@ static void give_name(sqlite3_context *context, const struct walk *walk) {
     sqlite3_result_error_nomem(context);
   else if (vizhoniku_key_name(walk->name.at, walk->name.size, name, walk->name.size, &size) != VIZHONIKU_ACCEPTED) {
     sqlite3_free(name);
-    tell_status(context, VIZHONIKU_NO_KEY);
+    report_status(context, VIZHONIKU_NO_KEY);
   } else
     sqlite3_result_text64(context, (char *)name, size, sqlite3_free, SQLITE_UTF8);
 }
@@ -476,7 +476,7 @@ static void give_full_path(sqlite3_context *context, const struct walk *walk) {
   size_t size;
   uint32_t status = write_step(walk, level, &step, &size);
   if (status != VIZHONIKU_ACCEPTED) {
-    tell_status(context, status);
+    report_status(context, status);
     return;
   }
   whole = sqlite3_realloc64(step, level->path_size + size);

@@ -26,7 +26,7 @@ class _Error(ctypes.Structure):
     _fields_ = [("code", ctypes.c_uint32), ("which", ctypes.c_uint32), ("position", ctypes.c_size_t)]
 
 
-class _Place(ctypes.Structure):
+class _Location(ctypes.Structure):
     _fields_ = [("index", ctypes.c_size_t), ("line", ctypes.c_size_t), ("column", ctypes.c_size_t)]
 
 
@@ -50,9 +50,9 @@ def _open() -> ctypes.CDLL:
     except OSError:
         pass
     try:
-        told = subprocess.run(["pkg-config", "--variable=libdir", "vizhoniku"], stdin=subprocess.DEVNULL,
+        outcome = subprocess.run(["pkg-config", "--variable=libdir", "vizhoniku"], stdin=subprocess.DEVNULL,
                               stdout=subprocess.PIPE, stderr=subprocess.DEVNULL, check=True)
-        return ctypes.CDLL(os.path.join(os.fsdecode(told.stdout.rstrip(b"\n")), _SONAME))
+        return ctypes.CDLL(os.path.join(os.fsdecode(outcome.stdout.rstrip(b"\n")), _SONAME))
     except (OSError, subprocess.CalledProcessError):
         raise ImportError(f"{_SONAME} is not found: name its path in the environment variable VIZHONIKU") from None
 
@@ -62,7 +62,7 @@ def _load() -> ctypes.CDLL:
     mode, size, status = ctypes.c_uint32, ctypes.c_size_t, ctypes.c_uint32
     text_in: List[Any] = [ctypes.c_char_p, size]
     text_out: List[Any] = [ctypes.c_void_p, size, ctypes.POINTER(size)]
-    error, place = ctypes.POINTER(_Error), ctypes.POINTER(_Place)
+    error, location = ctypes.POINTER(_Error), ctypes.POINTER(_Location)
     try:
         library.vizhoniku_version.argtypes = []
         library.vizhoniku_version.restype = ctypes.c_uint32
@@ -76,7 +76,7 @@ def _load() -> ctypes.CDLL:
         library.vizhoniku_text_and_key.argtypes = [mode, *text_in, *text_out, *text_out, error]
         library.vizhoniku_compare.argtypes = [mode, *text_in, *text_in, ctypes.POINTER(ctypes.c_int32), error]
         library.vizhoniku_reason.argtypes = [mode, *text_in, *text_out]
-        library.vizhoniku_place.argtypes = [*text_in, error, place]
+        library.vizhoniku_place.argtypes = [*text_in, error, location]
         library.vizhoniku_plain_numbers.argtypes = [*text_in, *text_out, error]
         library.vizhoniku_masked_numbers.argtypes = [*text_in, *text_out]
         library.vizhoniku_error_path.argtypes = [mode, *text_in, error, *text_out]
@@ -112,7 +112,7 @@ _library = _load()
 
 
 def _bytes(text: Text) -> bytes:
-    # Half of a surrogate pair in a str becomes three bytes that aren't UTF-8, which the library rejects at their place.
+    # Half of a surrogate pair in a str becomes three bytes that aren't UTF-8, which the library rejects there.
     if isinstance(text, str):
         return text.encode("utf-8", "surrogatepass")
     if isinstance(text, (bytes, bytearray, memoryview)):
@@ -125,31 +125,31 @@ def _mode(mode: int) -> int:
 
 
 def _words(mode: int, data: bytes) -> bytes:
-    room = 256
+    capacity = 256
     while True:
-        buffer, size = ctypes.create_string_buffer(room), ctypes.c_size_t()
-        status = _library.vizhoniku_reason(mode, data, len(data), buffer, room, size)
+        buffer, size = ctypes.create_string_buffer(capacity), ctypes.c_size_t()
+        status = _library.vizhoniku_reason(mode, data, len(data), buffer, capacity, size)
         if status != _TOO_SHORT:
             break
-        room = size.value
+        capacity = size.value
     if status == _OUT_OF_MEMORY:
         raise MemoryError
     return ctypes.string_at(buffer, size.value)
 
 
 _NOT_CARRIED = 20  # the code of a number that isn't representable
-_TOO_LONG = b"number not carried"  # as the library tells it of a number without an exponent
+_TOO_LONG = b"number not carried"  # as the library reports it of a number without an exponent
 
 
 def _path(mode: int, data: bytes, error: _Error) -> Optional[str]:
     """The path of the innermost item or member at which the text was rejected."""
-    room = 256
+    capacity = 256
     while True:
-        buffer, size = ctypes.create_string_buffer(room), ctypes.c_size_t()
-        status = _library.vizhoniku_error_path(mode, data, len(data), error, buffer, room, size)
+        buffer, size = ctypes.create_string_buffer(capacity), ctypes.c_size_t()
+        status = _library.vizhoniku_error_path(mode, data, len(data), error, buffer, capacity, size)
         if status != _TOO_SHORT:
             break
-        room = size.value
+        capacity = size.value
     if status == _OUT_OF_MEMORY:
         raise MemoryError
     return ctypes.string_at(buffer, size.value).decode("utf-8", "replace") if status == _ACCEPTED else None
@@ -157,10 +157,10 @@ def _path(mode: int, data: bytes, error: _Error) -> Optional[str]:
 
 def _rejected(mode: int, error: _Error, text: Text, data: bytes, words: Optional[bytes] = None) -> RejectedText:
     """The error of a text, of which the data are the bytes, or are those with numbers masked."""
-    place = _Place()
-    _library.vizhoniku_place(data, len(data), error, place)
+    location = _Location()
+    _library.vizhoniku_place(data, len(data), error, location)
     return rejection(text, data, _words(mode, data) if words is None else words, error.code, error.which,
-                     place.index, place.line, place.column, _path(mode, _bytes(text), error))
+                     location.index, location.line, location.column, _path(mode, _bytes(text), error))
 
 
 def _of_the_user(text: Text, data: bytes, fault: RejectedText) -> RejectedText:
@@ -195,13 +195,13 @@ def _raise(status: int, mode: int, error: _Error, texts: List[Tuple[Text, bytes]
 
 def _plain(text: Text, data: bytes, which: int) -> bytes:
     """The bytes with each number that has an exponent written out."""
-    error, size, room = _Error(), ctypes.c_size_t(), len(data) + 64
+    error, size, capacity = _Error(), ctypes.c_size_t(), len(data) + 64
     while True:
-        buffer = ctypes.create_string_buffer(room)
-        status = _library.vizhoniku_plain_numbers(data, len(data), buffer, room, size, error)
+        buffer = ctypes.create_string_buffer(capacity)
+        status = _library.vizhoniku_plain_numbers(data, len(data), buffer, capacity, size, error)
         if status != _TOO_SHORT:
             break
-        room = size.value
+        capacity = size.value
     if status == _REJECTED:
         error.which = which
         raise _of_the_user(text, data, _rejected(EXTENDED, error, text, data, _TOO_LONG))
@@ -255,13 +255,13 @@ def is_valid(text: Text, mode: int = EXTENDED) -> bool:
 def text(text: Text, mode: int = EXTENDED) -> str:
     """The text of the document's value: no whitespace, and members in the order of their keys' bytes."""
     mode, data, error, size = _mode(mode), _bytes(text), _Error(), ctypes.c_size_t()
-    room = len(data) + 16
+    capacity = len(data) + 16
     while True:
-        buffer = ctypes.create_string_buffer(room)
-        status = _library.vizhoniku_text(mode, data, len(data), buffer, room, size, error)
+        buffer = ctypes.create_string_buffer(capacity)
+        status = _library.vizhoniku_text(mode, data, len(data), buffer, capacity, size, error)
         if status != _TOO_SHORT:
             break
-        room = size.value
+        capacity = size.value
     _raise(status, mode, error, [(text, data)])
     return ctypes.string_at(buffer, size.value).decode()
 
@@ -270,13 +270,13 @@ def text(text: Text, mode: int = EXTENDED) -> str:
 def sort_key(text: Text, mode: int = EXTENDED) -> bytes:
     """Bytes that compare as the values of documents do: equal for equal values, and none the beginning of others."""
     mode, data, error, size = _mode(mode), _bytes(text), _Error(), ctypes.c_size_t()
-    room = len(data) + 64
+    capacity = len(data) + 64
     while True:
-        buffer = ctypes.create_string_buffer(room)
-        status = _library.vizhoniku_sort_key(mode, data, len(data), buffer, room, size, error)
+        buffer = ctypes.create_string_buffer(capacity)
+        status = _library.vizhoniku_sort_key(mode, data, len(data), buffer, capacity, size, error)
         if status != _TOO_SHORT:
             break
-        room = size.value
+        capacity = size.value
     _raise(status, mode, error, [(text, data)])
     return ctypes.string_at(buffer, size.value)
 
@@ -286,14 +286,14 @@ def text_and_key(text: Text, mode: int = EXTENDED) -> Tuple[str, bytes]:
     """What text and sort_key return, of one reading."""
     mode, data, error = _mode(mode), _bytes(text), _Error()
     size, key_size = ctypes.c_size_t(), ctypes.c_size_t()
-    room, key_room = len(data) + 16, len(data) + 64
+    capacity, key_capacity = len(data) + 16, len(data) + 64
     while True:
-        buffer, key_buffer = ctypes.create_string_buffer(room), ctypes.create_string_buffer(key_room)
-        status = _library.vizhoniku_text_and_key(mode, data, len(data), buffer, room, size, key_buffer, key_room,
-                                                 key_size, error)
+        buffer, key_buffer = ctypes.create_string_buffer(capacity), ctypes.create_string_buffer(key_capacity)
+        status = _library.vizhoniku_text_and_key(mode, data, len(data), buffer, capacity, size,
+                                                 key_buffer, key_capacity, key_size, error)
         if status != _TOO_SHORT:
             break
-        room, key_room = size.value, key_size.value
+        capacity, key_capacity = size.value, key_size.value
     _raise(status, mode, error, [(text, data)])
     return ctypes.string_at(buffer, size.value).decode(), ctypes.string_at(key_buffer, key_size.value)
 
@@ -306,13 +306,14 @@ def get(text: Text, path: Text, mode: int = EXTENDED) -> Optional[str]:
     isn't spelled so.
     """
     mode, data, path_data, error = _mode(mode), _bytes(text), _bytes(path), _Error()
-    size, room = ctypes.c_size_t(), 256
+    size, capacity = ctypes.c_size_t(), 256
     while True:
-        buffer = ctypes.create_string_buffer(room)
-        status = _library.vizhoniku_part(mode, path_data, len(path_data), data, len(data), buffer, room, size, error)
+        buffer = ctypes.create_string_buffer(capacity)
+        status = _library.vizhoniku_part(mode, path_data, len(path_data), data, len(data), buffer, capacity, size,
+                                         error)
         if status != _TOO_SHORT:
             break
-        room = size.value
+        capacity = size.value
     if status == _NO_PART:
         return None
     if status == _NO_PATH:
@@ -403,13 +404,13 @@ class Key:
 
     def text(self) -> str:
         """The text of the value, with the fewest digits in each number."""
-        room, size = len(self._data) + 64, ctypes.c_size_t()
+        capacity, size = len(self._data) + 64, ctypes.c_size_t()
         while True:
-            buffer = ctypes.create_string_buffer(room)
-            status = _library.vizhoniku_key_text(self._data, len(self._data), buffer, room, size)
+            buffer = ctypes.create_string_buffer(capacity)
+            status = _library.vizhoniku_key_text(self._data, len(self._data), buffer, capacity, size)
             if status != _TOO_SHORT:
                 break
-            room = size.value
+            capacity = size.value
         _raise_of_key(status)
         return ctypes.string_at(buffer, size.value).decode()
 
@@ -477,13 +478,13 @@ class Key:
 
     def _changed(self, call: Callable[..., int], more: int) -> "Key":
         """What the call writes, of as many bytes more than the key has, or a few more."""
-        room, size = len(self._data) + more + 64, ctypes.c_size_t()
+        capacity, size = len(self._data) + more + 64, ctypes.c_size_t()
         while True:
-            buffer = ctypes.create_string_buffer(room)
-            status = call(buffer, room, size)
+            buffer = ctypes.create_string_buffer(capacity)
+            status = call(buffer, capacity, size)
             if status != _TOO_SHORT:
                 break
-            room = size.value
+            capacity = size.value
         if status == _NO_PART:
             return self
         _raise_of_key(status)

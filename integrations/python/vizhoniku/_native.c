@@ -56,7 +56,7 @@ static void raise_type(const char *words, PyObject *object) {
 }
 
 /* Reads a text. Half of a surrogate pair in a str becomes three bytes that aren't UTF-8, which the library rejects at
- * their place. Bytes that another thread can change are copied. Returns 0 where an exception is raised. */
+ * their location. Bytes that another thread can change are copied. Returns 0 where an exception is raised. */
 static int read_text(PyObject *object, const char *words, struct text *text) {
   Py_ssize_t size;
   text->holder = NULL;
@@ -134,14 +134,14 @@ static int read_mode(const struct state *state, PyObject *object, uint32_t *mode
 /* The words of the library for a rejected text, as bytes. */
 static PyObject *words_of(uint32_t mode, const struct text *text) {
   unsigned char small[256], *words = small;
-  size_t room = sizeof small, size;
+  size_t capacity = sizeof small, size;
   uint32_t status;
   for (;;) {
-    status = vizhoniku_reason(mode, text->at, text->size, words, room, &size);
+    status = vizhoniku_reason(mode, text->at, text->size, words, capacity, &size);
     if (status != VIZHONIKU_TOO_SHORT) break;
     if (words != small) PyMem_Free(words);
-    room = size;
-    if (!(words = PyMem_Malloc(room))) return PyErr_NoMemory();
+    capacity = size;
+    if (!(words = PyMem_Malloc(capacity))) return PyErr_NoMemory();
   }
   PyObject *result = status == VIZHONIKU_OUT_OF_MEMORY ? PyErr_NoMemory()
                                                        : PyBytes_FromStringAndSize((char *)words, (Py_ssize_t)size);
@@ -149,17 +149,17 @@ static PyObject *words_of(uint32_t mode, const struct text *text) {
   return result;
 }
 
-/* The path of the innermost item or member at which the text was rejected, or None where it can't be told. */
+/* The path of the innermost item or member at which the text was rejected, or None where it can't be reported. */
 static PyObject *path_of(uint32_t mode, const struct vizhoniku_error *error, const struct text *text) {
   unsigned char small[256], *path = small;
-  size_t room = sizeof small, size;
+  size_t capacity = sizeof small, size;
   uint32_t status;
   for (;;) {
-    status = vizhoniku_error_path(mode, text->at, text->size, error, path, room, &size);
+    status = vizhoniku_error_path(mode, text->at, text->size, error, path, capacity, &size);
     if (status != VIZHONIKU_TOO_SHORT) break;
     if (path != small) PyMem_Free(path);
-    room = size;
-    if (!(path = PyMem_Malloc(room))) return PyErr_NoMemory();
+    capacity = size;
+    if (!(path = PyMem_Malloc(capacity))) return PyErr_NoMemory();
   }
   PyObject *result = Py_None;
   if (status == VIZHONIKU_ACCEPTED)
@@ -177,13 +177,13 @@ static PyObject *path_of(uint32_t mode, const struct vizhoniku_error *error, con
 static void raise_rejected(const struct state *state, uint32_t mode, const struct vizhoniku_error *error,
                            PyObject *object, const struct text *text, const struct text *passed,
                            const char *own_words) {
-  struct vizhoniku_location place;
-  vizhoniku_place(text->at, text->size, error, &place);
+  struct vizhoniku_location location;
+  vizhoniku_place(text->at, text->size, error, &location);
   PyObject *words = own_words ? PyBytes_FromString(own_words) : words_of(mode, text);
   PyObject *path = words ? path_of(mode, error, passed) : NULL;
   PyObject *raised = !path ? NULL : PyObject_CallFunction(
       state->rejection, "Oy#OIInnnO", object, (const char *)text->at, (Py_ssize_t)text->size, words, error->code,
-      error->which, (Py_ssize_t)place.index, (Py_ssize_t)place.line, (Py_ssize_t)place.column, path);
+      error->which, (Py_ssize_t)location.index, (Py_ssize_t)location.line, (Py_ssize_t)location.column, path);
   Py_XDECREF(words);
   Py_XDECREF(path);
   if (!raised) return;
@@ -191,7 +191,7 @@ static void raise_rejected(const struct state *state, uint32_t mode, const struc
   Py_DECREF(raised);
 }
 
-/* Masks the numbers of a text that have an exponent, and finds what is wrong with it then: at the same place as in the
+/* Masks the numbers of a text that have an exponent, and finds what is wrong with it then: at the same offset as in the
  * text, since each byte stays where it is. Returns 0 where it isn't rejected, or an exception is raised. */
 static int check_masked(const struct text *text, struct text *masked, struct vizhoniku_error *error) {
   masked->holder = PyBytes_FromStringAndSize(NULL, (Py_ssize_t)text->size);
@@ -204,7 +204,7 @@ static int check_masked(const struct text *text, struct text *masked, struct viz
   return status == VIZHONIKU_REJECTED;
 }
 
-#define TOO_LONG "number not carried" /* as the library tells it of a number without an exponent */
+#define TOO_LONG "number not carried" /* as the library reports it of a number without an exponent */
 
 static const char *words_for(const struct vizhoniku_error *error) {
   return error->code == VIZHONIKU_NUMBER_NOT_CARRIED ? TOO_LONG : NULL;
@@ -244,12 +244,12 @@ static void raise_status(const struct state *state, uint32_t status) {
 struct written {
   unsigned char small[SMALL];
   unsigned char *at;
-  size_t room, size;
+  size_t capacity, size;
 };
 
 static void begin_written(struct written *written) {
   written->at = written->small;
-  written->room = SMALL;
+  written->capacity = SMALL;
   written->size = 0;
 }
 
@@ -257,13 +257,13 @@ static void free_written(struct written *written) {
   if (written->at != written->small) PyMem_Free(written->at);
 }
 
-/* Makes room for so many bytes, which needn't be the same as before. Returns 0 where an exception is raised. */
-static int make_room(struct written *written, size_t room) {
-  if (room <= written->room) return 1;
+/* Makes space for so many bytes, which needn't be the same as before. Returns 0 where an exception is raised. */
+static int ensure_capacity(struct written *written, size_t capacity) {
+  if (capacity <= written->capacity) return 1;
   free_written(written);
-  written->at = PyMem_Malloc(room);
+  written->at = PyMem_Malloc(capacity);
   if (written->at) {
-    written->room = room;
+    written->capacity = capacity;
     return 1;
   }
   begin_written(written);
@@ -287,9 +287,9 @@ static int write_plain(uint32_t mode, uint32_t *status, struct vizhoniku_error *
   if (*status != VIZHONIKU_REJECTED || mode != VIZHONIKU_EXTENDED || error->code != VIZHONIKU_NUMBER_NOT_CARRIED)
     return 0;
   uint32_t which = error->which;
-  size_t room = text->size + 64;
+  size_t capacity = text->size + 64;
   for (;;) {
-    plain->holder = PyBytes_FromStringAndSize(NULL, (Py_ssize_t)room);
+    plain->holder = PyBytes_FromStringAndSize(NULL, (Py_ssize_t)capacity);
     if (!plain->holder) {
       PyErr_Clear();
       *status = VIZHONIKU_OUT_OF_MEMORY;
@@ -297,11 +297,11 @@ static int write_plain(uint32_t mode, uint32_t *status, struct vizhoniku_error *
     }
     unsigned char *at = (unsigned char *)PyBytes_AsString(plain->holder);
     plain->at = at;
-    *status = vizhoniku_plain_numbers(text->at, text->size, at, room, &plain->size, error);
+    *status = vizhoniku_plain_numbers(text->at, text->size, at, capacity, &plain->size, error);
     if (*status == VIZHONIKU_ACCEPTED) return 1;
     free_text(plain);
     if (*status != VIZHONIKU_TOO_SHORT) break;
-    room = plain->size;
+    capacity = plain->size;
   }
   if (*status == VIZHONIKU_REJECTED) error->which = which;
   return 0;
@@ -317,14 +317,14 @@ static uint32_t call_once(enum what what, uint32_t mode, const struct text *path
   case CHECK:
     return vizhoniku_check(mode, text->at, text->size, error);
   case TEXT:
-    return vizhoniku_text(mode, text->at, text->size, written->at, written->room, &written->size, error);
+    return vizhoniku_text(mode, text->at, text->size, written->at, written->capacity, &written->size, error);
   case SORT_KEY:
-    return vizhoniku_sort_key(mode, text->at, text->size, key->at, key->room, &key->size, error);
+    return vizhoniku_sort_key(mode, text->at, text->size, key->at, key->capacity, &key->size, error);
   case TEXT_AND_KEY:
-    return vizhoniku_text_and_key(mode, text->at, text->size, written->at, written->room, &written->size, key->at,
-                                  key->room, &key->size, error);
+    return vizhoniku_text_and_key(mode, text->at, text->size, written->at, written->capacity, &written->size, key->at,
+                                  key->capacity, &key->size, error);
   default:
-    return vizhoniku_part(mode, path->at, path->size, text->at, text->size, written->at, written->room,
+    return vizhoniku_part(mode, path->at, path->size, text->at, text->size, written->at, written->capacity,
                           &written->size, error);
   }
 }
@@ -335,11 +335,11 @@ static uint32_t call_once(enum what what, uint32_t mode, const struct text *path
  * status, or -1 where an exception is raised. */
 static int64_t call_library(const struct state *state, enum what what, uint32_t mode, const struct text *path,
                             PyObject *object, const struct text *text, struct written *written, struct written *key,
-                            int tells_refusal, const struct text *user) {
+                            int reports_rejection, const struct text *user) {
   struct vizhoniku_error error;
   uint32_t status;
-  if (what != PART && written && !make_room(written, text->size + 16)) return -1;
-  if (key && !make_room(key, text->size + 64)) return -1;
+  if (what != PART && written && !ensure_capacity(written, text->size + 16)) return -1;
+  if (key && !ensure_capacity(key, text->size + 64)) return -1;
   for (;;) {
     if (text->size >= RELEASED) {
       Py_BEGIN_ALLOW_THREADS
@@ -349,19 +349,19 @@ static int64_t call_library(const struct state *state, enum what what, uint32_t 
       status = call_once(what, mode, path, text, written, key, &error);
     }
     if (status != VIZHONIKU_TOO_SHORT) break;
-    if (written && !make_room(written, written->size)) return -1;
-    if (key && !make_room(key, key->size)) return -1;
+    if (written && !ensure_capacity(written, written->size)) return -1;
+    if (key && !ensure_capacity(key, key->size)) return -1;
   }
   if (status == VIZHONIKU_ACCEPTED || status == VIZHONIKU_NO_PART) return status;
   int rejected = status == VIZHONIKU_REJECTED;
   struct text plain;
   if (!user && write_plain(mode, &status, &error, text, &plain)) {
-    int64_t again = call_library(state, what, mode, path, object, &plain, written, key, tells_refusal, text);
+    int64_t again = call_library(state, what, mode, path, object, &plain, written, key, reports_rejection, text);
     free_text(&plain);
     return again;
   }
   if (status == VIZHONIKU_REJECTED) {
-    if (tells_refusal) return status;
+    if (reports_rejection) return status;
     int too_long = rejected && mode == VIZHONIKU_EXTENDED && error.code == VIZHONIKU_NUMBER_NOT_CARRIED;
     if (user || too_long)
       raise_of_plain(state, &error, object, user ? user : text, text);
@@ -665,17 +665,17 @@ static PyObject *key_py_text(PyObject *self, PyObject *none) {
   uint32_t status;
   (void)none;
   begin_written(&written);
-  if (!make_room(&written, key.size + 64)) return NULL;
+  if (!ensure_capacity(&written, key.size + 64)) return NULL;
   for (;;) {
     if (key.size >= RELEASED) {
       Py_BEGIN_ALLOW_THREADS
-      status = vizhoniku_key_text(key.at, key.size, written.at, written.room, &written.size);
+      status = vizhoniku_key_text(key.at, key.size, written.at, written.capacity, &written.size);
       Py_END_ALLOW_THREADS
     } else {
-      status = vizhoniku_key_text(key.at, key.size, written.at, written.room, &written.size);
+      status = vizhoniku_key_text(key.at, key.size, written.at, written.capacity, &written.size);
     }
     if (status != VIZHONIKU_TOO_SHORT) break;
-    if (!make_room(&written, written.size)) return NULL;
+    if (!ensure_capacity(&written, written.size)) return NULL;
   }
   if (status == VIZHONIKU_ACCEPTED)
     result = str_of(&written);
@@ -870,8 +870,8 @@ static PyObject *name_of(const struct state *state, const unsigned char *at, siz
   struct written name;
   PyObject *result = NULL;
   begin_written(&name);
-  if (!make_room(&name, size)) return NULL;
-  uint32_t status = vizhoniku_key_name(at, size, name.at, name.room, &name.size);
+  if (!ensure_capacity(&name, size)) return NULL;
+  uint32_t status = vizhoniku_key_name(at, size, name.at, name.capacity, &name.size);
   if (status == VIZHONIKU_ACCEPTED)
     result = str_of(&name);
   else
@@ -902,13 +902,13 @@ static PyObject *parts_next(PyObject *self) {
 
 /* Appends bytes. Returns 0 where there is no memory for them. */
 static int put(struct written *out, const void *bytes, size_t size) {
-  if (size > out->room - out->size) {
-    size_t room = 2 * out->room + size;
-    unsigned char *at = out->at == out->small ? PyMem_Malloc(room) : PyMem_Realloc(out->at, room);
+  if (size > out->capacity - out->size) {
+    size_t capacity = 2 * out->capacity + size;
+    unsigned char *at = out->at == out->small ? PyMem_Malloc(capacity) : PyMem_Realloc(out->at, capacity);
     if (!at) return 0;
     if (out->at == out->small) memcpy(at, out->small, out->size);
     out->at = at;
-    out->room = room;
+    out->capacity = capacity;
   }
   memcpy(out->at + out->size, bytes, size);
   out->size += size;
@@ -989,7 +989,7 @@ static int put_value(const struct state *state, struct written *out, PyObject *v
 }
 
 /* Appends the JSON text of a value of the usual types. Returns 0 where it has others, or no text: the package's text_of
- * tells what is wrong, if anything is. It doesn't call itself. */
+ * says what is wrong, if anything is. It doesn't call itself. */
 static int put_usual(const struct state *state, struct written *out, PyObject *value) {
   struct level levels[DEPTH];
   size_t depth = 0;
@@ -1108,16 +1108,18 @@ static uint32_t change_once(const struct change *change, const struct text *key,
   switch (change->what) {
   case SET:
     return vizhoniku_key_set(key->at, key->size, step->at, step->size, part->at, part->size, change->create,
-                             written->at, written->room, &written->size);
+                             written->at, written->capacity, &written->size);
   case REMOVE:
-    return vizhoniku_key_remove(key->at, key->size, step->at, step->size, written->at, written->room, &written->size);
+    return vizhoniku_key_remove(key->at, key->size, step->at, step->size, written->at, written->capacity,
+                                &written->size);
   case PUT:
     return vizhoniku_key_put(key->at, key->size, step->at, step->size, part->at, part->size, written->at,
-                             written->room, &written->size);
+                             written->capacity, &written->size);
   case PUSH:
-    return vizhoniku_key_push(key->at, key->size, part->at, part->size, written->at, written->room, &written->size);
+    return vizhoniku_key_push(key->at, key->size, part->at, part->size, written->at, written->capacity, &written->size);
   default:
-    return vizhoniku_key_merge(key->at, key->size, part->at, part->size, written->at, written->room, &written->size);
+    return vizhoniku_key_merge(key->at, key->size, part->at, part->size, written->at, written->capacity,
+                               &written->size);
   }
 }
 
@@ -1129,7 +1131,7 @@ static PyObject *changed(PyObject *self, const struct change *change) {
   PyObject *result = NULL;
   uint32_t status;
   begin_written(&written);
-  if (!make_room(&written, key.size + 2 * change->step.size + change->part.size + 64)) return NULL;
+  if (!ensure_capacity(&written, key.size + 2 * change->step.size + change->part.size + 64)) return NULL;
   for (;;) {
     if (key.size >= RELEASED) {
       Py_BEGIN_ALLOW_THREADS
@@ -1139,7 +1141,7 @@ static PyObject *changed(PyObject *self, const struct change *change) {
       status = change_once(change, &key, &written);
     }
     if (status != VIZHONIKU_TOO_SHORT) break;
-    if (!make_room(&written, written.size)) return NULL;
+    if (!ensure_capacity(&written, written.size)) return NULL;
   }
   if (status == VIZHONIKU_ACCEPTED) {
     result = make_key(state, bytes_of(&written));
@@ -1218,7 +1220,7 @@ static PyObject *key_merge(PyObject *self, PyObject *const *given, Py_ssize_t co
 
 #define CALL(call) ((PyCFunction)(void (*)(void))(call)), METH_FASTCALL | METH_KEYWORDS
 
-/* What help() tells of a call: its parameters, as inspect.signature reads them, and words. */
+/* What help() says of a call: its parameters, as inspect.signature reads them, and words. */
 #define HELP(signature, words) signature "\n--\n\n" words
 
 static PyMethodDef key_methods[] = {

@@ -1,7 +1,7 @@
 //! Sorts and dedupes lines of JSON by value: cargo run --example dedupe < lines.json
 //!
-//! Of lines with equal values the first one is kept, as it stands. A line that is no document is told on standard error,
-//! and the status is then 1.
+//! Of lines with equal values the first one is kept, as it is. A line that is no document is reported on standard
+//! error, and the status is then 1.
 
 use std::collections::BTreeMap;
 use std::io::{self, BufRead, Write};

@@ -29,13 +29,13 @@ pub enum Code {
     UnexpectedTrailingCharacters,
     /// The name of a member isn't a string.
     KeyMustBeAString,
-    /// A control character stands in a string.
+    /// A control character is in a string.
     ControlCharacterWhileParsingString,
     /// A backslash and a byte that are no escape.
     InvalidEscaped,
     /// A byte that is no hexadecimal digit.
     InvalidHex,
-    /// The first half of a surrogate pair stands alone.
+    /// The first half of a surrogate pair is alone.
     InvalidLoneLeadingSurrogateInHexEscape,
     /// The second half of a surrogate pair isn't one.
     InvalidSurrogateInHexEscape,
@@ -45,7 +45,7 @@ pub enum Code {
     ObjectDuplicateKey,
     /// The name of a member is a misspelled number.
     ObjectKeyInvalidNumber,
-    /// A byte that can't stand in a name without quotes.
+    /// A byte that can't are in a name without quotes.
     ObjectKeyInvalidCharacter,
     /// A number isn't representable.
     NumberNotCarried,
@@ -109,21 +109,21 @@ pub struct Rejection {
 
 impl Rejection {
     /// Of a text that is rejected, also with its numbers written out, and is the first or the second of a call's. What
-    /// is told is what is wrong with the text whose numbers are masked, in which all has its place.
+    /// is reported is what is wrong with the text whose numbers are masked, in which all has its location.
     pub(crate) fn of(text: &[u8], mode: Mode, which: u32) -> Result<Rejection, Error> {
         let masked = match mode {
             Mode::Standard => Cow::Borrowed(text),
             Mode::Extended => Cow::Owned(masked_numbers(text)?),
         };
         let error = error(&masked, mode)?;
-        let place = place(text, &error);
+        let location = location(text, &error);
         Ok(Rejection {
             code: Code::of(error.code),
             is_second: which == 2,
             position: error.position,
-            offset: place.index,
-            line: place.line,
-            column: place.column,
+            offset: location.index,
+            line: location.line,
+            column: location.column,
             path: path(&masked, mode, &error)?,
             message: reason(&masked, mode)?,
         })
@@ -183,9 +183,9 @@ fn error(text: &[u8], mode: Mode) -> Result<ffi::TextError, Error> {
 
 /// The path of what is wrong with a text.
 fn path(text: &[u8], mode: Mode, error: &ffi::TextError) -> Result<String, Error> {
-    let (path, status) = write(128, |buffer, room, size| {
-        // SAFETY: the text has its size and the buffer its room, and the error is whole.
-        unsafe { ffi::vizhoniku_error_path(mode as u32, text.as_ptr(), text.len(), error, buffer, room, size) }
+    let (path, status) = write(128, |buffer, capacity, size| {
+        // SAFETY: the text has its size and the buffer its space, and the error is whole.
+        unsafe { ffi::vizhoniku_error_path(mode as u32, text.as_ptr(), text.len(), error, buffer, capacity, size) }
     })?;
     if status != ffi::ACCEPTED {
         return Err(Error::OutOfMemory);
@@ -194,18 +194,18 @@ fn path(text: &[u8], mode: Mode, error: &ffi::TextError) -> Result<String, Error
 }
 
 /// The byte to show of an error.
-fn place(text: &[u8], error: &ffi::TextError) -> ffi::Location {
-    let mut place = ffi::Location::default();
-    // SAFETY: the text has its size, and the error and the place are whole.
-    unsafe { ffi::vizhoniku_place(text.as_ptr(), text.len(), error, &mut place) };
-    place
+fn location(text: &[u8], error: &ffi::TextError) -> ffi::Location {
+    let mut location = ffi::Location::default();
+    // SAFETY: the text has its size, and the error and the location are whole.
+    unsafe { ffi::vizhoniku_place(text.as_ptr(), text.len(), error, &mut location) };
+    location
 }
 
 /// What is wrong with a text, in words, without its offset.
 fn reason(text: &[u8], mode: Mode) -> Result<String, Error> {
-    let (reason, status) = write(128, |buffer, room, size| {
-        // SAFETY: the text has its size, and the buffer its room.
-        unsafe { ffi::vizhoniku_reason(mode as u32, text.as_ptr(), text.len(), buffer, room, size) }
+    let (reason, status) = write(128, |buffer, capacity, size| {
+        // SAFETY: the text has its size, and the buffer its space.
+        unsafe { ffi::vizhoniku_reason(mode as u32, text.as_ptr(), text.len(), buffer, capacity, size) }
     })?;
     if status != ffi::REJECTED {
         return Err(Error::OutOfMemory);

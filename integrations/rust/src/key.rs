@@ -42,7 +42,7 @@ pub enum Kind {
 #[derive(Clone, PartialEq, Eq, PartialOrd, Ord, Hash)]
 pub struct Key(Box<[u8]>);
 
-/// A sort key that is borrowed, such as a part of another one, where it stands.
+/// A sort key that is borrowed, such as a part of another one, where it is.
 #[derive(PartialEq, Eq, PartialOrd, Ord, Hash)]
 #[repr(transparent)]
 pub struct KeyRef([u8]);
@@ -195,10 +195,10 @@ impl KeyRef {
     ///
     /// [`Error::OutOfMemory`], and [`Error::NoKey`] for trusted bytes that are none.
     pub fn to_text(&self) -> Result<String, Error> {
-        let room = self.0.len().saturating_add(64);
-        let written = self.written(room, |key, key_size, buffer, room, size| {
-            // SAFETY: the key has its size and the buffer its room, and they don't overlap.
-            unsafe { ffi::vizhoniku_key_text(key, key_size, buffer, room, size) }
+        let capacity = self.0.len().saturating_add(64);
+        let written = self.written(capacity, |key, key_size, buffer, capacity, size| {
+            // SAFETY: the key has its size and the buffer its space, and they don't overlap.
+            unsafe { ffi::vizhoniku_key_text(key, key_size, buffer, capacity, size) }
         });
         utf8(written?.ok_or(Error::NoKey)?)
     }
@@ -305,9 +305,9 @@ impl KeyRef {
 
     /// The text of a string, without quotes and escapes. `None` for other kinds.
     pub fn as_string(&self) -> Option<String> {
-        let written = self.written(self.0.len(), |key, key_size, buffer, room, size| {
+        let written = self.written(self.0.len(), |key, key_size, buffer, capacity, size| {
             // SAFETY: as in `to_text`.
-            unsafe { ffi::vizhoniku_key_string(key, key_size, buffer, room, size) }
+            unsafe { ffi::vizhoniku_key_string(key, key_size, buffer, capacity, size) }
         });
         String::from_utf8(written.ok()??).ok()
     }
@@ -342,7 +342,7 @@ impl KeyRef {
         self.to_text().ok()
     }
 
-    /// Whether the value contains the other, as `@>` of PostgreSQL's `jsonb` tells: an object each member of the other,
+    /// Whether the value contains the other, as `@>` of PostgreSQL's `jsonb` says: an object each member of the other,
     /// an array each item, and a scalar an equal one.
     pub fn contains(&self, other: &KeyRef) -> bool {
         // SAFETY: the keys have their sizes.
@@ -368,7 +368,7 @@ impl KeyRef {
     /// # Ok::<(), vizhoniku::Error>(())
     /// ```
     pub fn set(&self, path: &str, part: &KeyRef, create: bool) -> Result<Option<Key>, Error> {
-        self.changed(path.len() + part.0.len(), |key, key_size, buffer, room, size| {
+        self.changed(path.len() + part.0.len(), |key, key_size, buffer, capacity, size| {
             // SAFETY: as in `to_text`, and the path and the part have their sizes.
             unsafe {
                 ffi::vizhoniku_key_set(
@@ -380,7 +380,7 @@ impl KeyRef {
                     part.0.len(),
                     create.into(),
                     buffer,
-                    room,
+                    capacity,
                     size,
                 )
             }
@@ -393,19 +393,19 @@ impl KeyRef {
     ///
     /// [`Error::NoPath`] and [`Error::OutOfMemory`].
     pub fn remove(&self, path: &str) -> Result<Option<Key>, Error> {
-        self.changed(0, |key, key_size, buffer, room, size| {
+        self.changed(0, |key, key_size, buffer, capacity, size| {
             // SAFETY: as in `to_text`, and the path has its size.
-            unsafe { ffi::vizhoniku_key_remove(key, key_size, path.as_ptr(), path.len(), buffer, room, size) }
+            unsafe { ffi::vizhoniku_key_remove(key, key_size, path.as_ptr(), path.len(), buffer, capacity, size) }
         })
     }
 
-    /// The key of an object with this member, in place of one of the name, or `None` where the value is no object.
+    /// The key of an object with this member, instead of one of the name, or `None` where the value is no object.
     ///
     /// # Errors
     ///
     /// [`Error::TooDeep`] and [`Error::OutOfMemory`].
     pub fn put(&self, name: &str, value: &KeyRef) -> Result<Option<Key>, Error> {
-        self.changed(name.len() + value.0.len(), |key, key_size, buffer, room, size| {
+        self.changed(name.len() + value.0.len(), |key, key_size, buffer, capacity, size| {
             // SAFETY: as in `to_text`, and the name and the value have their sizes.
             unsafe {
                 ffi::vizhoniku_key_put(
@@ -416,7 +416,7 @@ impl KeyRef {
                     value.0.as_ptr(),
                     value.0.len(),
                     buffer,
-                    room,
+                    capacity,
                     size,
                 )
             }
@@ -429,9 +429,9 @@ impl KeyRef {
     ///
     /// [`Error::TooDeep`] and [`Error::OutOfMemory`].
     pub fn push(&self, item: &KeyRef) -> Result<Option<Key>, Error> {
-        self.changed(item.0.len(), |key, key_size, buffer, room, size| {
+        self.changed(item.0.len(), |key, key_size, buffer, capacity, size| {
             // SAFETY: as in `to_text`, and the item has its size.
-            unsafe { ffi::vizhoniku_key_push(key, key_size, item.0.as_ptr(), item.0.len(), buffer, room, size) }
+            unsafe { ffi::vizhoniku_key_push(key, key_size, item.0.as_ptr(), item.0.len(), buffer, capacity, size) }
         })
     }
 
@@ -442,31 +442,31 @@ impl KeyRef {
     ///
     /// [`Error::TooDeep`] and [`Error::OutOfMemory`].
     pub fn merge(&self, other: &KeyRef) -> Result<Key, Error> {
-        let merged = self.changed(other.0.len(), |key, key_size, buffer, room, size| {
+        let merged = self.changed(other.0.len(), |key, key_size, buffer, capacity, size| {
             // SAFETY: as in `to_text`, and the other key has its size.
-            unsafe { ffi::vizhoniku_key_merge(key, key_size, other.0.as_ptr(), other.0.len(), buffer, room, size) }
+            unsafe { ffi::vizhoniku_key_merge(key, key_size, other.0.as_ptr(), other.0.len(), buffer, capacity, size) }
         })?;
         Ok(merged.unwrap_or_else(|| self.to_owned()))
     }
 
-    /// The changed key, with room for so many bytes more at first, or `None` where nothing changes.
+    /// The changed key, with space for so many bytes more at first, or `None` where nothing changes.
     fn changed(
         &self,
         more: usize,
         call: impl Fn(*const u8, usize, *mut u8, usize, &mut usize) -> u32,
     ) -> Result<Option<Key>, Error> {
-        let room = self.0.len().saturating_add(more).saturating_add(16);
-        Ok(self.written(room, call)?.map(Key::of))
+        let capacity = self.0.len().saturating_add(more).saturating_add(16);
+        Ok(self.written(capacity, call)?.map(Key::of))
     }
 
     /// What a call writes of the key, or `None` where it says `NO_PART`.
     fn written(
         &self,
-        room: usize,
+        capacity: usize,
         call: impl Fn(*const u8, usize, *mut u8, usize, &mut usize) -> u32,
     ) -> Result<Option<Vec<u8>>, Error> {
         let (bytes, status) =
-            write(room, |buffer, room, size| call(self.0.as_ptr(), self.0.len(), buffer, room, size))?;
+            write(capacity, |buffer, capacity, size| call(self.0.as_ptr(), self.0.len(), buffer, capacity, size))?;
         match status {
             ffi::ACCEPTED => Ok(Some(bytes)),
             ffi::NO_PART => Ok(None),
@@ -528,9 +528,9 @@ impl<'a> Iterator for Members<'a> {
 
     fn next(&mut self) -> Option<(String, &'a KeyRef)> {
         let (name, value) = self.0.next()?;
-        let written = write(name.len(), |buffer, room, size| {
-            // SAFETY: the name has its size and the buffer its room, and they don't overlap.
-            unsafe { ffi::vizhoniku_key_name(name.as_ptr(), name.len(), buffer, room, size) }
+        let written = write(name.len(), |buffer, capacity, size| {
+            // SAFETY: the name has its size and the buffer its space, and they don't overlap.
+            unsafe { ffi::vizhoniku_key_name(name.as_ptr(), name.len(), buffer, capacity, size) }
         });
         Some((String::from_utf8(written.ok()?.0).ok()?, value))
     }

@@ -51,18 +51,18 @@ pub enum Mode {
 pub(crate) type Made<T> = Result<(T, u32), Error>;
 
 /// What a call has written, and its status, which isn't `TOO_SHORT`. The call gets a buffer and its size, again with as
-/// much room as it asks for where that is too short.
-pub(crate) fn write(room: usize, mut call: impl FnMut(*mut u8, usize, &mut usize) -> u32) -> Made<Vec<u8>> {
-    let (mut buffer, mut size, mut room) = (Vec::new(), 0, room);
+/// much space as it asks for where that is too short.
+pub(crate) fn write(capacity: usize, mut call: impl FnMut(*mut u8, usize, &mut usize) -> u32) -> Made<Vec<u8>> {
+    let (mut buffer, mut size, mut capacity) = (Vec::new(), 0, capacity);
     loop {
-        buffer.try_reserve_exact(room).map_err(|_| Error::OutOfMemory)?;
-        let status = call(buffer.as_mut_ptr(), room, &mut size);
+        buffer.try_reserve_exact(capacity).map_err(|_| Error::OutOfMemory)?;
+        let status = call(buffer.as_mut_ptr(), capacity, &mut size);
         if status != ffi::TOO_SHORT {
             // SAFETY: the call has written so many bytes of the buffer.
-            unsafe { buffer.set_len(size.min(room)) };
+            unsafe { buffer.set_len(size.min(capacity)) };
             return Ok((buffer, status));
         }
-        room = size;
+        capacity = size;
     }
 }
 
@@ -116,9 +116,9 @@ pub fn check(text: impl AsRef<[u8]>, mode: Mode) -> Result<(), Error> {
 /// ```
 pub fn text(text: impl AsRef<[u8]>, mode: Mode) -> Result<String, Error> {
     let (written, status) = parse([text.as_ref()], mode, |[text], error| {
-        write(text.len().saturating_add(16), |buffer, room, size| {
-            // SAFETY: the text has its size and the buffer its room, and they don't overlap.
-            unsafe { ffi::vizhoniku_text(mode as u32, text.as_ptr(), text.len(), buffer, room, size, error) }
+        write(text.len().saturating_add(16), |buffer, capacity, size| {
+            // SAFETY: the text has its size and the buffer its space, and they don't overlap.
+            unsafe { ffi::vizhoniku_text(mode as u32, text.as_ptr(), text.len(), buffer, capacity, size, error) }
         })
     })?;
     accept(status)?;
@@ -132,9 +132,9 @@ pub fn text(text: impl AsRef<[u8]>, mode: Mode) -> Result<String, Error> {
 /// [`Error::Rejected`] for a text that is no document, and [`Error::OutOfMemory`].
 pub fn sort_key(text: impl AsRef<[u8]>, mode: Mode) -> Result<Key, Error> {
     let (written, status) = parse([text.as_ref()], mode, |[text], error| {
-        write(text.len().saturating_add(16), |buffer, room, size| {
+        write(text.len().saturating_add(16), |buffer, capacity, size| {
             // SAFETY: as in `text`.
-            unsafe { ffi::vizhoniku_sort_key(mode as u32, text.as_ptr(), text.len(), buffer, room, size, error) }
+            unsafe { ffi::vizhoniku_sort_key(mode as u32, text.as_ptr(), text.len(), buffer, capacity, size, error) }
         })
     })?;
     accept(status)?;
@@ -155,29 +155,29 @@ pub fn text_and_key(text: impl AsRef<[u8]>, mode: Mode) -> Result<(String, Key),
 /// The bytes of a text and of its key.
 fn write_text_and_key(text: &[u8], mode: Mode, error: &mut ffi::TextError) -> Made<(Vec<u8>, Vec<u8>)> {
     let (mut key, mut key_size) = (Vec::new(), text.len().saturating_add(16));
-    let (written, status) = write(text.len().saturating_add(16), |buffer, room, size| {
-        let key_room = key_size;
-        if Vec::try_reserve_exact(&mut key, key_room).is_err() {
+    let (written, status) = write(text.len().saturating_add(16), |buffer, capacity, size| {
+        let key_capacity = key_size;
+        if Vec::try_reserve_exact(&mut key, key_capacity).is_err() {
             return ffi::OUT_OF_MEMORY;
         }
-        // SAFETY: as in `text`, and the key's buffer has its room.
+        // SAFETY: as in `text`, and the key's buffer has its space.
         let status = unsafe {
             ffi::vizhoniku_text_and_key(
                 mode as u32,
                 text.as_ptr(),
                 text.len(),
                 buffer,
-                room,
+                capacity,
                 size,
                 key.as_mut_ptr(),
-                key_room,
+                key_capacity,
                 &mut key_size,
                 error,
             )
         };
         if status == ffi::ACCEPTED {
             // SAFETY: the call has written so many bytes of the key's buffer.
-            unsafe { key.set_len(key_size.min(key_room)) };
+            unsafe { key.set_len(key_size.min(key_capacity)) };
         }
         status
     })?;
@@ -220,10 +220,12 @@ pub fn compare(left: impl AsRef<[u8]>, right: impl AsRef<[u8]>, mode: Mode) -> R
 /// ```
 pub fn part(text: impl AsRef<[u8]>, path: &str, mode: Mode) -> Result<Option<String>, Error> {
     let (written, status) = parse([text.as_ref()], mode, |[text], error| {
-        write(256, |buffer, room, size| {
+        write(256, |buffer, capacity, size| {
             let (mode, path, path_size) = (mode as u32, path.as_ptr(), path.len());
             // SAFETY: as in `text`, and the path has its size.
-            unsafe { ffi::vizhoniku_part(mode, path, path_size, text.as_ptr(), text.len(), buffer, room, size, error) }
+            unsafe {
+                ffi::vizhoniku_part(mode, path, path_size, text.as_ptr(), text.len(), buffer, capacity, size, error)
+            }
         })
     })?;
     if status == ffi::NO_PART {

@@ -36,9 +36,9 @@ pub(crate) fn parse<const N: usize, T>(
 /// The text with each number that has an exponent written out, or `None` where one has too many digits.
 fn plain_numbers(text: &[u8]) -> Result<Option<Vec<u8>>, Error> {
     let mut error = ffi::TextError::default();
-    let (plain, status) = write(text.len().saturating_add(64), |buffer, room, size| {
-        // SAFETY: the text has its size and the buffer its room, and they don't overlap.
-        unsafe { ffi::vizhoniku_plain_numbers(text.as_ptr(), text.len(), buffer, room, size, &mut error) }
+    let (plain, status) = write(text.len().saturating_add(64), |buffer, capacity, size| {
+        // SAFETY: the text has its size and the buffer its space, and they don't overlap.
+        unsafe { ffi::vizhoniku_plain_numbers(text.as_ptr(), text.len(), buffer, capacity, size, &mut error) }
     })?;
     match status {
         ffi::ACCEPTED => Ok(Some(plain)),
@@ -47,11 +47,11 @@ fn plain_numbers(text: &[u8]) -> Result<Option<Vec<u8>>, Error> {
     }
 }
 
-/// The text with each number masked that has an exponent and isn't too long, so that all else has its place.
+/// The text with each number masked that has an exponent and isn't too long, so that all else has its location.
 pub(crate) fn masked_numbers(text: &[u8]) -> Result<Vec<u8>, Error> {
-    let (masked, status) = write(text.len(), |buffer, room, size| {
+    let (masked, status) = write(text.len(), |buffer, capacity, size| {
         // SAFETY: as in `plain_numbers`.
-        unsafe { ffi::vizhoniku_masked_numbers(text.as_ptr(), text.len(), buffer, room, size) }
+        unsafe { ffi::vizhoniku_masked_numbers(text.as_ptr(), text.len(), buffer, capacity, size) }
     })?;
     if status != ffi::ACCEPTED {
         return Err(Error::OutOfMemory);

@@ -15,7 +15,7 @@ fn rejection<T>(answer: Result<T, Error>) -> Rejection {
     answer.err().and_then(|error| error.rejection().cloned()).expect("a rejection")
 }
 
-/// Code, offset, line, column and message of what is wrong with a text, which each call tells.
+/// Code, offset, line, column and message of what is wrong with a text, which each call says.
 fn fault(given: &str) -> (Code, usize, usize, usize, String) {
     let found = rejection(check(given, Mode::Extended));
     assert_eq!(rejection(text(given, Mode::Extended)), found);
@@ -87,12 +87,12 @@ fn numbers_that_are_too_long() {
     let digits = "9".repeat(39);
     assert_eq!(fault(&digits), not_carried(38, 1, 39));
     assert_eq!(fault(&format!("[1e5,{digits}]")), not_carried(43, 1, 44));
-    // An exponent is that of JSON: a plus before the number stands in extended mode alone.
+    // An exponent is that of JSON: a plus before the number is in extended mode alone.
     assert_eq!(fault("[1e5, +1e5]"), not_carried(9, 1, 10));
 }
 
 #[test]
-fn errors_have_their_place_in_the_text_that_was_passed() {
+fn errors_have_their_location_in_the_text_that_was_passed() {
     let fault = |given: &str| {
         let (code, offset, line, column, message) = fault(given);
         let front = &given[..offset];
@@ -123,7 +123,7 @@ fn errors_have_their_place_in_the_text_that_was_passed() {
     {
         assert_eq!(fault(given), fault(&given.replace("1e2", "100")), "{given}");
     }
-    // Of two texts the first that is wrong is told, each in its own text.
+    // Of two texts the first that is wrong is reported, each in its own text.
     let found = rejection(compare("[1e5,x", "[1e5,x", Mode::Extended));
     assert_eq!((found.is_second(), found.offset()), (false, 5));
     let found = rejection(compare("[1e5]", "[1e5,x", Mode::Extended));

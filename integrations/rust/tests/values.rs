@@ -174,13 +174,13 @@ fn bytes_that_are_no_key() {
         }
         bytes.truncate(draw(bytes.len() as u64 + 1) as usize);
         let (any, is_key) = (KeyRef::from_trusted_bytes(&bytes), KeyRef::from_bytes(&bytes).is_ok());
-        let told = (any.kind(), any.count(), any.to_text(), any.as_string(), any.as_i64(), any.as_bool());
+        let outcome = (any.kind(), any.count(), any.to_text(), any.as_string(), any.as_i64(), any.as_bool());
         let parts = (any.items().count(), any.members().count(), any.get("c"), any.item(1), any.pointer("/c/d/0"));
         let changed = (any.set("/c/d/0", &real, true), any.remove("/a"), any.push(&real), any.put("b", &real));
         let _ = (any.merge(&real), any.contains(&real), real.contains(any), format!("{any:?}"));
         if is_key {
-            assert!(told.2.is_ok() && changed.0.is_ok() && changed.1.is_ok(), "{any:?}");
-            assert_eq!(told.1.unwrap_or(0), parts.0 + parts.1);
+            assert!(outcome.2.is_ok() && changed.0.is_ok() && changed.1.is_ok(), "{any:?}");
+            assert_eq!(outcome.1.unwrap_or(0), parts.0 + parts.1);
         }
     }
 }
