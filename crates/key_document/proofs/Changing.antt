@@ -192,3 +192,8 @@ key_lacking v (Err e) old new is full = record { ok = tt; fits = tt; errors = su
 pub edit_lacking : {X : Type 0} (v : Tree) (r : Result X DocumentError) (error : EditError) (old new : Vec ℕ Global) → IsErrAnd r (λ e. e ≡ as_document_error error) → KeyLacks v old error → AppendsDocument v r old new
 edit_lacking v (Ok x) error old new h lacks = absurd h
 edit_lacking v (Err e) error old new h lacks = record { ok = tt; fits = tt; errors = subst (λ e. IsLacking v old e) (sym h) (key_lacks v old error lacks) }
+
+-- the capacity for the key of the answer is missing
+pub answer_lacking : (answer : Option Tree) (v : Tree) (r : Result Bool DocumentError) (old new : Vec ℕ Global) → answer ≡ Some v → IsErrAnd r (λ e. e ≡ OutOfMemory) → vec_capacity old < vec_len old + length (key_of v) → Answers answer r old new
+answer_lacking answer v (Ok b) old new is h full = absurd h
+answer_lacking answer v (Err e) old new is h full = subst (λ o. Answers o (Err e) old new) (sym is) (key_lacking v (Err e) old new h full, tt)

@@ -1,15 +1,18 @@
 -- Values without zeros, merged.
-use Rattle.std.proofs.Common.{◌≡◌, ℕ, zero, suc, ◌==◌, List, [], ◌∷◌, ◌++◌, length, replicate, refl, sym, ap, subst, ◌∙◌, arith, length-append}
+use Rattle.std.proofs.Common.{◌≡◌, ℕ, zero, suc, ◌==◌, Some, List, [], ◌∷◌, ◌++◌, length, replicate, refl, sym, ap, subst, ◌∙◌, arith, length-append}
 use Rattle.std.proofs.lemmas.Bool.{cond-false, ne_eqb}
 use Rattle.std.specs.Ordering.{match_ordering}
 use Rattle.std.specs.declared.cmp.Ordering.{Ordering}
 use Rattle.std.specs.declared.cmp.Ordering.TheVariants.{Less, Equal, Greater}
+use Rattle.jsonb_key.specs.Readable.{IsReadable}
 use Rattle.jsonb_spec.specs.Order.{bytes_cmp}
+use Rattle.jsonb_spec.specs.PartAt.{part_at}
 use Rattle.jsonb_spec.specs.SortKey.{text_key}
 use Rattle.jsonb_spec.specs.Tree.{Tree, object, Members, no_members, more_members, put}
 use Rattle.key_document.specs.Document.{counts_at, counts_at_members, zeros_at}
 use Rattle.key_document.specs.Merging.{counts_of_items}
 use Rattle.key_document.proofs.ItemsJoined.{items_within, joined_array}
+use Rattle.key_document.proofs.Slots.{part_inside}
 use Rattle.key_document.proofs.Merging.{joined_counts, items_counts_end}
 use Rattle.stored_edit.specs.Edit.{as_items, merge, merged_members}
 use Rattle.stored_zeros.specs.Zeros.{entry_of, in_sevens, plain_behind, zeros_of}
@@ -91,3 +94,9 @@ both_merged t u a b = array_zero t u a b
 
 pub none_merged : (t u : Tree) → length (zeros_at t) ≡ 0 → length (zeros_at u) ≡ 0 → zeros_at (merge t u) ≡ []
 none_merged t u a b = no_zeros 0 (counts_at (merge t u)) (both_merged t u (all_zero 0 (counts_at t) a) (all_zero 0 (counts_at u) b))
+
+-- a part of a value without zeros
+pub none_within : (t : Tree) (names : List (List ℕ)) (part : Tree) → IsReadable t → part_at names t ≡ Some part → length (zeros_at t) ≡ 0 → zeros_at part ≡ []
+none_within t names part r e none =
+    let b = (part_inside t names part r e).1 in
+    no_zeros 0 (counts_at part) (first_zero (counts_at part) b.counts_behind (second_zero b.counts_before (counts_at part ++ b.counts_behind) (subst AllZero b.counts_are (all_zero 0 (counts_at t) none))))

@@ -36,7 +36,7 @@ abbrev or_else : {A : Type 0} → A → Option A → A
 or_else a None = a
 or_else a (Some b) = b
 
-same_some : {A : Type 0} {a b : A} → Some a ≡ Some b → a ≡ b
+pub same_some : {A : Type 0} {a b : A} → Some a ≡ Some b → a ≡ b
 same_some {A} {a} e = ap (or_else a) e
 
 -- What is changed is this part alone, and there is an answer where it doesn't stay as it is.

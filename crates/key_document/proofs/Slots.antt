@@ -15,7 +15,7 @@ use Rattle.key_document.specs.Changes.{FindsRange, IsPartBehind}
 use Rattle.key_document.specs.Document.{counts_at}
 use Rattle.key_document.specs.Splices.{IsSplice, AreSplices, entry_counts, entry_key}
 use Rattle.key_document.proofs.Agreeing.{agree, same_back, same_front}
-use Rattle.key_document.proofs.Reaching.{ChangesPart, part_changes}
+use Rattle.key_document.proofs.Reaching.{ChangesPart, at_part, part_changes, same_some}
 use Rattle.key_document.proofs.Splicing.{at_splice}
 use Rattle.stored_edit.specs.Edit.{Outcome, stays, goes, becomes, changed_at, remove}
 use Rattle.stored_edit.specs.Spots.{Answers, PlaceIn, Stands}
@@ -127,6 +127,18 @@ whole_found t [] key r e none = (
   e,
 )
 
+-- a part stands in the key
+pub part_inside : (t : Tree) (names : List (List ℕ)) (part : Tree) → IsReadable t → part_at names t ≡ Some part → (before : List ℕ) × IsPartBehind t before part
+part_inside t [] part r e =
+    subst (λ p. (before : List ℕ) × IsPartBehind t before p) (same_some e)
+    ([], record { counts_before = []; one_each = refl; behind = []; counts_behind = []; key_is = sym (append-nil (key_of t)); counts_are = sym (append-nil (counts_at t)) })
+part_inside t (name ∷ names) part r e =
+    let c = at_part name names t part r.proper e in
+    elim (at_splice (name ∷ names) t r.proper) [
+      | inl none ↦ absurd (c.some (λ there. goes) goes_stays (none (λ there. goes)))
+      | inr x ↦ (x.cut.front ++ x.cut.name, part_behind t part (λ change. changed_at change (name ∷ names) t) x c)
+    ]
+
 -- or it stands at the place that is found
 pub slot_found : (t : Tree) (names : List (List ℕ)) (o : PartThere (part_at names t)) (key : List ℕ) (place : Place) (offset : ℕ) (bytes : Bor (List ℕ)) → (length names ≡ 0 → ⊥) → IsReadable t → key ≡ key_of t → PlaceIn (λ change. changed_at change names t) key place
     → offset ≡ length key - length place.spot.value.now → ((before : List ℕ) → place.spot.value.now ≡ before ++ place.behind.now → bytes.now ≡ before) → FindsRange t (part_at names t) (Ok (Some (offset, bytes)))
@@ -148,3 +160,24 @@ range_is key before part behind offset size is at long =
     let same : (offset + size) - offset ≡ length part = omega (arith, long) in
     ap (λ k. take ((offset + size) - offset) (drop offset k)) is ∙ ap (λ n. take ((offset + size) - offset) (drop n (before ++ (part ++ behind)))) (sym at)
     ∙ ap (take ((offset + size) - offset)) (drop-append_seam before (part ++ behind)) ∙ ap (λ n. take n (part ++ behind)) same ∙ take-append_seam part behind
+
+-- ---- a part of a key
+
+pub none_there : (bytes : List ℕ) (o : Option Tree) → Finds bytes o (Ok None) → o ≡ None
+none_there bytes None f = refl
+none_there bytes (Some part) f = absurd f
+
+-- the part, where its key begins the rest of the bytes
+pub record PartFound (o : Option Tree) (rest : List ℕ) : Type 0 where
+  pub part : Tree
+  pub is : o ≡ Some part
+  pub readable : IsReadable part
+  pub behind : List ℕ
+  pub stands : rest ≡ key_of part ++ behind
+
+pub part_found : (bytes : List ℕ) (o : Option Tree) (rest : Bor (List ℕ)) → Finds bytes o (Ok (Some rest)) → PartFound o rest.now
+part_found bytes None rest f = absurd f
+part_found bytes (Some part) rest f = record { part = part; is = refl; readable = f.readable; behind = f.behind; stands = f.stands }
+
+pub no_rest : (more : List ℕ) → None ≡ Some more → ⊥
+no_rest more e = cc

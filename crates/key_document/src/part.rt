@@ -7,13 +7,14 @@ ghost use Rattle.jsonb_spec.specs.Proper.{IsProper};
 ghost use Rattle.jsonb_spec.specs.SortKey.{key_of};
 ghost use Rattle.jsonb_spec.specs.Tree.{Tree};
 ghost use Rattle.jsonb_stored.specs.AtKeys.{OfKey};
-ghost use Rattle.key_document.specs.Changes.{AnswersOf, AppendsDocument, FindsRange, IsPartAt, KeepsOnError, OfPartAt};
+ghost use Rattle.key_document.specs.Changes.{Answers, AnswersOf, AppendsDocument, FindsRange, IsPartAt, KeepsOnError, OfPartAt};
 ghost use Rattle.key_document.specs.Document.{zeros_at, OfDocument};
 
 use crate::document::split_document;
 use crate::error::DocumentError;
 use crate::splice::cut_zeros;
 use jsonb_stored::find::find_part;
+use jsonb_stored::skip::after_key;
 use jsonb_stored::walk::front;
 use stored_edit::place::find_place;
 
@@ -33,6 +34,9 @@ pub fn append_part(
     ensures keeps { KeepsOnError result out.old out.new }
 {
     let (key, zeros) = split_document(document);
+    if zeros.is_empty() {
+        return append_plain_part(out, key, names);
+    }
     let Some((offset, part)) = find_range(key, names)? else {
         return Ok(false);
     };
@@ -62,6 +66,22 @@ pub fn append_range(
         return Err(DocumentError::NoDocument);
     }
     append_slot(out, zeros, offset, &key[offset..offset + size])
+}
+
+// Appends the key of the part at the path of these names in the key of a value without zeros: such a part has none.
+fn append_plain_part(out: &mut Vec<u8>, key: &[u8], names: &[String]) -> Result<bool, DocumentError>
+    ensures answers { OfKey key.now (λ t. length (zeros_at t) ≡ 0
+        → Answers (part_at (map string_bytes names.now) t) result out.old out.new) }
+    ensures keeps { KeepsOnError result out.old out.new }
+{
+    let Some(rest) = find_part(key, names)? else {
+        return Ok(false);
+    };
+    let Some(behind) = after_key(rest) else {
+        return Err(DocumentError::NoDocument);
+    };
+    out.extend_from_slice(front(rest, behind))?;
+    Ok(true)
 }
 
 // The offset of the key of the part at the path of these names, and that key.
