@@ -3,7 +3,7 @@ use Rattle.std.proofs.Common.{◌≡◌, ◌≢◌, ℕ, ◌+◌, ◌<◌, Bool,
 use Rattle.std.specs.Io.BufRead.{DropsThrough, take_through, drop_through}
 use Rattle.std.specs.Io.KnownBytes.{IsAtEnd}
 use Rattle.vjson_run.proofs.Reading.{first_step, texts_step}
-use Rattle.vjson_run.proofs.Taken.{over_taken, takes_then}
+use Rattle.vjson_run.proofs.Taken.{nothing_taken, over_taken, takes_then}
 use Rattle.vjson_run.specs.Input.{is_blank_line, text_lines, without_end, without_mark}
 use Rattle.vjson_run.specs.Runs.{HasTaken, Takes, line_texts}
 use Rattle.vjson_run.specs.declared.session.Session.{Session}
@@ -85,3 +85,8 @@ module _ {W E : Type 0} (contents : W → Option (List ℕ)) where
   line_fed s t line text blank is tests other takes =
       subst (λ texts. Takes contents s texts t)
       (ap (λ b. cond (not b) (text ∷ []) []) (sym (sym tests ∙ other)) ∙ ap (λ l. cond (not (is_blank_line l)) (l ∷ []) []) is) takes
+
+  pub blank_fed : (s : Session W E) (line text : List ℕ) (blank : Bool) → text ≡ without_end line → blank ≡ is_blank_line text → blank ≡ true → Takes contents s (line_texts line) s
+  blank_fed s line text blank is tests nothing =
+      subst (λ texts. Takes contents s texts s)
+      (ap (λ b. cond (not b) (text ∷ []) []) (sym (sym tests ∙ nothing)) ∙ ap (λ l. cond (not (is_blank_line l)) (l ∷ []) []) is) (nothing_taken contents s)

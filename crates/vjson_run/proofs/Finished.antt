@@ -1,17 +1,26 @@
 -- What a session has written once it is finished.
-use Rattle.std.proofs.Common.{◌≡◌, ◌≢◌, ℕ, ◌&&◌, Bool, true, false, not, List, [], Option, None, MatchBool, refl, sym, ap, subst, ◌∙◌}
+use Rattle.std.proofs.Common.{◌≡◌, ◌≢◌, ℕ, ◌&&◌, Bool, true, false, not, List, [], Option, None, Some, MatchBool, All, Vec, refl, sym, ap, subst, ◌∙◌}
+use Rattle.std.proofs.lemmas.List.Elements.{All-nil}
 use Rattle.std.specs.Bool.{⊤}
+use Rattle.std.specs.declared.alloc.Global.{Global}
+use Rattle.vjson_text.specs.Json.{AppendsKeyOf}
 use Rattle.std.specs.Io.KnownBytes.{Appends, Keeps}
 use Rattle.std.specs.List.{flat_map}
 use Rattle.vjson_run.proofs.Taken.{appended_more, kept_along, same_answered}
 use Rattle.vjson_run.specs.Lines.{line_text}
 use Rattle.vjson_run.specs.Output.{IsWritten, output}
-use Rattle.vjson_run.specs.Runs.{AreAnswered, AreLinesFor, AreSorted, HasMade, HasTaken, IsDone, WritesSorted, ends_sorted, is_yes, sorts}
+use Rattle.vjson_run.specs.Runs.{AreAnswered, AreEqual, AreEqualSoFar, AreLinesFor, AreSorted, HasMade, HasTaken, IsDone, WritesSorted, ends_sorted, is_yes, sorts}
 use Rattle.vjson_run.specs.declared.options.Command.{Command}
 use Rattle.vjson_run.specs.declared.options.Command.TheVariants.{Check, Format, Get, Sort, Equal, Keys}
+use Rattle.vjson_run.specs.declared.options.Options.{Options}
 use Rattle.vjson_run.specs.declared.session.Session.{Session}
 use Rattle.vjson_run.specs.declared.session.Status.{Status}
 use Rattle.vjson_run.specs.declared.session.Status.TheVariants.{Trouble}
+
+equal_done : (o : Options) (texts : List (List ℕ)) (last : Option (Vec ℕ Global)) (good : Bool) → AreEqualSoFar o texts last good → AreEqual o texts good
+equal_done o texts last false h = h
+equal_done o texts None true h = ([], subst (λ l. All (λ text. AppendsKeyOf o.grammar text [] []) l) (sym h) (All-nil (λ text. AppendsKeyOf o.grammar text [] [])))
+equal_done o texts (Some key) true h = (key.items, h.1)
 
 module _ {W E : Type 0} (contents : W → Option (List ℕ)) where
   -- nothing is to be sorted: what is printed is written
@@ -36,7 +45,7 @@ module _ {W E : Type 0} (contents : W → Option (List ℕ)) where
   unsorted_done Format s start end texts unsorted kept had = answered_done s start end texts kept had
   unsorted_done Get s start end texts unsorted kept had = answered_done s start end texts kept had
   unsorted_done Keys s start end texts unsorted kept had = answered_done s start end texts kept had
-  unsorted_done Equal s start end texts unsorted kept had = tt
+  unsorted_done Equal s start end texts unsorted kept had = (equal_done s.options.now texts s.last (is_yes s.status) had.0, kept_along start (output contents s.out) end [] had.1 kept)
   unsorted_done Sort s start end texts unsorted kept had = unsorted_sort s.options.now.check (is_yes s.status) s start end texts refl refl unsorted kept had
 
   -- the lines are written in order

@@ -1,15 +1,17 @@
 -- A text more that a session has taken.
-use Rattle.std.proofs.Common.{◌≡◌, ◌≢◌, ℕ, ◌&&◌, Bool, true, false, List, [], ◌∷◌, ◌++◌, Option, None, Some, MatchBool, length, refl, sym, ap, subst, ◌∙◌, arith, append_assoc, append-nil, length-append}
+use Rattle.std.proofs.Common.{◌≡◌, ◌≢◌, ℕ, ◌&&◌, Bool, true, false, List, [], ◌∷◌, ◌++◌, Option, None, Some, MatchBool, MatchOption, Vec, All, not, if◌then◌else◌, length, refl, sym, ap, subst, ◌∙◌, arith, append_assoc, append-nil, length-append}
 use Rattle.std.proofs.lemmas.List.{flat_map_more, get_or_append_left, get_or_push, length_push}
 use Rattle.std.specs.Io.KnownBytes.{Appends, Keeps, append_known}
+use Rattle.std.proofs.lemmas.List.Elements.{All-nil, All-cons, All-push}
 use Rattle.std.specs.Bool.{⊤}
+use Rattle.std.specs.declared.alloc.Global.{Global}
 use Rattle.std.specs.List.{AllZip, Any, flat_map, list_all}
-use Rattle.vjson_text.specs.Json.{IsNoTextOf}
+use Rattle.vjson_text.specs.Json.{AppendsKeyOf, IsNoTextOf}
 use Rattle.vjson_run.specs.Answers.{Answers, IsFound, IsLaidOut, IsOne, LacksPart, Prints, PrintsKeyed, asked, checked, checks_order, found, keyed, lacking, laid_out, printed, rejected}
 use Rattle.vjson_run.specs.Lines.{key_line}
 use Rattle.vjson_run.specs.Output.{output, PrintsNothing, PrintsPart}
 use Rattle.vjson_run.specs.declared.report.Output.{Output}
-use Rattle.vjson_run.specs.Runs.{Answer, AreAnswered, AreLinesFor, IsAnswer, IsLineFor, HasMade, HasTaken, Gets, AddsLine, IsKept, IsSame, Takes, denied, is_yes}
+use Rattle.vjson_run.specs.Runs.{Answer, AreAnswered, AreLinesFor, IsAnswer, IsLineFor, HasMade, HasTaken, Gets, AddsLine, AreEqual, AreEqualSoFar, Compares, Differs, IsKept, IsSame, Takes, denied, is_yes}
 use Rattle.vjson_run.specs.declared.lines.Line.{Line}
 use Rattle.vjson_run.specs.declared.options.Command.{Command}
 use Rattle.vjson_run.specs.declared.options.Command.TheVariants.{Check, Format, Get, Sort, Equal, Keys}
@@ -96,6 +98,33 @@ not_yes : (status : Status) → is_yes (denied status) ≡ false
 not_yes Yes = refl
 not_yes No = refl
 not_yes Trouble = refl
+
+differ_more : (o : Options) (texts more : List (List ℕ)) → AreEqual o texts false → AreEqual o (texts ++ more) false
+differ_more o texts more h = (h.0, h.1, h.2, any_before (λ text. AppendsKeyOf o.grammar text [] h.0) texts more h.3, any_before (λ text. AppendsKeyOf o.grammar text [] h.1) texts more h.4)
+
+equal_over : (o : Options) (texts more : List (List ℕ)) (last : Option (Vec ℕ Global)) (status : Status) → (status ≡ Yes → ⊥) → AreEqualSoFar o texts last (is_yes status) → AreEqualSoFar o (texts ++ more) last (is_yes status)
+equal_over o texts more last Yes not_yes h = absurd (not_yes refl)
+equal_over o texts more last No not_yes h = differ_more o texts more h
+equal_over o texts more last Trouble not_yes h = differ_more o texts more h
+
+-- one text more that has the key of those before
+same_more : (o : Options) (before : List (List ℕ)) (text : List ℕ) (last : Option (Vec ℕ Global)) (key : Vec ℕ Global) (good : Bool) → AppendsKeyOf o.grammar text [] key.items → MatchOption last ⊤ (λ k. k.items ≡ key.items)
+    → AreEqualSoFar o before last good → AreEqualSoFar o (before ++ text ∷ []) (Some key) good
+same_more o before text last key false has same h = differ_more o before (text ∷ []) h
+same_more o before text None key true has same h =
+    let P = λ (t : List ℕ). AppendsKeyOf o.grammar t [] key.items in
+    (any_last P before text has, subst (λ l. All P (l ++ text ∷ [])) (sym h) (All-cons P text [] has (All-nil P)))
+same_more o before text (Some k) key true has same h =
+    let P = λ (t : List ℕ). AppendsKeyOf o.grammar t [] key.items in
+    (any_last P before text has, All-push P before text (subst (λ items. All (λ t. AppendsKeyOf o.grammar t [] items) before) same h.1) has)
+
+-- one that has another key
+other_more : (o : Options) (before : List (List ℕ)) (text : List ℕ) (last : Option (Vec ℕ Global)) (key k : Vec ℕ Global) (good : Bool) → AppendsKeyOf o.grammar text [] key.items → last ≡ Some k → k.items ≢ key.items
+    → AreEqualSoFar o before last good → AreEqual o (before ++ text ∷ []) false
+other_more o before text last key k false has is other h = differ_more o before (text ∷ []) h
+other_more o before text last key k true has is other h =
+    let had = subst (λ l. AreEqualSoFar o before l true) is h in
+    (k.items, key.items, other, any_before (λ t. AppendsKeyOf o.grammar t [] k.items) before (text ∷ []) had.0, any_last (λ t. AppendsKeyOf o.grammar t [] key.items) before text has)
 
 -- the commands that answer each text by itself
 abbrev pub IsByText : Command → Type 0
@@ -218,6 +247,7 @@ module _ {W E : Type 0} (contents : W → Option (List ℕ)) where
     pub options : t.options ≡ s.options
     pub printed : PrintsNothing contents s.out t.out
     pub status : s.options.now.command ≢ Equal → t.status ≡ denied s.status
+    pub equal : s.options.now.command ≡ Equal → t.status ≡ Trouble
     pub over : checks_order s.options.now ≡ false → t.over ≡ s.over
 
   rejected_moves : (s t : Session W E) → Rejected s t → s.options.now.command ≢ Equal → Moves s t false []
@@ -244,7 +274,7 @@ module _ {W E : Type 0} (contents : W → Option (List ℕ)) where
 
   rejected_by : (command : Command) (s t : Session W E) (text : List ℕ) (start : Option (List ℕ)) (before : List (List ℕ)) → s.options.now.command ≡ command → IsNoTextOf s.options.now.grammar text → Rejected s t
       → t.status ≢ Trouble → t.out.error ≡ None → HasTaken contents start before s → Made start (before ++ text ∷ []) t command
-  rejected_by Equal s t text start before is none h calm fine had = tt
+  rejected_by Equal s t text start before is none h calm fine had = absurd (calm (h.equal is))
   rejected_by Sort s t text start before is none h calm fine had =
       let status = h.status (λ e. apart (sym is ∙ e)) in
       made_sort s.options.now.check s t start (before ++ text ∷ []) refl h.options
@@ -284,6 +314,55 @@ module _ {W E : Type 0} (contents : W → Option (List ℕ)) where
   pub trouble_taken : (s t : Session W E) (texts : List (List ℕ)) → t.status ≡ Trouble → Takes contents s texts t
   trouble_taken s t texts is start before had calm fine = absurd (calm is)
 
+  -- of two sessions one has printed the same, and nothing else that counts differs
+  pub record Flushed (s t : Session W E) : Type 0 where
+    pub options : t.options ≡ s.options
+    pub status : t.status ≡ s.status
+    pub over : t.over ≡ s.over
+    pub lines : t.lines.items ≡ s.lines.items
+    pub last : t.last ≡ s.last
+    pub printed : PrintsNothing contents s.out t.out
+
+  flushed_answered : (s t : Session W E) (start : Option (List ℕ)) (texts : List (List ℕ)) → Flushed s t → t.out.error ≡ None → AreAnswered s.options.now texts start (output contents s.out) (is_yes s.status) × (s.over ≡ false)
+      → AreAnswered t.options.now texts start (output contents t.out) (is_yes t.status) × (t.over ≡ false)
+  flushed_answered s t start texts h fine had = (
+    subst (λ o. AreAnswered o.now texts start (output contents t.out) (is_yes t.status)) (sym h.options)
+        (subst (λ status. AreAnswered s.options.now texts start (output contents t.out) (is_yes status)) (sym h.status)
+        (same_answered s.options.now texts start (output contents s.out) (output contents t.out) (is_yes s.status) had.0 (λ w k. kept_along start (output contents s.out) (output contents t.out) w k (h.printed.same fine)))),
+    h.over ∙ had.1,
+  )
+
+  flushed_collected : (check : Bool) (s t : Session W E) (start : Option (List ℕ)) (texts : List (List ℕ)) → Flushed s t → t.out.error ≡ None → MatchBool check ⊤ (Collected s.options.now start texts s) → MatchBool check ⊤ (Collected s.options.now start texts t)
+  flushed_collected true s t start texts h fine had = tt
+  flushed_collected false s t start texts h fine had = (
+    subst (λ lines. AreLinesFor s.options.now texts lines (is_yes t.status)) (sym h.lines) (subst (λ status. AreLinesFor s.options.now texts s.lines.items (is_yes status)) (sym h.status) had.0),
+    kept_along start (output contents s.out) (output contents t.out) [] had.1 (h.printed.same fine),
+    h.over ∙ had.2,
+  )
+
+  flushed_made : (command : Command) (s t : Session W E) (start : Option (List ℕ)) (texts : List (List ℕ)) → Flushed s t → t.out.error ≡ None → Made start texts s command → Made start texts t command
+  flushed_made Check s t start texts h fine had = flushed_answered s t start texts h fine had
+  flushed_made Format s t start texts h fine had = flushed_answered s t start texts h fine had
+  flushed_made Get s t start texts h fine had = flushed_answered s t start texts h fine had
+  flushed_made Keys s t start texts h fine had = flushed_answered s t start texts h fine had
+  flushed_made Sort s t start texts h fine had = made_sort s.options.now.check s t start texts refl h.options (flushed_collected s.options.now.check s t start texts h fine had)
+  flushed_made Equal s t start texts h fine had = (
+    subst (λ o. AreEqualSoFar o.now texts t.last (is_yes t.status)) (sym h.options)
+        (subst (λ last. AreEqualSoFar s.options.now texts last (is_yes t.status)) (sym h.last)
+        (subst (λ status. AreEqualSoFar s.options.now texts s.last (is_yes status)) (sym h.status) had.0)),
+    kept_along start (output contents s.out) (output contents t.out) [] had.1 (h.printed.same fine),
+    λ calm. h.over ∙ had.2 (sym h.status ∙ calm),
+  )
+
+  pub flushed_taken : (s t : Session W E) → Flushed s t → Takes contents s [] t
+  flushed_taken s t h start before had calm fine =
+      subst (λ texts. Made start texts t t.options.now.command) (sym (append-nil before))
+      (subst (λ o. Made start before t o.now.command) (sym h.options)
+      (flushed_made s.options.now.command s t start before h fine (had (λ e. calm (h.status ∙ e)) (h.printed.failed fine))))
+
+  pub nothing_taken : (s : Session W E) → Takes contents s [] s
+  nothing_taken s start before had = subst (λ l. HasTaken contents start l s) (sym (append-nil before)) had
+
   never : (t : Session W E) → t.over ≡ true → t.over ≡ false → ⊥
   never t over not_over = cc
 
@@ -299,7 +378,13 @@ module _ {W E : Type 0} (contents : W → Option (List ℕ)) where
 
   -- of two sessions that are the same one has taken what the other has
   made_same : (command : Command) (s t : Session W E) (start : Option (List ℕ)) (texts : List (List ℕ)) → IsSame s t → Made start texts s command → Made start texts t command
-  made_same Equal s t start texts h had = tt
+  made_same Equal s t start texts h had = (
+    subst (λ o. AreEqualSoFar o.now texts t.last (is_yes t.status)) (sym h.kept.options)
+        (subst (λ last. AreEqualSoFar s.options.now texts last (is_yes t.status)) (sym h.kept.last)
+        (subst (λ status. AreEqualSoFar s.options.now texts s.last (is_yes status)) (sym h.kept.status) had.0)),
+    subst (λ writer. Appends start (append_known (contents writer) t.out.bytes.items) []) (sym h.kept.writer) (subst (λ items. Appends start (append_known (contents s.out.writer) items) []) (sym h.bytes) had.1),
+    λ calm. h.kept.over ∙ had.2 (sym h.kept.status ∙ calm),
+  )
   made_same Sort s t start texts h had =
       made_sort s.options.now.check s t start texts refl h.kept.options (at s.options.now.check had)
     where
@@ -330,7 +415,11 @@ module _ {W E : Type 0} (contents : W → Option (List ℕ)) where
       takes_then s t u [] (text ∷ []) (same_taken s t h.1) (rejects (subst (λ o. IsNoTextOf o.now.grammar text) (sym h.1.kept.options) h.0))
 
   over_made : (command : Command) (check : Bool) (t : Session W E) (start : Option (List ℕ)) (texts more : List (List ℕ)) → t.over ≡ true → t.options.now.check ≡ check → Made start texts t command → Made start (texts ++ more) t command
-  over_made Equal check t start texts more over is had = tt
+  over_made Equal check t start texts more over is had = (
+    equal_over t.options.now texts more t.last t.status (λ calm. never t over (had.2 calm)) had.0,
+    had.1,
+    had.2,
+  )
   over_made Sort true t start texts more over is had = subst (λ b. MatchBool b ⊤ (Collected t.options.now start (texts ++ more) t)) (sym is) tt
   over_made Sort false t start texts more over is had =
       let m : Collected t.options.now start texts t = subst (λ b. MatchBool b ⊤ (Collected t.options.now start texts t)) is had in
@@ -345,6 +434,34 @@ module _ {W E : Type 0} (contents : W → Option (List ℕ)) where
   over_taken s t texts more over takes start before had calm fine =
       subst (λ l. Made start l t t.options.now.command) (append_assoc before texts more)
       (over_made t.options.now.command t.options.now.check t start (before ++ texts) more over refl (takes start before had calm fine))
+
+  compared : (good : Bool) (differs : Bool) (s t : Session W E) (text : List ℕ) (start : Option (List ℕ)) (before : List (List ℕ)) (h : Compares text s t) → h.differs ≡ differs → is_yes s.status ≡ good
+      → Differs s.last h.key.items differs → Made start before s Equal → AreEqualSoFar s.options.now (before ++ text ∷ []) t.last (is_yes t.status) × Appends start (output contents t.out) [] × (t.status ≡ Yes → t.over ≡ false)
+  compared good false s t text start before h is e apart had =
+      let status : t.status ≡ s.status = h.status ∙ ap (λ b. if b then denied s.status else s.status) is in (
+        subst (λ last. AreEqualSoFar s.options.now (before ++ text ∷ []) last (is_yes t.status)) (sym h.last)
+            (subst (λ x. AreEqualSoFar s.options.now (before ++ text ∷ []) (Some h.key) (is_yes x)) (sym status) (same_more s.options.now before text s.last h.key (is_yes s.status) h.is_key apart had.0)),
+        subst (λ out. Appends start (output contents out) []) (sym h.out) had.1,
+        λ calm. h.over is ∙ had.2 (sym status ∙ calm),
+      )
+  compared good true s t text start before h is e apart had =
+      let status : t.status ≡ denied s.status = h.status ∙ ap (λ b. if b then denied s.status else s.status) is in
+      let no : is_yes t.status ≡ false = ap is_yes status ∙ not_yes s.status in (
+        subst (AreEqualSoFar s.options.now (before ++ text ∷ []) t.last) (sym no) (other_more s.options.now before text s.last h.key apart.0 (is_yes s.status) h.is_key apart.1 apart.2 had.0),
+        subst (λ out. Appends start (output contents out) []) (sym h.out) had.1,
+        λ calm. cc,
+      )
+
+  pub compared_taken : (s t : Session W E) (text : List ℕ) → s.options.now.command ≡ Equal → Compares text s t → Takes contents s (text ∷ []) t
+  compared_taken s t text is h start before had calm fine =
+      let was = subst (Made start before s) is (had (untroubled (not h.differs) s.status t.status (h.status ∙ chosen h.differs s.status) calm) (sym (ap (λ out. out.error) h.out) ∙ fine)) in
+      let now = compared (is_yes s.status) h.differs s t text start before h refl refl h.found was in
+      subst (λ o. Made start (before ++ text ∷ []) t o.now.command) (sym h.options) (subst (Made start (before ++ text ∷ []) t) (sym is)
+      (subst (λ o. AreEqualSoFar o.now (before ++ text ∷ []) t.last (is_yes t.status) × Appends start (output contents t.out) [] × (t.status ≡ Yes → t.over ≡ false)) (sym h.options) now))
+    where
+      chosen : (differs : Bool) (status : Status) → (if differs then denied status else status) ≡ after (not differs) status
+      chosen true status = refl
+      chosen false status = refl
 
 module _ {W : Type 0} (contents : W → Option (List ℕ)) where
   pub appended_more : (a b c : Option (List ℕ)) (part one : List ℕ) → Appends a b part → Appends b c one → Appends a c (part ++ one)

@@ -1,8 +1,9 @@
 -- What a run has made of the texts that it has taken.
-use Rattle.std.specs.Prelude.{◌≡◌, ◌≢◌, ℕ, Bool, true, false, not, ◌&&◌, List, [], ◌∷◌, ◌++◌, Option, None, MatchBool, ⊤}
+use Rattle.std.specs.Prelude.{◌≡◌, ◌≢◌, ℕ, Bool, true, false, not, ◌&&◌, List, [], ◌∷◌, ◌++◌, Option, None, Some, MatchBool, MatchOption, Vec, if◌then◌else◌, ⊤}
 use Rattle.std.specs.Io.KnownBytes.{Appends}
-use Rattle.std.specs.List.{AllZip, Any, filter, flat_map, list_all}
-use Rattle.vjson_text.specs.Json.{IsNoTextOf}
+use Rattle.std.specs.List.{All, AllZip, Any, filter, flat_map, list_all}
+use Rattle.std.specs.declared.alloc.Global.{Global}
+use Rattle.vjson_text.specs.Json.{AppendsKeyOf, IsNoTextOf}
 use Rattle.vjson_run.specs.Answers.{Answers, IsFound, IsKeyed, LacksPart, Prints}
 use Rattle.vjson_run.specs.Input.{is_blank_line, without_end}
 use Rattle.vjson_run.specs.Lines.{IsArranged, line_text}
@@ -49,6 +50,25 @@ AreSorted options texts start end true =
     × IsArranged options.reverse options.unique lines sorted × Appends start end (flat_map line_text sorted)
 AreSorted options texts start end false = Any (IsNoTextOf options.grammar) texts × Appends start end []
 
+-- some text is one of the grammar with this key, and each is
+abbrev pub SomeHas : Options → List ℕ → List (List ℕ) → Type 0
+SomeHas options key texts = Any (λ text. AppendsKeyOf options.grammar text [] key) texts
+
+abbrev pub EachHas : Options → List ℕ → List (List ℕ) → Type 0
+EachHas options key texts = All (λ text. AppendsKeyOf options.grammar text [] key) texts
+
+-- The values of the texts are equal: each is one of the grammar, with the same key; or two have different keys.
+abbrev pub AreEqual : Options → List (List ℕ) → Bool → Type 0
+AreEqual options texts true = (key : List ℕ) × EachHas options key texts
+AreEqual options texts false =
+    (key other : List ℕ) × (key ≢ other) × SomeHas options key texts × SomeHas options other texts
+
+-- The same of the texts so far, where this is the key of the last one.
+abbrev pub AreEqualSoFar : Options → List (List ℕ) → Option (Vec ℕ Global) → Bool → Type 0
+AreEqualSoFar options texts last true =
+    MatchOption last (texts ≡ []) (λ key. SomeHas options key.items texts × EachHas options key.items texts)
+AreEqualSoFar options texts last false = AreEqual options texts false
+
 -- yes, where there was neither a no nor trouble
 abbrev pub is_yes : Status → Bool
 is_yes Yes = true
@@ -76,11 +96,17 @@ pub record IsKept {W E : Type 0} (s t : Session W E) : Type 0 where
   pub status : t.status ≡ s.status
   pub over : t.over ≡ s.over
   pub lines : t.lines.items ≡ s.lines.items
+  pub last : t.last ≡ s.last
 
 -- And nothing is printed.
 pub record IsSame {W E : Type 0} (s t : Session W E) : Type 0 where
   pub kept : IsKept s t
   pub bytes : t.out.bytes.items ≡ s.out.bytes.items
+
+-- whether a key differs from that of the text before, if there is one
+abbrev pub Differs : Option (Vec ℕ Global) → List ℕ → Bool → Type 0
+Differs last key true = (before : Vec ℕ Global) × (last ≡ Some before) × (before.items ≢ key)
+Differs last key false = MatchOption last ⊤ (λ before. before.items ≡ key)
 
 -- A line is added, that of the text, and nothing else that counts changes.
 pub record AddsLine {W E : Type 0} (text : List ℕ) (s t : Session W E) : Type 0 where
@@ -91,6 +117,19 @@ pub record AddsLine {W E : Type 0} (text : List ℕ) (s t : Session W E) : Type 
   pub line : Line
   pub is_line : IsLineFor s.options.now text line
   pub lines : t.lines.items ≡ s.lines.items ++ line ∷ []
+
+-- The text is one of the grammar, with this key, which is the last one now. Where it differs from the one before, the
+-- status is no; else nothing that counts changes.
+pub record Compares {W E : Type 0} (text : List ℕ) (s t : Session W E) : Type 0 where
+  pub options : t.options ≡ s.options
+  pub out : t.out ≡ s.out
+  pub key : Vec ℕ Global
+  pub is_key : AppendsKeyOf s.options.now.grammar text [] key.items
+  pub last : t.last ≡ Some key
+  pub differs : Bool
+  pub found : Differs s.last key.items differs
+  pub status : t.status ≡ (if differs then denied s.status else s.status)
+  pub over : differs ≡ false → t.over ≡ s.over
 
 -- The text's part is printed, or the default; or there is neither, and the status is no.
 pub record Gets {W E : Type 0} (s : Session W E) (text : List ℕ) (t : Session W E) : Type 0 where
@@ -107,11 +146,12 @@ pub record Gets {W E : Type 0} (s : Session W E) (text : List ℕ) (t : Session 
 
 module _ {W E : Type 0} (contents : W → Option (List ℕ)) where
   -- What the session's command has made of texts, since the output was at start: each is answered; or their lines are
-  -- there to be sorted, and nothing is printed. (Of `equal` and `sort --check`, which print nothing, it says nothing.)
+  -- there to be sorted, or their keys compared, and nothing is printed. (Of `sort --check` it says nothing.)
   abbrev pub HasMade : Option (List ℕ) → List (List ℕ) → Session W E → Command → Type 0
   HasMade start texts s Sort = MatchBool s.options.now.check ⊤ (AreLinesFor s.options.now texts s.lines.items (is_yes s.status)
       × Appends start (output contents s.out) [] × (s.over ≡ false))
-  HasMade start texts s Equal = ⊤
+  HasMade start texts s Equal = AreEqualSoFar s.options.now texts s.last (is_yes s.status)
+      × Appends start (output contents s.out) [] × (s.status ≡ Yes → s.over ≡ false)
   HasMade start texts s command =
       AreAnswered s.options.now texts start (output contents s.out) (is_yes s.status) × (s.over ≡ false)
 
@@ -126,7 +166,7 @@ module _ {W E : Type 0} (contents : W → Option (List ℕ)) where
 -- What the command prints of the texts, from start to end of the output, and whether its status is yes.
 abbrev pub IsDone : Options → List (List ℕ) → Option (List ℕ) → Option (List ℕ) → Bool → Command → Type 0
 IsDone options texts start end good Sort = MatchBool options.check ⊤ (AreSorted options texts start end good)
-IsDone options texts start end good Equal = ⊤
+IsDone options texts start end good Equal = AreEqual options texts good × Appends start end []
 IsDone options texts start end good command = AreAnswered options texts start end good
 
 -- The lines are written in order, as far as the output doesn't fail.

@@ -8,6 +8,8 @@ ghost use Rattle.vjson_run.specs.Input.{text_lines, texts_of, without_mark};
 ghost use Rattle.vjson_run.specs.Output.{IsWritten};
 ghost use Rattle.vjson_run.specs.Runs.{
   AddsLine,
+  Compares,
+  Differs,
   Gets,
   HasTaken,
   IsDone,
@@ -245,7 +247,8 @@ impl<'o, W: Write, E: Write> Session<'o, W, E> {
 
     // The status once a text is rejected: no, or of two that are compared trouble.
     fn status_rejected(&self) -> Status
-        ensures { self.now.options.now.command ≢ Command.Equal → result ≡ denied self.now.status }
+        ensures others { self.now.options.now.command ≢ Command.Equal → result ≡ denied self.now.status }
+        ensures equal { self.now.options.now.command ≡ Command.Equal → result ≡ Status.Trouble }
     {
         match (self.options.command, self.status) {
             (Command::Equal, _) => Status::Trouble,
@@ -335,22 +338,31 @@ impl<'o, W: Write, E: Write> Session<'o, W, E> {
     }
 
     fn take_equal(&mut self, text: &[u8]) -> Result<(), Fault>
+        ensures ok { OnOk result (Compares text.now self.old self.new) }
         ensures rejected { Rejects self.old.options.now.grammar text.now result }
         ensures same { IfErr result (λ f. f ≢ Fault.NoMemory → IsSame self.old self.new) }
-        ensures options { self.new.options ≡ self.old.options }
     {
         let grammar = self.options.grammar;
         answers::make_whole_key(self.alloc, grammar, text, &mut self.buffers)?;
-        let different = match &self.last {
-            Some(last) => last.as_slice() != self.buffers.key.as_slice(),
-            None => false,
-        };
-        if different {
+        let key = self.buffers.key.clone()?;
+        if self.differs(&key) {
             self.deny();
             self.over = true;
+            self.last = Some(key);
+            return Ok(());
         }
-        self.last = Some(self.buffers.key.clone()?);
+        self.last = Some(key);
         Ok(())
+    }
+
+    // Whether the key differs from the last one.
+    fn differs(&self, key: &[u8]) -> bool
+        ensures { Differs self.now.last key.now result }
+    {
+        match &self.last {
+            Some(last) => last.as_slice() != key,
+            None => false,
+        }
     }
 
     fn take_sort(&mut self, text: &[u8]) -> Result<(), Fault>

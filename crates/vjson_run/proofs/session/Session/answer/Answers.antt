@@ -1,5 +1,5 @@
 use Rattle.std.proofs.lemmas.Result.{on_ok_weaker}
-use Rattle.vjson_run.proofs.Taken.{checked_taken, gets_taken, keyed_taken, laid_taken, sorted_taken}
+use Rattle.vjson_run.proofs.Taken.{checked_taken, compared_taken, gets_taken, keyed_taken, laid_taken, sorted_taken}
 use Rattle.vjson_run.proofs.session.Session.answer.Goals as goal
 
 pub returns-in-Check-clause-ok : goal.returns-in-Check-clause-ok
@@ -16,3 +16,6 @@ returns-in-Keys-clause-ok g c = on_ok_weaker c.answer_keys.result (λ keyed. key
 
 pub returns-in-Sort-clause-ok : goal.returns-in-Sort-clause-ok
 returns-in-Sort-clause-ok g c = on_ok_weaker c.take_sort.result (λ added. sorted_taken g.W.Write.contents c.args.self.now c.take_sort.new.self c.args.text.now c.in-Sort.is c.take_sort.ensures.options added) c.take_sort.ensures.ok
+
+pub returns-in-Equal-clause-ok : goal.returns-in-Equal-clause-ok
+returns-in-Equal-clause-ok g c = on_ok_weaker c.take_equal.result (λ compares. compared_taken g.W.Write.contents c.args.self.now c.take_equal.new.self c.args.text.now c.in-Equal.is compares) c.take_equal.ensures.ok

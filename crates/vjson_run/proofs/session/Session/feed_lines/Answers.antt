@@ -1,6 +1,6 @@
 use Rattle.std.proofs.Common.{◌≡◌, ◌++◌, ◌∙◌, IfSome, ap, arith, subst}
 use Rattle.std.specs.Io.BufRead.{take_through}
-use Rattle.vjson_run.proofs.Fed.{all_fed, first_fed, more_fed, over_fed}
+use Rattle.vjson_run.proofs.Fed.{all_fed, first_fed, more_fed, none_fed, over_fed}
 use Rattle.vjson_run.specs.Input.{without_mark}
 use Rattle.vjson_run.specs.Runs.{Takes, line_texts}
 use Rattle.vjson_run.proofs.session.Session.feed_lines.Goals as goal
@@ -26,3 +26,6 @@ lines-preserved g c = more_fed g.W.Write.contents (g.R.Read.remaining c.args.inp
     (subst (λ old. IfSome (g.R.Read.remaining c.lines.input) (λ xs. c.read_until-in-lines.new.buf.items ≡ old ++ take_through 10 xs)) c.clear.ensures.items c.in_ok-read_until-2.ensures.bytes)
     c.in_ok-read_until-2.ensures.rest
     (subst (λ line. Takes g.W.Write.contents c.lines.self (line_texts line) c.take_line-in-lines.new.self) c.deref-in-lines.ensures.value c.take_line-in-lines.ensures)
+
+pub returns-then-branch-eq0 : goal.returns-then-branch-eq0
+returns-then-branch-eq0 g c = none_fed g.W.Write.contents (g.R.Read.remaining c.args.input.now) c.args.self.now (c.in_ok-read_until.ensures.end c.if-branch-eq0.true)
