@@ -1,3 +1,11 @@
-pub mod Firsts
+pub mod Arranged
+pub mod Cuts
+pub mod Down
+pub mod Fed
+pub mod Finished
+pub mod FirstOfEach
 pub mod KeyLines
 pub mod Ordered
+pub mod Parts
+pub mod Reading
+pub mod Taken

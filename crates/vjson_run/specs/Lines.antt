@@ -1,8 +1,8 @@
 -- Lines with the keys that they are sorted by, and which order of them is right.
-use Rattle.std.specs.Prelude.{◌≡◌, ℕ, ◌+◌, ◌-◌, ◌/◌, ◌%◌, nat_lt, Bool, if◌then◌else◌, List, [], ◌∷◌, ◌++◌, reverse, Contains}
-use Rattle.std.specs.List.{Any, flat_map}
+use Rattle.std.specs.Prelude.{◌≡◌, ℕ, ◌+◌, ◌-◌, ◌/◌, ◌%◌, nat_lt, Bool, true, false, if◌then◌else◌, List, [], ◌∷◌, ◌++◌, Some}
+use Rattle.std.specs.List.{All, Any, Contains, find, flat_map}
 use Rattle.std.specs.List.Sorted.{IsPermutation, IsSorted, IsStable, IsStrictlySortedBy}
-use Rattle.std.specs.Ordering.{is_eq}
+use Rattle.std.specs.Ordering.{flip_args, is_eq}
 use Rattle.std.specs.declared.cmp.Ordering.{Ordering}
 use Rattle.std.specs.declared.cmp.Ordering.TheVariants.{Equal}
 use Rattle.jsonb_spec.specs.Ascii as ascii
@@ -29,24 +29,28 @@ same_key l m = is_eq (line_cmp l m)
 abbrev pub IsLineOf : Grammar → Line → Tree → Type 0
 IsLineOf grammar line t = IsTextOf grammar line.text.items t × (line.key.items ≡ key_of t)
 
--- The lines are those given, each as often, in the order of their keys; lines of one key stand as they were given.
-pub record Arranges (given sorted : List Line) : Type 0 where
+-- the order in which lines are sorted: that of their keys, or the reverse
+abbrev pub order_of : Bool → Line → Line → Ordering
+order_of false = line_cmp
+order_of true = flip_args line_cmp
+
+-- The lines are those given, each as often, in order; lines of one key are in the order in which they were given.
+pub record Arranges (cmp : Line → Line → Ordering) (given sorted : List Line) : Type 0 where
   pub moved : IsPermutation given sorted
-  pub ascending : IsSorted line_cmp sorted
-  pub stable : IsStable line_cmp given sorted
+  pub ascending : IsSorted cmp sorted
+  pub stable : IsStable cmp given sorted
 
--- The same downwards, with lines of one key as they were given: the lines from the last to the first arrange those
--- given, from the last to the first.
-pub record ArrangesDown (given sorted : List Line) : Type 0 where
-  pub up : List Line
-  pub arranged : Arranges (reverse given) up
-  pub turned : sorted ≡ reverse up
+-- Of the lines given, the first of each key that there is, in order: each comes strictly before the next, each is the
+-- first of those given that has its key, and each that was given has the key of one.
+pub record IsFirstOfEach (cmp : Line → Line → Ordering) (given kept : List Line) : Type 0 where
+  pub ascending : IsStrictlySortedBy cmp kept
+  pub first : All (λ l. find (same_key l) given ≡ Some l) kept
+  pub covers : (l : Line) → Contains given l → Any (λ m. line_cmp l m ≡ Equal) kept
 
--- One line of each key that there is: they ascend strictly, each was given, and each that was given has the key of one.
-pub record IsOneOfEach (given kept : List Line) : Type 0 where
-  pub ascending : IsStrictlySortedBy line_cmp kept
-  pub was_given : (l : Line) → Contains kept l → Contains given l
-  pub stands : (l : Line) → Contains given l → Any (λ m. line_cmp l m ≡ Equal) kept
+-- The lines given in order, up or down: all of them, or the first of each key.
+abbrev pub IsArranged : Bool → Bool → List Line → List Line → Type 0
+IsArranged down false given sorted = Arranges (order_of down) given sorted
+IsArranged down true given sorted = IsFirstOfEach (order_of down) given sorted
 
 -- a line with a line feed
 abbrev pub line_text : Line → List ℕ

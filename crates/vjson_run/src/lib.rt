@@ -1,6 +1,8 @@
 //! The commands of the program `vjson`, over any streams.
 #![tactic(auto)]
 
+pub mod answers;
+pub mod input;
 pub mod lines;
 pub mod options;
 pub mod place;

@@ -1,7 +1,7 @@
 //! Lines in the order of their values, and lines behind their sort keys.
 
 ghost use Rattle.std.specs.Prelude.{◌≡◌, ◌<◌, ◌++◌, ◌∷◌, [], ℕ, List, OnOk};
-ghost use Rattle.std.specs.List.{dedup, flat_map};
+ghost use Rattle.std.specs.List.{flat_map};
 ghost use Rattle.jsonb_spec.specs.Ascii as ascii;
 ghost use Rattle.std.specs.Ordering.{ordering_then};
 ghost use Rattle.jsonb_spec.specs.Order.{bytes_cmp, tree_cmp};
@@ -9,15 +9,13 @@ ghost use Rattle.jsonb_spec.specs.Tree.{Tree};
 ghost use Rattle.vjson_text.specs.declared.reader.Grammar.{Grammar};
 ghost use Rattle.vjson_run.specs.Lines.{
   Arranges,
-  ArrangesDown,
+  IsArranged,
   IsLineOf,
-  IsOneOfEach,
   hex_digit,
   hex_text,
   key_line,
   line_cmp,
-  line_text,
-  same_key,
+  order_of,
 };
 
 use std::alloc::AllocError;
@@ -93,38 +91,36 @@ impl Ord for Line {
     }
 }
 
-/// Sorts the lines upwards. Lines of one key stay in their order.
-pub fn sort_up(lines: &mut Vec<Line>) -> Result<(), AllocError>
-    ensures ok { OnOk result (Arranges lines.old.items lines.new.items) }
+/// Sorts the lines, upwards or downwards, and keeps all of them or the first of each key.
+pub fn arrange(lines: &mut Vec<Line>, down: bool, unique: bool) -> Result<(), AllocError>
+    ensures ok { OnOk result (IsArranged down unique lines.old.items lines.new.items) }
 {
-    lines.sort()
+    sort(lines, down)?;
+    if unique {
+        lines.dedup();
+    }
+    Ok(())
 }
 
-/// Sorts the lines downwards. Lines of one key stay in their order.
-pub fn sort_down(lines: &mut Vec<Line>) -> Result<(), AllocError>
-    ensures ok { OnOk result (ArrangesDown lines.old.items lines.new.items) }
+// Sorts the lines, upwards or downwards. Lines of one key stay in their order.
+fn sort(lines: &mut Vec<Line>, down: bool) -> Result<(), AllocError>
+    ensures ok { OnOk result (Arranges (order_of down) lines.old.items lines.new.items) }
 {
+    if !down {
+        return lines.sort();
+    }
     lines.reverse();
     lines.sort()?;
     lines.reverse();
     Ok(())
 }
 
-/// Keeps the first of neighbours with one key.
-pub fn keep_first(lines: &mut Vec<Line>)
-    ensures kept { lines.new.items ≡ dedup same_key lines.old.items }
+/// Appends a line with a line feed.
+pub fn append_line(text: &[u8], out: &mut Vec<u8>) -> Result<(), AllocError>
+    ensures ok { OnOk result (out.new.items ≡ out.old.items ++ (text.now ++ ascii.line_feed ∷ [])) }
 {
-    lines.dedup();
-}
-
-/// Appends the lines, each with a line feed.
-pub fn append_lines(lines: &[Line], out: &mut Vec<u8>) -> Result<(), AllocError>
-    ensures ok { OnOk result (out.new.items ≡ out.old.items ++ flat_map line_text lines.now) }
-{
-    'lines: for line in lines {
-        out.extend_from_slice(&line.text)?;
-        out.push(b'\n')?;
-    }
+    out.extend_from_slice(text)?;
+    out.push(b'\n')?;
     Ok(())
 }
 
@@ -134,9 +130,7 @@ pub fn append_key_line(key: &[u8], text: &[u8], out: &mut Vec<u8>) -> Result<(),
 {
     append_hex(key, out)?;
     out.push(b'\t')?;
-    out.extend_from_slice(text)?;
-    out.push(b'\n')?;
-    Ok(())
+    append_line(text, out)
 }
 
 // Appends the bytes in hexadecimal.
@@ -166,12 +160,6 @@ fn hex_digit(half: u8) -> u8
 pub fn lines_order_as_values()
     ensures { (g : Grammar) → (l m : Line) → (t u : Tree) → IsLineOf g l t → IsLineOf g m u
         → line_cmp l m ≡ tree_cmp t u }
-{}
-
-/// Of lines in order the first of neighbours with one key are one line of each key that there is: they ascend strictly,
-/// each was given, and each line that was given has the key of one of them.
-pub fn firsts_are_one_of_each()
-    ensures { (given sorted : List Line) → Arranges given sorted → IsOneOfEach given (dedup same_key sorted) }
 {}
 
 /// The order of lines behind their keys, byte by byte as in the locale C, is that of their keys, and of the lines where

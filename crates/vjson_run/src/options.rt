@@ -212,6 +212,19 @@ fn new_options(alloc: Global, command: Command) -> Options {
 }
 
 impl Options {
+    ghost use Rattle.std.specs.Prelude.{◌≡◌};
+    ghost use Rattle.vjson_run.specs.Answers.{checks_order};
+
+    /// Whether it is asked whether lines are in order.
+    pub fn checks_order(&self) -> bool
+        ensures { result ≡ checks_order self.now }
+    {
+        match self.command {
+            Command::Sort => self.check,
+            _ => false,
+        }
+    }
+
     // Sets what an option without a value says. False where there is none of the name.
     fn set_flag(&mut self, name: &str) -> bool {
         match name {

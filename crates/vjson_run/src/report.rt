@@ -1,5 +1,11 @@
 //! What is told on standard error, and what is written on standard output.
 
+ghost use Rattle.std.specs.Prelude.{◌≡◌, [], None, OnOk};
+ghost use Rattle.std.specs.List.{flat_map};
+ghost use Rattle.vjson_run.specs.Lines.{line_text};
+ghost use Rattle.vjson_run.specs.Output.{PrintsNothing, PrintsPart};
+
+use crate::lines::{Line, append_line};
 use crate::place::{append_shown, shown_line};
 use std::alloc::{AllocError, Global};
 use std::io;
@@ -18,7 +24,11 @@ pub struct Output<W> {
 
 impl<W: Write> Output<W> {
     /// An output of which nothing is kept yet.
-    pub fn new(alloc: Global, writer: W) -> Output<W> {
+    pub fn new(alloc: Global, writer: W) -> Output<W>
+        ensures writer { result.writer ≡ writer }
+        ensures bytes { result.bytes.items ≡ [] }
+        ensures error { result.error ≡ None }
+    {
         Output {
             writer,
             bytes: Vec::new(alloc),
@@ -27,12 +37,17 @@ impl<W: Write> Output<W> {
     }
 
     /// The error by which it failed.
-    pub fn error(&self) -> Option<io::Error> {
+    pub fn error(&self) -> Option<io::Error>
+        ensures { result ≡ self.now.error }
+    {
         self.error
     }
 
     /// Writes what is kept.
-    pub fn flush(&mut self) {
+    pub fn flush(&mut self)
+        ensures nothing { PrintsNothing W.contents self.old self.new }
+        ensures empty { self.new.bytes.items ≡ [] }
+    {
         if self.error.is_none() {
             if let Err(error) = self.writer.write_all(&self.bytes) {
                 self.error = Some(error);
@@ -42,11 +57,27 @@ impl<W: Write> Output<W> {
     }
 
     /// Writes what is kept, where it is much.
-    pub fn flush_much(&mut self) {
+    pub fn flush_much(&mut self)
+        ensures nothing { PrintsNothing W.contents self.old self.new }
+    {
         if self.bytes.len() >= BLOCK {
             self.flush();
         }
     }
+}
+
+/// Prints the lines, each with a line feed, unless the output fails.
+pub fn print_lines<W: Write>(lines: &[Line], out: &mut Output<W>) -> Result<(), AllocError>
+    ensures ok { OnOk result (PrintsPart W.contents out.old out.new (flat_map line_text lines.now)) }
+{
+    'lines: for line in lines {
+        append_line(&line.text, &mut out.bytes)?;
+        out.flush_much();
+        if out.error().is_some() {
+            return Ok(());
+        }
+    }
+    Ok(())
 }
 
 // An error's words without the system's number.

@@ -1,18 +1,38 @@
 //! A run of the program over its files.
 
-ghost use Rattle.std.specs.Prelude.{◌≤◌};
+ghost use Rattle.std.specs.Prelude.{◌≡◌, ◌≢◌, ◌≤◌, ◌∷◌, ◌==◌, [], List, ℕ, Option, OnOk, IfErr, IfSome, None, true, false};
+ghost use Rattle.vjson_text.specs.Json.{IsNoTextOf};
+ghost use Rattle.vjson_text.specs.Read.{Rejects};
+ghost use Rattle.vjson_run.specs.Answers.{IsLaidOut, IsOne, Prints, PrintsKeyed, checks_order};
+ghost use Rattle.vjson_run.specs.Input.{text_lines, texts_of, without_mark};
+ghost use Rattle.vjson_run.specs.Output.{IsWritten};
+ghost use Rattle.vjson_run.specs.Runs.{
+  AddsLine,
+  Compares,
+  Differs,
+  Gets,
+  HasTaken,
+  IsDone,
+  IsKept,
+  IsSame,
+  Takes,
+  WritesSorted,
+  denied,
+  line_texts,
+  sorts,
+};
 
-use crate::lines::{Line, append_key_line, append_lines, keep_first, sort_down, sort_up};
+use crate::answers;
+use crate::answers::Buffers;
+use crate::input::{is_blank_line, without_end, without_mark};
+use crate::lines::{Line, arrange};
 use crate::options::{Command, Options};
-use crate::report::{Output, Spot, tell_fault, tell_memory, tell_stream};
+use crate::report::{Output, Spot, print_lines, tell_fault, tell_memory, tell_stream};
 use jsonb::line_and_column;
 use std::alloc::{AllocError, Global};
 use std::io;
 use std::io::{BufRead, ErrorKind, Write};
-use vjson_text::{Fault, Grammar, Layout};
-
-// How many sorted lines are written at once.
-const LINES: usize = 256;
+use vjson_text::Fault;
 
 // What the exit status says.
 #[derive(Clone, Copy, PartialEq, Eq, Debug)]
@@ -34,34 +54,14 @@ pub struct Session<'o, W, E> {
     lines: Vec<Line>,
     // The key of the line before, or of the file before.
     last: Option<Vec<u8>>,
-    key: Vec<u8>,
-    // A text with its numbers written out.
-    plain: Vec<u8>,
-    scratch: Vec<u8>,
-}
-
-// The line without its line feed, and without a carriage return before it.
-fn trimmed(line: &[u8]) -> &[u8] {
-    let line = line.strip_suffix(b"\n").unwrap_or(line);
-    line.strip_suffix(b"\r").unwrap_or(line)
-}
-
-fn is_blank(line: &[u8]) -> bool {
-    line.iter()
-        .all(|byte| matches!(*byte, b' ' | b'\t' | b'\r' | b'\n'))
-}
-
-// The bytes without a byte order mark at their start.
-fn without_mark(bytes: &[u8]) -> &[u8] {
-    match bytes.split_at_checked(3) {
-        Some(([0xEF, 0xBB, 0xBF], rest)) => rest,
-        _ => bytes,
-    }
+    buffers: Buffers,
 }
 
 impl<'o, W: Write, E: Write> Session<'o, W, E> {
     /// A run with these options, over these streams, of which nothing is read yet.
-    pub fn new(alloc: Global, options: &'o Options, out: W, err: E) -> Session<'o, W, E> {
+    pub fn new(alloc: Global, options: &'o Options, out: W, err: E) -> Session<'o, W, E>
+        ensures nothing { HasTaken W.contents (W.contents out) [] result }
+    {
         Session {
             alloc,
             options,
@@ -71,9 +71,7 @@ impl<'o, W: Write, E: Write> Session<'o, W, E> {
             over: false,
             lines: Vec::new(alloc),
             last: None,
-            key: Vec::new(alloc),
-            plain: Vec::new(alloc),
-            scratch: Vec::new(alloc),
+            buffers: Buffers::new(alloc),
         }
     }
 
@@ -83,20 +81,26 @@ impl<'o, W: Write, E: Write> Session<'o, W, E> {
     }
 
     // The answer is no, unless there was trouble.
-    fn deny(&mut self) {
+    fn deny(&mut self)
+        ensures { self.new ≡ record self.old { status = denied self.old.status } }
+    {
         if self.status == Status::Yes {
             self.status = Status::No;
         }
     }
 
     /// Tells that a file can't be read.
-    pub fn cannot_read(&mut self, name: &str, error: &io::Error) {
+    pub fn cannot_read(&mut self, name: &str, error: &io::Error)
+        ensures trouble { self.new.status ≡ Status.Trouble }
+    {
         self.status = Status::Trouble;
         self.out.flush();
         tell_stream(self.alloc, &mut self.err, name, error);
     }
 
-    fn no_memory(&mut self) {
+    fn no_memory(&mut self)
+        ensures { self.new.status ≡ Status.Trouble }
+    {
         self.status = Status::Trouble;
         self.over = true;
         tell_memory(&mut self.err);
@@ -106,8 +110,11 @@ impl<'o, W: Write, E: Write> Session<'o, W, E> {
     ///
     /// # Errors
     ///
-    /// Where the input fails.
-    pub fn feed<R: BufRead>(&mut self, name: &str, input: &mut R) -> io::Result<()> {
+    /// Where the input fails, or has more than 2^64 lines.
+    pub fn feed<R: BufRead>(&mut self, name: &str, input: &mut R) -> io::Result<()>
+        ensures takes { OnOk result (IfSome (R.remaining input.old)
+            (λ bytes. Takes W.contents self.old (texts_of self.old.options.now.lines bytes) self.new)) }
+    {
         if self.options.lines {
             self.feed_lines(name, input)
         } else {
@@ -115,10 +122,20 @@ impl<'o, W: Write, E: Write> Session<'o, W, E> {
         }
     }
 
-    fn feed_whole<R: BufRead>(&mut self, name: &str, input: &mut R) -> io::Result<()> {
+    fn feed_whole<R: BufRead>(&mut self, name: &str, input: &mut R) -> io::Result<()>
+        ensures { OnOk result (IfSome (R.remaining input.old)
+            (λ bytes. Takes W.contents self.old (without_mark bytes ∷ []) self.new)) }
+    {
         let mut bytes = Vec::new(self.alloc);
         input.read_to_end(&mut bytes)?;
-        let text = without_mark(&bytes);
+        self.take_whole(name, without_mark(&bytes));
+        Ok(())
+    }
+
+    // Takes all of an input.
+    fn take_whole(&mut self, name: &str, text: &[u8])
+        ensures { Takes W.contents self.old (text.now ∷ []) self.new }
+    {
         match self.take(text) {
             Ok(()) => {}
             Err(Fault::NoMemory) => self.no_memory(),
@@ -130,40 +147,58 @@ impl<'o, W: Write, E: Write> Session<'o, W, E> {
                     column: u64::try_from(column).unwrap_or(u64::MAX),
                 };
                 // What stands behind a text on a line of its own is often a text of the next line.
-                if line > 1 && column == 1 && message.as_str() == "trailing characters" {
-                    let hint = "trailing characters (one text a line? --lines)";
-                    self.reject(spot, hint, text, offset);
+                let message = if line > 1
+                    && column == 1
+                    && message.as_str() == "trailing characters"
+                {
+                    "trailing characters (one text a line? --lines)"
                 } else {
-                    self.reject(spot, message.as_str(), text, offset);
-                }
+                    message.as_str()
+                };
+                self.reject(spot, message, text, offset);
             }
         }
-        Ok(())
     }
 
-    fn feed_lines<R: BufRead>(&mut self, name: &str, input: &mut R) -> io::Result<()> {
+    fn feed_lines<R: BufRead>(&mut self, name: &str, input: &mut R) -> io::Result<()>
+        ensures { OnOk result (IfSome (R.remaining input.old)
+            (λ bytes. Takes W.contents self.old (text_lines (without_mark bytes)) self.new)) }
+    {
         let mut bytes = Vec::new(self.alloc);
-        'lines: for number in 1..u64::MAX {
-            bytes.clear();
-            if self.over || input.read_until(b'\n', &mut bytes)? == 0 {
+        if input.read_until(b'\n', &mut bytes)? == 0 {
+            return Ok(());
+        }
+        self.take_line(name, 1, without_mark(&bytes));
+        'lines: for number in 2..u64::MAX {
+            if self.over {
                 return Ok(());
             }
-            let line = if number == 1 {
-                without_mark(&bytes)
-            } else {
-                &bytes
-            };
-            if !is_blank(line) {
-                self.take_line(name, number, trimmed(line));
+            bytes.clear();
+            if input.read_until(b'\n', &mut bytes)? == 0 {
+                return Ok(());
             }
+            self.take_line(name, number, &bytes);
         }
-        Ok(())
+        Err(io::Error::from(ErrorKind::FileTooLarge))
     }
 
-    // Does the command on one line.
-    fn take_line(&mut self, name: &str, number: u64, text: &[u8]) {
+    // Takes a line, unless it is blank.
+    fn take_line(&mut self, name: &str, number: u64, line: &[u8])
+        ensures { Takes W.contents self.old (line_texts line.now) self.new }
+    {
+        let text = without_end(line);
+        if is_blank_line(text) {
+            return;
+        }
+        self.take_text(name, number, text);
+    }
+
+    // Takes the text of a line.
+    fn take_text(&mut self, name: &str, number: u64, text: &[u8])
+        ensures { Takes W.contents self.old (text.now ∷ []) self.new }
+    {
         match self.take(text) {
-            Ok(()) => {}
+            Ok(()) => self.stop_out_of_order(name, number),
             Err(Fault::NoMemory) => self.no_memory(),
             Err(Fault::At(offset, message)) => {
                 let spot = Spot {
@@ -172,172 +207,172 @@ impl<'o, W: Write, E: Write> Session<'o, W, E> {
                     column: u64::try_from(offset).unwrap_or(u64::MAX).saturating_add(1),
                 };
                 self.reject(spot, message.as_str(), text, offset);
-                return;
             }
         }
-        if self.options.check && self.status == Status::No && !self.over {
+    }
+
+    // Tells that the line isn't in order, where this is so, and reads no more.
+    fn stop_out_of_order(&mut self, name: &str, number: u64)
+        ensures { Takes W.contents self.old [] self.new }
+    {
+        if self.options.checks_order() && self.status == Status::No && !self.over {
             let _ = writeln!(self.err, "vjson: {name}:{number}: out of order");
             self.over = true;
         }
     }
 
     // Tells that a text is rejected.
-    fn reject(&mut self, spot: Spot<'_>, message: &str, text: &[u8], offset: usize) {
-        if self.options.command == Command::Equal {
-            self.status = Status::Trouble;
+    fn reject(&mut self, spot: Spot<'_>, message: &str, text: &[u8], offset: usize)
+        ensures { IsNoTextOf self.old.options.now.grammar text.now → Takes W.contents self.old (text.now ∷ []) self.new }
+    {
+        self.status = self.status_rejected();
+        self.over = self.is_over_rejected();
+        if self.options.quiet {
+            return;
+        }
+        self.out.flush();
+        tell_fault(self.alloc, &mut self.err, spot, message, text, offset);
+    }
+
+    // Whether no more is read once a text is rejected: where it is asked whether lines are in order.
+    fn is_over_rejected(&self) -> bool
+        ensures { checks_order self.now.options.now ≡ false → result ≡ self.now.over }
+    {
+        if self.options.checks_order() {
+            true
         } else {
-            self.deny();
-        }
-        if self.options.check {
-            self.over = true;
-        }
-        if !self.options.quiet {
-            self.out.flush();
-            tell_fault(self.alloc, &mut self.err, spot, message, text, offset);
+            self.over
         }
     }
 
-    // Does the command on one text.
-    fn take(&mut self, text: &[u8]) -> Result<(), Fault> {
-        match self.options.command {
-            Command::Check => self.take_check(text)?,
-            Command::Format => self.take_format(text)?,
-            Command::Get => self.take_get(text)?,
-            Command::Equal => self.take_equal(text)?,
-            Command::Sort => self.take_sort(text)?,
-            Command::Keys => self.take_keys(text)?,
+    // The status once a text is rejected: no, or of two that are compared trouble.
+    fn status_rejected(&self) -> Status
+        ensures others { self.now.options.now.command ≢ Command.Equal → result ≡ denied self.now.status }
+        ensures equal { self.now.options.now.command ≡ Command.Equal → result ≡ Status.Trouble }
+    {
+        match (self.options.command, self.status) {
+            (Command::Equal, _) => Status::Trouble,
+            (_, Status::Yes) => Status::No,
+            (_, status) => status,
         }
+    }
+
+    // Answers a text.
+    fn take(&mut self, text: &[u8]) -> Result<(), Fault>
+        ensures ok { OnOk result (Takes W.contents self.old (text.now ∷ []) self.new) }
+        ensures rejected { IfErr result (λ f. f ≢ Fault.NoMemory
+            → IsNoTextOf self.old.options.now.grammar text.now × IsSame self.old self.new) }
+    {
+        self.answer(text)?;
+        self.settle();
+        Ok(())
+    }
+
+    // Writes what is printed, where it is much. Where that fails no more is read.
+    fn settle(&mut self)
+        ensures { Takes W.contents self.old [] self.new }
+    {
         self.out.flush_much();
         if self.out.error().is_some() {
             self.over = true;
         }
-        Ok(())
     }
 
-    fn take_check(&mut self, text: &[u8]) -> Result<(), Fault> {
-        vjson_text::check(self.alloc, self.options.grammar, text, &mut self.plain)
-    }
-
-    fn take_format(&mut self, text: &[u8]) -> Result<(), Fault> {
-        let layout = match self.options.layout {
-            Some(layout) => layout,
-            None => {
-                if self.options.lines {
-                    Layout::Compact
-                } else {
-                    Layout::Indent(2)
-                }
-            }
-        };
-        vjson_text::append(
-            self.alloc,
-            self.options.grammar,
-            layout,
-            text,
-            &mut self.plain,
-            &mut self.out.bytes,
-        )?;
-        self.out.bytes.push(b'\n')?;
-        Ok(())
-    }
-
-    // Looks for the part of the text at the path, and puts its text into `scratch`. False where there is none.
-    fn find_part(&mut self, text: &[u8], path: &[String]) -> Result<bool, Fault> {
-        self.scratch.clear();
-        vjson_text::append_part(
-            self.alloc,
-            self.options.grammar,
-            path,
-            text,
-            &mut self.plain,
-            &mut self.scratch,
-        )
-    }
-
-    fn take_get(&mut self, text: &[u8]) -> Result<(), Fault> {
-        let Some(path) = &self.options.pointer else {
-            return Ok(());
-        };
-        if !self.find_part(text, path)? {
-            let Some(default) = &self.options.default else {
-                self.deny();
-                return Ok(());
-            };
-            self.out.bytes.extend_from_slice(default.as_bytes())?;
-        } else if self.options.raw && self.scratch.first() == Some(&b'"') {
-            vjson_text::append_raw(self.alloc, &self.scratch, &mut self.out.bytes)?;
-        } else {
-            self.out.bytes.extend_from_slice(&self.scratch)?;
+    // Answers a text, and prints what is printed of it.
+    fn answer(&mut self, text: &[u8]) -> Result<(), Fault>
+        ensures ok { OnOk result (Takes W.contents self.old (text.now ∷ []) self.new) }
+        ensures rejected { Rejects self.old.options.now.grammar text.now result }
+        ensures same { IfErr result (λ f. f ≢ Fault.NoMemory → IsSame self.old self.new) }
+    {
+        match self.options.command {
+            Command::Check => self.answer_check(text),
+            Command::Format => self.answer_format(text),
+            Command::Get => self.answer_get(text),
+            Command::Keys => self.answer_keys(text),
+            Command::Sort => self.take_sort(text),
+            Command::Equal => self.take_equal(text),
         }
-        self.out.bytes.push(b'\n')?;
+    }
+
+    fn answer_check(&mut self, text: &[u8]) -> Result<(), Fault>
+        ensures ok { OnOk result (IsOne self.old.options.now.grammar text.now) }
+        ensures rejected { Rejects self.old.options.now.grammar text.now result }
+        ensures same { IsSame self.old self.new }
+    {
+        let grammar = self.options.grammar;
+        answers::check(self.alloc, grammar, text, &mut self.buffers)
+    }
+
+    fn answer_format(&mut self, text: &[u8]) -> Result<(), Fault>
+        ensures ok { OnOk result (Prints (IsLaidOut self.old.options.now text.now) self.old.out.bytes.items
+            self.new.out.bytes.items) }
+        ensures err { IfErr result (λ f. f ≢ Fault.NoMemory → self.new.out.bytes.items ≡ self.old.out.bytes.items) }
+        ensures rejected { Rejects self.old.options.now.grammar text.now result }
+        ensures kept { IsKept self.old self.new }
+    {
+        let out = &mut self.out.bytes;
+        answers::format(self.alloc, self.options, text, &mut self.buffers, out)
+    }
+
+    fn answer_get(&mut self, text: &[u8]) -> Result<(), Fault>
+        ensures ok { OnOk result (Gets self.old text.now self.new) }
+        ensures rejected { Rejects self.old.options.now.grammar text.now result }
+        ensures same { IfErr result (λ f. f ≢ Fault.NoMemory → IsSame self.old self.new) }
+    {
+        let out = &mut self.out.bytes;
+        if !answers::get(self.alloc, self.options, text, &mut self.buffers, out)? {
+            self.deny();
+        }
         Ok(())
     }
 
-    // Puts the sort key of the text's value into `key`.
-    fn make_whole_key(&mut self, text: &[u8]) -> Result<(), Fault> {
-        self.key.clear();
-        vjson_text::append_key(
-            self.alloc,
-            self.options.grammar,
-            text,
-            &mut self.plain,
-            &mut self.key,
-        )
+    fn answer_keys(&mut self, text: &[u8]) -> Result<(), Fault>
+        ensures ok { OnOk result (PrintsKeyed self.old.options.now text.now self.old.out.bytes.items
+            self.new.out.bytes.items) }
+        ensures err { IfErr result (λ f. f ≢ Fault.NoMemory → self.new.out.bytes.items ≡ self.old.out.bytes.items) }
+        ensures rejected { Rejects self.old.options.now.grammar text.now result }
+        ensures kept { IsKept self.old self.new }
+    {
+        let out = &mut self.out.bytes;
+        answers::print_key(self.alloc, self.options, text, &mut self.buffers, out)
     }
 
-    fn take_equal(&mut self, text: &[u8]) -> Result<(), Fault> {
-        self.make_whole_key(text)?;
-        let different = match &self.last {
-            Some(last) => last.as_slice() != self.key.as_slice(),
-            None => false,
-        };
-        if different {
+    fn take_equal(&mut self, text: &[u8]) -> Result<(), Fault>
+        ensures ok { OnOk result (Compares text.now self.old self.new) }
+        ensures rejected { Rejects self.old.options.now.grammar text.now result }
+        ensures same { IfErr result (λ f. f ≢ Fault.NoMemory → IsSame self.old self.new) }
+    {
+        let grammar = self.options.grammar;
+        answers::make_whole_key(self.alloc, grammar, text, &mut self.buffers)?;
+        let key = self.buffers.key.clone()?;
+        if self.differs(&key) {
             self.deny();
             self.over = true;
+            self.last = Some(key);
+            return Ok(());
         }
-        self.last = Some(self.key.clone()?);
+        self.last = Some(key);
         Ok(())
     }
 
-    // Puts the key to sort by into `key`: nothing where there is no such part.
-    fn make_key(&mut self, text: &[u8]) -> Result<(), Fault> {
-        let Some(path) = &self.options.pointer else {
-            return self.make_whole_key(text);
-        };
-        let found = self.find_part(text, path)?;
-        self.key.clear();
-        if found {
-            vjson_text::append_key(
-                self.alloc,
-                Grammar::Extended,
-                &self.scratch,
-                &mut self.plain,
-                &mut self.key,
-            )?;
+    // Whether the key differs from the last one.
+    fn differs(&self, key: &[u8]) -> bool
+        ensures { Differs self.now.last key.now result }
+    {
+        match &self.last {
+            Some(last) => last.as_slice() != key,
+            None => false,
         }
-        Ok(())
     }
 
-    // What is written of a text that is sorted: the text as it was read, or its serialized form.
-    fn line_of(&mut self, text: &[u8]) -> Result<Vec<u8>, Fault> {
-        if !self.options.canonical {
-            return Ok(Vec::from_slice(self.alloc, text)?);
-        }
-        let mut line = Vec::new(self.alloc);
-        vjson_text::append(
-            self.alloc,
-            self.options.grammar,
-            Layout::Compact,
-            text,
-            &mut self.plain,
-            &mut line,
-        )?;
-        Ok(line)
-    }
-
-    fn take_sort(&mut self, text: &[u8]) -> Result<(), Fault> {
-        self.make_key(text)?;
-        let key = self.key.clone()?;
+    fn take_sort(&mut self, text: &[u8]) -> Result<(), Fault>
+        ensures ok { OnOk result (self.old.options.now.check ≡ false → AddsLine text.now self.old self.new) }
+        ensures rejected { Rejects self.old.options.now.grammar text.now result }
+        ensures same { IfErr result (λ f. f ≢ Fault.NoMemory → IsSame self.old self.new) }
+        ensures options { self.new.options ≡ self.old.options }
+    {
+        answers::make_key(self.alloc, self.options, text, &mut self.buffers)?;
+        let key = self.buffers.key.clone()?;
         if self.options.check {
             if self.is_wrong() {
                 self.deny();
@@ -345,8 +380,9 @@ impl<'o, W: Write, E: Write> Session<'o, W, E> {
             self.last = Some(key);
             return Ok(());
         }
-        let text = self.line_of(text)?;
-        self.lines.push(Line { key, text })?;
+        let mut line = Vec::new(self.alloc);
+        answers::append_line(self.alloc, self.options, text, &mut self.buffers, &mut line)?;
+        self.lines.push(Line { key, text: line })?;
         Ok(())
     }
 
@@ -355,53 +391,41 @@ impl<'o, W: Write, E: Write> Session<'o, W, E> {
         let Some(last) = &self.last else {
             return false;
         };
+        let key = self.buffers.key.as_slice();
         let (low, high) = if self.options.reverse {
-            (self.key.as_slice(), last.as_slice())
+            (key, last.as_slice())
         } else {
-            (last.as_slice(), self.key.as_slice())
+            (last.as_slice(), key)
         };
         high < low || (self.options.unique && low == high)
     }
 
-    fn take_keys(&mut self, text: &[u8]) -> Result<(), Fault> {
-        self.make_key(text)?;
-        if self.options.canonical {
-            let line = self.line_of(text)?;
-            append_key_line(&self.key, &line, &mut self.out.bytes)?;
-        } else {
-            append_key_line(&self.key, text, &mut self.out.bytes)?;
-        }
-        Ok(())
-    }
-
-    fn write_sorted(&mut self) -> Result<(), AllocError> {
-        if self.options.reverse {
-            sort_down(&mut self.lines)?;
-        } else {
-            sort_up(&mut self.lines)?;
-        }
-        if self.options.unique {
-            keep_first(&mut self.lines);
-        }
-        'blocks: for lines in self.lines.chunks(LINES) {
-            append_lines(lines, &mut self.out.bytes)?;
-            self.out.flush_much();
-            if self.out.error().is_some() {
-                return Ok(());
-            }
-        }
-        Ok(())
-    }
-
-    /// Writes what is left to be written, and returns the exit status.
-    pub fn finish(&mut self) -> u8
-        ensures status { result ≤ 2 }
+    // Writes the lines in order.
+    fn write_sorted(&mut self) -> Result<(), AllocError>
+        ensures ok { OnOk result (WritesSorted W.contents self.old self.new) }
     {
-        // Where a line was rejected or a file failed there is no order of all lines.
-        let sorts = self.options.command == Command::Sort && !self.options.check;
-        if sorts && self.status == Status::Yes && self.write_sorted().is_err() {
+        arrange(&mut self.lines, self.options.reverse, self.options.unique)?;
+        print_lines(&self.lines, &mut self.out)
+    }
+
+    // Writes the lines in order, where they are to be sorted.
+    fn finish_sort(&mut self)
+        ensures nothing { sorts self.old ≡ false → self.new ≡ self.old }
+        ensures sorted { sorts self.old ≡ true → self.new.status ≢ Status.Trouble
+            → WritesSorted W.contents self.old self.new }
+    {
+        if self.sorts() && self.write_sorted().is_err() {
             self.no_memory();
         }
+    }
+
+    // Writes what is left to be written. Where that fails, there was trouble.
+    fn finish_output(&mut self)
+        ensures options { self.new.options ≡ self.old.options }
+        ensures lines { self.new.lines.items ≡ self.old.lines.items }
+        ensures status { self.new.status ≢ Status.Trouble → self.new.status ≡ self.old.status }
+        ensures written { self.new.status ≢ Status.Trouble → IsWritten W.contents self.old.out self.new.out }
+    {
         self.out.flush();
         if let Some(error) = self.out.error() {
             self.status = Status::Trouble;
@@ -409,10 +433,31 @@ impl<'o, W: Write, E: Write> Session<'o, W, E> {
                 tell_stream(self.alloc, &mut self.err, "standard output", &error);
             }
         }
+    }
+
+    /// Writes what is left to be written, and returns the exit status.
+    pub fn finish(&mut self) -> u8
+        ensures status { result ≤ 2 }
+        ensures done { (start : Option (List ℕ)) (texts : List (List ℕ)) → HasTaken W.contents start texts self.old
+            → result ≢ 2 → IsDone self.old.options.now texts start (W.contents self.new.out.writer) (result == 0)
+            self.old.options.now.command }
+    {
+        self.finish_sort();
+        self.finish_output();
         match self.status {
             Status::Yes => 0,
             Status::No => 1,
             Status::Trouble => 2,
+        }
+    }
+
+    // Whether lines are to be sorted: where one was rejected or a file failed there is no order of all lines.
+    fn sorts(&self) -> bool
+        ensures { result ≡ sorts self.now }
+    {
+        match self.options.command {
+            Command::Sort => !self.options.check && self.status == Status::Yes,
+            _ => false,
         }
     }
 }

@@ -1,4 +1,5 @@
 pub mod Json
+pub mod Raw
 pub mod Read
 pub mod Strict
 pub mod View

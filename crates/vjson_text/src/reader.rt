@@ -7,6 +7,7 @@ ghost use Rattle.jsonb_spec.specs.Tree.{Tree};
 ghost use Rattle.jsonb_scan.specs.Answer.{mode_of};
 ghost use Rattle.jsonb_value.specs.View.{view};
 ghost use Rattle.vjson_text.specs.Json.{AppendsKeyOf, AppendsLaidOut, AppendsPartOf, AppendsTextOf, IsTextOf};
+ghost use Rattle.vjson_text.specs.Raw.{AppendsRaw};
 ghost use Rattle.vjson_text.specs.Read.{IsReadAs, Rejects, parser_mode, read_text};
 
 use crate::fault::{Fault, fault_at, fault_of};
@@ -287,8 +288,19 @@ fn write_value(value: &Value<'_>, width: usize, out: &mut Vec<u8>) -> Result<(),
     }
 }
 
-/// Appends the characters of a string, of which this is the serialized form, and what is no string as it is.
-pub fn append_raw(alloc: Global, text: &[u8], out: &mut Vec<u8>) -> Result<(), Fault> {
+/// Appends the characters of a string, of which this is the serialized form, and what has no quotes as it is.
+///
+/// # Errors
+///
+/// Where memory runs out, or the text has quotes and is no document.
+pub fn append_raw(alloc: Global, text: &[u8], out: &mut Vec<u8>) -> Result<(), Fault>
+    ensures ok { OnOk result (AppendsRaw text.now out.old.items out.new.items) }
+    ensures memory { IfErr result (λ f. f ≡ Fault.NoMemory) }
+{
+    if text.first() != Some(&b'"') {
+        out.extend_from_slice(text)?;
+        return Ok(());
+    }
     let Ok(value) = jsonb::parse_value(alloc, text) else {
         return Err(Fault::NoMemory);
     };

@@ -19,9 +19,9 @@ ghost use Rattle.vjson_text.specs.Word.{
 
 use jsonb_scan::parser::number::{after_minus, byte_at};
 
-// A space, a tab, a line feed or a carriage return.
+/// Whether the byte is a space, a tab, a line feed or a carriage return.
 #[inline(always)]
-fn is_blank(byte: u8) -> bool
+pub fn is_blank(byte: u8) -> bool
     ensures { result ≡ is_blank byte }
 {
     byte == b' ' || (byte == b'\t' || (byte == b'\n' || byte == b'\r'))

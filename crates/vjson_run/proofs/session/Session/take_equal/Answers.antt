@@ -1,0 +1,31 @@
+use Rattle.std.proofs.Common.{true, false, [], ap, refl, sym, subst}
+use Rattle.std.proofs.lemmas.List.Elements.{same_from_all_zip}
+use Rattle.vjson_text.specs.Json.{AppendsKeyOf}
+use Rattle.vjson_run.specs.Runs.{Differs}
+use Rattle.vjson_run.proofs.session.Session.take_equal.Goals as goal
+
+pub returns-then-differs-clause-ok : goal.returns-then-differs-clause-ok
+returns-then-differs-clause-ok g c = record {
+  options = ap (λ x. x.options) c.deny.ensures;
+  out = ap (λ x. x.out) c.deny.ensures;
+  key = c.in_ok-key.key;
+  is_key = subst (AppendsKeyOf c.args.self.now.options.now.grammar c.args.text.now []) (sym (same_from_all_zip _ _ _ c.in_ok-key.ensures.cases.0 (λ x y e. e))) c.in_ok-make_whole_key.ensures.ok;
+  last = refl;
+  differs = true;
+  found = subst (λ key. Differs c.args.self.now.last key true) c.deref.ensures.value (subst (Differs c.args.self.now.last c.deref.result.now) c.if-differs.true c.differs.ensures);
+  status = ap (λ x. x.status) c.deny.ensures;
+  over = λ e. cc;
+}
+
+pub returns-clause-ok : goal.returns-clause-ok
+returns-clause-ok g c = record {
+  options = refl;
+  out = refl;
+  key = c.in_ok-key.key;
+  is_key = subst (AppendsKeyOf c.args.self.now.options.now.grammar c.args.text.now []) (sym (same_from_all_zip _ _ _ c.in_ok-key.ensures.cases.0 (λ x y e. e))) c.in_ok-make_whole_key.ensures.ok;
+  last = refl;
+  differs = false;
+  found = subst (λ key. Differs c.args.self.now.last key false) c.deref.ensures.value (subst (Differs c.args.self.now.last c.deref.result.now) c.if-differs.false c.differs.ensures);
+  status = refl;
+  over = λ _. refl;
+}

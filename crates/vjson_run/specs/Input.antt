@@ -1,0 +1,31 @@
+-- The texts of an input: its lines, or all of it.
+use Rattle.std.specs.Prelude.{ℕ, ◌-◌, ◌==◌, ◌&&◌, Bool, true, false, not, if◌then◌else◌, List, [], ◌∷◌, length, take, drop, slice_index}
+use Rattle.std.specs.Io.BufRead.{ends_with_byte}
+use Rattle.std.specs.List.{filter, list_all}
+use Rattle.std.specs.Str.Lines.{lines, strip_carriage_return}
+use Rattle.jsonb_spec.specs.Ascii as ascii
+use Rattle.vjson_text.specs.Word.{is_blank}
+
+-- the bytes without a byte order mark at their start, which is EF BB BF
+abbrev pub without_mark : List ℕ → List ℕ
+without_mark bytes =
+    if (slice_index bytes 0 == 239) && ((slice_index bytes 1 == 187) && (slice_index bytes 2 == 191)) then drop 3 bytes
+    else bytes
+
+-- a line without its line feed, and without a carriage return before that
+abbrev pub without_end : List ℕ → List ℕ
+without_end line =
+    if ends_with_byte ascii.line_feed line then strip_carriage_return (take (length line - 1) line) else line
+
+-- whitespace alone
+abbrev pub is_blank_line : List ℕ → Bool
+is_blank_line line = list_all is_blank line
+
+-- the lines of the bytes that aren't blank, each without its end
+abbrev pub text_lines : List ℕ → List (List ℕ)
+text_lines bytes = filter (λ line. not (is_blank_line line)) (lines bytes)
+
+-- the texts of an input: its lines that aren't blank, or all of it; a byte order mark at its start is no part of them
+abbrev pub texts_of : Bool → List ℕ → List (List ℕ)
+texts_of true bytes = text_lines (without_mark bytes)
+texts_of false bytes = without_mark bytes ∷ []
