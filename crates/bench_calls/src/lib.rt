@@ -126,9 +126,9 @@ pub extern "C" fn jsonb_bench_check(alloc: Global, text: &[u8], rounds: usize) -
     rounds
 }
 
-/// Parses the text as standard JSON and appends the text of its part at the path (RFC 6901) `rounds` times to one buffer
-/// that is emptied before, with no value and no tree. The answer is how many rounds found it before the first that did
-/// not.
+/// Parses the text as standard JSON and appends the text of its part at the path (RFC 6901) `rounds` times to one
+/// buffer that is emptied before, with no value and no tree. The answer is how many rounds found it before the first
+/// that did not.
 #[unsafe(no_mangle)]
 pub extern "C" fn jsonb_bench_part(alloc: Global, path: &[u8], text: &[u8], rounds: usize) -> usize
     ensures counts { CountsRounds standard text.now rounds result }

@@ -1,1 +1,1 @@
-pub mod Spelling
+pub mod Encoding

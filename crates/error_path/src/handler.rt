@@ -13,7 +13,7 @@ use std::alloc::{AllocError, Global};
 pub(crate) struct PassedPart;
 
 impl<'a> Handler<'a> for PassedPart {
-    type Room = Steps;
+    type Sink = Steps;
 
     type Items = ();
 
@@ -23,29 +23,29 @@ impl<'a> Handler<'a> for PassedPart {
 
     ghost sees = { IsAnyValue };
 
-    ghost is_kept = { λ k v. Unit {0} };
+    ghost is_verbatim = { λ k v. Unit {0} };
 
     // Nothing is promised of what is made, since only the steps are asked for where the text is rejected.
-    ghost stands = { λ text room due fs cs. ⊥ };
+    ghost holds = { λ text sink due fs cs. ⊥ };
 
-    ghost completes = { λ text room f s fs cs. ⊥ };
+    ghost completes = { λ text sink f s fs cs. ⊥ };
 
-    ghost filled = { λ text room v s fs cs. ⊥ };
+    ghost filled = { λ text sink v s fs cs. ⊥ };
 
-    ghost base = { λ room. [] };
+    ghost base = { λ sink. [] };
 
     ghost silent = { false };
 
     ghost writes = { false };
 
-    ghost keeps = { true };
+    ghost preserves = { true };
 
     fn wants() -> Wants
-        ensures { result.kept ≡ true }
+        ensures { result.verbatim ≡ true }
     {
         Wants {
             plain: false,
-            kept: true,
+            verbatim: true,
         }
     }
 
@@ -63,33 +63,33 @@ impl<'a> Handler<'a> for PassedPart {
         Ok(PassedPart)
     }
 
-    fn root(room: &mut Steps, value: &Self) -> Result<(), AllocError> {
+    fn root(sink: &mut Steps, value: &Self) -> Result<(), AllocError> {
         Ok(())
     }
 
-    fn items(room: &mut Steps, alloc: Global, at: usize) -> Result<(), AllocError> {
-        room.open(Level::Array(0))
+    fn items(sink: &mut Steps, alloc: Global, at: usize) -> Result<(), AllocError> {
+        sink.open(Level::Array(0))
     }
 
-    fn next_item(room: &mut Steps, items: &mut ()) -> Result<(), AllocError> {
-        room.begin_element();
+    fn next_item(sink: &mut Steps, items: &mut ()) -> Result<(), AllocError> {
+        sink.begin_element();
         Ok(())
     }
 
     fn push(
-        room: &mut Steps,
+        sink: &mut Steps,
         items: &mut (),
         value: Self,
         from: usize,
         to: usize,
     ) -> Result<(), AllocError> {
-        room.begin_element();
-        room.end_part();
+        sink.begin_element();
+        sink.end_part();
         Ok(())
     }
 
     fn push_inner(
-        room: &mut Steps,
+        sink: &mut Steps,
         items: &mut (),
         value: Self,
         is_last: bool,
@@ -97,21 +97,21 @@ impl<'a> Handler<'a> for PassedPart {
         Ok(())
     }
 
-    fn end_items(room: &mut Steps, items: &mut (), at: usize) -> Result<(), AllocError> {
-        room.close();
+    fn end_items(sink: &mut Steps, items: &mut (), at: usize) -> Result<(), AllocError> {
+        sink.close();
         Ok(())
     }
 
-    fn array(room: &Steps, items: ()) -> Self {
+    fn array(sink: &Steps, items: ()) -> Self {
         PassedPart
     }
 
     fn members(
-        room: &mut Steps,
+        sink: &mut Steps,
         alloc: Global,
         at: usize,
     ) -> Result<OpenObject<(), ()>, AllocError> {
-        room.open(Level::Object(None))?;
+        sink.open(Level::Object(None))?;
         Ok(OpenObject {
             members: (),
             key: (),
@@ -119,7 +119,7 @@ impl<'a> Handler<'a> for PassedPart {
     }
 
     fn key(
-        room: &mut Steps,
+        sink: &mut Steps,
         object: &mut OpenObject<(), ()>,
         alloc: Global,
         text: Text<'a>,
@@ -127,26 +127,26 @@ impl<'a> Handler<'a> for PassedPart {
         after: usize,
     ) -> Result<(), AllocError> {
         match text {
-            Text::Plain(text) => room.begin_member(alloc, text),
-            Text::Borrowed(text) => room.begin_member(alloc, text),
-            Text::Decoded(text) => room.begin_member(alloc, text.as_str()),
+            Text::Plain(text) => sink.begin_member(alloc, text),
+            Text::Borrowed(text) => sink.begin_member(alloc, text),
+            Text::Decoded(text) => sink.begin_member(alloc, text.as_str()),
         }
     }
 
     fn insert(
-        room: &mut Steps,
+        sink: &mut Steps,
         object: &mut OpenObject<(), ()>,
         key: (),
         value: Self,
         from: usize,
         to: usize,
     ) -> Result<bool, AllocError> {
-        room.end_part();
+        sink.end_part();
         Ok(true)
     }
 
     fn insert_inner(
-        room: &mut Steps,
+        sink: &mut Steps,
         object: &mut OpenObject<(), ()>,
         alloc: Global,
         value: Self,
@@ -155,17 +155,17 @@ impl<'a> Handler<'a> for PassedPart {
     }
 
     fn finish(
-        room: &mut Steps,
+        sink: &mut Steps,
         alloc: Global,
         members: &mut (),
-        told: &mut Option<Error>,
+        reported: &mut Option<Error>,
         at: usize,
     ) -> Result<(), Failed> {
-        room.close();
+        sink.close();
         Ok(())
     }
 
-    fn object(room: &Steps, members: ()) -> Self {
+    fn object(sink: &Steps, members: ()) -> Self {
         PassedPart
     }
 

@@ -1,6 +1,6 @@
 //! The path of the part at which a text is rejected.
 ghost use Rattle.std.specs.Prelude.{◌≡◌, ◌++◌, ◌∷◌, [], List, ℕ, map, string_bytes, IfOk, OnOk};
-ghost use Rattle.jsonb_path.specs.Path.{spelled_byte, spelled_key, spelled_keys, IsPath};
+ghost use Rattle.jsonb_path.specs.Path.{encoded_byte, encoded_key, encoded_keys, IsPath};
 
 use crate::handler::PassedPart;
 use crate::steps::Steps;
@@ -15,7 +15,7 @@ use std::alloc::{AllocError, Global};
 ///
 /// Where `path` could not grow.
 pub fn append_path(keys: &[String], path: &mut Vec<u8>) -> Result<(), AllocError>
-    ensures { OnOk result (path.new.items ≡ path.old.items ++ spelled_keys (map string_bytes keys.now)) }
+    ensures { OnOk result (path.new.items ≡ path.old.items ++ encoded_keys (map string_bytes keys.now)) }
 {
     'keys: for key in keys {
         append_step(key.as_bytes(), path)?;
@@ -29,15 +29,15 @@ pub fn append_path(keys: &[String], path: &mut Vec<u8>) -> Result<(), AllocError
 ///
 /// Where `path` could not grow.
 pub fn append_step(key: &[u8], path: &mut Vec<u8>) -> Result<(), AllocError>
-    ensures { OnOk result (path.new.items ≡ path.old.items ++ spelled_keys (key.now ∷ [])) }
+    ensures { OnOk result (path.new.items ≡ path.old.items ++ encoded_keys (key.now ∷ [])) }
 {
     path.push(b'/')?;
     append_key(key, path)
 }
 
-// Appends a key as it is spelled in a path.
+// Appends a key as it is encoded in a path.
 fn append_key(key: &[u8], path: &mut Vec<u8>) -> Result<(), AllocError>
-    ensures { OnOk result (path.new.items ≡ path.old.items ++ spelled_key key.now) }
+    ensures { OnOk result (path.new.items ≡ path.old.items ++ encoded_key key.now) }
 {
     'bytes: for byte in key {
         append_byte(*byte, path)?;
@@ -45,10 +45,10 @@ fn append_key(key: &[u8], path: &mut Vec<u8>) -> Result<(), AllocError>
     Ok(())
 }
 
-// Appends a byte of a key as it is spelled in a path.
+// Appends a byte of a key as it is encoded in a path.
 #[inline(always)]
 fn append_byte(byte: u8, path: &mut Vec<u8>) -> Result<(), AllocError>
-    ensures { OnOk result (path.new.items ≡ path.old.items ++ spelled_byte byte) }
+    ensures { OnOk result (path.new.items ≡ path.old.items ++ encoded_byte byte) }
 {
     if byte == b'~' {
         path.extend_from_slice(b"~0")?;
@@ -74,7 +74,7 @@ pub enum Fault {
 }
 
 /// The path (RFC 6901) of the part of the text's value at which the text is rejected: the innermost element or member
-/// that has the fault, or the container where that stands between two; of a repeated key the member. In extended mode
+/// that has the fault, or the container where that is between two; of a repeated key the member. In extended mode
 /// numbers with an exponent are passed, but for the one that has the fault. A text that isn't rejected has the path of
 /// the whole.
 ///
@@ -95,7 +95,7 @@ pub fn error_path(
     let mut steps = Steps::new(alloc);
     let lacks_comma = match parse_text::<PassedPart>(&mut steps, alloc, &passed, mode) {
         Ok(_) => false,
-        Err(told) => lacks_comma(&told)?,
+        Err(reported) => lacks_comma(&reported)?,
     };
     let keys = steps.into_keys(alloc, lacks_comma)?;
     let mut path = Vec::new(alloc);
@@ -104,8 +104,8 @@ pub fn error_path(
 }
 
 // Whether the error is the lack of a comma, or of the end of a container.
-fn lacks_comma(told: &Option<Error>) -> Result<bool, AllocError> {
-    match told {
+fn lacks_comma(reported: &Option<Error>) -> Result<bool, AllocError> {
+    match reported {
         Some(Error::OutOfMemory) => Err(AllocError),
         Some(
             Error::Syntax(
@@ -118,7 +118,7 @@ fn lacks_comma(told: &Option<Error>) -> Result<bool, AllocError> {
 }
 
 // The text up to where it is rejected, or all of it, with its numbers masked in extended mode. A byte is put behind it
-// that stands nowhere: where the text ends too early, the parser tells by that byte whether a part had ended.
+// that is nowhere: where the text ends too early, the parser says by that byte whether a part had ended.
 fn passed_text(
     alloc: Global,
     text: &[u8],

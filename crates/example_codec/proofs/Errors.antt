@@ -62,10 +62,10 @@ frames_rejected frames left text r so_far some rejected = record {
 
 -- the clause of a call that was rejected
 pub failed_growth : {T E : Type 0} {P : Type 0} (r : Result T E) → OnErr r P → is_err r ≡ true → P
-failed_growth (Ok x) told rejected = cc
-failed_growth (Err e) told rejected = told
+failed_growth (Ok x) reported rejected = cc
+failed_growth (Err e) reported rejected = reported
 
 -- where a length doesn't fit, no frame does
-pub no_room : (text : Option (List ℕ)) (capacity len : ℕ) → capacity < len + 4 → MatchOption text (capacity < len + 4) (λ bytes. capacity < len + length (frame_of bytes))
-no_room None capacity len full = full
-no_room (Some bytes) capacity len full = omega (arith, full)
+pub no_capacity : (text : Option (List ℕ)) (capacity len : ℕ) → capacity < len + 4 → MatchOption text (capacity < len + 4) (λ bytes. capacity < len + length (frame_of bytes))
+no_capacity None capacity len full = full
+no_capacity (Some bytes) capacity len full = omega (arith, full)

@@ -48,7 +48,7 @@ EncodeRejects t CutShort = ⊥
 EncodeRejects t (Json e) = ((e ≡ error.UnexpectedType) × (text_of t ≡ None)) ⊎ (e ≡ error.OutOfMemory)
 
 -- The bytes begin with no frame, or with the frame of a text that is no document, or memory ran out. The fault of the
--- text is as reading tells it, which asks for memory only where the text holds a marker.
+-- text is as reading reports it, which asks for memory only where the text holds a marker.
 abbrev pub DecodeRejects : List ℕ → FrameError → Type 0
 DecodeRejects bytes TooLong = ⊥
 DecodeRejects bytes CutShort = (text rest : List ℕ) → BeginsWith bytes text rest → ⊥
@@ -69,7 +69,7 @@ pub data AreEncoded : List (List ℕ) → List ℕ → Type 0 where
       → AppendsFrame t [] frame → DecodesAs (frame ++ rest) t rest → AreEncoded lines rest
       → AreEncoded (line ∷ lines) (frame ++ rest)
 
--- The line is no document, and the fault is as reading tells it, or the text of its tree is too long for a frame, or
+-- The line is no document, and the fault is as reading reports it, or the text of its tree is too long for a frame, or
 -- memory ran out: for what the line holds, or for the frame of its tree.
 abbrev pub LineRejects : List ℕ → FrameError → Type 0
 LineRejects line TooLong = (t : Tree) × IsDocument extended line t × EncodeRejects t TooLong

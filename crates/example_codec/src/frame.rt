@@ -19,7 +19,7 @@ pub fn split_frame(bytes: &[u8]) -> Option<(&[u8], &[u8])>
     rest.split_at_checked(size)
 }
 
-/// Makes a frame of what stands from `start` on, four bytes and a text. `false` where the text is too long for a frame.
+/// Makes a frame of what is from `start` on, four bytes and a text. `false` where the text is too long for a frame.
 pub(crate) fn close_frame(buf: &mut Vec<u8>, start: usize) -> bool
     requires { start + 4 ≤ vec_len buf.old }
     ensures framed { MatchBool result

@@ -52,7 +52,7 @@ pub fn encode(value: &Value, out: &mut Vec<u8>) -> Result<(), FrameError>
         → out.new.items ≡ out.old.items ++ bytes → DecodesAs (bytes ++ rest) (view value.now) rest) }
     ensures err { OnErr result (out.new.items ≡ out.old.items) }
     ensures rejected { IfErr result (EncodeRejects (view value.now)) }
-    // Memory runs out only where the room for the whole frame is missing, or for the length where there is no text.
+    // Memory runs out only where the space for the whole frame is missing, or for the length where there is no text.
     ensures full { IsErrOf result (FrameError.Json Error.OutOfMemory) → MatchOption (text_of (view value.now))
         (vec_capacity out.old < vec_len out.old + 4)
         (λ text. vec_capacity out.old < vec_len out.old + length (frame_of text)) }

@@ -4,7 +4,7 @@ use Rattle.std.specs.Cow.{cow_str_bytes}
 use Rattle.jsonb.specs.AstView.{Written}
 use Rattle.std.specs.Str.{bytes_eq}
 use Rattle.jsonb_spec.specs.Mode.{Mode}
-use Rattle.jsonb_spec.specs.Placed.{IsPlaced}
+use Rattle.jsonb_spec.specs.Located.{IsLocated}
 use Rattle.jsonb_spec.specs.Source.{object_source}
 use Rattle.jsonb.specs.Source.{source_members_view, source_view}
 use Rattle.jsonb.specs.declared.parser.ast.JsonAst.{JsonAst, the_lemmas}
@@ -20,9 +20,9 @@ key_found (n ∷ ms) (suc i) m key within is same = inr (key_found ms i m key (o
 source-Object : (v : Vec Written Global) → source_view (ast.Object v) ≡ object_source (source_members_view v.items)
 source-Object v = search (rules, the_lemmas)
 
--- an object that stands in a text
-pub object_placed : (mode : Mode) (text : List ℕ) (read : JsonAst) (members : Vec Written Global) → read ≡ ast.Object members → IsPlaced mode text (source_view read) → IsPlaced mode text (object_source (source_members_view members.items))
-object_placed mode text read members is placed = subst (λ s. IsPlaced mode text s) (ap source_view is ∙ source-Object members) placed
+-- an object that is in a text
+pub object_located : (mode : Mode) (text : List ℕ) (read : JsonAst) (members : Vec Written Global) → read ≡ ast.Object members → IsLocated mode text (source_view read) → IsLocated mode text (object_source (source_members_view members.items))
+object_located mode text read members is located = subst (λ s. IsLocated mode text s) (ap source_view is ∙ source-Object members) located
 
 -- bytes that compare as equal
 pub same_bytes : (xs ys : List ℕ) → bytes_eq xs ys ≡ true → xs ≡ ys

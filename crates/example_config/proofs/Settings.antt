@@ -9,12 +9,12 @@ use Rattle.jsonb_spec.specs.Accessors.{as_object, find_member}
 use Rattle.jsonb.specs.AstView.{Written, ast_view, written_members, written_pairs}
 use Rattle.jsonb_spec.specs.Grammar.{IsDocument}
 use Rattle.jsonb_spec.specs.Mode.{extended}
-use Rattle.jsonb_spec.specs.Placed.{IsPlaced}
+use Rattle.jsonb_spec.specs.Located.{IsLocated}
 use Rattle.jsonb.specs.Source.{source_members_view, source_view}
 use Rattle.jsonb_spec.specs.Tree.{Member, Members, no_members, more_members, object, put, put_all, Tree}
 use Rattle.jsonb.specs.declared.parser.ast.JsonAst.{JsonAst, the_lemmas}
 use Rattle.jsonb.specs.declared.parser.ast.JsonAst.TheVariants as ast
-use Rattle.example_config.proofs.KeyEnds.{key_found, object_placed, same_bytes}
+use Rattle.example_config.proofs.KeyEnds.{key_found, object_located, same_bytes}
 use Rattle.example_config.specs.Config.{HasKeyEnd, IsConfig, IsConfigOf, IsConfigError, IsSettingError, key_of, setting_of}
 use Rattle.example_config.specs.declared.config.Config.{Config}
 use Rattle.example_config.specs.declared.config.ConfigError.{ConfigError}
@@ -85,7 +85,7 @@ passed : (b : Bool) (now before : Option Tree) (t : Tree) → b ≡ false → no
 passed false now before t is same = same
 passed true now before t is same = absurd (false_true (sym is))
 
--- a member with the key takes the place of what was found
+-- a member with the key replaces what was found
 taken : (b : Bool) (before : Option Tree) (t : Tree) → b ≡ true → Some t ≡ (if b then Some t else before)
 taken true before t is = refl
 taken false before t is = absurd (false_true is)
@@ -138,24 +138,24 @@ only_settings text read v (Ok c) is one config = λ t document. (written_members
 only_settings text read v (Err e) is one config = tt
 
 -- the error of a setting of the object that was read
-pub no_settings : (text : List ℕ) (read : JsonAst) (v : Vec Written Global) (r : Result Config ConfigError) → read ≡ ast.Object v → IsDocument extended text (ast_view read) → IsPlaced extended text (source_view read)
+pub no_settings : (text : List ℕ) (read : JsonAst) (v : Vec Written Global) (r : Result Config ConfigError) → read ≡ ast.Object v → IsDocument extended text (ast_view read) → IsLocated extended text (source_view read)
     → IfErr r (IsSettingError text v.items) → IfErr r (IsConfigError text)
-no_settings text read v (Ok c) is document placed told = tt
-no_settings text read v (Err (config_error.Wrong setting line column)) is document placed told = (
+no_settings text read v (Ok c) is document located reported = tt
+no_settings text read v (Err (config_error.Wrong setting line column)) is document located reported = (
   ast_view read,
   document,
   written_members v.items,
   as_members read v is,
-  told.0,
+  reported.0,
   record {
     members = source_members_view v.items;
-    placed = object_placed extended text read v is placed;
-    index = told.1;
-    ends = told.2;
-    line_there = told.3;
-    column_there = told.4;
+    located = object_located extended text read v is located;
+    index = reported.1;
+    ends = reported.2;
+    line_there = reported.3;
+    column_there = reported.4;
   },
 )
-no_settings text read v (Err config_error.NoMemory) is document placed told = (ast_view read, document, written_members v.items, as_members read v is, told)
-no_settings text read v (Err (config_error.NoDocument e line column)) is document placed told = absurd told
-no_settings text read v (Err config_error.NoObject) is document placed told = absurd told
+no_settings text read v (Err config_error.NoMemory) is document located reported = (ast_view read, document, written_members v.items, as_members read v is, reported)
+no_settings text read v (Err (config_error.NoDocument e line column)) is document located reported = absurd reported
+no_settings text read v (Err config_error.NoObject) is document located reported = absurd reported

@@ -8,7 +8,7 @@ use Rattle.jsonb_spec.specs.Mode.{extended}
 use Rattle.jsonb_scan.specs.Answer.{Fails, MayAllocate}
 use Rattle.jsonb_spec.specs.Accessors.{as_boolean, as_object, as_string, find_member, IsWholeNumber}
 use Rattle.jsonb_spec.specs.Line.{column_at, fault_index, line_at}
-use Rattle.jsonb_spec.specs.Placed.{IsPlaced}
+use Rattle.jsonb_spec.specs.Located.{IsLocated}
 use Rattle.jsonb_scan.specs.Parsing.Document.{document_of}
 use Rattle.jsonb_spec.specs.Source.{object_source, SourceMembers, no_source_members, more_source_members}
 use Rattle.jsonb.specs.Source.{source_members_view}
@@ -63,7 +63,7 @@ pub record IsConfig (ms : Members) (c : Config) : Type 0 where
 abbrev pub IsConfigOf : Tree → Config → Type 0
 IsConfigOf t c = (ms : Members) × (as_object t ≡ Some ms) × IsConfig ms c
 
--- what stands at the setting's key, or nothing, gives no such setting
+-- what is at the setting's key, or nothing, gives no such setting
 abbrev pub IsWrong : Setting → Option Tree → Type 0
 IsWrong Host t = (host : List ℕ) → IsHost t host → ⊥
 IsWrong Port t = (port : ℕ) → IsPort t port → ⊥
@@ -75,15 +75,15 @@ abbrev pub shown_index : List ℕ → Error → ℕ
 shown_index text (error.Syntax code position) = fault_index text (code_of code) position
 shown_index text other = 0
 
--- one of the members has this key, whose spelling ends at the index
+-- one of the members has this key, whose encoding ends at the index
 abbrev pub HasKeyEnd : SourceMembers → List ℕ → ℕ → Type 0
 HasKeyEnd no_source_members key index = ⊥
 HasKeyEnd (more_source_members mark k s i ms) key index = ((k ≡ key) × (i ≡ index)) ⊎ HasKeyEnd ms key index
 
--- The text stands for an object with the setting's key, whose spelling ends at this line and column.
+-- The text means an object with the setting's key, whose encoding ends at this line and column.
 pub record EndsKey (text : List ℕ) (setting : Setting) (line column : ℕ) : Type 0 where
   pub members : SourceMembers
-  pub placed : IsPlaced extended text (object_source members)
+  pub located : IsLocated extended text (object_source members)
   pub index : ℕ
   pub ends : HasKeyEnd members (key_of setting) index
   pub line_there : line ≡ line_at text index

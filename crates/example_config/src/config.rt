@@ -193,7 +193,7 @@ fn workers_of(text: &[u8], members: &[Member]) -> Result<u64, ConfigError>
     Ok(workers)
 }
 
-// Whether more is told.
+// Whether more is reported.
 fn verbose_of(text: &[u8], members: &[Member]) -> Result<bool, ConfigError>
     ensures ok { IfOk result (IsVerbose (setting_of Setting.Verbose (written_members members.now))) }
     ensures rejected { IfErr result (IsSettingError text.now members.now) }

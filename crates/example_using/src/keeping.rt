@@ -34,8 +34,8 @@ pub fn index_of<'a>(alloc: Global, texts: &'a [(String, Vec<u8>)]) -> Result<Ind
 
 /// The first name whose value equals this one.
 pub fn name_of<'i, 'a>(index: &'i Index<'a>, value: &Value<'a>) -> Option<&'i str> {
-    for (name, kept) in index.iter() {
-        if kept == value {
+    for (name, retained) in index.iter() {
+        if retained == value {
             return Some(name.as_str());
         }
     }

@@ -18,10 +18,10 @@ same_length m n e = cc
 
 -- the key of an array's item is an index
 pub no_index : (t : Tree) (key : List ℕ) (len : ℕ) → Some len ≡ option_map trees_len (as_array t) → len < 2 ^ 64 → ((index : ℕ) → index < 2 ^ 64 → IsIndex key index → ⊥) → (u : Tree) → IsChild t key u → ⊥
-no_index (array ts) key len some fits none u (i, spells, at) =
+no_index (array ts) key len some fits none u (i, encodes, at) =
     let within = item_within ts i u at in
     let same = same_length len (trees_len ts) some in
-    none i (omega (arith, within, same, fits)) spells
+    none i (omega (arith, within, same, fits)) encodes
 no_index t key len some fits none u child = no_some len some
 
 -- ---- computed

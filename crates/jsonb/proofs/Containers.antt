@@ -1,6 +1,6 @@
--- Arrays and objects: what is made of them, and where their keys stand.
+-- Arrays and objects: what is made of them, and where their keys are.
 pub mod Built
-pub mod KeyPlaces
-pub mod LongerSpellings
+pub mod KeyOffsets
+pub mod LongerEncodings
 pub mod Members
-pub mod SecondPlaces
+pub mod SecondSlots

@@ -3,5 +3,5 @@ pub mod Agreement
 pub mod Bounds
 pub mod Markers
 pub mod Parts
-pub mod Spellings
+pub mod Encodings
 pub mod Straight

@@ -3,6 +3,6 @@ pub mod Containers
 pub mod Documents
 pub mod Errors
 pub mod Given
-pub mod Places
+pub mod Offsets
 pub mod Rows
-pub mod Spelled
+pub mod Encoded

@@ -26,20 +26,20 @@ pub record AppendsKeyOf (mode : Mode) (text old new : List ℕ) : Type 0 where
   pub parsed : IsParsed mode text tree
   pub appended : new ≡ old ++ key_of tree
 
--- The text is a document, and a buffer of this capacity with this many bytes has no room for its value's text.
-pub record LacksRoomForText (mode : Mode) (text : List ℕ) (capacity len : ℕ) : Type 0 where
+-- The text is a document, and a buffer of this capacity with this many bytes has no space for its value's text.
+pub record LacksCapacityForText (mode : Mode) (text : List ℕ) (capacity len : ℕ) : Type 0 where
   pub tree : Tree
   pub document : IsDocument mode text tree
   pub too_short : capacity < len + length (tree_text tree)
 
--- The text is a document, and a buffer of this capacity with this many bytes has no room for its value's sort key.
-pub record LacksRoomForKey (mode : Mode) (text : List ℕ) (capacity len : ℕ) : Type 0 where
+-- The text is a document, and a buffer of this capacity with this many bytes has no space for its value's sort key.
+pub record LacksCapacityForKey (mode : Mode) (text : List ℕ) (capacity len : ℕ) : Type 0 where
   pub tree : Tree
   pub document : IsDocument mode text tree
   pub too_short : capacity < len + length (key_of tree)
 
--- The text is a document, and a buffer of this capacity with this many bytes has no room for the text of its part.
-pub record LacksRoomForPart (mode : Mode) (text : List ℕ) (keys : List (List ℕ)) (capacity len : ℕ) : Type 0 where
+-- The text is a document, and a buffer of this capacity with this many bytes has no space for the text of its part.
+pub record LacksCapacityForPart (mode : Mode) (text : List ℕ) (keys : List (List ℕ)) (capacity len : ℕ) : Type 0 where
   pub tree : Tree
   pub document : IsDocument mode text tree
   pub part : Tree

@@ -21,7 +21,7 @@ ast_step (JsonAst-F.Number n) = number (number_view n)
 ast_step (JsonAst-F.Array v) = array (trees_of v.items)
 ast_step (JsonAst-F.Object v) = object (put_all (keyed_trees v.items) no_members)
 
--- the tree that a `JsonAst` stands for
+-- the tree that a `JsonAst` means
 abbrev pub ast_view : JsonAst → Tree
 ast_view = fold-JsonAst Tree ast_step
 

@@ -4,9 +4,9 @@ use Rattle.jsonb_value.specs.declared.error.Error.{Error}
 use Rattle.jsonb_value.specs.declared.error.Error.TheVariants.{Syntax}
 use Rattle.jsonb_value.specs.Error.CodeView.{code_of}
 use Rattle.jsonb_spec.specs.Mode.{Mode}
-use Rattle.jsonb_spec.specs.Errors.{Stands}
+use Rattle.jsonb_spec.specs.Errors.{Applies}
 
 -- What an error says of the input, if it is one of the text.
 abbrev pub IsExplained : Mode → List ℕ → Error → Type 0
-IsExplained mode input (Syntax code place) = Stands mode input (code_of code) place
+IsExplained mode input (Syntax code offset) = Applies mode input (code_of code) offset
 IsExplained mode input error = Unit {0}

@@ -26,10 +26,10 @@ module _ {V M K : Type 0} (Sees : V → Source → Type 0) (Names : K → Mark �
   -- The parts so far are those that were found, and where a value is due, so is the key that waits for it.
   abbrev pub FrameHolds : Bool → Frame (Vec V Global) M K → Open → Type 0
   FrameHolds due (variants.Array v) (elements_so_far ss) = AreSeen Sees v.items ss
-  FrameHolds due (variants.Array v) (members_so_far fs key place) = ⊥
+  FrameHolds due (variants.Array v) (members_so_far fs key offset) = ⊥
   FrameHolds due (variants.Object o) (elements_so_far ss) = ⊥
-  FrameHolds due (variants.Object o) (members_so_far fs key place) =
-      Holds o.members fs × (due ≡ true → Names o.key key place)
+  FrameHolds due (variants.Object o) (members_so_far fs key offset) =
+      Holds o.members fs × (due ≡ true → Names o.key key offset)
 
   -- All that are open hold theirs, and each but the innermost waits for a value.
   abbrev pub FramesHold : Bool → List (Frame (Vec V Global) M K) → List Open → Type 0

@@ -23,11 +23,11 @@ pub record Rejects {X : Type 0} (mode : Mode) (text : List ℕ) (result : Result
   pub errors : IfErr result IsTextError
 
 -- What is made of the text is appended. Else the buffer has its old bytes; memory runs out only where the text may
--- allocate, or where the room for all that is appended is missing. A buffer that has room keeps it, where the text
+-- allocate, or where the space for all that is appended is missing. A buffer that has space holds it, where the text
 -- doesn't allocate.
-pub record AppendsParsed {X : Type 0} (IsAppended : List ℕ → List ℕ → Type 0) (LacksRoom : ℕ → ℕ → Type 0)
+pub record AppendsParsed {X : Type 0} (IsAppended : List ℕ → List ℕ → Type 0) (LacksCapacity : ℕ → ℕ → Type 0)
     (text : List ℕ) (result : Result X Error) (old new : Vec ℕ Global) : Type 0 where
   pub ok : OnOk result (IsAppended old.items new.items)
   pub err : OnErr result (new.items ≡ old.items)
-  pub memory : result ≡ Err OutOfMemory → MayAllocate text ⊎ LacksRoom (vec_capacity old) (vec_len old)
+  pub memory : result ≡ Err OutOfMemory → MayAllocate text ⊎ LacksCapacity (vec_capacity old) (vec_len old)
   pub capacity : MayAllocate text ⊎ (vec_capacity old ≤ vec_capacity new)

@@ -22,7 +22,7 @@ SourceHoldsNoMemory s = ⊤
 
 -- a member of an object, with its value already seen as a source
 abbrev pub found_from : CowStr Global × Source × ℕ → Found
-found_from m = record { mark = mark_view m.0; key = cow_str_bytes m.0; source = m.1; place = m.2 }
+found_from m = record { mark = mark_view m.0; key = cow_str_bytes m.0; source = m.1; offset = m.2 }
 
 -- one level, with each value inside already seen as its source
 abbrev pub source_step : JsonAst-F Source → Source

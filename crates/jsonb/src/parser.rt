@@ -59,7 +59,7 @@ pub fn parse_value_standard_mode(alloc: Global, buf: &[u8]) -> Result<Value<'_>>
 {
     match parse_text::<ValuePart>(&mut (), alloc, buf, Mode::Standard) {
         Ok(made) => Ok(made.value),
-        Err(told) => value_of_tree(alloc, buf, Mode::Standard, told),
+        Err(reported) => value_of_tree(alloc, buf, Mode::Standard, reported),
     }
 }
 
@@ -86,21 +86,26 @@ pub fn parse_value(alloc: Global, buf: &[u8]) -> Result<Value<'_>>
 {
     match parse_text::<ValuePart>(&mut (), alloc, buf, Mode::Extended) {
         Ok(made) => Ok(made.value),
-        Err(told) => value_of_tree(alloc, buf, Mode::Extended, told),
+        Err(reported) => value_of_tree(alloc, buf, Mode::Extended, reported),
     }
 }
 
-// What is returned of a text of which no value was made: the error that was told, or, where a key comes twice, what the
-// text's tree tells. It is a call of its own, so that no room for a tree is made and cleared before each text.
+// What is returned of a text of which no value was made: the error that was reported, or, where a key comes twice, what
+// the text's tree says. It is a call of its own, so that no space for a tree is made and cleared before each text.
 #[cold]
 #[inline(never)]
-fn value_of_tree(alloc: Global, buf: &[u8], mode: Mode, told: Option<Error>) -> Result<Value<'_>>
-    requires misses { Misses true told (source_of (mode_of mode) buf.now) }
-    requires memory { told ≡ Some Error.OutOfMemory → MayAllocate buf.now }
+fn value_of_tree(
+    alloc: Global,
+    buf: &[u8],
+    mode: Mode,
+    reported: Option<Error>,
+) -> Result<Value<'_>>
+    requires misses { Misses true reported (source_of (mode_of mode) buf.now) }
+    requires memory { reported ≡ Some Error.OutOfMemory → MayAllocate buf.now }
     ensures parses { Parses (mode_of mode) view buf.now result }
     ensures follows { FollowsSpecification (mode_of mode) view buf.now result }
 {
-    match told {
+    match reported {
         Some(error) => Err(error),
         None => JsonAst::parse(alloc, buf, mode)?.into_value(alloc),
     }

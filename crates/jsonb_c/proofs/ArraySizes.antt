@@ -54,13 +54,13 @@ count (t ∷ ts) = omega (arith, count ts)
 
 module _ (n : ℕ) where
   abbrev AllBelow : (List ℕ → Tree → Type 0) → Type 0
-  AllBelow Spells = (bytes : List ℕ) (t : Tree) → Spells bytes t → length bytes ≤ n → AreBelow n t
+  AllBelow Encodes = (bytes : List ℕ) (t : Tree) → Encodes bytes t → length bytes ≤ n → AreBelow n t
 
-  joined_all : {A : Type 0} (P : A → Type 0) (Spells : List ℕ → A → Type 0) → ((bytes : List ℕ) (a : A) → Spells bytes a → length bytes ≤ n → P a) → (bytes : List ℕ) (parts : List A) → IsJoined Spells bytes parts → length bytes ≤ n → AllByRecursion P parts
-  joined_all P Spells each bytes parts (one_part s) h = (each _ _ s h, tt)
-  joined_all P Spells each bytes parts (more_parts {first = first} {rest = rest} s more) h =
+  joined_all : {A : Type 0} (P : A → Type 0) (Encodes : List ℕ → A → Type 0) → ((bytes : List ℕ) (a : A) → Encodes bytes a → length bytes ≤ n → P a) → (bytes : List ℕ) (parts : List A) → IsJoined Encodes bytes parts → length bytes ≤ n → AllByRecursion P parts
+  joined_all P Encodes each bytes parts (one_part s) h = (each _ _ s h, tt)
+  joined_all P Encodes each bytes parts (more_parts {first = first} {rest = rest} s more) h =
       let whole = length-append first (44 ∷ rest) in
-      (each _ _ s (omega (arith, whole, h)), joined_all P Spells each _ _ more (omega (arith, whole, h)))
+      (each _ _ s (omega (arith, whole, h)), joined_all P Encodes each _ _ more (omega (arith, whole, h)))
 
   scalar_below : (mode : Mode) → AllBelow (IsScalar mode)
   scalar_below mode bytes t (literal_value (null_word w)) h = tt
@@ -88,9 +88,9 @@ module _ (n : ℕ) where
       let inside = length-append body (93 ∷ []) in
       (omega (arith, h, inside, count ts, counted (IsElement mode Value) body ts parts), items_all n ts (joined_all (AreBelow n) (IsElement mode Value) (element_below mode Value each) body ts parts (omega (arith, h, inside))))
     where
-      counted : {A : Type 0} (Spells : List ℕ → A → Type 0) (bytes : List ℕ) (parts : List A) → IsJoined Spells bytes parts → length parts ≤ length bytes + 1
-      counted Spells bytes parts (one_part s) = omega arith
-      counted Spells bytes parts (more_parts {first = first} {rest = rest} {others = others} s more) = omega (arith, length-append first (44 ∷ rest), counted Spells rest others more)
+      counted : {A : Type 0} (Encodes : List ℕ → A → Type 0) (bytes : List ℕ) (parts : List A) → IsJoined Encodes bytes parts → length parts ≤ length bytes + 1
+      counted Encodes bytes parts (one_part s) = omega arith
+      counted Encodes bytes parts (more_parts {first = first} {rest = rest} {others = others} s more) = omega (arith, length-append first (44 ∷ rest), counted Encodes rest others more)
   value_below mode Value each bytes t (empty_object b) h = tt
   value_below mode Value each bytes t (full_object {body = body} {ms = ms} parts distinct) h =
       put_all_below n ms no_members (joined_all (λ (m : Member). AreBelow n m.1) (IsMember mode Value) (member_below mode Value each) body ms parts (omega (arith, h, length-append body (125 ∷ [])))) tt

@@ -1,4 +1,4 @@
--- What is told of containment by a status.
+-- What is reported of containment by a status.
 use Rattle.std.proofs.Common.{◌≡◌, Bool, true, false, Result, Ok, Err, refl, sym, subst, ◌∙◌}
 use Rattle.jsonb_stored.specs.declared.find.NoKey.{NoKey}
 use Rattle.jsonb_c.specs.KeyContains.{IsContained}

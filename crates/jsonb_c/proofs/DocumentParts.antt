@@ -5,7 +5,7 @@ use Rattle.jsonb_spec.specs.Mode.{Mode}
 use Rattle.jsonb_spec.specs.Text.{text_of}
 use Rattle.jsonb_spec.specs.Text.ReadsBack.{ReadsBackAs}
 use Rattle.jsonb_spec.specs.Tree.{Tree}
-use Rattle.jsonb.specs.Appends.{AppendsPartOf, IsParsed, LacksRoomForPart}
+use Rattle.jsonb.specs.Appends.{AppendsPartOf, IsParsed, LacksCapacityForPart}
 use Rattle.jsonb_scan.specs.Answer.{MayAllocate}
 use Rattle.jsonb_spec.specs.PartAt.{IsAt}
 use Rattle.jsonb_c.proofs.ArraySizes.{document_below}
@@ -36,7 +36,7 @@ text_there mode document keys old bytes none appends =
       reads_back = part_reads_back mode document appends.tree appends.parsed.document keys appends.part.part at bytes text;
     }
 
--- Nothing stands at these keys of a document.
+-- Nothing is at these keys of a document.
 pub record IsNothingThere (mode : Mode) (document : List ℕ) (keys : List (List ℕ)) : Type 0 where
   pub tree : Tree
   pub parsed : IsParsed mode document tree
@@ -53,6 +53,6 @@ nothing_there mode document keys old new small appends = record {
     no_part t e = cc
 
 -- Memory runs out where the document may take some, or where there is one.
-pub document_needs : {mode : Mode} {document : List ℕ} {keys : List (List ℕ)} {capacity len : ℕ} → MayAllocate document ⊎ LacksRoomForPart mode document keys capacity len → MayAllocate document ⊎ ((tree : Tree) × IsDocument mode document tree)
+pub document_needs : {mode : Mode} {document : List ℕ} {keys : List (List ℕ)} {capacity len : ℕ} → MayAllocate document ⊎ LacksCapacityForPart mode document keys capacity len → MayAllocate document ⊎ ((tree : Tree) × IsDocument mode document tree)
 document_needs (inl may) = inl may
 document_needs (inr lacks) = inr (lacks.tree, lacks.document)

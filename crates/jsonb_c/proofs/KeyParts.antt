@@ -11,22 +11,22 @@ use Rattle.jsonb_stored.specs.Open.{Open, items, members, is_object, open_key, o
 use Rattle.jsonb_stored.specs.Parts.{kind_of_tree, opened_tree}
 use Rattle.jsonb_c.specs.declared.key.Cursor.{Cursor}
 use Rattle.jsonb_c.specs.declared.key.Entry.{Entry}
-use Rattle.jsonb_c.specs.KeyParts.{kind_number, open_number, text_of_tree, IsBegun, IsCounted, IsNextPart, IsTreeKey, IsWritten, StandsBefore}
+use Rattle.jsonb_c.specs.KeyParts.{kind_number, open_number, text_of_tree, IsBegun, IsCounted, IsNextPart, IsTreeKey, IsWritten, OccursBefore}
 
--- nothing stands behind the key
+-- nothing is behind the key
 pub all_of_it : (key : List ℕ) (t : Tree) → IsTreeKey key t → key ≡ key_of t ++ []
 all_of_it key t k = k.is_key ∙ sym (append-nil (key_of t))
 
 -- ---- counts
 
-told : (a c : Option ℕ) → ◌≡◌ {A = Result (Option ℕ) NoKey} (Ok a) (Ok c) → a ≡ c
-told a c e = cc
+reported : (a c : Option ℕ) → ◌≡◌ {A = Result (Option ℕ) NoKey} (Ok a) (Ok c) → a ≡ c
+reported a c e = cc
 
 pub parts_counted : (a c : Option ℕ) (n : ℕ) → a ≡ Some n → ◌≡◌ {A = Result (Option ℕ) NoKey} (Ok a) (Ok c) → IsCounted c 0 n
-parts_counted a c n is e = subst (λ parts. IsCounted parts 0 n) (sym is ∙ told a c e) (refl, refl)
+parts_counted a c n is e = subst (λ parts. IsCounted parts 0 n) (sym is ∙ reported a c e) (refl, refl)
 
 pub no_parts : (a c : Option ℕ) (n : ℕ) → a ≡ None → ◌≡◌ {A = Result (Option ℕ) NoKey} (Ok a) (Ok c) → IsCounted c 5 n
-no_parts a c n is e = subst (λ parts. IsCounted parts 5 n) (sym is ∙ told a c e) refl
+no_parts a c n is e = subst (λ parts. IsCounted parts 5 n) (sym is ∙ reported a c e) refl
 
 pub no_fault : (x : NoKey) (c : Option ℕ) → ◌≡◌ {A = Result (Option ℕ) NoKey} (Err x) (Ok c) → ⊥
 no_fault x c e = cc
@@ -59,13 +59,13 @@ some_kind t r kind is none = absurd r.within
 -- ---- one part after the other
 
 pub begun : (key : List ℕ) (t : Tree) (b : Bool) (rest : List ℕ) (n : ℕ) → IsLeftOf t b rest [] → key ≡ opening_byte b ∷ rest → n ≡ (if b then 6 else 5) → IsBegun key t 0 (record { kind = n; offset = 1 })
-begun key t b rest n l first numbered = go l.all l.whole l.is l.fits (first ∙ ap (λ xs. opening_byte b ∷ xs) (l.stands ∙ append-nil (open_key l.all)))
+begun key t b rest n l first numbered = go l.all l.whole l.is l.fits (first ∙ ap (λ xs. opening_byte b ∷ xs) (l.occurs ∙ append-nil (open_key l.all)))
   where
     go : (o : Open) → opened_tree o ≡ t → is_object o ≡ b → IsOpen o 511 → key ≡ opening_byte b ∷ open_key o → IsBegun key t 0 (record { kind = n; offset = 1 })
     go (items ts) whole is fits e = subst (λ u. IsBegun key u 0 (record { kind = n; offset = 1 })) whole
-        (refl, record { fits = fits; kind_is = numbered ∙ ap (λ x. if x then 6 else 5) (sym is); before = opening_byte b ∷ []; stands = e; offset_is = refl })
+        (refl, record { fits = fits; kind_is = numbered ∙ ap (λ x. if x then 6 else 5) (sym is); before = opening_byte b ∷ []; occurs = e; offset_is = refl })
     go (members ms) whole is fits e = subst (λ u. IsBegun key u 0 (record { kind = n; offset = 1 })) whole
-        (refl, record { fits = fits; kind_is = numbered ∙ ap (λ x. if x then 6 else 5) (sym is); before = opening_byte b ∷ []; stands = e; offset_is = refl })
+        (refl, record { fits = fits; kind_is = numbered ∙ ap (λ x. if x then 6 else 5) (sym is); before = opening_byte b ∷ []; occurs = e; offset_is = refl })
 
 pub not_begun : (key : List ℕ) (t : Tree) (cursor : Cursor) → IsScalar t → IsBegun key t 5 cursor
 not_begun key (array ts) cursor s = absurd s
@@ -76,9 +76,9 @@ pub kind_agrees : (o : Open) (kind : ℕ) → kind ≡ open_number o → is_obje
 kind_agrees (items ts) kind is = ap (λ k. k == 6) (sym is)
 kind_agrees (members ms) kind is = ap (λ k. k == 6) (sym is)
 
-pub left_there : (key : List ℕ) (cursor : Cursor) (o : Open) (back : List ℕ) → StandsBefore key cursor o → back ≡ drop cursor.offset key → back ≡ open_key o ++ []
+pub left_there : (key : List ℕ) (cursor : Cursor) (o : Open) (back : List ℕ) → OccursBefore key cursor o → back ≡ drop cursor.offset key → back ≡ open_key o ++ []
 left_there key cursor o back s is =
-    is ∙ ap (λ n. drop n key) s.offset_is ∙ ap (drop (length s.before)) s.stands ∙ drop-append_seam s.before (open_key o) ∙ sym (append-nil (open_key o))
+    is ∙ ap (λ n. drop n key) s.offset_is ∙ ap (drop (length s.before)) s.occurs ∙ drop-append_seam s.before (open_key o) ∙ sym (append-nil (open_key o))
 
 pub next_known : (o : Open) (e : NoKey) → IsNext o [] (Err e) → ⊥
 next_known (items no_trees) e n = n
@@ -92,32 +92,32 @@ none_next key (items (more_trees t ts)) entry cursor n = absurd n
 none_next key (members no_members) entry cursor n = refl
 none_next key (members (more_members k t ms)) entry cursor n = absurd n
 
-pub next_told : (key : List ℕ) (cursor : Cursor) (o : Open) (back : List ℕ) (value others : Bor (List ℕ)) → StandsBefore key cursor o → back ≡ open_key o ++ [] → IsNext o [] (Ok (Some (value, others)))
+pub next_reported : (key : List ℕ) (cursor : Cursor) (o : Open) (back : List ℕ) (value others : Bor (List ℕ)) → OccursBefore key cursor o → back ≡ open_key o ++ [] → IsNext o [] (Ok (Some (value, others)))
     → IsNextPart key o 0 (record { name_offset = cursor.offset; name_size = length back - length value.now; offset = length key - length value.now; size = length value.now - length others.now }) (record { kind = cursor.kind; offset = length key - length others.now })
-next_told key cursor (items no_trees) back value others s e n = absurd n
-next_told key cursor (members no_members) back value others s e n = absurd n
-next_told key cursor (items (more_trees t ts)) back value others s e n =
+next_reported key cursor (items no_trees) back value others s e n = absurd n
+next_reported key cursor (members no_members) back value others s e n = absurd n
+next_reported key cursor (items (more_trees t ts)) back value others s e n =
     let rest = items_key ts in
     let left : length others.now ≡ length rest = ap length (n.1 ∙ append-nil rest) in
     let long : length value.now ≡ length (key_of t) + length rest = ap length (n.0 ∙ ap (λ l. key_of t ++ l) (append-nil rest)) ∙ length-append (key_of t) rest in
     let whole : length back ≡ length value.now = ap length (e ∙ append_assoc (key_of t) rest [] ∙ sym n.0) in
-    let all : length key ≡ length s.before + (length (key_of t) + length rest) = ap length s.stands ∙ length-append s.before (key_of t ++ rest) ∙ ap (λ m. length s.before + m) (length-append (key_of t) rest) in (
+    let all : length key ≡ length s.before + (length (key_of t) + length rest) = ap length s.occurs ∙ length-append s.before (key_of t ++ rest) ∙ ap (λ m. length s.before + m) (length-append (key_of t) rest) in (
       refl,
       omega (arith, whole),
-      record { before = s.before; behind = rest; stands = s.stands; offset_is = omega (arith, all, long); size_is = omega (arith, long, left) },
-      record { fits = (s.fits.0.1, s.fits.1.1); kind_is = s.kind_is; before = s.before ++ key_of t; stands = s.stands ∙ sym (append_assoc s.before (key_of t) rest); offset_is = omega (arith, all, left, length-append s.before (key_of t)) },
+      record { before = s.before; behind = rest; occurs = s.occurs; offset_is = omega (arith, all, long); size_is = omega (arith, long, left) },
+      record { fits = (s.fits.0.1, s.fits.1.1); kind_is = s.kind_is; before = s.before ++ key_of t; occurs = s.occurs ∙ sym (append_assoc s.before (key_of t) rest); offset_is = omega (arith, all, left, length-append s.before (key_of t)) },
     )
-next_told key cursor (members (more_members k t ms)) back value others s e n =
+next_reported key cursor (members (more_members k t ms)) back value others s e n =
     let rest = members_key ms in
     let left : length others.now ≡ length rest = ap length (n.1 ∙ append-nil rest) in
     let long : length value.now ≡ length (key_of t) + length rest = ap length (n.0 ∙ ap (λ l. key_of t ++ l) (append-nil rest)) ∙ length-append (key_of t) rest in
     let inner : length (key_of t ++ rest) ≡ length (key_of t) + length rest = length-append (key_of t) rest in
     let whole : length back ≡ length (text_key k) + length (key_of t ++ rest) = ap length (e ∙ append-nil (text_key k ++ (key_of t ++ rest))) ∙ length-append (text_key k) (key_of t ++ rest) in
-    let all : length key ≡ length s.before + (length (text_key k) + length (key_of t ++ rest)) = ap length s.stands ∙ length-append s.before (text_key k ++ (key_of t ++ rest)) ∙ ap (λ m. length s.before + m) (length-append (text_key k) (key_of t ++ rest)) in
+    let all : length key ≡ length s.before + (length (text_key k) + length (key_of t ++ rest)) = ap length s.occurs ∙ length-append s.before (text_key k ++ (key_of t ++ rest)) ∙ ap (λ m. length s.before + m) (length-append (text_key k) (key_of t ++ rest)) in
     let named : length (s.before ++ text_key k) ≡ length s.before + length (text_key k) = length-append s.before (text_key k) in
-    let stands : key ≡ (s.before ++ text_key k) ++ (key_of t ++ rest) = s.stands ∙ sym (append_assoc s.before (text_key k) (key_of t ++ rest)) in (
+    let occurs : key ≡ (s.before ++ text_key k) ++ (key_of t ++ rest) = s.occurs ∙ sym (append_assoc s.before (text_key k) (key_of t ++ rest)) in (
       refl,
-      record { before = s.before; behind = key_of t ++ rest; stands = s.stands; offset_is = s.offset_is; size_is = omega (arith, whole, inner, long) },
-      record { before = s.before ++ text_key k; behind = rest; stands = stands; offset_is = omega (arith, all, inner, long, named); size_is = omega (arith, long, left) },
-      record { fits = (s.fits.0.2, s.fits.1.1); kind_is = s.kind_is; before = (s.before ++ text_key k) ++ key_of t; stands = stands ∙ sym (append_assoc (s.before ++ text_key k) (key_of t) rest); offset_is = omega (arith, all, inner, left, named, length-append (s.before ++ text_key k) (key_of t)) },
+      record { before = s.before; behind = key_of t ++ rest; occurs = s.occurs; offset_is = s.offset_is; size_is = omega (arith, whole, inner, long) },
+      record { before = s.before ++ text_key k; behind = rest; occurs = occurs; offset_is = omega (arith, all, inner, long, named); size_is = omega (arith, long, left) },
+      record { fits = (s.fits.0.2, s.fits.1.1); kind_is = s.kind_is; before = (s.before ++ text_key k) ++ key_of t; occurs = occurs ∙ sym (append_assoc (s.before ++ text_key k) (key_of t) rest); offset_is = omega (arith, all, inner, left, named, length-append (s.before ++ text_key k) (key_of t)) },
     )

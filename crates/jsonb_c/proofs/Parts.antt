@@ -3,7 +3,7 @@ use Rattle.std.proofs.Common.{◌≡◌, ℕ, List, subst, sym, ◌∙◌}
 use Rattle.jsonb_spec.specs.Grammar.{IsDocument}
 use Rattle.jsonb_spec.specs.Tree.{Tree}
 use Rattle.jsonb_spec.specs.PartAt.{IsAt}
-use Rattle.jsonb_path.proofs.KeySpelling.{one_path}
+use Rattle.jsonb_path.proofs.KeyEncoding.{one_path}
 use Rattle.jsonb_c.specs.Interface.{IsAccepted, IsDocumentOf, HasPartAt, HasNoPartAt}
 use Rattle.jsonb_c.proofs.Reasons.{one_mode}
 
@@ -11,10 +11,10 @@ use Rattle.jsonb_c.proofs.Reasons.{one_mode}
 pub one_tree : (number : ℕ) (text : List ℕ) (t u : Tree) → IsDocumentOf number text t → IsDocumentOf number text u → t ≡ u
 one_tree number text t u a b = b.only t (subst (λ mode. IsDocument mode text t) (one_mode a.chosen b.chosen) a.document)
 
--- a part stands there, or none does
+-- a part is there, or none is
 pub disagree : (number : ℕ) (path text : List ℕ) → HasPartAt number path text → HasNoPartAt number path text → ⊥
 disagree number path text has lacks =
-    let same_keys : has.keys ≡ lacks.keys = one_path has.keys lacks.keys (sym has.is_path.spelled ∙ lacks.is_path.spelled) in
+    let same_keys : has.keys ≡ lacks.keys = one_path has.keys lacks.keys (sym has.is_path.encoded ∙ lacks.is_path.encoded) in
     let there : IsAt has.tree lacks.keys has.part = subst (λ keys. IsAt has.tree keys has.part) same_keys has.at in
     lacks.none has.part (subst (λ t. IsAt t lacks.keys has.part) (one_tree number text has.tree lacks.tree has.read lacks.read) there)
 

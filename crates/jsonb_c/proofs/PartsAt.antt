@@ -20,9 +20,9 @@ no_tree t e = cc
 
 pub child_found : (n : ℕ) → n < 2 ^ 64 → (key : List ℕ) (t u : Tree) → AreBelow n t → IsChild t key u → child_at key t ≡ Some u
 child_found n small key (object ms) u below child = child
-child_found n small key (array ts) u below (index, spelled, at) =
+child_found n small key (array ts) u below (index, encoded, at) =
     let within = item_within ts index u at in
-    ap (option_and_then (item_at ts)) (is_named key index spelled (omega (arith, within, below.0, small))) ∙ at
+    ap (option_and_then (item_at ts)) (is_named key index encoded (omega (arith, within, below.0, small))) ∙ at
 child_found n small key t u below child = absurd child
 
 item_below : (n : ℕ) (ts : Trees) (i : ℕ) (u : Tree) → ItemsBelow n ts → item_at ts i ≡ Some u → AreBelow n u
@@ -40,7 +40,7 @@ member_below n key (more_members l t ms) u below e = by (bytes_eq key l) e (memb
 
 child_below : (n : ℕ) (key : List ℕ) (t u : Tree) → AreBelow n t → IsChild t key u → AreBelow n u
 child_below n key (object ms) u below child = member_below n key ms u below child
-child_below n key (array ts) u below (index, spelled, at) = item_below n ts index u below.1 at
+child_below n key (array ts) u below (index, encoded, at) = item_below n ts index u below.1 at
 child_below n key t u below child = absurd child
 
 -- ---- parts

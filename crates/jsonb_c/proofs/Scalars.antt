@@ -8,8 +8,8 @@ use Rattle.jsonb_c.specs.KeyParts.{kind_number}
 use Rattle.jsonb_c.specs.Scalars.{IsBoolean}
 use Rattle.jsonb_c.proofs.KeyParts.{some_kind}
 
-pub is_told : (found wanted : Option Bool) (b : Bool) (value : ℕ) → found ≡ Some b → found ≡ wanted → value ≡ (if b then 1 else 0) → IsBoolean wanted 0 value
-is_told found wanted b value is e v = subst (λ a. IsBoolean a 0 value) {x = Some b} {y = wanted} (sym is ∙ e) (refl, v)
+pub is_reported : (found wanted : Option Bool) (b : Bool) (value : ℕ) → found ≡ Some b → found ≡ wanted → value ≡ (if b then 1 else 0) → IsBoolean wanted 0 value
+is_reported found wanted b value is e v = subst (λ a. IsBoolean a 0 value) {x = Some b} {y = wanted} (sym is ∙ e) (refl, v)
 
 pub is_none : (found wanted : Option Bool) (value : ℕ) → found ≡ None → found ≡ wanted → IsBoolean wanted 5 value
 is_none found wanted value is e = subst (λ a. IsBoolean a 5 value) {x = None} {y = wanted} (sym is ∙ e) refl

@@ -7,7 +7,7 @@ use Rattle.jsonb_spec.specs.Mode.{Mode}
 use Rattle.jsonb_spec.specs.Tree.{Tree}
 use Rattle.jsonb_value.proofs.Trees.RangeTexts.{document_text_reads_back}
 use Rattle.jsonb.specs.Appends.{IsParsed}
-use Rattle.jsonb.proofs.Documents.Spellings.{document_complete, document_unique}
+use Rattle.jsonb.proofs.Documents.Encodings.{document_complete, document_unique}
 use Rattle.jsonb_c.specs.declared.Failure.{Failure}
 use Rattle.jsonb_c.specs.declared.Failure.TheVariants.{Text, OutOfMemory, UnknownMode}
 use Rattle.jsonb_c.specs.Interface.{IsAccepted, IsDocumentOf, IsReason, IsRejected, IsTextOf, NumberChooses}

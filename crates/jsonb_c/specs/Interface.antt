@@ -18,7 +18,7 @@ use Rattle.jsonb_spec.specs.Text.{text_of}
 use Rattle.jsonb_spec.specs.Tree.{Tree}
 use Rattle.jsonb_scan.specs.Parsing.Document.{document_of}
 use Rattle.jsonb_scan.specs.Answer.{Fails, MayAllocate}
-use Rattle.jsonb_spec.specs.Errors.{Stands}
+use Rattle.jsonb_spec.specs.Errors.{Occurs}
 use Rattle.jsonb_spec.specs.PartAt.{IsAt}
 use Rattle.jsonb_path.specs.Path.{IsPath, StartsKey}
 use Rattle.jsonb_c.specs.declared.Part.{Part}
@@ -56,7 +56,7 @@ code_number object_key_invalid_character = 19
 code_number number_not_carried = 20
 code_number depth_limit_exceeded = 21
 
--- what is told where no text is rejected
+-- what is reported where no text is rejected
 abbrev pub nothing : Rejection
 nothing = record { code = 0; which = 0; position = 0 }
 
@@ -80,8 +80,8 @@ pub record IsAccepted (number : ℕ) (text : List ℕ) : Type 0 where
   pub tree : Tree
   pub read : IsDocumentOf number text tree
 
--- The number chooses a mode in which the text is no document. What is told is the fault that reading meets, and which
--- of the texts it is.
+-- The number chooses a mode in which the text is no document. What is reported is the fault that reading meets, and
+-- which of the texts it is.
 pub record IsRejected (number : ℕ) (text : List ℕ) (count : ℕ) (rejection : Rejection) : Type 0 where
   pub mode : Mode
   pub chosen : NumberChooses number mode
@@ -89,8 +89,8 @@ pub record IsRejected (number : ℕ) (text : List ℕ) (count : ℕ) (rejection 
   pub counted : rejection.which ≡ count
   pub code : Code
   pub numbered : rejection.code ≡ code_number code
-  pub exact : document_of mode text ≡ Err (record { code = code; place = rejection.position })
-  pub explained : Stands mode text code rejection.position
+  pub exact : document_of mode text ≡ Err (record { code = code; offset = rejection.position })
+  pub explained : Occurs mode text code rejection.position
 
 -- One of two texts is rejected, the first that is no document.
 pub data IsOneRejected (number : ℕ) (left right : List ℕ) (rejection : Rejection) : Type 0 where
@@ -123,12 +123,12 @@ pub record AcceptsDocuments (number : ℕ) (text : List ℕ) (status : ℕ) : Ty
   pub document : status ≡ 0 → IsAccepted number text
   pub accepted : IsAccepted number text → (status ≡ 0) ⊎ (status ≡ 2)
 
--- Of what is rejected it is told what and where it is, and else nothing.
-pub record Tells (IsTold : Rejection → Type 0) (status : ℕ) (rejection : Rejection) : Type 0 where
-  pub rejected : status ≡ 1 → IsTold rejection
+-- Of what is rejected it is reported what and where it is, and else nothing.
+pub record Reports (IsReported : Rejection → Type 0) (status : ℕ) (rejection : Rejection) : Type 0 where
+  pub rejected : status ≡ 1 → IsReported rejection
   pub nothing : status ≢ 1 → rejection ≡ nothing
 
--- Bytes that are these stand at the front of the buffer, whose other bytes are as before.
+-- Bytes that are these are at the front of the buffer, whose other bytes are as before.
 pub record Writes (Are : List ℕ → Type 0) (size : ℕ) (old new : List ℕ) : Type 0 where
   pub bytes : List ℕ
   pub are : Are bytes
@@ -136,7 +136,7 @@ pub record Writes (Are : List ℕ → Type 0) (size : ℕ) (old new : List ℕ) 
   pub put : new ≡ bytes ++ drop size old
 
 -- Bytes that are these have this size, and the buffer is shorter.
-pub record NeedsRoom (Are : List ℕ → Type 0) (size : ℕ) (old : List ℕ) : Type 0 where
+pub record NeedsCapacity (Are : List ℕ → Type 0) (size : ℕ) (old : List ℕ) : Type 0 where
   pub bytes : List ℕ
   pub are : Are bytes
   pub sized : size ≡ length bytes
@@ -164,17 +164,17 @@ pub record IsKeyOf (number : ℕ) (text bytes : List ℕ) : Type 0 where
 -- is too short for them. Where nothing is written the buffer is as before; where no bytes are known the size is 0.
 pub record FillsBuffer (Are : List ℕ → Type 0) (done status size : ℕ) (old new : List ℕ) : Type 0 where
   pub written : status ≡ done → Writes Are size old new
-  pub short : status ≡ 4 → NeedsRoom Are size old
+  pub short : status ≡ 4 → NeedsCapacity Are size old
   pub untouched : status ≢ done → new ≡ old
   pub no_size : status ≢ done → status ≢ 4 → size ≡ 0
 
 -- Where nothing is written the buffer is as before; where no bytes are known the size is 0.
-pub record KeepsBuffer (status size : ℕ) (old new : List ℕ) : Type 0 where
+pub record PreservesBuffer (status size : ℕ) (old new : List ℕ) : Type 0 where
   pub untouched : status ≢ 0 → new ≡ old
   pub no_size : status ≢ 0 → status ≢ 4 → size ≡ 0
 
 -- The text and the key of the text's tree have these sizes, and one of the buffers is shorter.
-pub record NeedsRoomForBoth (number : ℕ) (text : List ℕ) (size key_size : ℕ) (old key_old : List ℕ) : Type 0 where
+pub record NeedsCapacityForBoth (number : ℕ) (text : List ℕ) (size key_size : ℕ) (old key_old : List ℕ) : Type 0 where
   pub bytes : List ℕ
   pub is_text : IsTextOf number text bytes
   pub sized : size ≡ length bytes
@@ -207,7 +207,7 @@ pub record IsMessageOf (number : ℕ) (text bytes : List ℕ) : Type 0 where
   pub exact : Fails error (document_of mode text)
   pub is_text : bytes ≡ error_text error
 
--- A part of the text's tree stands at the path.
+-- A part of the text's tree is at the path.
 pub record HasPartAt (number : ℕ) (path text : List ℕ) : Type 0 where
   pub tree : Tree
   pub read : IsDocumentOf number text tree
@@ -221,7 +221,7 @@ abbrev pub PartMayAllocate : ℕ → List ℕ → List ℕ → Type 0
 PartMayAllocate number path text =
     MayAllocate text ⊎ (IsAccepted number text × StartsKey path) ⊎ HasPartAt number path text
 
--- The bytes are the text of the part of the text's tree that stands at the path, and they read back as a document of
+-- The bytes are the text of the part of the text's tree that is at the path, and they read back as a document of
 -- the same part with this text.
 pub record IsPartOf (number : ℕ) (path text bytes : List ℕ) : Type 0 where
   pub found : HasPartAt number path text
@@ -236,31 +236,31 @@ pub record HasNoPartAt (number : ℕ) (path text : List ℕ) : Type 0 where
   pub is_path : IsPath path keys
   pub none : (part : Tree) → IsAt tree keys part → ⊥
 
--- The bytes spell no path.
+-- The bytes encode no path.
 abbrev pub IsNoPath : List ℕ → Type 0
 IsNoPath path = (keys : List (List ℕ)) → IsPath path keys → ⊥
 
 -- The status says what is wrong with a path, unless memory ran out.
-pub record TellsPath (path : List ℕ) (status : ℕ) : Type 0 where
+pub record ReportsPath (path : List ℕ) (status : ℕ) : Type 0 where
   pub no_path : status ≡ 6 → IsNoPath path
   pub wrong_path : IsNoPath path → (status ≡ 6) ⊎ (status ≡ 2)
 
--- What stands at the path in a document: a part with this text, or nothing; or the path is none.
+-- What is at the path in a document: a part with this text, or nothing; or the path is none.
 abbrev pub IsPartAnswer : ℕ → List ℕ → List ℕ → Part → Type 0
 IsPartAnswer number path text (parts.Text bytes) = IsPartOf number path text bytes.items
 IsPartAnswer number path text parts.Nothing = HasNoPartAt number path text
 IsPartAnswer number path text parts.NoPath = IsAccepted number text × IsNoPath path
 
--- Why there is no answer: a text is rejected, of which this is told; memory ran out; or the number chooses no mode.
+-- Why there is no answer: a text is rejected, of which this is reported; memory ran out; or the number chooses no mode.
 abbrev pub IsReason : ℕ → (Rejection → Type 0) → Failure → Type 0
-IsReason number IsTold (Text rejection) = (number ≤ 1) × IsTold rejection
-IsReason number IsTold OutOfMemory = number ≤ 1
-IsReason number IsTold UnknownMode = 1 < number
+IsReason number IsReported (Text rejection) = (number ≤ 1) × IsReported rejection
+IsReason number IsReported OutOfMemory = number ≤ 1
+IsReason number IsReported UnknownMode = 1 < number
 
 -- Why a call has no answer: for such a reason, and memory runs out only where it may be needed.
-pub record FailsFor {X : Type 0} (number : ℕ) (IsTold : Rejection → Type 0) (MayNeedMemory : Type 0)
+pub record FailsFor {X : Type 0} (number : ℕ) (IsReported : Rejection → Type 0) (MayNeedMemory : Type 0)
     (result : Result X Failure) : Type 0 where
-  pub reason : IfErr result (IsReason number IsTold)
+  pub reason : IfErr result (IsReason number IsReported)
   pub memory : result ≡ Err OutOfMemory → MayNeedMemory
 
 -- The order of the trees of two documents. Else one of the texts is rejected, or memory ran out, which takes a text
@@ -270,7 +270,7 @@ pub record OrdersTexts (number : ℕ) (left right : List ℕ) (result : Result O
   pub reason : IfErr result (IsReason number (IsOneRejected number left right))
   pub memory : result ≡ Err OutOfMemory → EitherMayAllocate number left right
 
--- The reason says what the error of a reader does: the fault is told, of this one of the texts, or memory ran out.
+-- The reason says what the error of a reader does: the fault is reported, of this one of the texts, or memory ran out.
 abbrev pub SaysError : ℕ → Error → Failure → Type 0
 SaysError count error (Text rejection) = (code : ParseErrorCode) × (error ≡ errors.Syntax code rejection.position)
     × (rejection.code ≡ code_number (code_of code)) × (rejection.which ≡ count)
@@ -283,7 +283,7 @@ status_of (Text rejection) = 1
 status_of OutOfMemory = 2
 status_of UnknownMode = 3
 
--- what is told of a reason
+-- what is reported of a reason
 abbrev pub rejection_of : Failure → Rejection
 rejection_of (Text rejection) = rejection
 rejection_of OutOfMemory = nothing

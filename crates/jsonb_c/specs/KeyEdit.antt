@@ -9,7 +9,7 @@ use Rattle.jsonb_c.specs.KeyParts.{IsWritten}
 use Rattle.stored_edit.specs.declared.error.EditError.{EditError}
 use Rattle.stored_edit.specs.declared.error.EditError.TheVariants as errors
 
--- The key of the answer stands at the front of the buffer, or the buffer is shorter, which the status says, and so it
+-- The key of the answer is at the front of the buffer, or the buffer is shorter, which the status says, and so it
 -- does where the answer has more than 512 arrays and objects in one another, or where nothing changes.
 abbrev pub IsEdited : Option Tree → ℕ → ℕ → List ℕ → List ℕ → Type 0
 IsEdited (Some t) status size old new =

@@ -30,7 +30,7 @@ abbrev pub IsCounted : Option ℕ → ℕ → ℕ → Type 0
 IsCounted (Some parts) status count = (status ≡ 0) × (count ≡ parts)
 IsCounted None status count = status ≡ 5
 
--- The status says that the part stands there in the key, or that there is none.
+-- The status says that the part is there in the key, or that there is none.
 abbrev pub IsFound : List ℕ → Option Tree → ℕ → ℕ → ℕ → Type 0
 IsFound key (Some part) status offset size = (status ≡ 0) × IsRange key offset size (key_of part)
 IsFound key None status offset size = status ≡ 5
@@ -63,31 +63,31 @@ abbrev pub open_number : Open → ℕ
 open_number (items ts) = 5
 open_number (members ms) = 6
 
--- The cursor stands in the key where this is left of an array or an object.
-pub record StandsBefore (key : List ℕ) (cursor : Cursor) (left : Open) : Type 0 where
+-- The cursor is in the key where this is left of an array or an object.
+pub record OccursBefore (key : List ℕ) (cursor : Cursor) (left : Open) : Type 0 where
   pub fits : IsOpen left 511
   pub kind_is : cursor.kind ≡ open_number left
   pub before : List ℕ
-  pub stands : key ≡ before ++ open_key left
+  pub occurs : key ≡ before ++ open_key left
   pub offset_is : cursor.offset ≡ length before
 
--- The status says that the cursor stands before all parts of the value, or that it is neither an array nor an object.
+-- The status says that the cursor is before all parts of the value, or that it is neither an array nor an object.
 abbrev pub IsBegun : List ℕ → Tree → ℕ → Cursor → Type 0
-IsBegun key (array ts) status cursor = (status ≡ 0) × StandsBefore key cursor (items ts)
-IsBegun key (object ms) status cursor = (status ≡ 0) × StandsBefore key cursor (members ms)
+IsBegun key (array ts) status cursor = (status ≡ 0) × OccursBefore key cursor (items ts)
+IsBegun key (object ms) status cursor = (status ≡ 0) × OccursBefore key cursor (members ms)
 IsBegun key t status cursor = status ≡ 5
 
--- The status says that the first part that is left stands there in the key, and the cursor behind it; or that none is
+-- The status says that the first part that is left is there in the key, and the cursor behind it; or that none is
 -- left. An item has no name.
 abbrev pub IsNextPart : List ℕ → Open → ℕ → Entry → Cursor → Type 0
 IsNextPart key (items no_trees) status entry cursor = status ≡ 5
 IsNextPart key (items (more_trees t ts)) status entry cursor =
     (status ≡ 0) × (entry.name_size ≡ 0) × IsRange key entry.offset entry.size (key_of t)
-    × StandsBefore key cursor (items ts)
+    × OccursBefore key cursor (items ts)
 IsNextPart key (members no_members) status entry cursor = status ≡ 5
 IsNextPart key (members (more_members name t ms)) status entry cursor =
     (status ≡ 0) × IsRange key entry.name_offset entry.name_size (text_key name)
-    × IsRange key entry.offset entry.size (key_of t) × StandsBefore key cursor (members ms)
+    × IsRange key entry.offset entry.size (key_of t) × OccursBefore key cursor (members ms)
 
 -- ---- texts
 
@@ -96,14 +96,14 @@ abbrev pub text_of_tree : Tree → Option (List ℕ)
 text_of_tree (string mark text) = Some text
 text_of_tree t = None
 
--- The text stands at the front of the buffer, or the buffer is shorter, which the status says; or there is no text.
+-- The text is at the front of the buffer, or the buffer is shorter, which the status says; or there is no text.
 abbrev pub IsWritten : Option (List ℕ) → ℕ → ℕ → List ℕ → List ℕ → Type 0
 IsWritten (Some text) status size old new =
     (size ≡ length text)
     × (((status ≡ 0) × (new ≡ text ++ drop (length text) old)) ⊎ ((status ≡ 4) × (length old < size)))
 IsWritten None status size old new = status ≡ 5
 
--- The text whose key this is stands at the front of the buffer, or the buffer is shorter, which the status says. Of any
+-- The text whose key this is is at the front of the buffer, or the buffer is shorter, which the status says. Of any
 -- bytes the status is one of three; where nothing is written the buffer is as before, and where no text is known the
 -- size is 0.
 pub record WritesText (IsKeyOf : List ℕ → Type 0) (status size : ℕ) (old new : List ℕ) : Type 0 where

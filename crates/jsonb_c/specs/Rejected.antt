@@ -2,6 +2,6 @@
 use Rattle.std.specs.Prelude.{ℕ, List}
 use Rattle.jsonb_path.specs.Path.{IsPath}
 
--- The bytes spell a path.
+-- The bytes encode a path.
 abbrev pub IsSomePath : List ℕ → Type 0
 IsSomePath bytes = (keys : List (List ℕ)) × IsPath bytes keys

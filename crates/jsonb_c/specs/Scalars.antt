@@ -19,5 +19,5 @@ pub record IsReasonOf (number : ℕ) (text bytes : List ℕ) : Type 0 where
   pub no_document : IsNoDocument mode text
   pub code : Code
   pub position : ℕ
-  pub exact : document_of mode text ≡ Err (record { code = code; place = position })
+  pub exact : document_of mode text ≡ Err (record { code = code; offset = position })
   pub is_text : bytes ≡ code_text code

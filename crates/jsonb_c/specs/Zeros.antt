@@ -28,7 +28,7 @@ LackZeros shortest zeros =
     (t : Tree) → IsReadable t → shortest ≡ tree_text (with_fewest_digits t) → zeros ≡ zeros_in t → ⊥
 
 -- Whichever numbers the zeros are of, these are the zeros of so many from the first on, and so many numbers without any
--- stand at the end then.
+-- are at the end then.
 abbrev pub AreZerosOfNumbers : List ℕ → ℕ → ℕ → ℕ → ℕ → List ℕ → Type 0
 AreZerosOfNumbers zeros first numbers plain more bytes =
     (counts : List ℕ) → AreZerosOf counts first numbers plain zeros

@@ -1,11 +1,11 @@
-//! Sort keys as documents: the kind of a value, how many parts it has, and where in the key they stand.
+//! Sort keys as documents: the kind of a value, how many parts it has, and where in the key they are.
 //!
 //! Any bytes are safe to pass. What a call answers is promised for the key of a value of JSON's kinds with at most 512
 //! nested arrays and objects; of other bytes it may be `NO_KEY` or any answer within them.
 
 ghost use Rattle.std.specs.Prelude.{◌≡◌, ◌≢◌, ◌↔◌, ◌⊎◌, ◌<◌, ◌≤◌, ◌+◌, ◌∷◌, ℕ, List, length, Option, None, MatchResult, MatchOption, IfOk, IfSome, if◌then◌else◌};
-ghost use Rattle.jsonb_c.specs.Interface.{KeepsBuffer, TellsPath};
-ghost use Rattle.jsonb_c.specs.KeyParts.{kind_number, text_of_tree, FindsRange, IsBegun, IsCounted, IsFound, IsNextPart, IsPartStatus, IsTreeKey, IsWithinKey, IsWritten, LiesWithin, StandsBefore, WritesText};
+ghost use Rattle.jsonb_c.specs.Interface.{PreservesBuffer, ReportsPath};
+ghost use Rattle.jsonb_c.specs.KeyParts.{kind_number, text_of_tree, FindsRange, IsBegun, IsCounted, IsFound, IsNextPart, IsPartStatus, IsTreeKey, IsWithinKey, IsWritten, LiesWithin, OccursBefore, WritesText};
 ghost use Rattle.jsonb_path.specs.Path.{IsPath, IsPlainPath, StartsKey};
 ghost use Rattle.jsonb_stored.specs.Checked.{IsSortKey};
 ghost use Rattle.jsonb_stored.specs.Found.{count_of, item_from, Finds, IsRange};
@@ -101,7 +101,7 @@ pub extern "C" fn vizhoniku_key_count(key: &[u8], count: &mut usize) -> u32
     }
 }
 
-/// Where in a sort key the member of that name stands: the range of its value, which is the key of that.
+/// Where in a sort key the member of that name is: the range of its value, which is the key of that.
 #[unsafe(no_mangle)]
 pub extern "C" fn vizhoniku_key_member(
     key: &[u8],
@@ -112,10 +112,10 @@ pub extern "C" fn vizhoniku_key_member(
     // The range is that of the member of the name, and there is none where the value has none.
     ensures finds { FindsRange key.now (get_by_name name.now) result offset.new size.new }
 {
-    tell_range(key, find_member(key, name), offset, size)
+    report_range(key, find_member(key, name), offset, size)
 }
 
-/// Where in a sort key the item of that index stands: its range, which is the key of it. A negative index counts from
+/// Where in a sort key the item of that index is: its range, which is the key of it. A negative index counts from
 /// the end, where -1 is the last item.
 #[unsafe(no_mangle)]
 pub extern "C" fn vizhoniku_key_item(
@@ -127,10 +127,10 @@ pub extern "C" fn vizhoniku_key_item(
     // The range is that of the item of the index, and there is none where the value has none.
     ensures finds { FindsRange key.now (item_from index) result offset.new size.new }
 {
-    tell_range(key, find_item(key, index), offset, size)
+    report_range(key, find_item(key, index), offset, size)
 }
 
-/// Where in a sort key the part at the path stands, a JSON Pointer (RFC 6901): its range, which is the key of it.
+/// Where in a sort key the part at the path is, a JSON Pointer (RFC 6901): its range, which is the key of it.
 #[unsafe(no_mangle)]
 pub extern "C" fn vizhoniku_key_part(
     alloc: Global,
@@ -146,8 +146,8 @@ pub extern "C" fn vizhoniku_key_part(
     ensures found { (t : Tree) → IsTreeKey key.now t → (names : List (List ℕ)) → IsPath path.now names
         → (result ≡ OUT_OF_MEMORY) ⊎ IsFound key.now (part_at names t) result offset.new size.new }
 
-    // What is wrong with a path is told, unless memory ran out.
-    ensures path { TellsPath path.now result }
+    // What is wrong with a path is reported, unless memory ran out.
+    ensures path { ReportsPath path.now result }
     ensures memory { result ≡ OUT_OF_MEMORY → StartsKey path.now }
 
     // A path in which nothing is escaped takes no memory.
@@ -155,10 +155,10 @@ pub extern "C" fn vizhoniku_key_part(
     ensures within { IsWithinKey key.now result offset.new size.new }
 {
     if let Some(found) = find_plain_part(key, path) {
-        return tell_range(key, found, offset, size);
+        return report_range(key, found, offset, size);
     }
     match read_keys(alloc, path) {
-        Ok(Some(names)) => tell_range(key, find_part(key, &names), offset, size),
+        Ok(Some(names)) => report_range(key, find_part(key, &names), offset, size),
         Ok(None) => {
             *offset = 0;
             *size = 0;
@@ -172,8 +172,8 @@ pub extern "C" fn vizhoniku_key_part(
     }
 }
 
-// Tells where in the key a part stands, and gives the status of that.
-fn tell_range(
+// Says where in the key a part is, and gives the status of that.
+fn report_range(
     key: &[u8],
     found: Result<Option<&[u8]>, NoKey>,
     offset: &mut usize,
@@ -184,7 +184,7 @@ fn tell_range(
         → IsFound key.now part result offset.new size.new }
     ensures within { IsWithinKey key.now result offset.new size.new }
 {
-    match place(key, found) {
+    match locate(key, found) {
         Ok(Some((at, len))) => {
             *offset = at;
             *size = len;
@@ -204,7 +204,7 @@ fn tell_range(
 }
 
 // The range of a part that was found.
-fn place(key: &[u8], found: Result<Option<&[u8]>, NoKey>) -> Result<Option<(usize, usize)>, NoKey>
+fn locate(key: &[u8], found: Result<Option<&[u8]>, NoKey>) -> Result<Option<(usize, usize)>, NoKey>
     ensures found { (part : Option Tree) → Finds key.now part found.entry
         → MatchResult result (λ answer. MatchOption answer (part ≡ None)
         (λ r. (t : Tree) × (part ≡ Some t) × IsRange key.now r.0 r.1 (key_of t))) (λ e. ⊥) }
@@ -225,7 +225,7 @@ pub struct Cursor {
     pub offset: usize,
 }
 
-/// Where in a sort key the name of a member stands, as a text, and where its value does, or an item. An item has no
+/// Where in a sort key the name of a member is, as a text, and where its value is, or an item. An item has no
 /// name, and the size of that is 0.
 #[repr(C)]
 #[derive(Clone, Copy)]
@@ -250,7 +250,7 @@ const NO_ENTRY: Entry = Entry {
 pub extern "C" fn vizhoniku_key_begin(key: &[u8], cursor: &mut Cursor) -> u32
     ensures status { IsPartStatus result }
 
-    // The cursor stands before all parts of the value, and a scalar has none.
+    // The cursor is before all parts of the value, and a scalar has none.
     ensures begun { (t : Tree) → IsTreeKey key.now t → IsBegun key.now t result cursor.new }
     ensures no_cursor { result ≢ ACCEPTED → cursor.new ≡ NO_CURSOR }
 {
@@ -280,24 +280,24 @@ fn kind_of_parts(object: bool) -> u32
     if object { OBJECT } else { ARRAY }
 }
 
-/// Tells where the item or the member stands at the cursor, and moves the cursor behind it.
+/// Says where the item or the member is at the cursor, and moves the cursor behind it.
 #[unsafe(no_mangle)]
 pub extern "C" fn vizhoniku_key_next(key: &[u8], cursor: &mut Cursor, entry: &mut Entry) -> u32
     ensures status { IsPartStatus result }
 
-    // The first part that is left is told, and the cursor stands before the others; or none is left.
-    ensures next { (left : Open) → StandsBefore key.now cursor.old left
+    // The first part that is left is reported, and the cursor is before the others; or none is left.
+    ensures next { (left : Open) → OccursBefore key.now cursor.old left
         → IsNextPart key.now left result entry.new cursor.new }
 
-    // Of any bytes and any cursor the ranges lie within the bytes, and the cursor moves only where a part is told.
+    // Of any bytes and any cursor the ranges lie within the bytes, and the cursor moves only where a part is reported.
     ensures within { LiesWithin key.now entry.new }
     ensures still { result ≢ ACCEPTED → (cursor.new ≡ cursor.old) × (entry.new ≡ NO_ENTRY) }
     ensures further { result ≡ ACCEPTED → cursor.old.offset < cursor.new.offset }
 {
     match next_entry(key, *cursor) {
-        Ok(Some(told)) => {
-            *entry = told.0;
-            *cursor = told.1;
+        Ok(Some(reported)) => {
+            *entry = reported.0;
+            *cursor = reported.1;
             ACCEPTED
         }
         Ok(None) => {
@@ -311,14 +311,14 @@ pub extern "C" fn vizhoniku_key_next(key: &[u8], cursor: &mut Cursor, entry: &mu
     }
 }
 
-// Where the item or the member stands at the cursor, and the cursor behind it.
+// Where the item or the member is at the cursor, and the cursor behind it.
 fn next_entry(key: &[u8], cursor: Cursor) -> Result<Option<(Entry, Cursor)>, NoKey>
-    ensures next { (left : Open) → StandsBefore key.now cursor left
+    ensures next { (left : Open) → OccursBefore key.now cursor left
         → MatchResult result (λ answer. MatchOption answer
         ((entry : Entry) → (behind : Cursor) → IsNextPart key.now left NO_PART entry behind)
-        (λ told. IsNextPart key.now left ACCEPTED told.0 told.1)) (λ e. ⊥) }
-    ensures within { IfOk result (λ answer. IfSome answer (λ told. LiesWithin key.now told.0)) }
-    ensures further { IfOk result (λ answer. IfSome answer (λ told. cursor.offset < told.1.offset)) }
+        (λ reported. IsNextPart key.now left ACCEPTED reported.0 reported.1)) (λ e. ⊥) }
+    ensures within { IfOk result (λ answer. IfSome answer (λ reported. LiesWithin key.now reported.0)) }
+    ensures further { IfOk result (λ answer. IfSome answer (λ reported. cursor.offset < reported.1.offset)) }
 {
     if cursor.kind != ARRAY && cursor.kind != OBJECT {
         return Err(NoKey);
@@ -352,7 +352,7 @@ pub extern "C" fn vizhoniku_key_string(key: &[u8], out: &mut [u8], size: &mut us
     // What is written is the text of the string, and a value of another kind has none.
     ensures written { (t : Tree) → IsTreeKey key.now t
         → IsWritten (text_of_tree t) result size.new out.old out.new }
-    ensures keeps { KeepsBuffer result size.new out.old out.new }
+    ensures preserves { PreservesBuffer result size.new out.old out.new }
 {
     let kind = kind_number(kind_of(key));
     if kind == STRING {
@@ -378,7 +378,7 @@ fn write_string(key: &[u8], out: &mut [u8], size: &mut usize) -> u32
     }
 }
 
-/// Writes the text of a member's name, as it stands in a sort key, to the start of `out`, and its size to `size`. Where
+/// Writes the text of a member's name, as it is in a sort key, to the start of `out`, and its size to `size`. Where
 /// `out` is too short, it stays as it is, and `size` is what is needed.
 #[unsafe(no_mangle)]
 pub extern "C" fn vizhoniku_key_name(name: &[u8], out: &mut [u8], size: &mut usize) -> u32
@@ -387,7 +387,7 @@ pub extern "C" fn vizhoniku_key_name(name: &[u8], out: &mut [u8], size: &mut usi
     write_text(name, out, size)
 }
 
-// Writes the text whose key this is. One without zeros stands in the key as it is.
+// Writes the text whose key this is. One without zeros is in the key as it is.
 fn write_text(key: &[u8], out: &mut [u8], size: &mut usize) -> u32
     ensures writes { WritesText (λ text. key.now ≡ text_key text) result size.new out.old out.new }
 {

@@ -13,7 +13,7 @@ use jsonb_stored::{NoKey, contains};
 pub extern "C" fn vizhoniku_key_contains<'k>(key: &'k [u8], other: &'k [u8]) -> u32
     ensures status { (result ≡ ACCEPTED) ⊎ (result ≡ NO_PART) ⊎ (result ≡ NO_KEY) }
 
-    // Of the keys of two values it tells exactly whether the first contains the second.
+    // Of the keys of two values it says exactly whether the first contains the second.
     ensures contained { (t u : Tree) → IsTreeKey key.now t → IsTreeKey other.now u → IsContained (contains t u) result }
 {
     match contains(key, other) {

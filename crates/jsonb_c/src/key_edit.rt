@@ -4,7 +4,7 @@
 //! nested arrays and objects; of other bytes it may be `NO_KEY` or any bytes.
 ghost use Rattle.std.specs.Prelude.{◌≡◌, ◌↔◌, ◌⊎◌, ◌==◌, IsUtf8, ℕ, List, [], not, map, string_bytes, Option, Some, Vec};
 ghost use Rattle.std.specs.declared.alloc.Global.{Global as GlobalAlloc};
-ghost use Rattle.jsonb_c.specs.Interface.{KeepsBuffer, TellsPath};
+ghost use Rattle.jsonb_c.specs.Interface.{PreservesBuffer, ReportsPath};
 ghost use Rattle.jsonb_c.specs.KeyEdit.{edit_status_of, IsEdited, IsEditStatus};
 ghost use Rattle.jsonb_c.specs.KeyParts.{IsTreeKey};
 ghost use Rattle.jsonb_path.specs.Path.{IsPath};
@@ -34,14 +34,14 @@ pub extern "C" fn vizhoniku_key_set(
 ) -> u32
     ensures status { (result ≡ NO_PATH) ⊎ IsEditStatus result }
 
-    // What is written is the key of the value with the part; or there is no such place, or it would be too deep.
+    // What is written is the key of the value with the part; or there is no such slot, or it would be too deep.
     ensures written { (t : Tree) → IsTreeKey key.now t → (u : Tree) → IsTreeKey part.now u → (names : List (List ℕ))
         → IsPath path.now names → (result ≡ OUT_OF_MEMORY)
         ⊎ IsEdited (with_part names u (not (create == 0)) t) result size.new out.old out.new }
 
-    // What is wrong with a path is told, unless memory ran out.
-    ensures path { TellsPath path.now result }
-    ensures keeps { KeepsBuffer result size.new out.old out.new }
+    // What is wrong with a path is reported, unless memory ran out.
+    ensures path { ReportsPath path.now result }
+    ensures preserves { PreservesBuffer result size.new out.old out.new }
 {
     match read_keys(alloc, path) {
         Ok(Some(names)) => set_part(alloc, key, &names, part, create != 0, out, size),
@@ -69,11 +69,11 @@ fn set_part(
     ensures status { IsEditStatus result }
     ensures written { (t : Tree) → IsTreeKey key.now t → (u : Tree) → IsTreeKey part.now u → (result ≡ OUT_OF_MEMORY)
         ⊎ IsEdited (with_part (map string_bytes names.now) u create t) result size.new out.old out.new }
-    ensures keeps { KeepsBuffer result size.new out.old out.new }
+    ensures preserves { PreservesBuffer result size.new out.old out.new }
 {
     let mut bytes = Vec::new(alloc);
-    let told = append_with_part(&mut bytes, key, names, part, create);
-    tell_key(told, &bytes, out, size)
+    let reported = append_with_part(&mut bytes, key, names, part, create);
+    report_key(reported, &bytes, out, size)
 }
 
 /// Writes the sort key of a value without its part at the path to the start of `out`, and its size to `size`. Where
@@ -92,9 +92,9 @@ pub extern "C" fn vizhoniku_key_remove(
     ensures written { (t : Tree) → IsTreeKey key.now t → (names : List (List ℕ)) → IsPath path.now names
         → (result ≡ OUT_OF_MEMORY) ⊎ IsEdited (without_part names t) result size.new out.old out.new }
 
-    // What is wrong with a path is told, unless memory ran out.
-    ensures path { TellsPath path.now result }
-    ensures keeps { KeepsBuffer result size.new out.old out.new }
+    // What is wrong with a path is reported, unless memory ran out.
+    ensures path { ReportsPath path.now result }
+    ensures preserves { PreservesBuffer result size.new out.old out.new }
 {
     match read_keys(alloc, path) {
         Ok(Some(names)) => remove_part(alloc, key, &names, out, size),
@@ -114,11 +114,11 @@ fn remove_part(alloc: Global, key: &[u8], names: &[String], out: &mut [u8], size
     ensures status { IsEditStatus result }
     ensures written { (t : Tree) → IsTreeKey key.now t → (result ≡ OUT_OF_MEMORY)
         ⊎ IsEdited (without_part (map string_bytes names.now) t) result size.new out.old out.new }
-    ensures keeps { KeepsBuffer result size.new out.old out.new }
+    ensures preserves { PreservesBuffer result size.new out.old out.new }
 {
     let mut bytes = Vec::new(alloc);
-    let told = append_without_part(&mut bytes, key, names);
-    tell_key(told, &bytes, out, size)
+    let reported = append_without_part(&mut bytes, key, names);
+    report_key(reported, &bytes, out, size)
 }
 
 /// Writes the sort key of an object with a member, of whose value the key is passed, to the start of `out`, and its
@@ -139,15 +139,15 @@ pub extern "C" fn vizhoniku_key_put(
     ensures written { IsUtf8 name.now → (t : Tree) → IsTreeKey key.now t → (u : Tree) → IsTreeKey value.now u
         → (result ≡ OUT_OF_MEMORY) ⊎ IsEdited (with_member name.now u t) result size.new out.old out.new }
     ensures no_path { result ≡ NO_PATH ↔ (IsUtf8 name.now → ⊥) }
-    ensures keeps { KeepsBuffer result size.new out.old out.new }
+    ensures preserves { PreservesBuffer result size.new out.old out.new }
 {
     let Ok(name) = str::from_utf8(name) else {
         *size = 0;
         return NO_PATH;
     };
     let mut bytes = Vec::new(alloc);
-    let told = append_with_member(&mut bytes, key, name, value);
-    tell_key(told, &bytes, out, size)
+    let reported = append_with_member(&mut bytes, key, name, value);
+    report_key(reported, &bytes, out, size)
 }
 
 /// Writes the sort key of an array with an item more, of which the key is passed, to the start of `out`, and its size
@@ -165,11 +165,11 @@ pub extern "C" fn vizhoniku_key_push(
     // What is written is the key of the array with the item; or the value is none, or would be too deep.
     ensures written { (t : Tree) → IsTreeKey key.now t → (u : Tree) → IsTreeKey item.now u
         → (result ≡ OUT_OF_MEMORY) ⊎ IsEdited (with_item u t) result size.new out.old out.new }
-    ensures keeps { KeepsBuffer result size.new out.old out.new }
+    ensures preserves { PreservesBuffer result size.new out.old out.new }
 {
     let mut bytes = Vec::new(alloc);
-    let told = append_with_item(&mut bytes, key, item);
-    tell_key(told, &bytes, out, size)
+    let reported = append_with_item(&mut bytes, key, item);
+    report_key(reported, &bytes, out, size)
 }
 
 /// Writes the sort key of both values in one to the start of `out`, and its size to `size`: an object with the members
@@ -188,32 +188,37 @@ pub extern "C" fn vizhoniku_key_merge(
     // What is written is the key of both values in one; or it would be too deep.
     ensures written { (t : Tree) → IsTreeKey left.now t → (u : Tree) → IsTreeKey right.now u
         → (result ≡ OUT_OF_MEMORY) ⊎ IsEdited (Some (merge t u)) result size.new out.old out.new }
-    ensures keeps { KeepsBuffer result size.new out.old out.new }
+    ensures preserves { PreservesBuffer result size.new out.old out.new }
 {
     let mut bytes = Vec::new(alloc);
-    let told = edit_result(append_merged(&mut bytes, left, right));
-    tell_key(told, &bytes, out, size)
+    let reported = edit_result(append_merged(&mut bytes, left, right));
+    report_key(reported, &bytes, out, size)
 }
 
-// What is told of a call that always changes a key.
-fn edit_result(told: Result<(), EditError>) -> Result<bool, EditError>
-    ensures { (t : Tree) → (old new : Vec ℕ GlobalAlloc) → AppendsKey t told old new → Edits (Some t) result old new }
+// What is reported of a call that always changes a key.
+fn edit_result(reported: Result<(), EditError>) -> Result<bool, EditError>
+    ensures { (t : Tree) → (old new : Vec ℕ GlobalAlloc) → AppendsKey t reported old new → Edits (Some t) result old new }
 {
-    match told {
+    match reported {
         Ok(()) => Ok(true),
         Err(error) => Err(error),
     }
 }
 
-// Writes the bytes that were appended, and gives the status of what was told.
-fn tell_key(told: Result<bool, EditError>, bytes: &[u8], out: &mut [u8], size: &mut usize) -> u32
+// Writes the bytes that were appended, and gives the status of what was reported.
+fn report_key(
+    reported: Result<bool, EditError>,
+    bytes: &[u8],
+    out: &mut [u8],
+    size: &mut usize,
+) -> u32
     ensures status { IsEditStatus result }
     ensures written { (answer : Option Tree) → (old new : Vec ℕ GlobalAlloc) → old.items ≡ [] → new.items ≡ bytes.now
-        → Edits answer told old new
+        → Edits answer reported old new
         → (result ≡ OUT_OF_MEMORY) ⊎ IsEdited answer result size.new out.old out.new }
-    ensures keeps { KeepsBuffer result size.new out.old out.new }
+    ensures preserves { PreservesBuffer result size.new out.old out.new }
 {
-    match told {
+    match reported {
         Ok(true) => {
             *size = bytes.len();
             put(bytes, out)

@@ -23,7 +23,7 @@ pub extern "C" fn vizhoniku_key_text(
     // with that key, and no other byte of the buffer changes.
     ensures fills { FillsBuffer (IsTextOfKey key.now) ACCEPTED result size.new out.old out.new }
 
-    // A key is never told to be none.
+    // A key is never reported to be none.
     ensures no_key { result ≡ NO_KEY → IsNoKey key.now }
 {
     let mut bytes = Vec::new(alloc);

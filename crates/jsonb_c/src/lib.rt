@@ -17,7 +17,7 @@ ghost use Rattle.jsonb_scan.specs.Answer.{mode_of, MayAllocate, IsTextError};
 ghost use Rattle.jsonb.specs.Follows.{FollowsSpecification};
 ghost use Rattle.jsonb.specs.Parses.{Parses};
 ghost use Rattle.jsonb_path.specs.Path.{IsPath};
-ghost use Rattle.jsonb_c.specs.Interface.{NumberChooses, code_number, nothing, sign, status_of, rejection_of, AcceptsDocuments, EitherMayAllocate, FailsFor, FillsBuffer, FormMayAllocate, HasNoPartAt, HasPartAt, IsAccepted, IsNoDocumentOf, IsNoPath, IsOneRejected, IsOrdered, IsDocumentOf, IsKeyOf, IsMessageOf, IsPartAnswer, IsPartOf, IsRejected, IsStatus, IsStatusOfForm, IsTextOf, NeedsRoomForBoth, OrdersTexts, PartMayAllocate, SaysError, Tells, Writes};
+ghost use Rattle.jsonb_c.specs.Interface.{NumberChooses, code_number, nothing, sign, status_of, rejection_of, AcceptsDocuments, EitherMayAllocate, FailsFor, FillsBuffer, FormMayAllocate, HasNoPartAt, HasPartAt, IsAccepted, IsNoDocumentOf, IsNoPath, IsOneRejected, IsOrdered, IsDocumentOf, IsKeyOf, IsMessageOf, IsPartAnswer, IsPartOf, IsRejected, IsStatus, IsStatusOfForm, IsTextOf, NeedsCapacityForBoth, OrdersTexts, PartMayAllocate, SaysError, Reports, Writes};
 
 use jsonb::{
     Error, Mode, ParseErrorCode, Value, append_part, append_sort_key, append_text, check,
@@ -80,7 +80,7 @@ pub struct Rejection {
 /// from 1, the column in bytes.
 #[repr(C)]
 #[derive(Clone, Copy)]
-pub struct Place {
+pub struct Location {
     pub index: usize,
     pub line: usize,
     pub column: usize,
@@ -116,14 +116,14 @@ pub extern "C" fn vizhoniku_check(
     ensures memory { result ≡ OUT_OF_MEMORY → MayAllocate text.now }
 
     // Which fault it is, and where.
-    ensures tells { Tells (IsRejected mode text.now 1) result rejection.new }
+    ensures reports { Reports (IsRejected mode text.now 1) result rejection.new }
 {
     match check_text(alloc, mode, text) {
         Ok(()) => {
             *rejection = NOTHING;
             ACCEPTED
         }
-        Err(rejected) => tell(rejected, rejection),
+        Err(rejected) => report(rejected, rejection),
     }
 }
 
@@ -145,7 +145,7 @@ pub extern "C" fn vizhoniku_text(
     ensures fills { FillsBuffer (IsTextOf mode text.now) ACCEPTED result size.new out.old out.new }
 
     // Which fault it is, and where.
-    ensures tells { Tells (IsRejected mode text.now 1) result rejection.new }
+    ensures reports { Reports (IsRejected mode text.now 1) result rejection.new }
 {
     match text_of(alloc, mode, text) {
         Ok(bytes) => {
@@ -155,7 +155,7 @@ pub extern "C" fn vizhoniku_text(
         }
         Err(rejected) => {
             *size = 0;
-            tell(rejected, rejection)
+            report(rejected, rejection)
         }
     }
 }
@@ -179,7 +179,7 @@ pub extern "C" fn vizhoniku_sort_key(
     ensures fills { FillsBuffer (IsKeyOf mode text.now) ACCEPTED result size.new out.old out.new }
 
     // Which fault it is, and where.
-    ensures tells { Tells (IsRejected mode text.now 1) result rejection.new }
+    ensures reports { Reports (IsRejected mode text.now 1) result rejection.new }
 {
     match sort_key_of(alloc, mode, text, 1) {
         Ok(bytes) => {
@@ -189,7 +189,7 @@ pub extern "C" fn vizhoniku_sort_key(
         }
         Err(rejected) => {
             *size = 0;
-            tell(rejected, rejection)
+            report(rejected, rejection)
         }
     }
 }
@@ -214,12 +214,12 @@ pub extern "C" fn vizhoniku_text_and_key(
     ensures written { result ≡ ACCEPTED → Writes (IsTextOf mode text.now) size.new out.old out.new }
     ensures key_written { result ≡ ACCEPTED → Writes (IsKeyOf mode text.now) key_size.new key_out.old key_out.new }
     ensures short { result ≡ TOO_SHORT
-        → NeedsRoomForBoth mode text.now size.new key_size.new out.old key_out.old }
+        → NeedsCapacityForBoth mode text.now size.new key_size.new out.old key_out.old }
     ensures untouched { result ≢ ACCEPTED → (out.new ≡ out.old) × (key_out.new ≡ key_out.old) }
     ensures no_size { result ≢ ACCEPTED → result ≢ TOO_SHORT → (size.new ≡ 0) × (key_size.new ≡ 0) }
 
     // Which fault it is, and where.
-    ensures tells { Tells (IsRejected mode text.now 1) result rejection.new }
+    ensures reports { Reports (IsRejected mode text.now 1) result rejection.new }
 {
     match text_and_key_of(alloc, mode, text) {
         Ok(both) => {
@@ -231,7 +231,7 @@ pub extern "C" fn vizhoniku_text_and_key(
         Err(rejected) => {
             *size = 0;
             *key_size = 0;
-            tell(rejected, rejection)
+            report(rejected, rejection)
         }
     }
 }
@@ -263,7 +263,7 @@ pub extern "C" fn vizhoniku_compare(
     ensures memory { result ≡ OUT_OF_MEMORY → EitherMayAllocate mode left.now right.now }
 
     // Which of the two it is that is rejected, which fault, and where.
-    ensures tells { Tells (IsOneRejected mode left.now right.now) result rejection.new }
+    ensures reports { Reports (IsOneRejected mode left.now right.now) result rejection.new }
 {
     match order_of(alloc, mode, left, right) {
         Ok(is) => {
@@ -273,7 +273,7 @@ pub extern "C" fn vizhoniku_compare(
         }
         Err(rejected) => {
             *order = 0;
-            tell(rejected, rejection)
+            report(rejected, rejection)
         }
     }
 }
@@ -299,7 +299,7 @@ pub extern "C" fn vizhoniku_part(
     ensures no_part { result ≡ NO_PART → HasNoPartAt mode path.now text.now }
     ensures no_path { result ≡ NO_PATH → IsAccepted mode text.now × IsNoPath path.now }
 
-    // A part of a document is accepted, and what is wrong with the path of one is told, unless memory ran out.
+    // A part of a document is accepted, and what is wrong with the path of one is reported, unless memory ran out.
     ensures accepted { HasPartAt mode path.now text.now
         → (result ≡ ACCEPTED) ⊎ (result ≡ TOO_SHORT) ⊎ (result ≡ OUT_OF_MEMORY) }
     ensures nothing_there { HasNoPartAt mode path.now text.now → (result ≡ NO_PART) ⊎ (result ≡ OUT_OF_MEMORY) }
@@ -307,7 +307,7 @@ pub extern "C" fn vizhoniku_part(
     ensures memory { result ≡ OUT_OF_MEMORY → PartMayAllocate mode path.now text.now }
 
     // Which fault it is, and where.
-    ensures tells { Tells (IsRejected mode text.now 1) result rejection.new }
+    ensures reports { Reports (IsRejected mode text.now 1) result rejection.new }
 {
     match part_of(alloc, mode, path, text) {
         Ok(Part::Text(bytes)) => {
@@ -327,12 +327,12 @@ pub extern "C" fn vizhoniku_part(
         }
         Err(rejected) => {
             *size = 0;
-            tell(rejected, rejection)
+            report(rejected, rejection)
         }
     }
 }
 
-// What stands at a path.
+// What is at a path.
 #[derive(Drop)]
 enum Part {
     Text(Vec<u8>),
@@ -340,7 +340,7 @@ enum Part {
     NoPath,
 }
 
-// What stands at the path in the value of a text.
+// What is at the path in the value of a text.
 fn part_of(alloc: Global, mode: u32, path: &[u8], text: &[u8]) -> Result<Part, Failure>
     ensures part { IfOk result (IsPartAnswer mode path.now text.now) }
     ensures known { IfOk result (λ _. mode ≤ 1) }
@@ -359,7 +359,7 @@ fn part_of(alloc: Global, mode: u32, path: &[u8], text: &[u8]) -> Result<Part, F
     }
 }
 
-// What stands at the path of these keys in the value of a text, of which no value is made.
+// What is at the path of these keys in the value of a text, of which no value is made.
 fn part_at_keys(alloc: Global, mode: u32, keys: &[String], text: &[u8]) -> Result<Part, Failure>
     ensures part { IfOk result (λ part. (path : List ℕ) → IsPath path (map string_bytes keys.now)
         → IsPartAnswer mode path text.now part) }
@@ -394,23 +394,23 @@ pub extern "C" fn vizhoniku_place(
     alloc: Global,
     text: &[u8],
     rejection: &Rejection,
-    place: &mut Place,
+    offset: &mut Location,
 )
     // The index is that of the code with the number, and where there is none the position, within the text.
     ensures index { (code : Code) → rejection.now.code ≡ code_number code
-        → place.new.index ≡ fault_index text.now code rejection.now.position }
+        → offset.new.index ≡ fault_index text.now code rejection.now.position }
     ensures no_code { ((code : Code) → rejection.now.code ≢ code_number code)
-        → place.new.index ≡ min rejection.now.position (length text.now) }
+        → offset.new.index ≡ min rejection.now.position (length text.now) }
 
-    ensures line { place.new.line ≡ line_at text.now place.new.index }
-    ensures column { place.new.column ≡ column_at text.now place.new.index }
+    ensures line { offset.new.line ≡ line_at text.now offset.new.index }
+    ensures column { offset.new.column ≡ column_at text.now offset.new.index }
 {
     let index = match code_numbered(alloc, rejection.code) {
         Some(code) => fault_index(text, &code, rejection.position),
         None => rejection.position.min(text.len()),
     };
     let (line, column) = line_and_column(text, index);
-    *place = Place {
+    *offset = Location {
         index,
         line,
         column,
@@ -529,14 +529,14 @@ fn status(rejected: Failure) -> u32
     }
 }
 
-// Tells why a call has no answer, and gives the status of that.
-fn tell(rejected: Failure, rejection: &mut Rejection) -> u32
+// Says why a call has no answer, and gives the status of that.
+fn report(rejected: Failure, rejection: &mut Rejection) -> u32
     ensures status { result ≡ status_of rejected }
-    ensures told { rejection.new ≡ rejection_of rejected }
+    ensures reported { rejection.new ≡ rejection_of rejected }
 {
     match rejected {
-        Failure::Text(told) => {
-            *rejection = told;
+        Failure::Text(reported) => {
+            *rejection = reported;
             REJECTED
         }
         Failure::OutOfMemory => {
@@ -595,7 +595,7 @@ fn sign(order: Ordering) -> i32
     }
 }
 
-// Puts the bytes at the front of the buffer, where it has room for all of them.
+// Puts the bytes at the front of the buffer, where it has space for all of them.
 fn put(bytes: &[u8], out: &mut [u8]) -> u32
     ensures status { (result ≡ ACCEPTED) ⊎ (result ≡ TOO_SHORT) }
     ensures written { result ≡ ACCEPTED → out.new ≡ bytes.now ++ drop (length bytes.now) out.old }
@@ -608,7 +608,7 @@ fn put(bytes: &[u8], out: &mut [u8]) -> u32
     ACCEPTED
 }
 
-// Puts each of the two at the front of its buffer, where both have room.
+// Puts each of the two at the front of its buffer, where both have space.
 fn put_both(text: &[u8], key: &[u8], out: &mut [u8], key_out: &mut [u8]) -> u32
     ensures status { (result ≡ ACCEPTED) ⊎ (result ≡ TOO_SHORT) }
     ensures text { result ≡ ACCEPTED → out.new ≡ text.now ++ drop (length text.now) out.old }
@@ -691,7 +691,7 @@ fn check_text(alloc: Global, mode: u32, text: &[u8]) -> Result<(), Failure>
 // What is appended of a text is copied 64 bytes at a time, and what is too much is taken back.
 const SPARE: usize = 64;
 
-// An empty buffer, with room for the form of a text of so many bytes, where memory allows it and the form isn't longer
+// An empty buffer, with space for the form of a text of so many bytes, where memory allows it and the form isn't longer
 // than the text. The sort key of a standard document is longer by one byte at most.
 fn buffer_of(alloc: Global, text_len: usize) -> Vec<u8>
     ensures { result.items ≡ [] }
@@ -749,7 +749,7 @@ fn read<'a>(alloc: Global, mode: Mode, text: &'a [u8]) -> jsonb::Result<Value<'a
     }
 }
 
-// What is told of an error of a reader.
+// What is reported of an error of a reader.
 fn reason_of(error: &Error, which: u32) -> Failure
     requires { IsTextError error.now }
     ensures { SaysError which error.now result }

@@ -1,6 +1,6 @@
 //! Numbers with an exponent, written out as decimals of exactly the same value.
 ghost use Rattle.std.specs.Prelude.{◌≡◌, ◌⊎◌};
-ghost use Rattle.jsonb_c.specs.Interface.{FillsBuffer, Tells};
+ghost use Rattle.jsonb_c.specs.Interface.{FillsBuffer, Reports};
 ghost use Rattle.jsonb_c.specs.PlainNumbers.{IsMaskedText, IsPlainText, IsReported, IsTooLong};
 
 use crate::{ACCEPTED, NOTHING, OUT_OF_MEMORY, REJECTED, Rejection, TOO_SHORT, buffer_of, put};
@@ -24,7 +24,7 @@ pub extern "C" fn vizhoniku_plain_numbers(
     ensures fills { FillsBuffer (IsPlainText text.now) ACCEPTED result size.new out.old out.new }
 
     // Which number has too many digits.
-    ensures tells { Tells (IsTooLong text.now) result rejection.new }
+    ensures reports { Reports (IsTooLong text.now) result rejection.new }
 {
     let mut bytes = buffer_of(alloc, text.len());
     match write_plain_numbers(text, &mut bytes) {
@@ -35,15 +35,15 @@ pub extern "C" fn vizhoniku_plain_numbers(
         }
         Err(error) => {
             *size = 0;
-            tell_number(&error, rejection)
+            report_number(&error, rejection)
         }
     }
 }
 
 // Reports a number that has too many digits; the answer is the status.
-fn tell_number(error: &PlainError, rejection: &mut Rejection) -> u32
+fn report_number(error: &PlainError, rejection: &mut Rejection) -> u32
     ensures status { (result ≡ OUT_OF_MEMORY) ⊎ (result ≡ REJECTED) }
-    ensures tells { Tells (IsReported error.now) result rejection.new }
+    ensures reports { Reports (IsReported error.now) result rejection.new }
 {
     match error {
         PlainError::DoesNotFit(position) => {
@@ -61,8 +61,8 @@ fn tell_number(error: &PlainError, rejection: &mut Rejection) -> u32
     }
 }
 
-/// Writes the text to the start of `out`, and its size to `size`, with each number masked that has an exponent and is in
-/// range. Where `out` is too short, it stays as it is, and `size` is what is needed.
+/// Writes the text to the start of `out`, and its size to `size`, with each number masked that has an exponent and is
+/// in range. Where `out` is too short, it stays as it is, and `size` is what is needed.
 #[unsafe(no_mangle)]
 pub extern "C" fn vizhoniku_masked_numbers(
     alloc: Global,

@@ -1,11 +1,11 @@
 //! The zeros that end decimals, which a sort key doesn't have: stored beside it, they give the text again.
 ghost use Rattle.std.specs.Prelude.{◌≡◌, ◌≢◌, ◌⊎◌, ℕ, List, length};
-ghost use Rattle.jsonb_c.specs.Interface.{FillsBuffer, NeedsRoom, Writes};
+ghost use Rattle.jsonb_c.specs.Interface.{FillsBuffer, NeedsCapacity, Writes};
 ghost use Rattle.jsonb_c.specs.KeyParts.{IsTreeKey};
 ghost use Rattle.jsonb_c.specs.Zeros.{zeros_status_of, AreZerosOfNumbers, AreZerosOfText, HasNoZeros, IsTextWithZeros, LackZeros, LackNumbers};
 ghost use Rattle.jsonb_spec.specs.SortKey.{key_of};
 ghost use Rattle.jsonb_spec.specs.Tree.{Tree};
-ghost use Rattle.stored_zeros.specs.PartsOf.{numbers_in, IsCounted, StandsIn};
+ghost use Rattle.stored_zeros.specs.PartsOf.{numbers_in, IsCounted, OccursIn};
 
 use crate::{ACCEPTED, NO_KEY, NO_ZEROS, OUT_OF_MEMORY, TOO_SHORT, put};
 use std::alloc::Global;
@@ -25,7 +25,7 @@ pub extern "C" fn vizhoniku_zeros_of_text(
     ensures status { (result ≡ ACCEPTED) ⊎ (result ≡ OUT_OF_MEMORY) ⊎ (result ≡ TOO_SHORT) ⊎ (result ≡ NO_ZEROS) }
     ensures fills { FillsBuffer (AreZerosOfText text.now) ACCEPTED result size.new out.old out.new }
 
-    // A serialized form is never told to have none.
+    // A serialized form is never reported to have none.
     ensures no_zeros { result ≡ NO_ZEROS → HasNoZeros text.now }
 {
     let mut bytes = Vec::new(alloc);
@@ -55,7 +55,7 @@ pub extern "C" fn vizhoniku_text_with_zeros(
     ensures status { (result ≡ ACCEPTED) ⊎ (result ≡ OUT_OF_MEMORY) ⊎ (result ≡ TOO_SHORT) ⊎ (result ≡ NO_ZEROS) }
     ensures fills { FillsBuffer (IsTextWithZeros text.now zeros.now) ACCEPTED result size.new out.old out.new }
 
-    // A text and zeros of one value are never told to be none.
+    // A text and zeros of one value are never reported to be none.
     ensures no_zeros { result ≡ NO_ZEROS → LackZeros text.now zeros.now }
 {
     let mut bytes = Vec::new(alloc);
@@ -72,7 +72,7 @@ pub extern "C" fn vizhoniku_text_with_zeros(
 }
 
 /// Writes the zeros of some of a value's numbers to the start of `out`, and their size to `size`: of `numbers` from the
-/// `first` on. They go behind zeros at whose end so many numbers without any stand as `plain` says, and then `plain` is
+/// `first` on. They go behind zeros at whose end so many numbers without any are as `plain` says, and then `plain` is
 /// how many there are. Where `out` is too short, it stays as it is, and `size` is what is needed.
 #[unsafe(no_mangle)]
 pub extern "C" fn vizhoniku_zeros_of_numbers(
@@ -88,11 +88,11 @@ pub extern "C" fn vizhoniku_zeros_of_numbers(
     ensures written { result ≡ ACCEPTED
         → Writes (AreZerosOfNumbers zeros.now first numbers plain.old plain.new) size.new out.old out.new }
     ensures short { result ≡ TOO_SHORT → (more : ℕ)
-        × NeedsRoom (AreZerosOfNumbers zeros.now first numbers plain.old more) size.new out.old }
+        × NeedsCapacity (AreZerosOfNumbers zeros.now first numbers plain.old more) size.new out.old }
     ensures untouched { result ≢ ACCEPTED → (out.new ≡ out.old) × (plain.new ≡ plain.old) }
     ensures no_size { result ≢ ACCEPTED → result ≢ TOO_SHORT → size.new ≡ 0 }
 
-    // Zeros of a value that has all these numbers are never told to be none.
+    // Zeros of a value that has all these numbers are never reported to be none.
     ensures no_zeros { result ≡ NO_ZEROS → LackNumbers zeros.now first numbers plain.old }
 {
     let mut bytes = Vec::new(alloc);
@@ -124,7 +124,7 @@ pub extern "C" fn vizhoniku_key_numbers(
 ) -> u32
     ensures status { (result ≡ ACCEPTED) ⊎ (result ≡ NO_KEY) }
     ensures counted { (t : Tree) → IsTreeKey key.now t → (front : List ℕ) → (count : ℕ) → (part : Tree)
-        → StandsIn t front count part → offset ≡ length front → size ≡ length (key_of part)
+        → OccursIn t front count part → offset ≡ length front → size ≡ length (key_of part)
         → (result ≡ ACCEPTED) × (before.new ≡ count) × (numbers.new ≡ numbers_in part) }
     ensures only { result ≡ ACCEPTED → (t : Tree) → IsTreeKey key.now t
         → IsCounted t offset size before.new numbers.new }

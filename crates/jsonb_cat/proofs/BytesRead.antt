@@ -12,7 +12,7 @@ Consumes-trans (Some all) (Some rest) None xs ys first second = absurd second
 Consumes-trans (Some all) (Some rest) (Some left) xs ys first second =
     first ∙ ap (λ s. xs ++ s) second ∙ sym (append_assoc xs ys left)
 
--- the front of a buffer after a read into what stands behind the first bytes of it
+-- the front of a buffer after a read into what is behind the first bytes of it
 pub filled_front : (f n cap : ℕ) (s b p d : List ℕ) → f ≤ length s → n ≤ length b → f + n ≤ cap
     → take (f + n) (take cap ((take f s ++ (b ++ p)) ++ d)) ≡ take f s ++ take n b
-filled_front f n cap s b p d inside count room = grind (arith, common_steps, take-append-add)
+filled_front f n cap s b p d inside count space = grind (arith, common_steps, take-append-add)

@@ -6,7 +6,7 @@ use Rattle.jsonb_spec.specs.Text.ReadsBack.{ReadsBackAs}
 use Rattle.jsonb_spec.specs.Text.{text_of}
 use Rattle.jsonb_spec.specs.Tree.{Tree}
 use Rattle.jsonb_value.proofs.Trees.RangeTexts.{document_text_reads_back}
-use Rattle.jsonb.proofs.Documents.Spellings.{document_unique}
+use Rattle.jsonb.proofs.Documents.Encodings.{document_unique}
 use Rattle.jsonb_spec.specs.Program.{IsLineOf}
 
 same_text : (t u : Tree) (xs ys : List ℕ) → t ≡ u → text_of t ≡ Some xs → text_of u ≡ Some ys → xs ≡ ys

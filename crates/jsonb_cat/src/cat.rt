@@ -7,7 +7,7 @@ ghost use Rattle.jsonb_spec.specs.Mode.{Mode as GrammarMode};
 ghost use Rattle.jsonb_scan.specs.Answer.{mode_of, MayAllocate};
 ghost use Rattle.jsonb.specs.Follows.{FailsAsSpecified};
 ghost use Rattle.jsonb.specs.Parses.{Rejects};
-ghost use Rattle.jsonb_spec.specs.Program.{WordsChoose, IsLineOf, LacksRoom, IsAccepted, IsAnswered};
+ghost use Rattle.jsonb_spec.specs.Program.{WordsChoose, IsLineOf, LacksCapacity, IsAccepted, IsAnswered};
 
 use jsonb::parser::Mode;
 use jsonb::{Error, Result, append_text};
@@ -21,9 +21,9 @@ const USAGE: &str = "usage: jsonb_cat [--standard]";
 const MAX_READS: u32 = 1 << 20;
 
 // How many bytes are free at least when the input is read.
-const MIN_ROOM: usize = 4096;
+const MIN_FREE: usize = 4096;
 
-// How many bytes more than the input has are room for the line.
+// How many bytes more than the input has are space for the line.
 const SPARE: usize = 64;
 
 /// The mode of the program's arguments, or `None` where it doesn't take them.
@@ -42,11 +42,11 @@ pub fn choose_mode(words: &[String]) -> Option<Mode>
 pub fn convert(alloc: Global, mode: Mode, input: &[u8], out: &mut Vec<u8>) -> Result<()>
     ensures ok { OnOk result ((line : List ℕ) × IsLineOf (mode_of mode) input.now line
         × (out.new.items ≡ out.old.items ++ line)) }
-    // What is rejected is no document. Which fault it is, and where, and what stands at the offset that is named.
+    // What is rejected is no document. Which fault it is, and where, and what is at the offset that is named.
     ensures rejects { Rejects (mode_of mode) input.now result }
     ensures follows { FailsAsSpecified (mode_of mode) input.now result }
     ensures memory { result ≡ Err Error.OutOfMemory → MayAllocate input.now
-        ⊎ LacksRoom (mode_of mode) input.now (vec_capacity out.old) (vec_len out.old) }
+        ⊎ LacksCapacity (mode_of mode) input.now (vec_capacity out.old) (vec_len out.old) }
     ensures err { OnErr result (out.new.items ≡ out.old.items) }
     // Where the input is what was appended, without the line feed, the same is appended again.
     ensures again { OnOk result ((text : List ℕ) → out.new.items ≡ out.old.items ++ (text ++ ascii.line_feed ∷ [])
@@ -61,16 +61,16 @@ pub fn convert(alloc: Global, mode: Mode, input: &[u8], out: &mut Vec<u8>) -> Re
     Ok(())
 }
 
-// Grows the buffer where fewer bytes than `MIN_ROOM` stand in it after the first `filled`.
-fn make_room(buffer: &mut Vec<u8>, filled: usize) -> io::Result<()>
+// Grows the buffer where fewer bytes than `MIN_FREE` are in it after the first `filled`.
+fn grow(buffer: &mut Vec<u8>, filled: usize) -> io::Result<()>
     requires { filled ≤ vec_len buffer.old }
-    ensures room { OnOk result (filled + MIN_ROOM ≤ vec_len buffer.new) }
+    ensures space { OnOk result (filled + MIN_FREE ≤ vec_len buffer.new) }
     ensures filled { OnOk result (take filled buffer.new.items ≡ take filled buffer.old.items) }
 {
     let len = buffer.len();
-    if len - filled < MIN_ROOM {
-        buffer.resize(len.saturating_mul(2).max(2 * MIN_ROOM), 0)?;
-        if buffer.len() - filled < MIN_ROOM {
+    if len - filled < MIN_FREE {
+        buffer.resize(len.saturating_mul(2).max(2 * MIN_FREE), 0)?;
+        if buffer.len() - filled < MIN_FREE {
             return Err(io::Error::from(io::ErrorKind::OutOfMemory));
         }
     }
@@ -86,7 +86,7 @@ fn read_input<R: Read>(alloc: Global, input: &mut R) -> Result<Vec<u8>>
     let mut buffer = Vec::new(alloc);
     let mut filled = 0;
     'reads: for _ in 0..MAX_READS {
-        make_room(&mut buffer, filled)?;
+        grow(&mut buffer, filled)?;
         let count = input.read(&mut buffer[filled..])?;
         if count == 0 {
             buffer.truncate(filled);

@@ -9,7 +9,7 @@ use Rattle.std.specs.Int.{w128}
 use Rattle.std.specs.Prelude.{FitsSigned}
 use Rattle.jsonb_value.proofs.Numbers.Nearest.{unsigned_abs-signed}
 use Rattle.jsonb_spec.specs.Number.Signed.{signed_by}
-use Rattle.jsonb_spec.specs.SortKey.{number_key, place_key, digits_key, digit_count, magnitude_key, invert_if}
+use Rattle.jsonb_spec.specs.SortKey.{number_key, exponent_key, digits_key, digit_count, magnitude_key, invert_if}
 use Rattle.jsonb_spec.specs.Tree.{Num}
 use Rattle.jsonb_value.proofs.SortKeys.Counts.{digit_count-is, power_le}
 use Rattle.jsonb_value.proofs.SortKeys.Digits.{ten, hundred, more_pairs, last_pair, digits_compare, mul-pos}
@@ -21,7 +21,7 @@ use Rattle.std.specs.Ordering.{nat_cmp, ordering_then}
 use Rattle.std.specs.declared.cmp.Ordering.TheVariants.{Equal}
 use Rattle.std.proofs.lemmas.Map.Lookups.{exact_bytes}
 use Rattle.jsonb_value.proofs.Trees.Runs.{heads}
-use Rattle.jsonb_key.proofs.Numbers.{turned_twice, far_place, near_place}
+use Rattle.jsonb_key.proofs.Numbers.{turned_twice, far_exponent, near_exponent}
 use Rattle.jsonb_key.specs.Reading.{IsLastPair}
 
 -- what holds of the value holds of it in another form
@@ -29,36 +29,36 @@ pub if_some : {A : Type 0} {P Q : A → Type 0} (o : Option A) → IfSome o P �
 if_some (Some a) p f = f a p
 if_some None p f = tt
 
--- ---- the place
+-- ---- the exponent
 
-pub far_exact : (negative : Bool) (first place : ℕ) (bytes tail rest : List ℕ) → first < 256 → invert_if negative first ≡ 129 → bytes ≡ first ∷ tail → tail ≡ invert_if negative place ∷ rest → place < 225
-    → bytes ≡ map (invert_if negative) (place_key place) ++ rest
-far_exact negative first place bytes tail rest small is e behind low =
+pub far_exact : (negative : Bool) (first exponent : ℕ) (bytes tail rest : List ℕ) → first < 256 → invert_if negative first ≡ 129 → bytes ≡ first ∷ tail → tail ≡ invert_if negative exponent ∷ rest → exponent < 225
+    → bytes ≡ map (invert_if negative) (exponent_key exponent) ++ rest
+far_exact negative first exponent bytes tail rest small is e behind low =
     let back : first ≡ invert_if negative 129 = sym (turned_twice negative first small) ∙ ap (invert_if negative) is in
-    e ∙ ap (λ b. b ∷ tail) back ∙ ap (λ bs. invert_if negative 129 ∷ bs) behind ∙ ap (λ key. map (invert_if negative) key ++ rest) (sym (far_place place low))
+    e ∙ ap (λ b. b ∷ tail) back ∙ ap (λ bs. invert_if negative 129 ∷ bs) behind ∙ ap (λ key. map (invert_if negative) key ++ rest) (sym (far_exponent exponent low))
 
 pub near_exact : (negative : Bool) (first byte : ℕ) (bytes rest : List ℕ) → first < 256 → byte ≡ invert_if negative first → 130 ≤ byte → bytes ≡ first ∷ rest
-    → bytes ≡ map (invert_if negative) (place_key (byte + 95)) ++ rest
+    → bytes ≡ map (invert_if negative) (exponent_key (byte + 95)) ++ rest
 near_exact negative first byte bytes rest small is high e =
     let back : first ≡ invert_if negative byte = sym (turned_twice negative first small) ∙ ap (invert_if negative) (sym is) in
     let moved : byte + 95 - 95 ≡ byte = omega arith in
-    e ∙ ap (λ b. b ∷ rest) (back ∙ ap (invert_if negative) (sym moved)) ∙ ap (λ key. map (invert_if negative) key ++ rest) (sym (near_place (byte + 95) (omega (arith, high))))
+    e ∙ ap (λ b. b ∷ rest) (back ∙ ap (invert_if negative) (sym moved)) ∙ ap (λ key. map (invert_if negative) key ++ rest) (sym (near_exponent (byte + 95) (omega (arith, high))))
 
 -- ---- digits
 
--- These digits were read: whatever digits stand behind them, the key of all begins with the bytes before the rest.
+-- These digits were read: whatever digits are behind them, the key of all begins with the bytes before the rest.
 pub record DigitsRead (negative : Bool) (bytes : List ℕ) (digits count : ℕ) (rest : List ℕ) : Type 0 where
   pub front : List ℕ
   pub below : digits < 10 ^ count
   pub begins : (C M : ℕ) → 0 < M → M < 10 ^ C → map (invert_if negative) (digits_key (count + C) (digits * 10 ^ C + M)) ≡ front ++ map (invert_if negative) (digits_key C M)
-  pub stands : bytes ≡ front ++ rest
+  pub occurs : bytes ≡ front ++ rest
 
 pub none_read : (negative : Bool) (bytes : List ℕ) → DigitsRead negative bytes 0 0 bytes
 none_read negative bytes = record {
   front = [];
   below = omega (arith, pow-zero 10);
   begins = λ C M some below. (λ i. map (invert_if negative) (digits_key (sum C i) (whole C M i)));
-  stands = refl;
+  occurs = refl;
 }
   where
     sum : (C : ℕ) → 0 + C ≡ C
@@ -92,7 +92,7 @@ one_pair_read negative bytes digits count rest others byte b pair now so_far fir
           ∙ so_far.begins (suc (suc C)) (pair * 10 ^ C + M) (omega (arith, some)) less
           ∙ ap (λ key. so_far.front ++ key) (pair_first negative pair C M some below ∙ ap (λ x. x ∷ map (invert_if negative) (digits_key C M)) (sym back))
           ∙ sym (append_assoc so_far.front (byte ∷ []) (map (invert_if negative) (digits_key C M)));
-      stands = so_far.stands ∙ ap (λ bs. so_far.front ++ bs) first ∙ sym (append_assoc so_far.front (byte ∷ []) others);
+      occurs = so_far.occurs ∙ ap (λ bs. so_far.front ++ bs) first ∙ sym (append_assoc so_far.front (byte ∷ []) others);
     }
   where
     below_all : (C M : ℕ) → M < 10 ^ C → pair * 10 ^ C + M < 10 ^ suc (suc C)
@@ -122,9 +122,9 @@ last_pair_read negative bytes digits count rest others byte b pair all last so_f
             none (inl t) = omega (arith, t.1, e)
             none (inr t) = omega (arith, t.2, e)
 
-    stands : (C M : ℕ) → 0 < M → M < 10 ^ C → digits_key C M ≡ (2 * pair) ∷ [] → bytes ≡ map (invert_if negative) (digits_key (count + C) (digits * 10 ^ C + M)) ++ others
-    stands C M positive below key =
-        so_far.stands ∙ ap (λ bs. so_far.front ++ bs) first ∙ ap (λ x. so_far.front ++ x ∷ others) back
+    occurs : (C M : ℕ) → 0 < M → M < 10 ^ C → digits_key C M ≡ (2 * pair) ∷ [] → bytes ≡ map (invert_if negative) (digits_key (count + C) (digits * 10 ^ C + M)) ++ others
+    occurs C M positive below key =
+        so_far.occurs ∙ ap (λ bs. so_far.front ++ bs) first ∙ ap (λ x. so_far.front ++ x ∷ others) back
         ∙ sym (append_assoc so_far.front (invert_if negative (2 * pair) ∷ []) others)
         ∙ ap (λ k. (so_far.front ++ map (invert_if negative) k) ++ others) (sym key)
         ∙ ap (λ k. k ++ others) (sym (so_far.begins C M positive below))
@@ -132,23 +132,23 @@ last_pair_read negative bytes digits count rest others byte b pair all last so_f
     by : ((last ≡ 2) × (all ≡ digits * 100 + pair)) ⊎ ((last ≡ 1) × (pair % 10 ≡ 0) × (all ≡ digits * 10 + pair / 10)) → (bytes ≡ map (invert_if negative) (digits_key (count + last) all) ++ others) × (all < 10 ^ (count + last))
     by (inl t) =
         let is_all : digits * 10 ^ 2 + pair ≡ all = omega (arith, t.1) in (
-          stands 2 pair some p.below (two_digits pair) ∙ (λ i. map (invert_if negative) (digits_key (count + sym t.0 i) (is_all i)) ++ others),
+          occurs 2 pair some p.below (two_digits pair) ∙ (λ i. map (invert_if negative) (digits_key (count + sym t.0 i) (is_all i)) ++ others),
           omega (arith, ap (λ k. 10 ^ (count + k)) t.0, pow-add 10 count 2, so_far.below, p.below, t.1),
         )
     by (inr t) =
         let tenth : 20 * (pair / 10) ≡ 2 * pair = omega (arith, t.1) in
         let is_all : digits * 10 ^ 1 + pair / 10 ≡ all = omega (arith, t.2) in (
-          stands 1 (pair / 10) (omega (arith, t.1, some)) (omega (arith, p.below)) (single_digit (pair / 10) ∙ ap (λ x. x ∷ []) tenth) ∙ (λ i. map (invert_if negative) (digits_key (count + sym t.0 i) (is_all i)) ++ others),
+          occurs 1 (pair / 10) (omega (arith, t.1, some)) (omega (arith, p.below)) (single_digit (pair / 10) ∙ ap (λ x. x ∷ []) tenth) ∙ (λ i. map (invert_if negative) (digits_key (count + sym t.0 i) (is_all i)) ++ others),
           omega (arith, ap (λ k. 10 ^ (count + k)) t.0, pow-add 10 count 1, so_far.below, p.below, t.2),
         )
 
 -- the first digit of these isn't 0
 pub first_digit : (negative : Bool) (count m first : ℕ) (bytes tail more : List ℕ) → 0 < m → m < 10 ^ count → bytes ≡ map (invert_if negative) (digits_key count m) ++ more → bytes ≡ first ∷ tail → 20 ≤ invert_if negative first → 10 ^ count ≤ m * 10
-first_digit negative zero m first bytes tail more some below stands e high = omega (arith, pow-zero 10, some)
-first_digit negative (suc zero) m first bytes tail more some below stands e high = omega (arith, pow-zero 10, pow-suc 10 0, some)
-first_digit negative (suc (suc count)) m first bytes tail more some below stands e high = elim (cases_eq (m % 10 ^ count) 0) [
-  | inl none ↦ least (2 * (m / 10 ^ count)) (omega arith) (omega (arith, pair_below)) (heads first _ tail _ (sym e ∙ stands ∙ ap (λ key. map (invert_if negative) key ++ more) (last_pair count m none)))
-  | inr others ↦ least (2 * (m / 10 ^ count) + 1) (omega arith) (omega (arith, pair_below)) (heads first _ tail _ (sym e ∙ stands ∙ ap (λ key. map (invert_if negative) key ++ more) (more_pairs count m others)))
+first_digit negative zero m first bytes tail more some below occurs e high = omega (arith, pow-zero 10, some)
+first_digit negative (suc zero) m first bytes tail more some below occurs e high = omega (arith, pow-zero 10, pow-suc 10 0, some)
+first_digit negative (suc (suc count)) m first bytes tail more some below occurs e high = elim (cases_eq (m % 10 ^ count) 0) [
+  | inl none ↦ least (2 * (m / 10 ^ count)) (omega arith) (omega (arith, pair_below)) (heads first _ tail _ (sym e ∙ occurs ∙ ap (λ key. map (invert_if negative) key ++ more) (last_pair count m none)))
+  | inr others ↦ least (2 * (m / 10 ^ count) + 1) (omega arith) (omega (arith, pair_below)) (heads first _ tail _ (sym e ∙ occurs ∙ ap (λ key. map (invert_if negative) key ++ more) (more_pairs count m others)))
 ]
   where
     pair_below : m / 10 ^ count < 100
@@ -164,14 +164,14 @@ first_digit negative (suc (suc count)) m first bytes tail more some below stands
 -- the key of digits, of which the first isn't 0
 pub digit_there : (negative : Bool) (count m : ℕ) (bytes more : List ℕ) → 0 < m → m < 10 ^ count → 10 ^ count ≤ m * 10 → bytes ≡ map (invert_if negative) (digits_key count m) ++ more
     → ((first : ℕ) (rest : List ℕ) → bytes ≡ first ∷ rest → invert_if negative first < 20) → ⊥
-digit_there negative zero m bytes more some below least stands low = omega (arith, pow-zero 10, some, below)
-digit_there negative (suc zero) m bytes more some below least stands low =
-    let key = stands ∙ ap (λ k. map (invert_if negative) k ++ more) (single_digit m) in
+digit_there negative zero m bytes more some below least occurs low = omega (arith, pow-zero 10, some, below)
+digit_there negative (suc zero) m bytes more some below least occurs low =
+    let key = occurs ∙ ap (λ k. map (invert_if negative) k ++ more) (single_digit m) in
     let small : 20 * m < 256 = omega (arith, below) in
     omega (arith, some, low _ more key, turned_twice negative (20 * m) small)
-digit_there negative (suc (suc count)) m bytes more some below least stands low = elim (cases_eq (m % 10 ^ count) 0) [
-  | inl none ↦ clash (2 * (m / 10 ^ count)) (omega arith) (omega (arith, pair_below)) _ (stands ∙ ap (λ key. map (invert_if negative) key ++ more) (last_pair count m none))
-  | inr others ↦ clash (2 * (m / 10 ^ count) + 1) (omega arith) (omega (arith, pair_below)) _ (stands ∙ ap (λ key. map (invert_if negative) key ++ more) (more_pairs count m others))
+digit_there negative (suc (suc count)) m bytes more some below least occurs low = elim (cases_eq (m % 10 ^ count) 0) [
+  | inl none ↦ clash (2 * (m / 10 ^ count)) (omega arith) (omega (arith, pair_below)) _ (occurs ∙ ap (λ key. map (invert_if negative) key ++ more) (last_pair count m none))
+  | inr others ↦ clash (2 * (m / 10 ^ count) + 1) (omega arith) (omega (arith, pair_below)) _ (occurs ∙ ap (λ key. map (invert_if negative) key ++ more) (more_pairs count m others))
 ]
   where
     pair_below : m / 10 ^ count < 100
@@ -218,35 +218,35 @@ counted (suc count) m below least some small =
     digit_count-is m count least_one (omega (arith, below, pow-suc 10 count)) few ∙ omega arith
 
 -- the key of a number of this sign, by its digits
-pub key_of_parts : (x : Num) (sign : Bool) (scale magnitude count place : ℕ) → x.scale ≡ scale → x.whole ≡ signed_by sign magnitude → 0 < magnitude → count ≡ digit_count magnitude → place ≡ count + 255 - scale
-    → number_key x ≡ map (invert_if sign) (place_key place) ++ map (invert_if sign) (digits_key count magnitude)
-key_of_parts x sign scale zero count place s w some c p = absurd (omega (arith, some))
-key_of_parts x false scale (suc a) count place s w some c p =
-    positive x a w ∙ ap (λ k. map (invert_if false) (magnitude_key k (suc a))) s ∙ magnitude_split false scale (suc a) count place c p
-key_of_parts x true scale (suc a) count place s w some c p =
-    negative x a w ∙ ap (λ k. map (invert_if true) (magnitude_key k (suc a))) s ∙ magnitude_split true scale (suc a) count place c p
+pub key_of_parts : (x : Num) (sign : Bool) (scale magnitude count exponent : ℕ) → x.scale ≡ scale → x.whole ≡ signed_by sign magnitude → 0 < magnitude → count ≡ digit_count magnitude → exponent ≡ count + 255 - scale
+    → number_key x ≡ map (invert_if sign) (exponent_key exponent) ++ map (invert_if sign) (digits_key count magnitude)
+key_of_parts x sign scale zero count exponent s w some c p = absurd (omega (arith, some))
+key_of_parts x false scale (suc a) count exponent s w some c p =
+    positive x a w ∙ ap (λ k. map (invert_if false) (magnitude_key k (suc a))) s ∙ magnitude_split false scale (suc a) count exponent c p
+key_of_parts x true scale (suc a) count exponent s w some c p =
+    negative x a w ∙ ap (λ k. map (invert_if true) (magnitude_key k (suc a))) s ∙ magnitude_split true scale (suc a) count exponent c p
 
-pub up_key : (x : Num) (sign : Bool) (digits count place power magnitude : ℕ) → x.scale ≡ 0 → x.whole ≡ signed_by sign magnitude → magnitude ≡ digits * power → power ≡ 10 ^ (place - (255 + count)) → 255 + count ≤ place → 0 < digits → digits < 10 ^ count → 10 ^ count ≤ digits * 10 → magnitude < 10 ^ 39
-    → number_key x ≡ map (invert_if sign) (place_key place ++ digits_key count digits)
-up_key x sign digits count place power magnitude s w product is_power high some below least small =
-    let k = place - (255 + count) in
+pub up_key : (x : Num) (sign : Bool) (digits count exponent power magnitude : ℕ) → x.scale ≡ 0 → x.whole ≡ signed_by sign magnitude → magnitude ≡ digits * power → power ≡ 10 ^ (exponent - (255 + count)) → 255 + count ≤ exponent → 0 < digits → digits < 10 ^ count → 10 ^ count ≤ digits * 10 → magnitude < 10 ^ 39
+    → number_key x ≡ map (invert_if sign) (exponent_key exponent ++ digits_key count digits)
+up_key x sign digits count exponent power magnitude s w product is_power high some below least small =
+    let k = exponent - (255 + count) in
     let is : magnitude ≡ digits * 10 ^ k = product ∙ ap (λ q. digits * q) is_power in
     let positive = mul-pos digits (10 ^ k) some (ten k) in
     let powers : 10 ^ (count + k) ≡ 10 ^ count * 10 ^ k = pow-add 10 count k in
     let less : magnitude < 10 ^ (count + k) = omega (arith, is, powers, mul-lt-mul_of_pos_right below (ten k)) in
     let at_least : 10 ^ (count + k) ≤ magnitude * 10 = omega (arith, is, powers, mul-le-mul_right (10 ^ k) least) in
     let is_count = counted (count + k) magnitude less at_least (omega (arith, is, positive)) small in
-    key_of_parts x sign 0 magnitude (count + k) place s w (omega (arith, is, positive)) (sym is_count) (omega (arith, high))
-    ∙ ap (λ m. map (invert_if sign) (place_key place) ++ map (invert_if sign) (digits_key (count + k) m)) is
-    ∙ ap (λ key. map (invert_if sign) (place_key place) ++ map (invert_if sign) key) (zeros_left_out count k digits some below)
-    ∙ sym (map-append (invert_if sign) (place_key place) (digits_key count digits))
+    key_of_parts x sign 0 magnitude (count + k) exponent s w (omega (arith, is, positive)) (sym is_count) (omega (arith, high))
+    ∙ ap (λ m. map (invert_if sign) (exponent_key exponent) ++ map (invert_if sign) (digits_key (count + k) m)) is
+    ∙ ap (λ key. map (invert_if sign) (exponent_key exponent) ++ map (invert_if sign) key) (zeros_left_out count k digits some below)
+    ∙ sym (map-append (invert_if sign) (exponent_key exponent) (digits_key count digits))
 
-pub down_key : (x : Num) (sign : Bool) (scale digits count place : ℕ) → x.scale ≡ scale → x.whole ≡ signed_by sign digits → scale ≡ (255 + count) - place → place ≤ 255 + count → 0 < digits → digits < 10 ^ count → 10 ^ count ≤ digits * 10 → digits < 10 ^ 39
-    → number_key x ≡ map (invert_if sign) (place_key place ++ digits_key count digits)
-down_key x sign scale digits count place s w is_scale low some below least small =
+pub down_key : (x : Num) (sign : Bool) (scale digits count exponent : ℕ) → x.scale ≡ scale → x.whole ≡ signed_by sign digits → scale ≡ (255 + count) - exponent → exponent ≤ 255 + count → 0 < digits → digits < 10 ^ count → 10 ^ count ≤ digits * 10 → digits < 10 ^ 39
+    → number_key x ≡ map (invert_if sign) (exponent_key exponent ++ digits_key count digits)
+down_key x sign scale digits count exponent s w is_scale low some below least small =
     let is_count = counted count digits below least some small in
-    key_of_parts x sign scale digits count place s w some (sym is_count) (omega (arith, is_scale, low))
-    ∙ sym (map-append (invert_if sign) (place_key place) (digits_key count digits))
+    key_of_parts x sign scale digits count exponent s w some (sym is_count) (omega (arith, is_scale, low))
+    ∙ sym (map-append (invert_if sign) (exponent_key exponent) (digits_key count digits))
 
 -- a number of 128 bits has at most 39 digits
 pub at_most_39 : (z : ℤ) (sign : Bool) (magnitude : ℕ) → FitsSigned w128 z → z ≡ signed_by sign magnitude → magnitude < 10 ^ 39

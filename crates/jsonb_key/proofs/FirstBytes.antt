@@ -34,7 +34,7 @@ begun depth t r first rest more e = absurd r.within
 -- the key of null and of a truth value is one byte
 pub one_byte : (depth : ℕ) (t : Tree) → IsReadableAt depth t → (first : ℕ) (rest bytes more : List ℕ) → bytes ≡ first ∷ rest → bytes ≡ key_of t ++ more → (word : ℕ) → first ≡ word → ((head : ℕ) → 22 < head → head < 211 → word ≡ head → ⊥)
     → (key_of t ≡ word ∷ []) × (rest ≡ more)
-one_byte depth t r first rest bytes more e stands word is clash = by_kind t (begun depth t r first rest more (sym e ∙ stands))
+one_byte depth t r first rest bytes more e occurs word is clash = by_kind t (begun depth t r first rest more (sym e ∙ occurs))
   where
     by_kind : (u : Tree) → Begun depth u first rest more → (key_of u ≡ word ∷ []) × (rest ≡ more)
     by_kind null b = (ap (λ x. x ∷ []) (sym b.0 ∙ is), b.1)
@@ -47,49 +47,49 @@ one_byte depth t r first rest bytes more e stands word is clash = by_kind t (beg
     by_kind u b = absurd b
 
 pub string_there : (depth : ℕ) (t : Tree) → IsReadableAt depth t → (first : ℕ) (rest bytes more : List ℕ) → bytes ≡ first ∷ rest → bytes ≡ key_of t ++ more → first ≡ 208 → (text : List ℕ) × IsUtf8 text × (rest ≡ text_key text ++ more) × (key_of t ≡ 208 ∷ text_key text)
-string_there depth null r first rest bytes more e stands is = absurd (omega (arith, is, (begun depth null r first rest more (sym e ∙ stands)).0))
-string_there depth (boolean true) r first rest bytes more e stands is = absurd (omega (arith, is, (begun depth (boolean true) r first rest more (sym e ∙ stands)).0))
-string_there depth (boolean false) r first rest bytes more e stands is = absurd (omega (arith, is, (begun depth (boolean false) r first rest more (sym e ∙ stands)).0))
-string_there depth (string mark text) r first rest bytes more e stands is = (text, r.proper, (begun depth (string mark text) r first rest more (sym e ∙ stands)).1, refl)
-string_there depth (number n) r first rest bytes more e stands is = absurd (omega (arith, is, (begun depth (number n) r first rest more (sym e ∙ stands)).1))
-string_there depth (array ts) r first rest bytes more e stands is = absurd (omega (arith, is, (begun depth (array ts) r first rest more (sym e ∙ stands)).0))
-string_there depth (object ms) r first rest bytes more e stands is = absurd (omega (arith, is, (begun depth (object ms) r first rest more (sym e ∙ stands)).0))
-string_there depth t r first rest bytes more e stands is = absurd r.within
+string_there depth null r first rest bytes more e occurs is = absurd (omega (arith, is, (begun depth null r first rest more (sym e ∙ occurs)).0))
+string_there depth (boolean true) r first rest bytes more e occurs is = absurd (omega (arith, is, (begun depth (boolean true) r first rest more (sym e ∙ occurs)).0))
+string_there depth (boolean false) r first rest bytes more e occurs is = absurd (omega (arith, is, (begun depth (boolean false) r first rest more (sym e ∙ occurs)).0))
+string_there depth (string mark text) r first rest bytes more e occurs is = (text, r.proper, (begun depth (string mark text) r first rest more (sym e ∙ occurs)).1, refl)
+string_there depth (number n) r first rest bytes more e occurs is = absurd (omega (arith, is, (begun depth (number n) r first rest more (sym e ∙ occurs)).1))
+string_there depth (array ts) r first rest bytes more e occurs is = absurd (omega (arith, is, (begun depth (array ts) r first rest more (sym e ∙ occurs)).0))
+string_there depth (object ms) r first rest bytes more e occurs is = absurd (omega (arith, is, (begun depth (object ms) r first rest more (sym e ∙ occurs)).0))
+string_there depth t r first rest bytes more e occurs is = absurd r.within
 
 pub array_there : (depth : ℕ) (t : Tree) → IsReadableAt depth t → (first : ℕ) (rest bytes more : List ℕ) → bytes ≡ first ∷ rest → bytes ≡ key_of t ++ more → first ≡ 210 → (ts : Trees) × IsReadableAt depth (array ts) × (rest ≡ items_key ts ++ more) × (key_of t ≡ 210 ∷ items_key ts)
-array_there depth null r first rest bytes more e stands is = absurd (omega (arith, is, (begun depth null r first rest more (sym e ∙ stands)).0))
-array_there depth (boolean true) r first rest bytes more e stands is = absurd (omega (arith, is, (begun depth (boolean true) r first rest more (sym e ∙ stands)).0))
-array_there depth (boolean false) r first rest bytes more e stands is = absurd (omega (arith, is, (begun depth (boolean false) r first rest more (sym e ∙ stands)).0))
-array_there depth (string mark text) r first rest bytes more e stands is = absurd (omega (arith, is, (begun depth (string mark text) r first rest more (sym e ∙ stands)).0))
-array_there depth (number n) r first rest bytes more e stands is = absurd (omega (arith, is, (begun depth (number n) r first rest more (sym e ∙ stands)).1))
-array_there depth (array ts) r first rest bytes more e stands is = (ts, r, (begun depth (array ts) r first rest more (sym e ∙ stands)).1, refl)
-array_there depth (object ms) r first rest bytes more e stands is = absurd (omega (arith, is, (begun depth (object ms) r first rest more (sym e ∙ stands)).0))
-array_there depth t r first rest bytes more e stands is = absurd r.within
+array_there depth null r first rest bytes more e occurs is = absurd (omega (arith, is, (begun depth null r first rest more (sym e ∙ occurs)).0))
+array_there depth (boolean true) r first rest bytes more e occurs is = absurd (omega (arith, is, (begun depth (boolean true) r first rest more (sym e ∙ occurs)).0))
+array_there depth (boolean false) r first rest bytes more e occurs is = absurd (omega (arith, is, (begun depth (boolean false) r first rest more (sym e ∙ occurs)).0))
+array_there depth (string mark text) r first rest bytes more e occurs is = absurd (omega (arith, is, (begun depth (string mark text) r first rest more (sym e ∙ occurs)).0))
+array_there depth (number n) r first rest bytes more e occurs is = absurd (omega (arith, is, (begun depth (number n) r first rest more (sym e ∙ occurs)).1))
+array_there depth (array ts) r first rest bytes more e occurs is = (ts, r, (begun depth (array ts) r first rest more (sym e ∙ occurs)).1, refl)
+array_there depth (object ms) r first rest bytes more e occurs is = absurd (omega (arith, is, (begun depth (object ms) r first rest more (sym e ∙ occurs)).0))
+array_there depth t r first rest bytes more e occurs is = absurd r.within
 
 pub object_there : (depth : ℕ) (t : Tree) → IsReadableAt depth t → (first : ℕ) (rest bytes more : List ℕ) → bytes ≡ first ∷ rest → bytes ≡ key_of t ++ more → first ≡ 209 → (ms : Members) × IsReadableAt depth (object ms) × (rest ≡ members_key ms ++ more) × (key_of t ≡ 209 ∷ members_key ms)
-object_there depth null r first rest bytes more e stands is = absurd (omega (arith, is, (begun depth null r first rest more (sym e ∙ stands)).0))
-object_there depth (boolean true) r first rest bytes more e stands is = absurd (omega (arith, is, (begun depth (boolean true) r first rest more (sym e ∙ stands)).0))
-object_there depth (boolean false) r first rest bytes more e stands is = absurd (omega (arith, is, (begun depth (boolean false) r first rest more (sym e ∙ stands)).0))
-object_there depth (string mark text) r first rest bytes more e stands is = absurd (omega (arith, is, (begun depth (string mark text) r first rest more (sym e ∙ stands)).0))
-object_there depth (number n) r first rest bytes more e stands is = absurd (omega (arith, is, (begun depth (number n) r first rest more (sym e ∙ stands)).1))
-object_there depth (array ts) r first rest bytes more e stands is = absurd (omega (arith, is, (begun depth (array ts) r first rest more (sym e ∙ stands)).0))
-object_there depth (object ms) r first rest bytes more e stands is = (ms, r, (begun depth (object ms) r first rest more (sym e ∙ stands)).1, refl)
-object_there depth t r first rest bytes more e stands is = absurd r.within
+object_there depth null r first rest bytes more e occurs is = absurd (omega (arith, is, (begun depth null r first rest more (sym e ∙ occurs)).0))
+object_there depth (boolean true) r first rest bytes more e occurs is = absurd (omega (arith, is, (begun depth (boolean true) r first rest more (sym e ∙ occurs)).0))
+object_there depth (boolean false) r first rest bytes more e occurs is = absurd (omega (arith, is, (begun depth (boolean false) r first rest more (sym e ∙ occurs)).0))
+object_there depth (string mark text) r first rest bytes more e occurs is = absurd (omega (arith, is, (begun depth (string mark text) r first rest more (sym e ∙ occurs)).0))
+object_there depth (number n) r first rest bytes more e occurs is = absurd (omega (arith, is, (begun depth (number n) r first rest more (sym e ∙ occurs)).1))
+object_there depth (array ts) r first rest bytes more e occurs is = absurd (omega (arith, is, (begun depth (array ts) r first rest more (sym e ∙ occurs)).0))
+object_there depth (object ms) r first rest bytes more e occurs is = (ms, r, (begun depth (object ms) r first rest more (sym e ∙ occurs)).1, refl)
+object_there depth t r first rest bytes more e occurs is = absurd r.within
 
 -- a key that begins with none of the other bytes is a number's
 pub number_there : (depth : ℕ) (t : Tree) → IsReadableAt depth t → (first : ℕ) (rest bytes more : List ℕ) → bytes ≡ first ∷ rest → bytes ≡ key_of t ++ more → first ≢ 21 → first ≢ 22 → first ≢ 208 → first ≢ 209 → first ≢ 210 → first ≢ 211
     → (n : Num) × IsProperNumber n × (bytes ≡ number_key n ++ more) × (key_of t ≡ number_key n)
-number_there depth null r first rest bytes more e stands a b c d f g = absurd (g (begun depth null r first rest more (sym e ∙ stands)).0)
-number_there depth (boolean true) r first rest bytes more e stands a b c d f g = absurd (b (begun depth (boolean true) r first rest more (sym e ∙ stands)).0)
-number_there depth (boolean false) r first rest bytes more e stands a b c d f g = absurd (a (begun depth (boolean false) r first rest more (sym e ∙ stands)).0)
-number_there depth (string mark text) r first rest bytes more e stands a b c d f g = absurd (c (begun depth (string mark text) r first rest more (sym e ∙ stands)).0)
-number_there depth (number n) r first rest bytes more e stands a b c d f g = (n, r.proper, stands, refl)
-number_there depth (array ts) r first rest bytes more e stands a b c d f g = absurd (f (begun depth (array ts) r first rest more (sym e ∙ stands)).0)
-number_there depth (object ms) r first rest bytes more e stands a b c d f g = absurd (d (begun depth (object ms) r first rest more (sym e ∙ stands)).0)
-number_there depth t r first rest bytes more e stands a b c d f g = absurd r.within
+number_there depth null r first rest bytes more e occurs a b c d f g = absurd (g (begun depth null r first rest more (sym e ∙ occurs)).0)
+number_there depth (boolean true) r first rest bytes more e occurs a b c d f g = absurd (b (begun depth (boolean true) r first rest more (sym e ∙ occurs)).0)
+number_there depth (boolean false) r first rest bytes more e occurs a b c d f g = absurd (a (begun depth (boolean false) r first rest more (sym e ∙ occurs)).0)
+number_there depth (string mark text) r first rest bytes more e occurs a b c d f g = absurd (c (begun depth (string mark text) r first rest more (sym e ∙ occurs)).0)
+number_there depth (number n) r first rest bytes more e occurs a b c d f g = (n, r.proper, occurs, refl)
+number_there depth (array ts) r first rest bytes more e occurs a b c d f g = absurd (f (begun depth (array ts) r first rest more (sym e ∙ occurs)).0)
+number_there depth (object ms) r first rest bytes more e occurs a b c d f g = absurd (d (begun depth (object ms) r first rest more (sym e ∙ occurs)).0)
+number_there depth t r first rest bytes more e occurs a b c d f g = absurd r.within
 
 -- each key has a byte
 pub no_key : (depth : ℕ) (t : Tree) → IsReadableAt depth t → (bytes more : List ℕ) → bytes ≡ key_of t ++ more → length bytes ≡ 0 → ⊥
-no_key depth t r bytes more stands none =
+no_key depth t r bytes more occurs none =
     let b = begins t r.proper in
-    absurd (omega (arith, none, ap length (stands ∙ ap (λ key. key ++ more) b.is)))
+    absurd (omega (arith, none, ap length (occurs ∙ ap (λ key. key ++ more) b.is)))

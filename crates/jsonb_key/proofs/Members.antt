@@ -72,14 +72,14 @@ keys_ascend : (ms : Members) → NamesAscend (names_of ms) → KeysAscend ms
 keys_ascend no_members h = tt
 keys_ascend (more_members k t ms) h = (below_keys k ms h.0, keys_ascend ms h.1)
 
--- members that are left, whose keys stand behind those of what was read
+-- members that are left, whose keys are behind those of what was read
 pub record MembersLeft (depth : ℕ) (ms : Members) (read : List Entry) (rest more : List ℕ) : Type 0 where
   pub left : Members
   pub proper : HaveProperParts left
   pub within : HaveWithin IsAnyNumber left depth
   pub whole : members_key ms ≡ keys_of_entries read ++ members_key left
   pub names : names_of ms ≡ names_of_entries read ++ names_of left
-  pub stands : rest ≡ members_key left ++ more
+  pub occurs : rest ≡ members_key left ++ more
 
 -- Whatever members' key the bytes begin with, what was read has the keys of the first of them, and what is left begins
 -- with the key of the others.
@@ -87,33 +87,33 @@ abbrev pub ReadsMembers : ℕ → List ℕ → List Entry → List ℕ → Type 
 ReadsMembers depth bytes read rest = (ms : Members) → HaveProperParts ms → HaveWithin IsAnyNumber ms depth → (more : List ℕ) → bytes ≡ members_key ms ++ more → MembersLeft depth ms read rest more
 
 pub members_begun : (depth : ℕ) (bytes : List ℕ) → ReadsMembers depth bytes [] bytes
-members_begun depth bytes = λ ms p w more e. record { left = ms; proper = p; within = w; whole = refl; names = refl; stands = e }
+members_begun depth bytes = λ ms p w more e. record { left = ms; proper = p; within = w; whole = refl; names = refl; occurs = e }
 
 -- no text's key begins as the end of an object does
 pub no_pair : (key others rest more : List ℕ) → rest ≡ 0 ∷ 0 ∷ more → rest ≡ text_key key ++ others → ⊥
-no_pair [] others rest more e stands = absurd (omega (arith, heads 0 1 more others (tails 0 0 (0 ∷ more) (1 ∷ others) (sym e ∙ stands))))
-no_pair (zero ∷ key) others rest more e stands = absurd (omega (arith, heads 0 255 more (text_key key ++ others) (tails 0 0 (0 ∷ more) (255 ∷ (text_key key ++ others)) (sym e ∙ stands))))
-no_pair (suc b ∷ key) others rest more e stands = absurd (omega (arith, heads 0 (suc b) (0 ∷ more) (text_key key ++ others) (sym e ∙ stands ∙ ap (λ bytes. bytes ++ others) (text_key-other b key))))
+no_pair [] others rest more e occurs = absurd (omega (arith, heads 0 1 more others (tails 0 0 (0 ∷ more) (1 ∷ others) (sym e ∙ occurs))))
+no_pair (zero ∷ key) others rest more e occurs = absurd (omega (arith, heads 0 255 more (text_key key ++ others) (tails 0 0 (0 ∷ more) (255 ∷ (text_key key ++ others)) (sym e ∙ occurs))))
+no_pair (suc b ∷ key) others rest more e occurs = absurd (omega (arith, heads 0 (suc b) (0 ∷ more) (text_key key ++ others) (sym e ∙ occurs ∙ ap (λ bytes. bytes ++ others) (text_key-other b key))))
 
 split : (key value others more : List ℕ) → (key ++ (value ++ others)) ++ more ≡ key ++ (value ++ (others ++ more))
 split key value others more = append_assoc key (value ++ others) more ∙ ap (λ bytes. key ++ bytes) (append_assoc value others more)
 
--- where the closing pair stands, all members are read
+-- where the closing pair is, all members are read
 pub members_ended : (depth : ℕ) (bytes : List ℕ) (read : List Entry) (rest tail : List ℕ) → ReadsMembers depth bytes read rest → rest ≡ 0 ∷ 0 ∷ tail
     → (ms : Members) → KeysAscend ms → HaveProperParts ms → HaveWithin IsAnyNumber ms depth → (more : List ℕ) → bytes ≡ members_key ms ++ more
     → (members_key (members_view read) ≡ members_key ms) × KeysAscend (members_view read) × (tail ≡ more)
-members_ended depth bytes read rest tail so_far e ms ascend p w more is = let r = so_far ms p w more is in ends r.left r.proper r.within r.whole r.names r.stands
+members_ended depth bytes read rest tail so_far e ms ascend p w more is = let r = so_far ms p w more is in ends r.left r.proper r.within r.whole r.names r.occurs
   where
     ends : (left : Members) → HaveProperParts left → HaveWithin IsAnyNumber left depth → members_key ms ≡ keys_of_entries read ++ members_key left → names_of ms ≡ names_of_entries read ++ names_of left → rest ≡ members_key left ++ more
         → (members_key (members_view read) ≡ members_key ms) × KeysAscend (members_view read) × (tail ≡ more)
-    ends no_members q v whole names stands = (
+    ends no_members q v whole names occurs = (
       members_key-is read ∙ sym whole,
       keys_ascend (members_view read) (subst NamesAscend (names ∙ append-nil (names_of_entries read) ∙ sym (names_of_view read)) (names_ascend ms ascend)),
-      tails 0 0 tail more (tails 0 0 (0 ∷ tail) (0 ∷ more) (sym e ∙ stands)),
+      tails 0 0 tail more (tails 0 0 (0 ∷ tail) (0 ∷ more) (sym e ∙ occurs)),
     )
-    ends (more_members k t left) q v whole names stands = absurd (no_pair k (key_of t ++ (members_key left ++ more)) rest tail e (stands ∙ split (text_key k) (key_of t) (members_key left) more))
+    ends (more_members k t left) q v whole names occurs = absurd (no_pair k (key_of t ++ (members_key left ++ more)) rest tail e (occurs ∙ split (text_key k) (key_of t) (members_key left) more))
 
--- the next member, where the closing pair does not stand
+-- the next member, where the closing pair isn't
 pub record NextMember (depth : ℕ) (ms : Members) (read : List Entry) (rest more : List ℕ) : Type 0 where
   pub key : List ℕ
   pub utf8 : IsUtf8 key
@@ -124,15 +124,15 @@ pub record NextMember (depth : ℕ) (ms : Members) (read : List Entry) (rest mor
   pub within : HaveWithin IsAnyNumber others depth
   pub whole : members_key ms ≡ keys_of_entries read ++ (text_key key ++ (key_of value ++ members_key others))
   pub names : names_of ms ≡ names_of_entries read ++ key ∷ names_of others
-  pub stands : rest ≡ text_key key ++ (key_of value ++ (members_key others ++ more))
+  pub occurs : rest ≡ text_key key ++ (key_of value ++ (members_key others ++ more))
 
 pub next_member : (depth : ℕ) (bytes : List ℕ) (read : List Entry) (rest : List ℕ) → ReadsMembers depth bytes read rest → ((tail : List ℕ) → rest ≡ 0 ∷ 0 ∷ tail → ⊥)
     → (ms : Members) → HaveProperParts ms → HaveWithin IsAnyNumber ms depth → (more : List ℕ) → bytes ≡ members_key ms ++ more → NextMember depth ms read rest more
-next_member depth bytes read rest so_far open_there ms p w more is = let r = so_far ms p w more is in goes_on r.left r.proper r.within r.whole r.names r.stands
+next_member depth bytes read rest so_far open_there ms p w more is = let r = so_far ms p w more is in goes_on r.left r.proper r.within r.whole r.names r.occurs
   where
     goes_on : (left : Members) → HaveProperParts left → HaveWithin IsAnyNumber left depth → members_key ms ≡ keys_of_entries read ++ members_key left → names_of ms ≡ names_of_entries read ++ names_of left → rest ≡ members_key left ++ more → NextMember depth ms read rest more
-    goes_on no_members q v whole names stands = absurd (open_there more stands)
-    goes_on (more_members k t left) q v whole names stands = record {
+    goes_on no_members q v whole names occurs = absurd (open_there more occurs)
+    goes_on (more_members k t left) q v whole names occurs = record {
       key = k;
       utf8 = q.0;
       value = t;
@@ -142,12 +142,12 @@ next_member depth bytes read rest so_far open_there ms p w more is = let r = so_
       within = v.1;
       whole = whole;
       names = names;
-      stands = stands ∙ split (text_key k) (key_of t) (members_key left) more;
+      occurs = occurs ∙ split (text_key k) (key_of t) (members_key left) more;
     }
 
 pub member_read : (depth : ℕ) (ms : Members) (read : List Entry) (rest more : List ℕ) (e : Entry) (tail : List ℕ) → (n : NextMember depth ms read rest more) → string_bytes e.0 ≡ n.key → key_of (view e.1) ≡ key_of n.value
     → tail ≡ members_key n.others ++ more → MembersLeft depth ms (read ++ e ∷ []) tail more
-member_read depth ms read rest more e tail n key value stands = record {
+member_read depth ms read rest more e tail n key value occurs = record {
   left = n.others;
   proper = n.proper;
   within = n.within;
@@ -156,5 +156,5 @@ member_read depth ms read rest more e tail n key value stands = record {
       ∙ sym (append_assoc (keys_of_entries read) (key_of_entry e) (members_key n.others)) ∙ ap (λ bytes. bytes ++ members_key n.others) (sym (keys_of_entries-push read e));
   names = n.names ∙ ap (λ k. names_of_entries read ++ k ∷ names_of n.others) (sym key)
       ∙ sym (append_assoc (names_of_entries read) (string_bytes e.0 ∷ []) (names_of n.others)) ∙ ap (λ ks. ks ++ names_of n.others) (sym (names_push read e));
-  stands = stands;
+  occurs = occurs;
 }

@@ -4,49 +4,49 @@ use Rattle.std.proofs.Math.Nat.{mul-lt-mul_of_pos_right, mul-le-mul_left, mul-le
 use Rattle.std.proofs.lemmas.Bool.{cond-true, cond-false, ne_eqb, lt-ltb, le-ltb, cases_lt, cases_eq}
 use Rattle.std.proofs.lemmas.Nat.{div-add-mod', mod_below, div_below, pow-add}
 use Rattle.std.specs.Bool.{nat_lt}
-use Rattle.jsonb_spec.specs.SortKey.{invert_if, place_key, digits_key}
+use Rattle.jsonb_spec.specs.SortKey.{invert_if, exponent_key, digits_key}
 use Rattle.jsonb_value.proofs.SortKeys.Digits.{ten, hundred, mul-pos, last_pair, more_pairs}
 use Rattle.jsonb_value.proofs.Trees.Runs.{heads, tails}
-use Rattle.jsonb_key.specs.Reading.{place_of, read_as, IsDigits, IsLastPair, IsNoLastPair}
+use Rattle.jsonb_key.specs.Reading.{exponent_of, read_as, IsDigits, IsLastPair, IsNoLastPair}
 
--- ---- the place
+-- ---- the exponent
 
 pub turned_twice : (negative : Bool) (byte : ℕ) → byte < 256 → invert_if negative (invert_if negative byte) ≡ byte
 turned_twice false byte h = refl
 turned_twice true byte h = omega (arith, h)
 
-pub far_place : (place : ℕ) → place < 225 → place_key place ≡ 129 ∷ place ∷ []
-unfolding place_key
-far_place place h = cond-true (nat_lt place 225) _ _ (lt-ltb place 225 h)
+pub far_exponent : (exponent : ℕ) → exponent < 225 → exponent_key exponent ≡ 129 ∷ exponent ∷ []
+unfolding exponent_key
+far_exponent exponent h = cond-true (nat_lt exponent 225) _ _ (lt-ltb exponent 225 h)
 
-pub near_place : (place : ℕ) → 225 ≤ place → place_key place ≡ (place - 95) ∷ []
-unfolding place_key
-near_place place h = cond-false (nat_lt place 225) _ _ (le-ltb place 225 h)
+pub near_exponent : (exponent : ℕ) → 225 ≤ exponent → exponent_key exponent ≡ (exponent - 95) ∷ []
+unfolding exponent_key
+near_exponent exponent h = cond-false (nat_lt exponent 225) _ _ (le-ltb exponent 225 h)
 
-far_read : (negative : Bool) (place : ℕ) (more : List ℕ) → place < 225 → place_of negative (invert_if negative 129 ∷ invert_if negative place ∷ more) ≡ read_as place more
-far_read negative place more h =
-    let twice = turned_twice negative place (omega (arith, h)) in
+far_read : (negative : Bool) (exponent : ℕ) (more : List ℕ) → exponent < 225 → exponent_of negative (invert_if negative 129 ∷ invert_if negative exponent ∷ more) ≡ read_as exponent more
+far_read negative exponent more h =
+    let twice = turned_twice negative exponent (omega (arith, h)) in
     cond-true (invert_if negative (invert_if negative 129) == 129) _ _ (eq-eqb (invert_if negative (invert_if negative 129)) 129 (turned_twice negative 129 (omega arith)))
-    ∙ cond-true (nat_lt (invert_if negative (invert_if negative place)) 225) _ _ (lt-ltb (invert_if negative (invert_if negative place)) 225 (omega (arith, twice, h)))
+    ∙ cond-true (nat_lt (invert_if negative (invert_if negative exponent)) 225) _ _ (lt-ltb (invert_if negative (invert_if negative exponent)) 225 (omega (arith, twice, h)))
     ∙ ap (λ p. read_as p more) twice
 
-near_read : (negative : Bool) (place : ℕ) (more : List ℕ) → 225 ≤ place → place < 351 → place_of negative (invert_if negative (place - 95) ∷ more) ≡ read_as place more
-near_read negative place more h high =
-    let twice = turned_twice negative (place - 95) (omega (arith, h, high)) in
-    let moved : (place - 95) + 95 ≡ place = omega (arith, h) in
-    cond-false (invert_if negative (invert_if negative (place - 95)) == 129) _ _ (ne_eqb (invert_if negative (invert_if negative (place - 95))) 129 (λ e. absurd (omega (arith, sym twice ∙ e, h))))
-    ∙ cond-false (nat_lt (invert_if negative (invert_if negative (place - 95))) 130) _ _ (le-ltb (invert_if negative (invert_if negative (place - 95))) 130 (omega (arith, twice, h)))
+near_read : (negative : Bool) (exponent : ℕ) (more : List ℕ) → 225 ≤ exponent → exponent < 351 → exponent_of negative (invert_if negative (exponent - 95) ∷ more) ≡ read_as exponent more
+near_read negative exponent more h high =
+    let twice = turned_twice negative (exponent - 95) (omega (arith, h, high)) in
+    let moved : (exponent - 95) + 95 ≡ exponent = omega (arith, h) in
+    cond-false (invert_if negative (invert_if negative (exponent - 95)) == 129) _ _ (ne_eqb (invert_if negative (invert_if negative (exponent - 95))) 129 (λ e. absurd (omega (arith, sym twice ∙ e, h))))
+    ∙ cond-false (nat_lt (invert_if negative (invert_if negative (exponent - 95))) 130) _ _ (le-ltb (invert_if negative (invert_if negative (exponent - 95))) 130 (omega (arith, twice, h)))
     ∙ ap (λ p. read_as (p + 95) more) twice ∙ ap (λ p. read_as p more) moved
 
-pub place_read : (negative : Bool) (place : ℕ) (more : List ℕ) → place < 351 → place_of negative (map (invert_if negative) (place_key place) ++ more) ≡ read_as place more
-place_read negative place more high = elim (cases_lt place 225) [
-  | inl low ↦ ap (λ key. place_of negative (map (invert_if negative) key ++ more)) (far_place place low) ∙ far_read negative place more low
-  | inr h ↦ ap (λ key. place_of negative (map (invert_if negative) key ++ more)) (near_place place h) ∙ near_read negative place more h high
+pub exponent_read : (negative : Bool) (exponent : ℕ) (more : List ℕ) → exponent < 351 → exponent_of negative (map (invert_if negative) (exponent_key exponent) ++ more) ≡ read_as exponent more
+exponent_read negative exponent more high = elim (cases_lt exponent 225) [
+  | inl low ↦ ap (λ key. exponent_of negative (map (invert_if negative) key ++ more)) (far_exponent exponent low) ∙ far_read negative exponent more low
+  | inr h ↦ ap (λ key. exponent_of negative (map (invert_if negative) key ++ more)) (near_exponent exponent h) ∙ near_read negative exponent more h high
 ]
 
 -- ---- digits
 
--- Of a number with C digits, `read` of which were read, some are left, and their key stands first in the rest.
+-- Of a number with C digits, `read` of which were read, some are left, and their key is first in the rest.
 pub record DigitsLeft (negative : Bool) (C M digits read : ℕ) (rest more : List ℕ) : Type 0 where
   pub left : ℕ
   pub tail : ℕ
@@ -54,13 +54,13 @@ pub record DigitsLeft (negative : Bool) (C M digits read : ℕ) (rest more : Lis
   pub whole : M ≡ digits * 10 ^ left + tail
   pub below : tail < 10 ^ left
   pub some : 0 < tail
-  pub stands : rest ≡ map (invert_if negative) (digits_key left tail) ++ more
+  pub occurs : rest ≡ map (invert_if negative) (digits_key left tail) ++ more
 
 abbrev pub ReadsDigits : Bool → List ℕ → ℕ → ℕ → List ℕ → Type 0
 ReadsDigits negative bytes digits read rest = (C M : ℕ) → M < 10 ^ C → 0 < M → M ≤ 2 ^ 127 → C ≤ 39 → (more : List ℕ) → bytes ≡ map (invert_if negative) (digits_key C M) ++ more → DigitsLeft negative C M digits read rest more
 
 pub digits_begun : (negative : Bool) (bytes : List ℕ) → ReadsDigits negative bytes 0 0 bytes
-digits_begun negative bytes = λ C M below some high few more e. record { left = C; tail = M; counted = omega arith; whole = omega arith; below = below; some = some; stands = e }
+digits_begun negative bytes = λ C M below some high few more e. record { left = C; tail = M; counted = omega arith; whole = omega arith; below = below; some = some; occurs = e }
 
 -- the last pair of the digits that are left
 pub record Ends (left tail byte : ℕ) (others more : List ℕ) : Type 0 where
@@ -68,7 +68,7 @@ pub record Ends (left tail byte : ℕ) (others more : List ℕ) : Type 0 where
   pub whole : tail * 100 ≡ byte / 2 * 10 ^ left
   pub some : 0 < left
   pub single : left ≡ 1 → byte / 2 % 10 ≡ 0
-  pub stands : others ≡ more
+  pub occurs : others ≡ more
 
 -- a pair, and more of the digits that are left
 pub record GoesOn (negative : Bool) (left tail byte : ℕ) (others more : List ℕ) : Type 0 where
@@ -79,7 +79,7 @@ pub record GoesOn (negative : Bool) (left tail byte : ℕ) (others more : List �
   pub whole : tail ≡ byte / 2 * 10 ^ count + rest
   pub below : rest < 10 ^ count
   pub some : 0 < rest
-  pub stands : others ≡ map (invert_if negative) (digits_key count rest) ++ more
+  pub occurs : others ≡ map (invert_if negative) (digits_key count rest) ++ more
 
 single_key : (m : ℕ) → digits_key 1 m ≡ (20 * m) ∷ []
 unfolding digits_key
@@ -95,26 +95,26 @@ nothing_left : (m : ℕ) → m < 10 ^ 0 → 0 < m → ⊥
 nothing_left m h k = absurd (omega (arith, h, k, pow-zero 10))
 
 ended : (negative : Bool) (left tail byte key : ℕ) (xs more : List ℕ) → key < 256 → invert_if negative byte ≡ key → key ≡ key / 2 * 2 → tail * 100 ≡ key / 2 * 10 ^ left → 0 < left → (left ≡ 1 → key / 2 % 10 ≡ 0) → xs ≡ more → Ends left tail (invert_if negative byte) xs more
-ended negative left tail byte key xs more small is even whole some single stands = record {
+ended negative left tail byte key xs more small is even whole some single occurs = record {
   even = ap (λ b. b % 2) is ∙ omega (arith, even);
   whole = whole ∙ ap (λ b. b / 2 * 10 ^ left) (sym is);
   some = some;
   single = λ one. ap (λ b. b / 2 % 10) is ∙ single one;
-  stands = stands;
+  occurs = occurs;
 }
 
 -- what the next byte says of the digits that are left
 pub next_pair : (negative : Bool) (left tail byte : ℕ) (rest others more : List ℕ) → tail < 10 ^ left → 0 < tail → rest ≡ byte ∷ others → rest ≡ map (invert_if negative) (digits_key left tail) ++ more
     → Ends left tail (invert_if negative byte) others more ⊎ GoesOn negative left tail (invert_if negative byte) others more
-next_pair negative zero tail byte rest others more below some first stands = absurd (nothing_left tail below some)
-next_pair negative (suc zero) tail byte rest others more below some first stands =
-    let e : byte ∷ others ≡ invert_if negative (20 * tail) ∷ more = sym first ∙ stands ∙ ap (λ key. map (invert_if negative) key ++ more) (single_key tail) in
+next_pair negative zero tail byte rest others more below some first occurs = absurd (nothing_left tail below some)
+next_pair negative (suc zero) tail byte rest others more below some first occurs =
+    let e : byte ∷ others ≡ invert_if negative (20 * tail) ∷ more = sym first ∙ occurs ∙ ap (λ key. map (invert_if negative) key ++ more) (single_key tail) in
     let small : 20 * tail < 256 = omega (arith, below) in
     inl (ended negative 1 tail byte (20 * tail) others more small (back negative byte (20 * tail) others more small e) (omega arith) (omega arith) (omega arith) (λ one. omega arith) (tails byte (invert_if negative (20 * tail)) others more e))
-next_pair negative (suc (suc count)) tail byte rest others more below some first stands = elim (cases_eq (tail % 10 ^ count) 0) [
+next_pair negative (suc (suc count)) tail byte rest others more below some first occurs = elim (cases_eq (tail % 10 ^ count) 0) [
   | inl none ↦
       let pair = tail / 10 ^ count in
-      let e : byte ∷ others ≡ invert_if negative (2 * pair) ∷ more = sym first ∙ stands ∙ ap (λ key. map (invert_if negative) key ++ more) (last_pair count tail none) in
+      let e : byte ∷ others ≡ invert_if negative (2 * pair) ∷ more = sym first ∙ occurs ∙ ap (λ key. map (invert_if negative) key ++ more) (last_pair count tail none) in
       let small : 2 * pair < 256 = omega (arith, pair_below count tail below) in
       let half : 2 * pair / 2 ≡ pair = omega arith in
       let whole : tail * 100 ≡ 2 * pair / 2 * 10 ^ suc (suc count) = omega (arith, ap (λ x. x * 10 ^ suc (suc count)) half, ap (λ x. pair * x) (hundred count), div-add-mod' tail (10 ^ count), none) in
@@ -123,7 +123,7 @@ next_pair negative (suc (suc count)) tail byte rest others more below some first
       let pair = tail / 10 ^ count in
       let left = tail % 10 ^ count in
       let key = map (invert_if negative) (digits_key count left) ++ more in
-      let e : byte ∷ others ≡ invert_if negative (2 * pair + 1) ∷ key = sym first ∙ stands ∙ ap (λ bytes. map (invert_if negative) bytes ++ more) (more_pairs count tail some_left) in
+      let e : byte ∷ others ≡ invert_if negative (2 * pair + 1) ∷ key = sym first ∙ occurs ∙ ap (λ bytes. map (invert_if negative) bytes ++ more) (more_pairs count tail some_left) in
       let small : 2 * pair + 1 < 256 = omega (arith, pair_below count tail below) in
       let is = back negative byte (2 * pair + 1) others key small e in
       let half : (2 * pair + 1) / 2 ≡ pair = omega arith in
@@ -135,7 +135,7 @@ next_pair negative (suc (suc count)) tail byte rest others more below some first
         whole = omega (arith, div-add-mod' tail (10 ^ count), ap (λ b. b / 2 * 10 ^ count) is, ap (λ b. b * 10 ^ count) half);
         below = mod_below tail (10 ^ count) (ten count);
         some = omega (arith, some_left);
-        stands = tails byte (invert_if negative (2 * pair + 1)) others key e;
+        occurs = tails byte (invert_if negative (2 * pair + 1)) others key e;
       })
 ]
 
@@ -221,7 +221,7 @@ module _ (negative : Bool) (bytes : List ℕ) (digits read : ℕ) (rest : List �
   here = so_far C M below some high few more e
 
   cases : Ends here.left here.tail b others more ⊎ GoesOn negative here.left here.tail b others more
-  cases = subst (λ x. Ends here.left here.tail x others more ⊎ GoesOn negative here.left here.tail x others more) (sym is) (next_pair negative here.left here.tail byte rest others more here.below here.some first here.stands)
+  cases = subst (λ x. Ends here.left here.tail x others more ⊎ GoesOn negative here.left here.tail x others more) (sym is) (next_pair negative here.left here.tail byte rest others more here.below here.some first here.occurs)
 
   at_end : b % 2 ≡ 0 → Ends here.left here.tail b others more ⊎ GoesOn negative here.left here.tail b others more → Ends here.left here.tail b others more
   at_end even (inl x) = x
@@ -246,7 +246,7 @@ module _ (negative : Bool) (bytes : List ℕ) (digits read : ℕ) (rest : List �
   last_some even pair with_pair last half p =
       let x = at_end even cases in (
         all_digits C M digits read here.left here.tail pair with_pair last here.counted here.whole (x.whole ∙ ap (λ q. q * 10 ^ here.left) (sym half)) x.some (λ one. ap (λ q. q % 10) half ∙ x.single one) some p,
-        x.stands,
+        x.occurs,
       )
 
   pub pair_small : b % 2 ≢ 0 → (pair : ℕ) → pair ≡ b / 2 → pair < 100
@@ -279,7 +279,7 @@ module _ (negative : Bool) (bytes : List ℕ) (digits read : ℕ) (rest : List �
         whole = all.0 ∙ ap (λ d. d * 10 ^ y.count + y.rest) (sym is_now);
         below = y.below;
         some = y.some;
-        stands = y.stands;
+        occurs = y.occurs;
       }
 
 pub no_bytes : (negative : Bool) (left tail : ℕ) (more : List ℕ) → tail < 10 ^ left → 0 < tail → [] ≡ map (invert_if negative) (digits_key left tail) ++ more → ⊥
@@ -294,7 +294,7 @@ no_bytes negative (suc (suc count)) tail more below some e = elim (cases_eq (tai
 pub not_over : (negative : Bool) (bytes : List ℕ) (digits read : ℕ) (rest : List ℕ) → ReadsDigits negative bytes digits read rest → length rest ≡ 0 → (C M : ℕ) → M < 10 ^ C → 0 < M → M ≤ 2 ^ 127 → C ≤ 39 → (more : List ℕ) → bytes ≡ map (invert_if negative) (digits_key C M) ++ more → ⊥
 not_over negative bytes digits read rest so_far over C M below some high few more e =
     let d = so_far C M below some high few more e in
-    empty rest over d.stands
+    empty rest over d.occurs
   where
     d : DigitsLeft negative C M digits read rest more
     d = so_far C M below some high few more e

@@ -43,9 +43,9 @@ positive_below n p sign = by_sign n.whole refl sign
     by_sign (pos k) e s = omega (arith, ap unsigned_abs e, positive_most n.form k (subst (FitsWhole n.form) e p.1))
     by_sign (negsuc k) e s = let clash : true ≡ false = s in cc
 
--- ---- the digits and the place
+-- ---- the digits and the exponent
 
-module _ (n : Num) (place digits read : ℕ) (proper : IsProperNumber n) (parts : HasParts n place digits read) where
+module _ (n : Num) (exponent digits read : ℕ) (proper : IsProperNumber n) (parts : HasParts n exponent digits read) where
   exact : digits * 10 ^ (parts.count - read) ≡ unsigned_abs n.whole
   exact =
       let k = parts.count - read in
@@ -62,33 +62,33 @@ module _ (n : Num) (place digits read : ℕ) (proper : IsProperNumber n) (parts 
   pub scale_small : n.scale < 256
   scale_small = (is_small n proper).scale
 
-  pub up_same : (255 + read ≤ place) → digits * 10 ^ (place - (255 + read)) * 10 ^ n.scale ≡ unsigned_abs n.whole
+  pub up_same : (255 + read ≤ exponent) → digits * 10 ^ (exponent - (255 + read)) * 10 ^ n.scale ≡ unsigned_abs n.whole
   up_same h =
-      let e = place - (255 + read) in
-      let sum : e + n.scale ≡ parts.count - read = omega (arith, parts.is_place, h) in
+      let e = exponent - (255 + read) in
+      let sum : e + n.scale ≡ parts.count - read = omega (arith, parts.is_exponent_key, h) in
       let power : 10 ^ e * 10 ^ n.scale ≡ 10 ^ (parts.count - read) = sym (pow-add 10 e n.scale) ∙ ap (λ i. 10 ^ i) sum in
       omega (arith, ap (λ x. digits * x) power, exact)
 
-  pub up_most : (255 + read ≤ place) → digits * 10 ^ (place - (255 + read)) ≤ unsigned_abs n.whole
+  pub up_most : (255 + read ≤ exponent) → digits * 10 ^ (exponent - (255 + read)) ≤ unsigned_abs n.whole
   up_most h =
-      let up = digits * 10 ^ (place - (255 + read)) in
+      let up = digits * 10 ^ (exponent - (255 + read)) in
       let more : up * 1 ≤ up * 10 ^ n.scale = mul-le-mul_left up (omega (arith, ten n.scale)) in
       omega (arith, up_same h, more)
 
-  pub up_power : (255 + read ≤ place) → 10 ^ (place - (255 + read)) ≤ unsigned_abs n.whole
+  pub up_power : (255 + read ≤ exponent) → 10 ^ (exponent - (255 + read)) ≤ unsigned_abs n.whole
   up_power h =
-      let power = 10 ^ (place - (255 + read)) in
+      let power = 10 ^ (exponent - (255 + read)) in
       let more : 1 * power ≤ digits * power = mul-le-mul_right power (omega (arith, parts.is_digits.some)) in
       omega (arith, up_most h, more)
 
-  pub down_scale : place < 255 + read → (255 + read) - place ≤ n.scale
-  down_scale h = omega (arith, parts.is_place, parts.is_digits.fewer, h)
+  pub down_scale : exponent < 255 + read → (255 + read) - exponent ≤ n.scale
+  down_scale h = omega (arith, parts.is_exponent_key, parts.is_digits.fewer, h)
 
-  pub down_same : place < 255 + read → digits * 10 ^ n.scale ≡ unsigned_abs n.whole * 10 ^ ((255 + read) - place)
+  pub down_same : exponent < 255 + read → digits * 10 ^ n.scale ≡ unsigned_abs n.whole * 10 ^ ((255 + read) - exponent)
   down_same h =
-      let s = (255 + read) - place in
+      let s = (255 + read) - exponent in
       let k = parts.count - read in
-      let sum : k + s ≡ n.scale = omega (arith, parts.is_place, parts.is_digits.fewer, h) in
+      let sum : k + s ≡ n.scale = omega (arith, parts.is_exponent_key, parts.is_digits.fewer, h) in
       let power : 10 ^ n.scale ≡ 10 ^ k * 10 ^ s = ap (λ i. 10 ^ i) (sym sum) ∙ pow-add 10 k s in
       omega (arith, ap (λ x. digits * x) power, ap (λ x. x * 10 ^ s) exact)
 

@@ -3,7 +3,7 @@ use Rattle.std.specs.Prelude.{◌≡◌, ◌≢◌, ℕ, ◌+◌, ◌*◌, ◌/�
 use Rattle.std.specs.Borrow.{Bor}
 use Rattle.jsonb_spec.specs.Owned.{owned_tree}
 use Rattle.jsonb_spec.specs.Proper.{IsProper, IsProperNumber}
-use Rattle.jsonb_spec.specs.SortKey.{digits_key, invert_if, key_of, number_key, place_key}
+use Rattle.jsonb_spec.specs.SortKey.{digits_key, invert_if, key_of, number_key, exponent_key}
 use Rattle.jsonb_spec.specs.SortKey.Kind as kind
 use Rattle.jsonb_spec.specs.Text.Range.{IsWithin}
 use Rattle.jsonb_spec.specs.Tree.{Num, Tree}
@@ -35,22 +35,22 @@ pub record DecodesFrom (depth : ℕ) (bytes : List ℕ) (r : Value × Bor (List 
   pub decoded : IsDecodedAt depth (view r.0)
   pub shorter : length r.1.now < length bytes
 
--- The key of this number, which has the fewest digits, stands first in the bytes, and these stand behind it.
-pub record NumberStands (bytes : List ℕ) (n : Num) (rest : List ℕ) : Type 0 where
-  pub stands : bytes ≡ number_key n ++ rest
+-- The key of this number, which has the fewest digits, is first in the bytes, and these are behind it.
+pub record NumberOccurs (bytes : List ℕ) (n : Num) (rest : List ℕ) : Type 0 where
+  pub occurs : bytes ≡ number_key n ++ rest
   pub shorter : length rest < length bytes
   pub proper : IsProperNumber n
   pub fewest : HasFewestDigits n
 
--- This place of a number's first digit stands first in the bytes, and these stand behind it.
-pub record PlaceStands (negative : Bool) (bytes : List ℕ) (place : ℕ) (rest : List ℕ) : Type 0 where
-  pub stands : bytes ≡ map (invert_if negative) (place_key place) ++ rest
+-- This exponent of a number's first digit is first in the bytes, and these are behind it.
+pub record ExponentOccurs (negative : Bool) (bytes : List ℕ) (exponent : ℕ) (rest : List ℕ) : Type 0 where
+  pub occurs : bytes ≡ map (invert_if negative) (exponent_key exponent) ++ rest
   pub shorter : length rest < length bytes
-  pub few : place < 512
+  pub few : exponent < 512
 
--- The key of so many digits, of which the last isn't 0, stands first in the bytes, and these stand behind it.
-pub record DigitsStand (negative : Bool) (bytes : List ℕ) (digits count : ℕ) (rest : List ℕ) : Type 0 where
-  pub stands : bytes ≡ map (invert_if negative) (digits_key count digits) ++ rest
+-- The key of so many digits, of which the last isn't 0, is first in the bytes, and these are behind it.
+pub record DigitsOccur (negative : Bool) (bytes : List ℕ) (digits count : ℕ) (rest : List ℕ) : Type 0 where
+  pub occurs : bytes ≡ map (invert_if negative) (digits_key count digits) ++ rest
   pub shorter : length rest < length bytes
   pub below : digits < 10 ^ count
   pub few : count < 512
@@ -63,9 +63,9 @@ pub record AreDigits (digits count : ℕ) : Type 0 where
   pub few : count < 512
   pub fewest : digits % 10 ≢ 0
 
--- The number has the key of these digits, the first of which stands at this place, and it has the fewest digits.
-pub record IsNumberOf (negative : Bool) (place digits count : ℕ) (n : Num) : Type 0 where
-  pub has_key : number_key n ≡ map (invert_if negative) (place_key place ++ digits_key count digits)
+-- The number has the key of these digits, the first of which is at this exponent, and it has the fewest digits.
+pub record IsNumberOf (negative : Bool) (exponent digits count : ℕ) (n : Num) : Type 0 where
+  pub has_key : number_key n ≡ map (invert_if negative) (exponent_key exponent ++ digits_key count digits)
   pub proper : IsProperNumber n
   pub fewest : HasFewestDigits n
 
@@ -95,11 +95,11 @@ pub record IsDigits (count magnitude digits read : ℕ) : Type 0 where
   pub whole : digits * 10 ^ count ≡ magnitude * 10 ^ read
   pub fewer : read ≤ count
 
--- These are the digits of n, without its sign, and the first of them stands at this place.
-pub record HasParts (n : Num) (place digits read : ℕ) : Type 0 where
+-- These are the digits of n, without its sign, and the first of them is at this exponent.
+pub record HasParts (n : Num) (exponent digits read : ℕ) : Type 0 where
   pub count : ℕ
   pub is_digits : IsDigits count (unsigned_abs n.whole) digits read
-  pub is_place : place + n.scale ≡ count + 255
+  pub is_exponent_key : exponent + n.scale ≡ count + 255
 
 -- what was read, and the bytes after it
 abbrev pub read_as : ℕ → List ℕ → Option (ℕ × List ℕ)
@@ -121,16 +121,16 @@ IsNoLastPair digits pair =
     (pair ≡ 0) ⊎ (99 < pair) ⊎ (2 ^ 128 ≤ digits * 10 + pair / 10)
     ⊎ ((pair % 10 ≢ 0) × (2 ^ 128 ≤ digits * 100 + pair))
 
--- the second byte of a place, which is -31 or less, and the bytes after it
+-- the second byte of an exponent, which is -31 or less, and the bytes after it
 abbrev pub second_of : Bool → List ℕ → Option (ℕ × List ℕ)
 second_of negative [] = None
 second_of negative (byte ∷ rest) =
     if nat_lt (invert_if negative byte) 225 then read_as (invert_if negative byte) rest else None
 
--- The place of a number's first digit, with 255 added, and the bytes after it. 0x82 stands for 30 zeros behind the
+-- The exponent of a number's first digit, with 255 added, and the bytes after it. 0x82 means 30 zeros behind the
 -- point.
-abbrev pub place_of : Bool → List ℕ → Option (ℕ × List ℕ)
-place_of negative [] = None
-place_of negative (byte ∷ rest) =
-    if invert_if negative byte == kind.far_place then second_of negative rest
+abbrev pub exponent_of : Bool → List ℕ → Option (ℕ × List ℕ)
+exponent_of negative [] = None
+exponent_of negative (byte ∷ rest) =
+    if invert_if negative byte == kind.far_exponent then second_of negative rest
     else (if nat_lt (invert_if negative byte) 0x82 then None else read_as (invert_if negative byte + 95) rest)

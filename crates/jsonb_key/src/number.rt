@@ -9,7 +9,7 @@ ghost use Rattle.jsonb_spec.specs.Proper.{IsProperNumber};
 ghost use Rattle.jsonb_spec.specs.SortKey.{number_key, digits_key, invert_if};
 ghost use Rattle.jsonb_spec.specs.Tree.{Num};
 ghost use Rattle.jsonb_value.specs.View.{number_view};
-ghost use Rattle.jsonb_key.specs.Reading.{place_of, second_of, AreDigits, BeginsWithDigit, BeginsWithNoDigit, DigitsStand, HasParts, IsDigits, IsLastPair, IsNoLastPair, IsNumberOf, NumberStands, PlaceStands};
+ghost use Rattle.jsonb_key.specs.Reading.{exponent_of, second_of, AreDigits, BeginsWithDigit, BeginsWithNoDigit, DigitsOccur, HasParts, IsDigits, IsLastPair, IsNoLastPair, IsNumberOf, NumberOccurs, ExponentOccurs};
 
 use jsonb_value::number::{Decimal64, Decimal128, Number};
 use jsonb_value::sort_key::kind;
@@ -18,19 +18,19 @@ use jsonb_value::sort_key::kind;
 pub(crate) fn read_number(bytes: &[u8]) -> Option<(Number, &[u8])>
     ensures found { (n : Num) → IsProperNumber n → (more : List ℕ) → bytes.now ≡ number_key n ++ more
         → MatchOption result ⊥ (λ r. (number_key (number_view r.0) ≡ number_key n) × (r.1.now ≡ more)) }
-    ensures read { IfSome result (λ r. NumberStands bytes.now (number_view r.0) r.1.now) }
+    ensures read { IfSome result (λ r. NumberOccurs bytes.now (number_view r.0) r.1.now) }
 {
     let (first, rest) = bytes.split_first()?;
     if *first == kind::ZERO {
         return Some((Number::UInt64(0), rest));
     }
     let negative = *first < kind::ZERO;
-    let (place, rest) = read_place(negative, bytes)?;
+    let (exponent, rest) = read_exponent(negative, bytes)?;
     if !begins_with_digit(negative, rest) {
         return None;
     }
     let (digits, count, rest) = read_digits(negative, rest)?;
-    Some((number_of(negative, place, digits, count)?, rest))
+    Some((number_of(negative, exponent, digits, count)?, rest))
 }
 
 /// A byte of a key, turned round where the number is negative.
@@ -40,34 +40,34 @@ pub fn invert_if(negative: bool, byte: u8) -> u8
     if negative { 255 - byte } else { byte }
 }
 
-/// The place of the first digit, with 255 added, and the bytes after it.
-pub fn read_place(negative: bool, bytes: &[u8]) -> Option<(u32, &[u8])>
-    ensures place { option_map (λ r. (r.0, r.1.now)) result ≡ place_of negative bytes.now }
-    ensures read { IfSome result (λ r. PlaceStands negative bytes.now r.0 r.1.now) }
+/// The exponent of the first digit, with 255 added, and the bytes after it.
+pub fn read_exponent(negative: bool, bytes: &[u8]) -> Option<(u32, &[u8])>
+    ensures exponent { option_map (λ r. (r.0, r.1.now)) result ≡ exponent_of negative bytes.now }
+    ensures read { IfSome result (λ r. ExponentOccurs negative bytes.now r.0 r.1.now) }
 {
     let (first, rest) = bytes.split_first()?;
     let byte = invert_if(negative, *first);
-    if byte == kind::FAR_PLACE {
+    if byte == kind::FAR_EXPONENT {
         return read_second(negative, rest);
     }
-    // 0x82 stands for 30 zeros behind the point.
+    // 0x82 means 30 zeros behind the point.
     if byte < 0x82 {
         return None;
     }
     Some((u32::from(byte) + 95, rest))
 }
 
-// A place of two bytes, by what follows the first.
+// An exponent of two bytes, by what follows the first.
 fn read_second(negative: bool, bytes: &[u8]) -> Option<(u32, &[u8])>
-    ensures place { option_map (λ r. (r.0, r.1.now)) result ≡ second_of negative bytes.now }
+    ensures exponent { option_map (λ r. (r.0, r.1.now)) result ≡ second_of negative bytes.now }
     ensures read { IfSome result (λ r. (bytes.now ≡ invert_if negative r.0 ∷ r.1.now) × (r.0 < 225)) }
 {
     let (second, rest) = bytes.split_first()?;
-    let place = invert_if(negative, *second);
-    if place >= 225 {
+    let exponent = invert_if(negative, *second);
+    if exponent >= 225 {
         return None;
     }
-    Some((u32::from(place), rest))
+    Some((u32::from(exponent), rest))
 }
 
 // The first digit isn't 0.
@@ -86,7 +86,7 @@ fn read_digits(negative: bool, bytes: &[u8]) -> Option<(u128, u32, &[u8])>
     ensures found { (count magnitude : ℕ) → magnitude < 10 ^ count → 0 < magnitude → magnitude ≤ 2 ^ 127 → count ≤ 39
         → (more : List ℕ) → bytes.now ≡ map (invert_if negative) (digits_key count magnitude) ++ more
         → MatchOption result ⊥ (λ r. IsDigits count magnitude r.0 r.1 × (r.2.now ≡ more)) }
-    ensures read { IfSome result (λ r. DigitsStand negative bytes.now r.0 r.1 r.2.now) }
+    ensures read { IfSome result (λ r. DigitsOccur negative bytes.now r.0 r.1 r.2.now) }
 {
     let mut digits: u128 = 0;
     let mut count: u32 = 0;
@@ -129,21 +129,21 @@ fn last_pair(digits: u128, pair: u8) -> Option<(u128, u32)>
     ))
 }
 
-// The number of these digits, the first of which stands at this place.
-fn number_of(negative: bool, place: u32, digits: u128, count: u32) -> Option<Number>
-    requires few { place < 512 }
+// The number of these digits, the first of which is at this exponent.
+fn number_of(negative: bool, exponent: u32, digits: u128, count: u32) -> Option<Number>
+    requires few { exponent < 512 }
     requires digits { AreDigits digits count }
-    ensures number { IfSome result (λ x. IsNumberOf negative place digits count (number_view x)) }
-    ensures same { (n : Num) → IsProperNumber n → is_negative n.whole ≡ negative → HasParts n place digits count
+    ensures number { IfSome result (λ x. IsNumberOf negative exponent digits count (number_view x)) }
+    ensures same { (n : Num) → IsProperNumber n → is_negative n.whole ≡ negative → HasParts n exponent digits count
         → MatchOption result ⊥ (λ x. num_cmp (number_view x) n ≡ Equal) }
 {
     let unit = 255 + count;
-    if place >= unit {
-        let power = 10u128.checked_pow(place - unit)?;
+    if exponent >= unit {
+        let power = 10u128.checked_pow(exponent - unit)?;
         let whole = with_sign(negative, digits.checked_mul(power)?)?;
         return Some(number_with(0, whole));
     }
-    let scale = u8::try_from(unit - place).ok()?;
+    let scale = u8::try_from(unit - exponent).ok()?;
     let signed = with_sign(negative, digits)?;
     Some(number_with(scale, signed))
 }

@@ -8,7 +8,7 @@ use Rattle.std.specs.List.{prefix_len}
 use Rattle.std.specs.Simd.Lanes.{chunk, mask_l, top}
 
 -- the first 16 bytes in a vector, f of each in another, of which none has its top bit set
-module _ (bytes : List ℕ) (marks : List ℕ) (f : ℕ → ℕ) (room : 16 ≤ length bytes) (fits : (k : ℕ) → Fits w8 (get_or bytes k 0))
+module _ (bytes : List ℕ) (marks : List ℕ) (f : ℕ → ℕ) (sink : 16 ≤ length bytes) (fits : (k : ℕ) → Fits w8 (get_or bytes k 0))
     (none : eqb (mask_l (map (top 7) marks) % 2 ^ 64) 0 ≡ true) (lanes : marks ≡ map f (chunk 0 16 bytes)) (exact : agree_below (λ b. top 7 (f b)) (leb 128) 256 ≡ true) where
   abbrev is_marked : ℕ → Bool
   is_marked b = top 7 (f b)
@@ -16,7 +16,7 @@ module _ (bytes : List ℕ) (marks : List ℕ) (f : ℕ → ℕ) (room : 16 ≤ 
   counted : 16 ≡ prefix_len (λ b. not (is_marked b)) (chunk 0 16 bytes)
   counted =
       let v = chunk 0 16 bytes in
-      let long : length v ≡ 16 = length-chunk 0 16 bytes (omega (arith, room)) in
+      let long : length v ≡ 16 = length-chunk 0 16 bytes (omega (arith, sink)) in
       let mask = ap (λ l. mask_l l % 2 ^ 64) (ap (map (top 7)) lanes ∙ map-map (top 7) f v) ∙ mask_l-mod (map is_marked v) 64 (omega (arith, length-map v is_marked, long)) in
       let found : 16 ≡ cond (eqb (mask_l (map (top 7) marks) % 2 ^ 64) 0) 16 (trailing_zeros w64 (mask_l (map (top 7) marks) % 2 ^ 64)) =
       sym (ap (λ b. cond b 16 (trailing_zeros w64 (mask_l (map (top 7) marks) % 2 ^ 64))) none) in
@@ -32,7 +32,7 @@ module _ (bytes : List ℕ) (marks : List ℕ) (f : ℕ → ℕ) (room : 16 ≤ 
   marks_ascii k l =
       below (get_or bytes k 0)
       (sym (agree_below_at is_marked (leb 128) 256 (get_or bytes k 0) exact (fits k).fits)
-      ∙ run_in_chunk_fails is_marked bytes 0 16 16 0 (omega (arith, room)) counted k (omega arith) (omega (arith, l)))
+      ∙ run_in_chunk_fails is_marked bytes 0 16 16 0 (omega (arith, sink)) counted k (omega arith) (omega (arith, l)))
 
 -- ---- four of them that may overlap
 

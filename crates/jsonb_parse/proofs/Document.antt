@@ -58,18 +58,18 @@ ending_same p q t e a =
     ap (λ (r : List ℕ). at_end (size_of p) (mode_of p.mode) t r) (sym e)
     ∙ ap (λ (n : ℕ). at_end n (mode_of p.mode) t (rest_of q)) (sym (same_size p q a)) ∙ ap (λ (m : Mode). at_end (size_of q) m t (rest_of q)) (sym (ap mode_of a.mode))
 
-past_end : (size : ℕ) (mode : Mode) (t : Source) (r : List ℕ) (i : ℕ) → length r + i ≡ size → 0 < length r → opens_comment mode r ≡ false → at_end size mode t r ≡ Err (record { code = unexpected_trailing_characters; place = i + 1 })
+past_end : (size : ℕ) (mode : Mode) (t : Source) (r : List ℕ) (i : ℕ) → length r + i ≡ size → 0 < length r → opens_comment mode r ≡ false → at_end size mode t r ≡ Err (record { code = unexpected_trailing_characters; offset = i + 1 })
 past_end size mode t [] i e h closed = absurd (omega arith)
 past_end size mode t (b ∷ r) i e h closed =
     cond-false (opens_comment mode (b ∷ r)) (comment_at size t r) (fault unexpected_trailing_characters (size - length (b ∷ r) + 1)) closed
-    ∙ ap (λ (k : ℕ). Err (record { code = unexpected_trailing_characters; place = k })) (let same : size - length (b ∷ r) + 1 ≡ i + 1 = omega (arith, e) in same)
+    ∙ ap (λ (k : ℕ). Err (record { code = unexpected_trailing_characters; offset = k })) (let same : size - length (b ∷ r) + 1 ≡ i + 1 = omega (arith, e) in same)
 
 comment_end : (size : ℕ) (mode : Mode) (t : Source) (r : List ℕ) → 0 < length r → opens_comment mode r ≡ true → at_end size mode t r ≡ comment_at size t (drop 1 r)
 comment_end size mode t [] h opens = absurd (omega arith)
 comment_end size mode t (b ∷ r) h opens = cond-true (opens_comment mode (b ∷ r)) (comment_at size t r) (fault unexpected_trailing_characters (size - length (b ∷ r) + 1)) opens
 
 pub ends_trailing : (p q : Parser) (t : Source) → rest_of q ≡ skip_closed_whitespace (mode_of p.mode) (rest_of p) → Advances p q → q.offset < size_of q → opens_comment (mode_of q.mode) (rest_of q) ≡ false
-    → at_end (size_of p) (mode_of p.mode) t (skip_closed_whitespace (mode_of p.mode) (rest_of p)) ≡ Err (record { code = unexpected_trailing_characters; place = q.offset + 1 })
+    → at_end (size_of p) (mode_of p.mode) t (skip_closed_whitespace (mode_of p.mode) (rest_of p)) ≡ Err (record { code = unexpected_trailing_characters; offset = q.offset + 1 })
 ends_trailing p q t e a within closed =
     ending_same p q t e a ∙ past_end (size_of q) (mode_of q.mode) t (rest_of q) q.offset (omega (arith, length-drop q.offset q.buf.now)) (omega (arith, length-drop q.offset q.buf.now)) closed
 
@@ -95,7 +95,7 @@ pub comment_closed : (buf : List ℕ) (i : ℕ) (t : Source) → i + 1 < length 
 comment_closed buf i t within slash =
     ap (comment_at (length buf) t) (after-next buf i ∙ drop_more buf (i + 1) 0 within ∙ ap (λ (b : ℕ). b ∷ drop (i + 1 + 1) buf) slash)
 
-pub comment_open : (buf : List ℕ) (i : ℕ) (t : Source) → (length buf ≤ i + 1) ⊎ ((i + 1 < length buf) × (get_or buf (i + 1) 0 ≢ 47)) → comment_at (length buf) t (drop 1 (drop i buf)) ≡ Err (record { code = invalid_eof; place = length buf })
+pub comment_open : (buf : List ℕ) (i : ℕ) (t : Source) → (length buf ≤ i + 1) ⊎ ((i + 1 < length buf) × (get_or buf (i + 1) 0 ≢ 47)) → comment_at (length buf) t (drop 1 (drop i buf)) ≡ Err (record { code = invalid_eof; offset = length buf })
 comment_open buf i t (inl past) = ap (comment_at (length buf) t) (after-next buf i ∙ nothing_left buf (i + 1) past)
 comment_open buf i t (inr (within, other)) =
     ap (comment_at (length buf) t) (after-next buf i ∙ drop_more buf (i + 1) 0 within)

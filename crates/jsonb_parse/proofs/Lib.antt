@@ -1,6 +1,6 @@
 pub mod Ascii
 pub mod Containers
 pub mod Document
-pub mod KeptTexts
+pub mod VerbatimTexts
 pub mod Scalars
 pub mod Steps

@@ -3,7 +3,7 @@ pub mod Built
 pub mod Contents
 pub mod Elements
 pub mod FirstBytes
-pub mod KeptIntegers
+pub mod VerbatimIntegers
 pub mod ShortStrings
-pub mod Spellings
+pub mod Encodings
 pub mod Starts

@@ -33,7 +33,7 @@ scalar_or_null size mode bytes = if is_left_out mode bytes then Ok (null, bytes)
 -- the container, from after its closing byte on
 abbrev pub finish_container : Open → List ℕ → Parse Source
 finish_container (elements_so_far ss) rest = array_end ss rest
-finish_container (members_so_far fs key place) rest = object_end fs rest
+finish_container (members_so_far fs key offset) rest = object_end fs rest
 
 -- the container, from its end or from the beginning of a part on
 abbrev pub resume_part : ℕ → Mode → ℕ → Bool → Open → List ℕ → Parse Source
@@ -56,18 +56,18 @@ resume_stack size mode depth closed (c ∷ cs) rest =
 -- A scalar becomes the next part of the innermost container.
 abbrev pub TakesTree : {R I M K : Type 0} → (List ℕ → R → Bool → List (Frame I M K) → List Open → Type 0) → List ℕ
     → Tree → R → Frame I M K → R → Frame I M K → Type 0
-TakesTree {R} {I} {M} {K} Stands text t old before new after =
+TakesTree {R} {I} {M} {K} Holds text t old before new after =
     (c : Open) → (fs : List (Frame I M K)) → (cs : List Open) → Fits before c
-    → Stands text old (is_due before) (before ∷ fs) (c ∷ cs)
-    → Stands text new false (after ∷ fs) (add_part c (source_alone t) ∷ cs)
+    → Holds text old (is_due before) (before ∷ fs) (c ∷ cs)
+    → Holds text new false (after ∷ fs) (add_part c (source_alone t) ∷ cs)
 
 -- A scalar was put into the innermost container, and is what is parsed.
 abbrev pub IsPut : {R I M K X F : Type 0} → Bool → Option Error
     → (List ℕ → R → Bool → List (Frame I M K) → List Open → Type 0) → List ℕ → Result X F → R → Frame I M K
     → Parse Tree → R → Frame I M K → List ℕ → Type 0
-IsPut silent told Stands text result old before read new after rest =
-    ElseFails silent told result read
-    (λ _. (t : Tree) × (read ≡ Ok (t, rest)) × TakesTree Stands text t old before new after)
+IsPut silent reported Holds text result old before read new after rest =
+    ElseFails silent reported result read
+    (λ _. (t : Tree) × (read ≡ Ok (t, rest)) × TakesTree Holds text t old before new after)
 
 -- ---- the containers that are open
 
@@ -82,13 +82,13 @@ AllFit (f ∷ fs) (c ∷ cs) = Fits f c × AllFit fs cs
 abbrev pub depth_within : {I M K : Type 0} → List (Frame I M K) → ℕ
 depth_within frames = max_depth - length frames
 
-module _ {I M K : Type 0} (Stands : Bool → List (Frame I M K) → List Open → Type 0) where
+module _ {I M K : Type 0} (Holds : Bool → List (Frame I M K) → List Open → Type 0) where
   -- Parts were parsed, up to the end of the container or up to a part that is a container itself and is due.
   pub record ParsesParts (size : ℕ) (mode : Mode) (depth : ℕ) (whole : Parse Source) (closed : Bool)
       (frame : Frame I M K) (fs : List (Frame I M K)) (cs : List Open) (rest : List ℕ) : Type 0 where
     pub so_far : Open
     pub fits : Fits frame so_far
-    pub held : Stands (not closed) (frame ∷ fs) (so_far ∷ cs)
+    pub held : Holds (not closed) (frame ∷ fs) (so_far ∷ cs)
     pub parses : whole ≡ resume_value size mode depth closed so_far rest
 
   -- With the containers that are open, this is left to parse of the whole. The parser's stack has the outermost first.
@@ -96,7 +96,7 @@ module _ {I M K : Type 0} (Stands : Bool → List (Frame I M K) → List Open �
       : Type 0 where
     pub opens : List Open
     pub fit : AllFit (reverse stack) opens
-    pub held : Stands due (reverse stack) opens
+    pub held : Holds due (reverse stack) opens
     pub parses : whole ≡ left opens
 
   -- A value is due.
@@ -123,4 +123,4 @@ module _ {I M K : Type 0} (Stands : Bool → List (Frame I M K) → List Open �
   -- The outermost container was parsed to its end, and no other is open.
   abbrev pub IsParsedToEnd : Parse Source → List (Frame I M K) → List ℕ → Type 0
   IsParsedToEnd whole stack rest = (f : Frame I M K) × (c : Open) × (stack ≡ f ∷ []) × Fits f c
-      × Stands false (f ∷ []) (c ∷ []) × (whole ≡ finish_container c rest)
+      × Holds false (f ∷ []) (c ∷ []) × (whole ≡ finish_container c rest)

@@ -16,30 +16,31 @@ use Rattle.jsonb_spec.specs.Source.{Source, Found, array_source_of, found_member
 
 -- ---- how a call fails
 
--- What was told is the fault that parsing gives, or want of memory. A handler that is silent may have told nothing.
+-- What was reported is the fault that parsing gives, or want of memory. A handler that is silent may have reported
+-- nothing.
 abbrev pub Misses : {Y : Type 0} → Bool → Option Error → Result Y Fault → Type 0
 Misses silent None read = silent ≡ true
 Misses silent (Some e) read = Fails e read
 
--- What was returned is so, or what was told is the fault that parsing gives.
+-- What was returned is so, or what was reported is the fault that parsing gives.
 abbrev pub ElseFails : {X F Y : Type 0} → Bool → Option Error → Result X F → Result Y Fault → (X → Type 0) → Type 0
-ElseFails silent told (Ok x) read IsSo = IsSo x
-ElseFails silent told (Err f) read IsSo = Misses silent told read
+ElseFails silent reported (Ok x) read IsSo = IsSo x
+ElseFails silent reported (Err f) read IsSo = Misses silent reported read
 
 -- What was returned is what parsing gives, and these bytes are left.
 abbrev pub Builds : {X F Y : Type 0} → Bool → Option Error → (X → Y → Type 0) → Result X F → Parse Y → List ℕ → Type 0
-Builds {X} {F} {Y} silent told Sees result read rest =
-    ElseFails silent told result read (λ x. (y : Y) × Sees x y × (read ≡ Ok (y, rest)))
+Builds {X} {F} {Y} silent reported Sees result read rest =
+    ElseFails silent reported result read (λ x. (y : Y) × Sees x y × (read ≡ Ok (y, rest)))
 
 -- What was returned is what parsing the whole text gives, or the error is its fault.
 abbrev pub BuildsAll : {X Y : Type 0} → Bool → (X → Y → Type 0) → Result X (Option Error) → Result Y Fault → Type 0
 BuildsAll {X} {Y} silent Sees (Ok x) read = (y : Y) × Sees x y × (read ≡ Ok y)
-BuildsAll silent Sees (Err told) read = Misses silent told read
+BuildsAll silent Sees (Err reported) read = Misses silent reported read
 
--- Memory ran out, or nothing was told.
-abbrev pub IsUntold : Bool → Option Error → Type 0
-IsUntold silent None = silent ≡ true
-IsUntold silent (Some e) = e ≡ OutOfMemory
+-- Memory ran out, or nothing was reported.
+abbrev pub IsUnreported : Bool → Option Error → Type 0
+IsUnreported silent None = silent ≡ true
+IsUnreported silent (Some e) = e ≡ OutOfMemory
 
 -- The text is a document, whose value is written by a handler that takes memory for scalars.
 abbrev pub IsWritten : Bool → Result Source Fault → Type 0
@@ -55,8 +56,8 @@ AsScalar Sees v t = Sees v (source_alone t)
 -- from this index.
 abbrev pub SeesContents : {V : Type 0} → (V → Source → Type 0) → ℕ → Result V Error → Body (Mark × List ℕ) → Type 0
 SeesContents Sees offset (Ok v) read = (x : Mark × List ℕ) × Sees v (string_source x.0 x.1) × (read ≡ Ok x)
-SeesContents Sees offset (Err (Syntax code place)) read = (count : ℕ) × (read ≡ Err (code_of code, count))
-    × (place ≡ offset + count)
+SeesContents Sees offset (Err (Syntax code index)) read = (count : ℕ) × (read ≡ Err (code_of code, count))
+    × (index ≡ offset + count)
 SeesContents Sees offset (Err OutOfMemory) read = Unit {0}
 SeesContents Sees offset (Err other) read = ⊥
 
@@ -68,77 +69,77 @@ AsNumber Sees v n = Sees v (number_source n)
 abbrev pub AsKey : {K : Type 0} → (K → Mark × List ℕ → ℕ → Type 0) → ℕ → List ℕ → K → Mark × List ℕ → Type 0
 AsKey Names size rest key k = Names key k (size - length rest)
 
--- of a key and the place after it
+-- of a key and the offset after it
 abbrev pub AsNamed : {K : Type 0} → (K → Mark × List ℕ → ℕ → Type 0) → K → (Mark × List ℕ) × ℕ → Type 0
 AsNamed Names key k = Names key k.0 k.1
 
 -- With this key, a member of the object began, and its value is due.
 abbrev pub Begins : {R I M K : Type 0} → (R → Bool → List (Frame I M K) → List Open → Type 0) → R → OpenObject M K → R
     → OpenObject M K → K → Mark × List ℕ → ℕ → Type 0
-Begins {R} {I} {M} {K} Stands old object new begun key k place =
-    (front : List Found) → (other : Mark × List ℕ) → (other_place : ℕ) → (fs : List (Frame I M K)) → (cs : List Open)
-    → Stands old false (variants.Object object ∷ fs) (members_so_far front other other_place ∷ cs)
-    → Stands new true (variants.Object (record { members = begun.members; key = key }) ∷ fs)
-    (members_so_far front k place ∷ cs)
+Begins {R} {I} {M} {K} Holds old object new begun key k offset =
+    (front : List Found) → (other : Mark × List ℕ) → (other_offset : ℕ) → (fs : List (Frame I M K)) → (cs : List Open)
+    → Holds old false (variants.Object object ∷ fs) (members_so_far front other other_offset ∷ cs)
+    → Holds new true (variants.Object (record { members = begun.members; key = key }) ∷ fs)
+    (members_so_far front k offset ∷ cs)
 
 -- ---- what a handler is asked to do
 
-module _ {R I M K : Type 0} (Stands : List ℕ → R → Bool → List (Frame I M K) → List Open → Type 0) where
+module _ {R I M K : Type 0} (Holds : List ℕ → R → Bool → List (Frame I M K) → List Open → Type 0) where
   -- An array is opened where a value was due.
   abbrev pub OpensArray : R → R → I → Type 0
   OpensArray old new items =
-      (text : List ℕ) → (fs : List (Frame I M K)) → (cs : List Open) → Stands text old true fs cs
-      → Stands text new false (variants.Array items ∷ fs) (elements_so_far [] ∷ cs)
+      (text : List ℕ) → (fs : List (Frame I M K)) → (cs : List Open) → Holds text old true fs cs
+      → Holds text new false (variants.Array items ∷ fs) (elements_so_far [] ∷ cs)
 
   -- An element is due that is a container.
   abbrev pub AwaitsElement : R → I → R → I → Type 0
   AwaitsElement old before new after =
       (text : List ℕ) → (ss : List Source) → (fs : List (Frame I M K)) → (cs : List Open)
-      → Stands text old false (variants.Array before ∷ fs) (elements_so_far ss ∷ cs)
-      → Stands text new true (variants.Array after ∷ fs) (elements_so_far ss ∷ cs)
+      → Holds text old false (variants.Array before ∷ fs) (elements_so_far ss ∷ cs)
+      → Holds text new true (variants.Array after ∷ fs) (elements_so_far ss ∷ cs)
 
   -- A source of which this holds becomes the last element of the innermost array.
   abbrev pub TakesElement : (List ℕ → Source → Type 0) → R → I → R → I → Type 0
   TakesElement Is old before new after =
       (text : List ℕ) → (s : Source) → (ss : List Source) → (fs : List (Frame I M K)) → (cs : List Open)
-      → Stands text old false (variants.Array before ∷ fs) (elements_so_far ss ∷ cs) → Is text s
-      → Stands text new false (variants.Array after ∷ fs) (elements_so_far (ss ++ s ∷ []) ∷ cs)
+      → Holds text old false (variants.Array before ∷ fs) (elements_so_far ss ∷ cs) → Is text s
+      → Holds text new false (variants.Array after ∷ fs) (elements_so_far (ss ++ s ∷ []) ∷ cs)
 
   -- An object is opened where a value was due.
   abbrev pub OpensObject : R → R → OpenObject M K → Type 0
   OpensObject old new object =
-      (text : List ℕ) → (fs : List (Frame I M K)) → (cs : List Open) → Stands text old true fs cs
-      → Stands text new false (variants.Object object ∷ fs) (members_so_far [] (plain, []) 0 ∷ cs)
+      (text : List ℕ) → (fs : List (Frame I M K)) → (cs : List Open) → Holds text old true fs cs
+      → Holds text new false (variants.Object object ∷ fs) (members_so_far [] (plain, []) 0 ∷ cs)
 
   -- A source of which this holds becomes the value of the innermost object's member that this key waits for.
   abbrev pub TakesMember : (List ℕ → Source → Type 0) → R → OpenObject M K → K → R → OpenObject M K → Type 0
   TakesMember Is old before key new after =
-      (text : List ℕ) → (s : Source) → (front : List Found) → (k : Mark × List ℕ) → (place : ℕ)
+      (text : List ℕ) → (s : Source) → (front : List Found) → (k : Mark × List ℕ) → (offset : ℕ)
       → (fs : List (Frame I M K)) → (cs : List Open)
-      → Stands text old true (variants.Object (record { members = before.members; key = key }) ∷ fs)
-      (members_so_far front k place ∷ cs) → Is text s → Stands text new false (variants.Object after ∷ fs)
-      (members_so_far (front ++ found_member k s place ∷ []) (plain, []) 0 ∷ cs)
+      → Holds text old true (variants.Object (record { members = before.members; key = key }) ∷ fs)
+      (members_so_far front k offset ∷ cs) → Is text s → Holds text new false (variants.Object after ∷ fs)
+      (members_so_far (front ++ found_member k s offset ∷ []) (plain, []) 0 ∷ cs)
 
   -- A container that is made becomes the last element of the array around it.
   abbrev pub TakesInner : (Source → List (Frame I M K) → List Open → List ℕ → Type 0) → I → R → I → Type 0
   TakesInner Filled before new after =
       (text : List ℕ) → (s : Source) → (ss : List Source) → (fs : List (Frame I M K)) → (cs : List Open)
       → Filled s (variants.Array before ∷ fs) (elements_so_far ss ∷ cs) text
-      → Stands text new false (variants.Array after ∷ fs) (elements_so_far (ss ++ s ∷ []) ∷ cs)
+      → Holds text new false (variants.Array after ∷ fs) (elements_so_far (ss ++ s ∷ []) ∷ cs)
 
   -- A container that is made becomes the value of the member that waits for it in the object around it.
   abbrev pub TakesInnerMember : (Source → List (Frame I M K) → List Open → List ℕ → Type 0) → OpenObject M K → R
       → OpenObject M K → Type 0
   TakesInnerMember Filled before new after =
-      (text : List ℕ) → (s : Source) → (front : List Found) → (k : Mark × List ℕ) → (place : ℕ)
+      (text : List ℕ) → (s : Source) → (front : List Found) → (k : Mark × List ℕ) → (offset : ℕ)
       → (fs : List (Frame I M K)) → (cs : List Open)
-      → Filled s (variants.Object before ∷ fs) (members_so_far front k place ∷ cs) text
-      → Stands text new false (variants.Object after ∷ fs)
-      (members_so_far (front ++ found_member k s place ∷ []) (plain, []) 0 ∷ cs)
+      → Filled s (variants.Object before ∷ fs) (members_so_far front k offset ∷ cs) text
+      → Holds text new false (variants.Object after ∷ fs)
+      (members_so_far (front ++ found_member k s offset ∷ []) (plain, []) 0 ∷ cs)
 
   -- The innermost array ends.
   abbrev pub EndsArray : (List ℕ → Frame I M K → Source → List (Frame I M K) → List Open → Type 0) → R → I → I → Type 0
   EndsArray Completes old before after =
       (text : List ℕ) → (ss : List Source) → (fs : List (Frame I M K)) → (cs : List Open)
-      → Stands text old false (variants.Array before ∷ fs) (elements_so_far ss ∷ cs)
+      → Holds text old false (variants.Array before ∷ fs) (elements_so_far ss ∷ cs)
       → Completes text (variants.Array after) (array_source_of ss) fs cs

@@ -9,7 +9,7 @@ abbrev pub literal_tree : Literal → Tree
 literal_tree variants.Null = null
 literal_tree (variants.Bool value) = boolean value
 
--- how a literal is spelled
+-- how a literal is encoded
 abbrev pub literal_text : Literal → List ℕ
 literal_text variants.Null = codes "null"
 literal_text (variants.Bool true) = codes "true"

@@ -5,11 +5,11 @@ use Rattle.jsonb_spec.specs.Mode.{Mode}
 use Rattle.jsonb_spec.specs.Tree.{Mark, Num, number}
 use Rattle.jsonb_spec.specs.Tree.Mark.{plain}
 use Rattle.jsonb_spec.specs.Source.{Source, number_source}
-use Rattle.text_common.specs.KeptScalar.{IsIntegerAt}
+use Rattle.text_common.specs.VerbatimScalar.{IsIntegerAt}
 use Rattle.jsonb_value.specs.declared.error.Error.{Error}
 use Rattle.jsonb_value.specs.declared.error.Error.TheVariants.{OutOfMemory}
 use Rattle.jsonb_parse.specs.declared.parser.Parser.{Parser}
-use Rattle.jsonb_scan.specs.Decoding.{TellsBackslash}
+use Rattle.jsonb_scan.specs.Decoding.{ReportsBackslash}
 use Rattle.jsonb_scan.specs.Parsing.{Fault, Parse}
 use Rattle.jsonb_scan.specs.Parsing.String.{quote_end, string_at}
 use Rattle.jsonb_scan.specs.Parsing.Scalar.{scalar_at}
@@ -35,7 +35,7 @@ pub record IsAfterQuote (quote : ℕ) (p : Parser) : Type 0 where
   pub no_backslash : quote ≢ ascii.backslash
   -- no character crosses the quote
   pub is_ascii : quote < ascii.end
-  -- it stands before the offset
+  -- it is before the offset
   pub opened : IsBehind quote p
 
 -- This is the parser's input as text, or a front of it.
@@ -48,15 +48,15 @@ pub record Advances (old new : Parser) : Type 0 where
   pub mode : new.mode ≡ old.mode
   pub onward : old.offset ≤ new.offset
 
--- The parser has gone on in the same input, and what was in the room before the text stays.
+-- The parser has gone on in the same input, and what was in the sink before the text stays.
 pub record AdvancesOver {R : Type 0} (base_of : R → List (List ℕ)) (old new : Parser) (before after : R) : Type 0 where
   pub parser : Advances old new
   pub base : base_of after ≡ base_of before
 
--- The parser has gone on, and this is told.
-pub record Tells (error : Option Error) (old new : Parser) : Type 0 where
-  -- what is told
-  pub told : new.told ≡ error
+-- The parser has gone on, and this is reported.
+pub record Reports (error : Option Error) (old new : Parser) : Type 0 where
+  -- what is reported
+  pub reported : new.reported ≡ error
   -- the parser has gone on in its input
   pub advances : Advances old new
 
@@ -123,7 +123,7 @@ pub record ParsesString {X : Type 0} (view : X → Mark × List ℕ) (read : ℕ
   pub advances : Advances old new
 
 -- What a call returned is what this function parses, and it takes no memory.
-pub record ParsesInPlace {X Y : Type 0} (view : X → Y) (read : ℕ → Mode → List ℕ → Parse Y) (result : Result X Error)
+pub record ParsesAtOffset {X Y : Type 0} (view : X → Y) (read : ℕ → Mode → List ℕ → Parse Y) (result : Result X Error)
     (old new : Parser) : Type 0 where
   -- what was returned is what is parsed, or the error is its fault
   pub parses : ParsesAs view read result old new
@@ -147,8 +147,8 @@ pub record CutsString {X : Type 0} (body_of : X → List ℕ) (quote : ℕ) (res
     : Type 0 where
   -- what was found is the string that is parsed, without escapes
   pub parses : FindsAs (λ x. (plain, body_of x)) (λ size mode. string_at size mode quote) result old new
-  -- its bytes stand before the closing quote
-  pub spelled : IfSome result (λ x. rest_of old ≡ body_of x ++ quote ∷ rest_of new)
+  -- its bytes are before the closing quote
+  pub encoded : IfSome result (λ x. rest_of old ≡ body_of x ++ quote ∷ rest_of new)
   -- where nothing was found, the parser stays
   pub stays : IfNone result (new ≡ old)
   -- the parser has gone on in its input
@@ -158,7 +158,7 @@ pub record CutsString {X : Type 0} (body_of : X → List ℕ) (quote : ℕ) (res
 pub record PassesContents (quote : ℕ) (old new : Parser) (body : List ℕ) : Type 0 where
   pub found : quote_end quote (rest_of old) ≡ Ok (length body)
   pub is : body ≡ take (length body) (rest_of old)
-  pub escaped : TellsBackslash body (length body) true
+  pub escaped : ReportsBackslash body (length body) true
   pub within : length body < length (rest_of old)
   pub rest : rest_of new ≡ drop (length body + 1) (rest_of old)
 
@@ -166,10 +166,10 @@ pub record PassesContents (quote : ℕ) (old new : Parser) (body : List ℕ) : T
 pub record PassesInteger (old new : Parser) : Type 0 where
   pub value : Num
   pub parses : parse_at scalar_at old ≡ Ok (number value, rest_of new)
-  pub stands : IsIntegerAt old.buf.now old.offset new.offset (number_source value)
+  pub holds : IsIntegerAt old.buf.now old.offset new.offset (number_source value)
 
 -- Such an integer is passed, where that is asked and one is found; else the parser stays.
-pub record KeepsInteger (is_asked result : Bool) (old new : Parser) : Type 0 where
+pub record PreservesInteger (is_asked result : Bool) (old new : Parser) : Type 0 where
   -- an integer was passed, or the parser stays
   pub passes : MatchBool result (PassesInteger old new) (new ≡ old)
   -- it was asked for

@@ -8,26 +8,26 @@ use Rattle.jsonb_spec.specs.Tree.{Mark, string}
 use Rattle.jsonb_parse.specs.Parser.{parse_at, rest_of}
 use Rattle.jsonb_parse.specs.declared.parser.Parser.{Parser}
 use Rattle.jsonb_scan.specs.Parsing.Scalar.{quoted_at}
-use Rattle.text_common.specs.KeptScalar.{IsKeptAt}
+use Rattle.text_common.specs.VerbatimScalar.{IsVerbatimAt}
 use Rattle.text_common.specs.ShortString.{IsShort}
-use Rattle.text_common.specs.declared.kept.Kept.{Kept}
+use Rattle.text_common.specs.declared.verbatim.Verbatim.{Verbatim}
 
--- The first bytes are contents of such a string, and are serialized as they stand where that is told.
+-- The first bytes are contents of such a string, and are serialized as they are where that is reported.
 pub record IsShortFront (bytes : List ℕ) (end : ℕ) (is_same : Bool) : Type 0 where
   pub text : List ℕ
   pub within : end ≤ length bytes
   pub short : IsShort (take end bytes) text
   pub same : is_same ≡ true → flat_map byte_text text ≡ take end bytes
 
--- The closing quote stands behind them.
+-- The closing quote is behind them.
 pub record IsShortEnd (bytes : List ℕ) (end : ℕ) (is_same : Bool) : Type 0 where
   pub front : IsShortFront bytes end is_same
   pub within : end < length bytes
   pub quote : slice_index bytes end ≡ ascii.quote
 
 -- Such a string was passed from the byte after its opening quote on.
-pub record PassesShort (old new : Parser) (kept : Kept) : Type 0 where
+pub record PassesShort (old new : Parser) (verbatim : Verbatim) : Type 0 where
   pub mark : Mark
   pub text : List ℕ
   pub parses : parse_at (λ size mode. quoted_at size mode ascii.quote) old ≡ Ok (string mark text, rest_of new)
-  pub stands : IsKeptAt kept old.buf.now (old.offset - 1) new.offset (string_source mark text)
+  pub holds : IsVerbatimAt verbatim old.buf.now (old.offset - 1) new.offset (string_source mark text)

@@ -8,12 +8,12 @@ use Rattle.jsonb_spec.specs.Source.{Source}
 -- the container is an array
 abbrev pub IsArray : Open → Type 0
 IsArray (elements_so_far ss) = Unit {0}
-IsArray (members_so_far fs key place) = ⊥
+IsArray (members_so_far fs key offset) = ⊥
 
 -- the container is an object
 abbrev pub IsObject : Open → Type 0
 IsObject (elements_so_far ss) = ⊥
-IsObject (members_so_far fs key place) = Unit {0}
+IsObject (members_so_far fs key offset) = Unit {0}
 
 -- The frame is an array's or an object's, as the container is.
 abbrev pub Fits : {I M K : Type 0} → Frame I M K → Open → Type 0
@@ -28,7 +28,7 @@ is_due (variants.Object o) = true
 -- A source of which this holds becomes the next part of the innermost container.
 abbrev pub Takes : {R I M K : Type 0} → (List ℕ → R → Bool → List (Frame I M K) → List Open → Type 0)
     → (List ℕ → Source → Type 0) → R → Frame I M K → R → Frame I M K → Type 0
-Takes {R} {I} {M} {K} Stands Is old before new after =
+Takes {R} {I} {M} {K} Holds Is old before new after =
     (text : List ℕ) → (s : Source) → (c : Open) → (fs : List (Frame I M K)) → (cs : List Open) → Fits before c
-    → Stands text old (is_due before) (before ∷ fs) (c ∷ cs) → Is text s
-    → Stands text new false (after ∷ fs) (add_part c s ∷ cs)
+    → Holds text old (is_due before) (before ∷ fs) (c ∷ cs) → Is text s
+    → Holds text new false (after ∷ fs) (add_part c s ∷ cs)

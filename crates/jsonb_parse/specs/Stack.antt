@@ -38,7 +38,7 @@ array_end ss rest = Ok (array_source_of ss, rest)
 abbrev pub object_end : List Found → List ℕ → Parse Source
 object_end fs rest = object_or_fault (first_repeat (map spot_of fs)) fs rest
 
--- a key with its colon, the place after the key, and what comes after the whitespace after the colon
+-- a key with its colon, the offset after the key, and what comes after the whitespace after the colon
 abbrev pub member_start : ℕ → Mode → List ℕ → Parse ((Mark × List ℕ) × ℕ)
 member_start size mode bytes =
     key_at size mode (skip_whitespace mode bytes) >>= λ k. on_byte ascii.colon (skip_whitespace mode k.1)
@@ -61,7 +61,7 @@ module _ (size : ℕ) (mode : Mode) (depth : ℕ) where
   resume_after_part (elements_so_far front) =
       parts_after size expected_array_comma_or_end ascii.close_bracket (element_at mode (value_at size mode depth))
       array_end front
-  resume_after_part (members_so_far front key place) =
+  resume_after_part (members_so_far front key offset) =
       parts_after size expected_object_comma_or_end ascii.close_brace (member_at size mode (value_at size mode depth))
       object_end
       front
@@ -89,4 +89,4 @@ object_within size mode (suc depth) = object_at size mode (value_at size mode de
 -- the container from the beginning of a part on
 abbrev pub next_part_at : ℕ → Mode → ℕ → Open → List ℕ → Parse Source
 next_part_at size mode depth (elements_so_far front) bytes = elements_from size mode depth front bytes
-next_part_at size mode depth (members_so_far front key place) bytes = object_members_from size mode depth front bytes
+next_part_at size mode depth (members_so_far front key offset) bytes = object_members_from size mode depth front bytes

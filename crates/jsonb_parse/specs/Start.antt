@@ -33,9 +33,9 @@ ComesNext variants.False bytes = Unit {0}
 ComesNext variants.Number bytes = Unit {0}
 ComesNext variants.NoValue bytes = Unit {0}
 
--- This tells what the bytes begin with.
+-- This says what the bytes begin with.
 pub record IsStart (start : Start) (mode : Mode) (bytes : List ℕ) : Type 0 where
-  -- A scalar is parsed as what it tells.
+  -- A scalar is parsed as what it says.
   pub scalar : (size : ℕ) → scalar_at size mode bytes ≡ scalar_from start size mode bytes
-  -- A bracket, a brace or a quote comes next, where it tells so.
+  -- A bracket, a brace or a quote comes next, where it says so.
   pub next : ComesNext start bytes

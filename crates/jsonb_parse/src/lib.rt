@@ -5,4 +5,4 @@ mod parser;
 
 pub use parser::handler::{Failed, Handler, Wants};
 pub use parser::{Frame, Mode, OpenObject, Scalar, Text, parse_text};
-pub use text_common::kept::Kept;
+pub use text_common::verbatim::Verbatim;

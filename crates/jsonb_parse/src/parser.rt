@@ -40,16 +40,16 @@ pub use text::{Scalar, Text};
 ///
 /// That of the first fault of the text, or `OutOfMemory`; or `None`, which only a handler that is silent returns.
 pub fn parse_text<'a, V: Handler<'a>>(
-    room: &mut V::Room,
+    sink: &mut V::Sink,
     alloc: Global,
     buf: &'a [u8],
     mode: Mode,
 ) -> std::result::Result<V, Option<Error>>
-    ensures parses { V.stands buf.now room.old true [] []
-        → BuildsAll V.silent (λ v s. V.filled buf.now room.new v s [] []) result (source_of (mode_of mode) buf.now) }
-    ensures memory { IfErr result (λ told. told ≡ Some Error.OutOfMemory
+    ensures parses { V.holds buf.now sink.old true [] []
+        → BuildsAll V.silent (λ v s. V.filled buf.now sink.new v s [] []) result (source_of (mode_of mode) buf.now) }
+    ensures memory { IfErr result (λ reported. reported ≡ Some Error.OutOfMemory
         → MayAllocate buf.now ⊎ IsWritten V.writes (source_of (mode_of mode) buf.now)) }
-    ensures base { V.base room.new ≡ V.base room.old }
+    ensures base { V.base sink.new ≡ V.base sink.old }
 {
     // Strings without escapes are cut out of the text, which is tested once. Where a comment isn't UTF-8, each string
     // is tested alone, as none can be cut out.
@@ -59,11 +59,11 @@ pub fn parse_text<'a, V: Handler<'a>>(
         mode,
         buf,
         offset: 0,
-        told: None,
+        reported: None,
     };
-    match parser.parse_document::<V>(room, text) {
+    match parser.parse_document::<V>(sink, text) {
         Ok(value) => Ok(value),
-        Err(Failed) => Err(parser.told),
+        Err(Failed) => Err(parser.reported),
     }
 }
 
@@ -82,7 +82,7 @@ fn whole_text(bytes: &[u8]) -> Option<&str>
     std::str::from_utf8(bytes).ok()
 }
 
-// A parser that stands at the index `offset` of its text.
+// A parser that is at the index `offset` of its text.
 #[derive(Drop)]
 struct Parser<'a> {
     alloc: Global,
@@ -90,12 +90,12 @@ struct Parser<'a> {
     buf: &'a [u8],
     offset: usize,
     // What is wrong, once a call failed.
-    told: Option<Error>,
+    reported: Option<Error>,
     ghost inside: { offset ≤ length buf.now },
 }
 
 impl<'a> Parser<'a> {
-    ghost use Rattle.jsonb_parse.specs.Parser.{Advances, IsTextOf, TakesByte, Tells, rest_of, size_of, source_at};
+    ghost use Rattle.jsonb_parse.specs.Parser.{Advances, IsTextOf, TakesByte, Reports, rest_of, size_of, source_at};
     ghost use Rattle.jsonb_parse.specs.Steps.{MakesScalar};
     ghost use Rattle.jsonb_scan.specs.Parsing.Scalar.{scalar_at};
 
@@ -150,13 +150,13 @@ impl<'a> Parser<'a> {
         }
     }
 
-    // Fails, and tells why.
+    // Fails, and says why.
     #[cold]
     #[inline(never)]
     fn fail(&mut self, error: Error) -> Failed
-        ensures { Tells (Some error) self.old self.new }
+        ensures { Reports (Some error) self.old self.new }
     {
-        self.told = Some(error);
+        self.reported = Some(error);
         Failed
     }
 
@@ -164,19 +164,19 @@ impl<'a> Parser<'a> {
     #[cold]
     #[inline(never)]
     fn out_of_memory(&mut self) -> Failed
-        ensures { Tells (Some Error.OutOfMemory) self.old self.new }
+        ensures { Reports (Some Error.OutOfMemory) self.old self.new }
     {
-        self.told = Some(Error::OutOfMemory);
+        self.reported = Some(Error::OutOfMemory);
         Failed
     }
 
-    // Fails, and tells nothing.
+    // Fails, and says nothing.
     #[cold]
     #[inline(never)]
     fn fail_silently(&mut self) -> Failed
-        ensures { Tells None self.old self.new }
+        ensures { Reports None self.old self.new }
     {
-        self.told = None;
+        self.reported = None;
         Failed
     }
 
@@ -187,7 +187,7 @@ impl<'a> Parser<'a> {
         made: std::result::Result<T, AllocError>,
     ) -> std::result::Result<T, Failed>
         ensures same { IfOk result (λ x. (made ≡ Ok x) × (self.new ≡ self.old)) }
-        ensures memory { IfErr result (λ _. self.new.told ≡ Some Error.OutOfMemory) }
+        ensures memory { IfErr result (λ _. self.new.reported ≡ Some Error.OutOfMemory) }
         ensures advances { Advances self.old self.new }
     {
         match made {
@@ -199,16 +199,16 @@ impl<'a> Parser<'a> {
     // A value with whitespace round it, up to the end of the text.
     fn parse_document<V: Handler<'a>>(
         &mut self,
-        room: &mut V::Room,
+        sink: &mut V::Sink,
         text: &'a str,
     ) -> std::result::Result<V, Failed>
         requires same { IsTextOf text.now self.old }
-        ensures parses { V.stands self.old.buf.now room.old true [] []
-            → ElseFails V.silent self.new.told result (source_at self.old) (λ v. (s : Source)
-            × V.filled self.old.buf.now room.new v s [] [] × (source_at self.old ≡ Ok s)) }
-        ensures memory { IfErr result (λ _. self.new.told ≡ Some Error.OutOfMemory → MayAllocate self.old.buf.now
+        ensures parses { V.holds self.old.buf.now sink.old true [] []
+            → ElseFails V.silent self.new.reported result (source_at self.old) (λ v. (s : Source)
+            × V.filled self.old.buf.now sink.new v s [] [] × (source_at self.old ≡ Ok s)) }
+        ensures memory { IfErr result (λ _. self.new.reported ≡ Some Error.OutOfMemory → MayAllocate self.old.buf.now
             ⊎ IsWritten V.writes (source_at self.old)) }
-        ensures base { V.base room.new ≡ V.base room.old }
+        ensures base { V.base sink.new ≡ V.base sink.old }
     {
         self.skip_closed_whitespace();
         if self.offset >= self.buf.len() {
@@ -216,17 +216,17 @@ impl<'a> Parser<'a> {
                 Mode::Standard => {
                     Err(self.fail(Error::Syntax(ParseErrorCode::InvalidEOF, self.buf.len())))
                 }
-                Mode::Extended => self.put_root::<V>(room, V::scalar(Scalar::Null)),
+                Mode::Extended => self.put_root::<V>(sink, V::scalar(Scalar::Null)),
             };
         }
         if self.opens_comment() {
             if let Err(error) = self.end_in_comment() {
                 return Err(self.fail(error));
             }
-            return self.put_root::<V>(room, V::scalar(Scalar::Null));
+            return self.put_root::<V>(sink, V::scalar(Scalar::Null));
         }
         if self.begins_container() {
-            let value = self.parse_container::<V>(room, text)?;
+            let value = self.parse_container::<V>(sink, text)?;
             if let Err(error) = self.end_document() {
                 value.dismantle();
                 return Err(self.fail(error));
@@ -237,11 +237,11 @@ impl<'a> Parser<'a> {
         if let Err(error) = self.end_document() {
             return Err(self.fail(error));
         }
-        self.put_root::<V>(room, value)
+        self.put_root::<V>(sink, value)
     }
 
-    // A scalar that is a text's value. It is a call of its own: inlined, it would keep the loop over parts from being
-    // so.
+    // A scalar that is a text's value. It is a call of its own: inlined, it would prevent the loop over parts from
+    // being so.
     #[inline(never)]
     fn parse_root_scalar<V: Handler<'a>>(&mut self, text: &'a str) -> std::result::Result<V, Failed>
         requires same { IsTextOf text.now self.old }
@@ -254,15 +254,15 @@ impl<'a> Parser<'a> {
     #[inline(always)]
     fn put_root<V: Handler<'a>>(
         &mut self,
-        room: &mut V::Room,
+        sink: &mut V::Sink,
         value: V,
     ) -> std::result::Result<V, Failed>
-        ensures put { IfOk result (λ v. (text : List ℕ) → (s : Source) → V.stands text room.old true [] []
-            → V.sees value s → V.filled text room.new v s [] []) }
-        ensures memory { IfErr result (λ _. (self.new.told ≡ Some Error.OutOfMemory) × (V.writes ≡ true)) }
-        ensures base { V.base room.new ≡ V.base room.old }
+        ensures put { IfOk result (λ v. (text : List ℕ) → (s : Source) → V.holds text sink.old true [] []
+            → V.sees value s → V.filled text sink.new v s [] []) }
+        ensures memory { IfErr result (λ _. (self.new.reported ≡ Some Error.OutOfMemory) × (V.writes ≡ true)) }
+        ensures base { V.base sink.new ≡ V.base sink.old }
     {
-        let Ok(()) = V::root(room, &value) else {
+        let Ok(()) = V::root(sink, &value) else {
             return Err(self.out_of_memory());
         };
         Ok(value)

@@ -1,4 +1,4 @@
-pub mod KeySpelling
+pub mod KeyEncoding
 pub mod PartIndex
 pub mod PlainKeys
 pub mod PartsReadBack

@@ -1,4 +1,4 @@
--- The index that a key spells is what parsing the key gives.
+-- The index that a key encodes is what parsing the key gives.
 use Rattle.std.proofs.Common.{◌≡◌, ◌≢◌, ◌<◌, ◌^◌, ℕ, Bool, true, false, ◌&&◌, List, [], ◌∷◌, length, drop, cond, if◌then◌else◌, IfNone, IfSome, Option, Some, None, Result, Ok, Err, refl, sym, ap, subst, ◌∙◌, arith}
 use Rattle.std.proofs.lemmas.Bool.{cond-true, cond-false, lt-ltb, ltb-true}
 use Rattle.std.specs.Bool.{nat_lt, ◌==◌}

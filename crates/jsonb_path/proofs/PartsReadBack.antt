@@ -60,7 +60,7 @@ module _ (P : Num → Type 0) where
 
   child_within : (t : Tree) (key : List ℕ) (u : Tree) (depth : ℕ) → IsChild t key u → IsWithin P t depth → IsWithin P u depth
   child_within (array ts) key u zero is w = absurd w
-  child_within (array ts) key u (suc depth) (index, spelled, at) w = deeper u depth (item_within ts depth index u w at)
+  child_within (array ts) key u (suc depth) (index, encoded, at) w = deeper u depth (item_within ts depth index u w at)
   child_within (object ms) key u zero is w = absurd w
   child_within (object ms) key u (suc depth) is w = deeper u depth (member_within (bytes_eq key) ms depth u w is)
   child_within t key u depth is w = absurd is
@@ -85,7 +85,7 @@ member_proper test (more_members key u ms) t p e = elim (first_or_later (test ke
 ]
 
 child_proper : (t : Tree) (key : List ℕ) (u : Tree) → IsChild t key u → IsProper t → IsProper u
-child_proper (array ts) key u (index, spelled, at) p = item_proper ts index u p at
+child_proper (array ts) key u (index, encoded, at) p = item_proper ts index u p at
 child_proper (object ms) key u is p = member_proper (bytes_eq key) ms u p.1 is
 child_proper t key u is p = absurd is
 

@@ -1,24 +1,24 @@
--- Keys that are spelled as they are.
+-- Keys that are encoded as they are.
 use Rattle.std.proofs.Common.{◌≡◌, ◌≢◌, ℕ, List, [], ◌+◌, ◌∷◌, ◌++◌, length, take, drop, None, arith, refl, sym, ap, subst, ◌∙◌, append_assoc}
 use Rattle.std.proofs.Math.Seq.{take-append_seam, drop-append_seam}
 use Rattle.std.proofs.lemmas.Bool.{ne_eqb}
 use Rattle.std.proofs.lemmas.List.{length-append}
-use Rattle.jsonb_path.specs.Path.{spelled_byte, spelled_key, spelled_keys, IsPath, IsPlainKey}
-use Rattle.jsonb_path.specs.KeySpelling.{byte_of, BeginsPlain}
-use Rattle.jsonb_path.proofs.KeySpelling.{cons_cons, ended, itself, nil_cons, one_key, spelled_key-append}
+use Rattle.jsonb_path.specs.Path.{encoded_byte, encoded_key, encoded_keys, IsPath, IsPlainKey}
+use Rattle.jsonb_path.specs.KeyEncoding.{byte_of, BeginsPlain}
+use Rattle.jsonb_path.proofs.KeyEncoding.{cons_cons, ended, itself, nil_cons, one_key, encoded_key-append}
 
--- the text so far is spelled as it is
+-- the text so far is encoded as it is
 pub record PlainSoFar (text rest : List ℕ) (len : ℕ) : Type 0 where
   pub key : List ℕ
   pub whole : text ≡ key ++ rest
-  pub spelled : spelled_key key ≡ key
+  pub encoded : encoded_key key ≡ key
   pub counted : len ≡ length key
   pub plain : IsPlainKey key
 
 pub plain_begun : (text : List ℕ) → PlainSoFar text text 0
-plain_begun text = record { key = []; whole = refl; spelled = refl; counted = refl; plain = tt }
+plain_begun text = record { key = []; whole = refl; encoded = refl; counted = refl; plain = tt }
 
-last_byte : (key : List ℕ) (byte : ℕ) → IsPlainKey key → spelled_byte byte ≡ byte ∷ [] → IsPlainKey (key ++ byte ∷ [])
+last_byte : (key : List ℕ) (byte : ℕ) → IsPlainKey key → encoded_byte byte ≡ byte ∷ [] → IsPlainKey (key ++ byte ∷ [])
 last_byte [] byte p one = (one, tt)
 last_byte (b ∷ key) byte p one = (p.0, last_byte key byte p.1 one)
 
@@ -26,7 +26,7 @@ pub plain_byte : (text rest others : List ℕ) (len next byte : ℕ) → PlainSo
 plain_byte text rest others len next byte p first one no_slash no_tilde = record {
   key = p.key ++ byte ∷ [];
   whole = p.whole ∙ ap (λ l. p.key ++ l) first ∙ sym (append_assoc p.key (byte ∷ []) others);
-  spelled = spelled_key-append p.key (byte ∷ []) ∙ ap (λ l. l ++ (spelled_byte byte ++ [])) p.spelled ∙ ap (λ l. p.key ++ (l ++ [])) (itself byte (ne_eqb byte 126 no_tilde) (ne_eqb byte 47 no_slash));
+  encoded = encoded_key-append p.key (byte ∷ []) ∙ ap (λ l. l ++ (encoded_byte byte ++ [])) p.encoded ∙ ap (λ l. p.key ++ (l ++ [])) (itself byte (ne_eqb byte 126 no_tilde) (ne_eqb byte 47 no_slash));
   counted = omega (arith, p.counted, one, length-append p.key (byte ∷ []));
   plain = last_byte p.key byte p.plain (itself byte (ne_eqb byte 126 no_tilde) (ne_eqb byte 47 no_slash));
 }
@@ -38,42 +38,42 @@ plain_ended text rest len p over =
     let back : drop len text ≡ rest = ap (λ n. drop n text) p.counted ∙ ap (drop (length p.key)) p.whole ∙ drop-append_seam p.key rest in
     record {
       whole = p.whole ∙ ap (λ l. l ++ rest) (sym front) ∙ ap (λ l. take len text ++ l) (sym back);
-      spelled = subst (λ key. spelled_key key ≡ key) (sym front) p.spelled;
+      encoded = subst (λ key. encoded_key key ≡ key) (sym front) p.encoded;
       ended = ap byte_of back ∙ over;
     }
 
--- where no byte is escaped, the key is spelled as it is
-pub plain_itself : (key : List ℕ) → IsPlainKey key → spelled_key key ≡ key
+-- where no byte is escaped, the key is encoded as it is
+pub plain_itself : (key : List ℕ) → IsPlainKey key → encoded_key key ≡ key
 plain_itself [] p = refl
-plain_itself (b ∷ key) p = ap (λ l. l ++ spelled_key key) p.0 ∙ ap (λ l. b ∷ l) (plain_itself key p.1)
+plain_itself (b ∷ key) p = ap (λ l. l ++ encoded_key key) p.0 ∙ ap (λ l. b ∷ l) (plain_itself key p.1)
 
 -- no byte of the path of keys that aren't escaped is a tilde
-pub tilde_among : (front key others : List ℕ) (keys : List (List ℕ)) → IsPlainKey front → IsPlainKey key → front ++ 126 ∷ others ≡ key ++ spelled_keys keys → ⊥
+pub tilde_among : (front key others : List ℕ) (keys : List (List ℕ)) → IsPlainKey front → IsPlainKey key → front ++ 126 ∷ others ≡ key ++ encoded_keys keys → ⊥
 tilde_among [] [] others [] p q same = nil_cons 126 others (sym same)
-tilde_among [] [] others (k ∷ keys) p q same = omega (arith, (cons_cons 126 47 others (spelled_key k ++ spelled_keys keys) same).0)
+tilde_among [] [] others (k ∷ keys) p q same = omega (arith, (cons_cons 126 47 others (encoded_key k ++ encoded_keys keys) same).0)
 tilde_among [] (b ∷ key) others keys p q same =
-    let tilde : 126 ≡ b = (cons_cons 126 b others (key ++ spelled_keys keys) same).0 in
-    let escaped : spelled_byte 126 ≡ 126 ∷ [] = subst (λ n. spelled_byte n ≡ n ∷ []) (sym tilde) q.0 in
+    let tilde : 126 ≡ b = (cons_cons 126 b others (key ++ encoded_keys keys) same).0 in
+    let escaped : encoded_byte 126 ≡ 126 ∷ [] = subst (λ n. encoded_byte n ≡ n ∷ []) (sym tilde) q.0 in
     nil_cons 48 [] (sym (cons_cons 126 126 (48 ∷ []) [] escaped).1)
 tilde_among (a ∷ front) [] others [] p q same = nil_cons a (front ++ 126 ∷ others) (sym same)
 tilde_among (a ∷ front) [] others (k ∷ keys) p q same =
-    let slash : a ≡ 47 = (cons_cons a 47 (front ++ 126 ∷ others) (spelled_key k ++ spelled_keys keys) same).0 in
-    let escaped : spelled_byte 47 ≡ 47 ∷ [] = subst (λ n. spelled_byte n ≡ n ∷ []) slash p.0 in
+    let slash : a ≡ 47 = (cons_cons a 47 (front ++ 126 ∷ others) (encoded_key k ++ encoded_keys keys) same).0 in
+    let escaped : encoded_byte 47 ≡ 47 ∷ [] = subst (λ n. encoded_byte n ≡ n ∷ []) slash p.0 in
     omega (arith, (cons_cons 126 47 (49 ∷ []) [] escaped).0)
 tilde_among (a ∷ front) (b ∷ key) others keys p q same =
-    tilde_among front key others keys p.1 q.1 (cons_cons a b (front ++ 126 ∷ others) (key ++ spelled_keys keys) same).1
+    tilde_among front key others keys p.1 q.1 (cons_cons a b (front ++ 126 ∷ others) (key ++ encoded_keys keys) same).1
 
 -- where a tilde comes next, a byte is escaped
-pub plain_stopped : (text rest others : List ℕ) (len byte : ℕ) → PlainSoFar text rest len → rest ≡ byte ∷ others → byte ≡ 126 → (key : List ℕ) → (keys : List (List ℕ)) → text ≡ key ++ spelled_keys keys → IsPlainKey key → ⊥
+pub plain_stopped : (text rest others : List ℕ) (len byte : ℕ) → PlainSoFar text rest len → rest ≡ byte ∷ others → byte ≡ 126 → (key : List ℕ) → (keys : List (List ℕ)) → text ≡ key ++ encoded_keys keys → IsPlainKey key → ⊥
 plain_stopped text rest others len byte p first tilde = λ key keys same plain.
     tilde_among p.key key others keys p.plain plain (ap (λ n. p.key ++ n ∷ others) (sym tilde) ∙ ap (λ l. p.key ++ l) (sym first) ∙ sym p.whole ∙ same)
 
--- what stands behind the slash of a path
-pub behind_slash : (path text key : List ℕ) (keys : List (List ℕ)) → path ≡ 47 ∷ text → IsPath path (key ∷ keys) → text ≡ spelled_key key ++ spelled_keys keys
-behind_slash path text key keys first is_path = (cons_cons 47 47 text (spelled_key key ++ spelled_keys keys) (sym first ∙ is_path.spelled)).1
+-- what is behind the slash of a path
+pub behind_slash : (path text key : List ℕ) (keys : List (List ℕ)) → path ≡ 47 ∷ text → IsPath path (key ∷ keys) → text ≡ encoded_key key ++ encoded_keys keys
+behind_slash path text key keys first is_path = (cons_cons 47 47 text (encoded_key key ++ encoded_keys keys) (sym first ∙ is_path.encoded)).1
 
 -- the key that the path begins with is the one that is read
 pub key_read : (path text name others key : List ℕ) (keys : List (List ℕ)) → path ≡ 47 ∷ text → BeginsPlain text name others → IsPath path (key ∷ keys) → name ≡ key
 key_read path text name others key keys first plain is_path =
-    let whole : spelled_key name ++ others ≡ spelled_key key ++ spelled_keys keys = ap (λ l. l ++ others) plain.spelled ∙ sym plain.whole ∙ behind_slash path text key keys first is_path in
-    (one_key name key others (spelled_keys keys) plain.ended (ended keys) whole).0
+    let whole : encoded_key name ++ others ≡ encoded_key key ++ encoded_keys keys = ap (λ l. l ++ others) plain.encoded ∙ sym plain.whole ∙ behind_slash path text key keys first is_path in
+    (one_key name key others (encoded_keys keys) plain.ended (ended keys) whole).0

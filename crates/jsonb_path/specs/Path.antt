@@ -3,30 +3,30 @@ use Rattle.std.specs.Prelude.{◌≡◌, ℕ, List, [], ◌∷◌, ◌++◌, cod
 use Rattle.std.specs.List.{AllByRecursion}
 use Rattle.jsonb_spec.specs.Ascii as ascii
 
--- how a byte of a key is spelled: `~0` is `~`, and `~1` is `/`
-abbrev pub spelled_byte : ℕ → List ℕ
-spelled_byte byte = if byte == ascii.tilde then codes "~0" else if byte == ascii.slash then codes "~1" else byte ∷ []
+-- how a byte of a key is encoded: `~0` is `~`, and `~1` is `/`
+abbrev pub encoded_byte : ℕ → List ℕ
+encoded_byte byte = if byte == ascii.tilde then codes "~0" else if byte == ascii.slash then codes "~1" else byte ∷ []
 
--- how a key is spelled
-abbrev pub spelled_key : List ℕ → List ℕ
-spelled_key [] = []
-spelled_key (byte ∷ bytes) = spelled_byte byte ++ spelled_key bytes
+-- how a key is encoded
+abbrev pub encoded_key : List ℕ → List ℕ
+encoded_key [] = []
+encoded_key (byte ∷ bytes) = encoded_byte byte ++ encoded_key bytes
 
--- how a path is spelled: a slash before each key
-abbrev pub spelled_keys : List (List ℕ) → List ℕ
-spelled_keys [] = []
-spelled_keys (key ∷ keys) = ascii.slash ∷ (spelled_key key ++ spelled_keys keys)
+-- how a path is encoded: a slash before each key
+abbrev pub encoded_keys : List (List ℕ) → List ℕ
+encoded_keys [] = []
+encoded_keys (key ∷ keys) = ascii.slash ∷ (encoded_key key ++ encoded_keys keys)
 
--- The bytes spell the path of these keys, each of which is a text.
+-- The bytes encode the path of these keys, each of which is a text.
 pub record IsPath (bytes : List ℕ) (keys : List (List ℕ)) : Type 0 where
   pub texts : AllByRecursion IsUtf8 keys
-  pub spelled : bytes ≡ spelled_keys keys
+  pub encoded : bytes ≡ encoded_keys keys
 
--- No byte of the key is escaped where the key is spelled.
+-- No byte of the key is escaped where the key is encoded.
 abbrev pub IsPlainKey : List ℕ → Type 0
-IsPlainKey key = AllByRecursion (λ byte. spelled_byte byte ≡ byte ∷ []) key
+IsPlainKey key = AllByRecursion (λ byte. encoded_byte byte ≡ byte ∷ []) key
 
--- The bytes spell the path of these keys, no byte of which is escaped.
+-- The bytes encode the path of these keys, no byte of which is escaped.
 pub record IsPlainPath (bytes : List ℕ) (keys : List (List ℕ)) : Type 0 where
   pub is_path : IsPath bytes keys
   pub plain : AllByRecursion IsPlainKey keys

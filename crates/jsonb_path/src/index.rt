@@ -1,4 +1,4 @@
-//! The index of an item, as a key of a path spells it.
+//! The index of an item, as a key of a path encodes it.
 ghost use Rattle.std.specs.Prelude.{◌≡◌, ◌<◌, ◌^◌, ℕ, IfNone, IfSome};
 ghost use Rattle.jsonb_spec.specs.PartAt.{IsIndex, index_named, leads_well};
 

@@ -2,8 +2,8 @@
 
 ghost use Rattle.std.specs.Prelude.{◌≡◌, ◌<◌, ◌≤◌, ℕ, List, ◌++◌, ◌∷◌, length, take, drop, map, string_bytes, option_map, None, IfOk, IfErr, IfSome, IfNone, IsUtf8};
 ghost use Rattle.jsonb_spec.specs.Ascii as ascii;
-ghost use Rattle.jsonb_path.specs.Path.{spelled_key, spelled_keys, IsPath, IsPlainKey, StartsKey};
-ghost use Rattle.jsonb_path.specs.KeySpelling.{escape_of, byte_of, BeginsPlain};
+ghost use Rattle.jsonb_path.specs.Path.{encoded_key, encoded_keys, IsPath, IsPlainKey, StartsKey};
+ghost use Rattle.jsonb_path.specs.KeyEncoding.{escape_of, byte_of, BeginsPlain};
 
 use std::alloc::{AllocError, Global};
 
@@ -31,7 +31,7 @@ pub fn read_keys(alloc: Global, path: &[u8]) -> Result<Option<Vec<String>>, Allo
     Ok(Some(keys))
 }
 
-/// The first key of a path as it stands there, and what is left; `None` where the path doesn't begin with a key, or
+/// The first key of a path as it is there, and what is left; `None` where the path doesn't begin with a key, or
 /// where an escape is in the key, or where the key isn't UTF-8.
 pub fn plain_key(path: &[u8]) -> Option<(&str, &[u8])>
     ensures plain { IfSome result (λ r. (text : List ℕ) × (path.now ≡ ascii.slash ∷ text)
@@ -55,7 +55,7 @@ pub fn plain_key(path: &[u8]) -> Option<(&str, &[u8])>
 fn plain_len(text: &[u8]) -> Option<usize>
     ensures plain { IfSome result (λ len. BeginsPlain text.now (take len text.now) (drop len text.now)) }
     ensures within { IfSome result (λ len. len ≤ length text.now) }
-    ensures none { IfNone result ((key : List ℕ) → (keys : List (List ℕ)) → text.now ≡ key ++ spelled_keys keys
+    ensures none { IfNone result ((key : List ℕ) → (keys : List (List ℕ)) → text.now ≡ key ++ encoded_keys keys
         → IsPlainKey key → ⊥) }
 {
     let mut rest = text;
@@ -73,9 +73,9 @@ fn plain_len(text: &[u8]) -> Option<usize>
     Some(len)
 }
 
-// The key whose spelling the text begins with, up to what spells no byte of a key, and what is left.
+// The key whose encoding the text begins with, up to what encodes no byte of a key, and what is left.
 fn read_key(alloc: Global, text: &[u8]) -> Result<(Vec<u8>, &[u8]), AllocError>
-    ensures key { IfOk result (λ r. text.now ≡ spelled_key r.0.items ++ r.1.now) }
+    ensures key { IfOk result (λ r. text.now ≡ encoded_key r.0.items ++ r.1.now) }
     ensures whole { IfOk result (λ r. byte_of r.1.now ≡ None) }
     ensures within { IfOk result (λ r. length r.1.now ≤ length text.now) }
 {
@@ -88,7 +88,7 @@ fn read_key(alloc: Global, text: &[u8]) -> Result<(Vec<u8>, &[u8]), AllocError>
     Ok((key, rest))
 }
 
-// The byte of a key whose spelling the text begins with, and what is left.
+// The byte of a key whose encoding the text begins with, and what is left.
 fn read_byte(text: &[u8]) -> Option<(u8, &[u8])>
     ensures byte { option_map (λ r. (r.0, r.1.now)) result ≡ byte_of text.now }
     ensures shorter { IfSome result (λ r. length r.1.now < length text.now) }
@@ -101,7 +101,7 @@ fn read_byte(text: &[u8]) -> Option<(u8, &[u8])>
     }
 }
 
-// The byte that an escape stands for by what follows its `~`, and what is left.
+// The byte that an escape means by what follows its `~`, and what is left.
 fn read_escape(text: &[u8]) -> Option<(u8, &[u8])>
     ensures byte { option_map (λ r. (r.0, r.1.now)) result ≡ escape_of text.now }
     ensures shorter { IfSome result (λ r. length r.1.now < length text.now) }

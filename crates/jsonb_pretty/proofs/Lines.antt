@@ -12,14 +12,14 @@ use Rattle.jsonb_value.proofs.Appending.Pieces.{texts_left}
 use Rattle.jsonb_value.proofs.Values.Members.{Entry}
 use Rattle.jsonb_spec.specs.Indented.{new_line, enclose, indented_text, item_lines, member_lines}
 
--- an item's line stands first in what is left
+-- an item's line is first in what is left
 pub next_item : (indent margin : ℕ) (vs : List Value) (i : ℕ) (v : Value) → i < length vs → v ≡ get_or vs i v
     → item_lines indent margin (trees_view (drop i vs)) ≡ (new_line margin ++ indented_text indent margin (view v)) ∷ item_lines indent margin (trees_view (drop (i + 1) vs))
 next_item indent margin vs i v h e =
     ap (λ us. item_lines indent margin (trees_view us)) (drop-cons vs i v h)
     ∙ (λ j. (new_line margin ++ indented_text indent margin (view (sym e j))) ∷ item_lines indent margin (trees_view (drop (sym (add-one i) j) vs)))
 
--- a member's line stands first in what is left
+-- a member's line is first in what is left
 pub next_member : (indent margin : ℕ) (es others : List Entry) (e : Entry) → es ≡ e ∷ others
     → member_lines indent margin (members_view es) ≡ (new_line margin ++ (quoted_text (string_bytes e.0) ++ 58 ∷ 32 ∷ indented_text indent margin (view e.1))) ∷ member_lines indent margin (members_view others)
 next_member indent margin es others e next = ap (λ fs. member_lines indent margin (members_view fs)) next

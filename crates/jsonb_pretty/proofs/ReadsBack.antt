@@ -23,8 +23,8 @@ use Rattle.jsonb_value.proofs.Trees.MembersInOrder.{distinct_keys, put_all-ascen
 use Rattle.jsonb_value.proofs.Trees.OneText.{same_bytes, both_equal, IsShort, IsTextByte, text_first}
 use Rattle.jsonb_value.proofs.Trees.Ranges.{widened}
 use Rattle.jsonb_value.proofs.Trees.Runs.{heads, tails}
-use Rattle.jsonb_value.proofs.Trees.TextsReadBack.{no_whitespace_alone, double_quote, SpellsSameNumber, HaveSpelled, same_ascent, read_tree}
-use Rattle.jsonb_spec.specs.Indented.{new_line, indented_text, item_lines, member_lines, StandsFor}
+use Rattle.jsonb_value.proofs.Trees.TextsReadBack.{no_whitespace_alone, double_quote, EncodesSameNumber, HaveEncoded, same_ascent, read_tree}
+use Rattle.jsonb_spec.specs.Indented.{new_line, indented_text, item_lines, member_lines, Represents}
 
 -- ---- whitespace
 
@@ -67,27 +67,27 @@ behind_line mode margin bytes h = behind_spaces mode margin bytes (behind_first 
 
 -- ---- parts over lines
 
--- each line spells its part
+-- each line encodes its part
 abbrev Each : {A : Type 0} → (List ℕ → A → Type 0) → List (List ℕ) → List A → Type 0
-Each Spells [] [] = Unit {0}
-Each Spells [] (x ∷ xs) = ⊥
-Each Spells (line ∷ lines) [] = ⊥
-Each Spells (line ∷ lines) (x ∷ xs) = Spells line x × Each Spells lines xs
+Each Encodes [] [] = Unit {0}
+Each Encodes [] (x ∷ xs) = ⊥
+Each Encodes (line ∷ lines) [] = ⊥
+Each Encodes (line ∷ lines) (x ∷ xs) = Encodes line x × Each Encodes lines xs
 
 -- lines that may have more behind the last of them
-joined_lines : {A : Type 0} (Spells : List ℕ → A → Type 0) (close : List ℕ) → ((bytes : List ℕ) (a : A) → Spells bytes a → Spells (bytes ++ close) a)
-    → (line : List ℕ) (lines : List (List ℕ)) (x : A) (xs : List A) → Spells line x → Each Spells lines xs → IsJoined Spells (with_commas (line ∷ lines) ++ close) (x ∷ xs)
-joined_lines Spells close closes line [] x [] h k =
-    subst (λ bytes. IsJoined Spells (bytes ++ close) (x ∷ [])) (sym (append-nil line)) (one_part (closes line x h))
-joined_lines Spells close closes line [] x (y ∷ xs) h k = absurd k
-joined_lines Spells close closes line (other ∷ lines) x [] h k = absurd k
-joined_lines Spells close closes line (other ∷ lines) x (y ∷ xs) h k =
-    subst (λ bytes. IsJoined Spells bytes (x ∷ y ∷ xs)) (sym (append_assoc line (44 ∷ with_commas (other ∷ lines)) close))
-    (more_parts {first = line} {rest = with_commas (other ∷ lines) ++ close} h (joined_lines Spells close closes other lines y xs k.0 k.1))
+joined_lines : {A : Type 0} (Encodes : List ℕ → A → Type 0) (close : List ℕ) → ((bytes : List ℕ) (a : A) → Encodes bytes a → Encodes (bytes ++ close) a)
+    → (line : List ℕ) (lines : List (List ℕ)) (x : A) (xs : List A) → Encodes line x → Each Encodes lines xs → IsJoined Encodes (with_commas (line ∷ lines) ++ close) (x ∷ xs)
+joined_lines Encodes close closes line [] x [] h k =
+    subst (λ bytes. IsJoined Encodes (bytes ++ close) (x ∷ [])) (sym (append-nil line)) (one_part (closes line x h))
+joined_lines Encodes close closes line [] x (y ∷ xs) h k = absurd k
+joined_lines Encodes close closes line (other ∷ lines) x [] h k = absurd k
+joined_lines Encodes close closes line (other ∷ lines) x (y ∷ xs) h k =
+    subst (λ bytes. IsJoined Encodes bytes (x ∷ y ∷ xs)) (sym (append_assoc line (44 ∷ with_commas (other ∷ lines)) close))
+    (more_parts {first = line} {rest = with_commas (other ∷ lines) ++ close} h (joined_lines Encodes close closes other lines y xs k.0 k.1))
 
-padded_more : {A : Type 0} (mode : Mode) (Spells : List ℕ → A → Type 0) (close : List ℕ) → IsWhitespace mode close → (bytes : List ℕ) (a : A) → IsPadded mode Spells bytes a → IsPadded mode Spells (bytes ++ close) a
-padded_more mode Spells close piece bytes a (padded {before = before} {core = core} {after = after} p h q) =
-    subst (λ b. IsPadded mode Spells b a) (sym (append_assoc before (core ++ after) close ∙ ap (λ b. before ++ b) (append_assoc core after close)))
+padded_more : {A : Type 0} (mode : Mode) (Encodes : List ℕ → A → Type 0) (close : List ℕ) → IsWhitespace mode close → (bytes : List ℕ) (a : A) → IsPadded mode Encodes bytes a → IsPadded mode Encodes (bytes ++ close) a
+padded_more mode Encodes close piece bytes a (padded {before = before} {core = core} {after = after} p h q) =
+    subst (λ b. IsPadded mode Encodes b a) (sym (append_assoc before (core ++ after) close ∙ ap (λ b. before ++ b) (append_assoc core after close)))
     (padded {before = before} {core = core} {after = after ++ close} p h (more_after mode after close q piece))
 
 element_more : (mode : Mode) (Value : List ℕ → Tree → Type 0) (close : List ℕ) → IsWhitespace mode close → (bytes : List ℕ) (t : Tree) → IsElement mode Value bytes t → IsElement mode Value (bytes ++ close) t
@@ -100,9 +100,9 @@ member_more mode Value close piece bytes m (key_and_value {left = left} {right =
     (key_and_value {left = left} {right = right ++ close} {key = key} {t = t} k (padded_more mode Value close piece right t v))
 
 -- whitespace before what is padded
-pad_before : {A : Type 0} (mode : Mode) (Spells : List ℕ → A → Type 0) (before core : List ℕ) (a : A) → IsWhitespace mode before → Spells core a → IsPadded mode Spells (before ++ core) a
-pad_before mode Spells before core a piece h =
-    subst (λ bytes. IsPadded mode Spells (before ++ bytes) a) (append-nil core) (padded {before = before} {core = core} {after = []} piece h no_whitespace)
+pad_before : {A : Type 0} (mode : Mode) (Encodes : List ℕ → A → Type 0) (before core : List ℕ) (a : A) → IsWhitespace mode before → Encodes core a → IsPadded mode Encodes (before ++ core) a
+pad_before mode Encodes before core a piece h =
+    subst (λ bytes. IsPadded mode Encodes (before ++ bytes) a) (append-nil core) (padded {before = before} {core = core} {after = []} piece h no_whitespace)
 
 item_line : (mode : Mode) (Value : List ℕ → Tree → Type 0) (margin : ℕ) (bytes : List ℕ) (t : Tree) → Value bytes t → IsElement mode Value (new_line margin ++ bytes) t
 item_line mode Value margin bytes t h = whole_element (pad_before mode Value (new_line margin) bytes t (line_is_piece mode margin) h)
@@ -120,9 +120,9 @@ member_line mode Value margin k bytes t utf8 h =
 
 -- two objects have the same keys
 abbrev HaveSameKeys : Members → Members → Type 0
-HaveSameKeys = HaveSpelled (λ bytes t. Unit {0})
+HaveSameKeys = HaveEncoded (λ bytes t. Unit {0})
 
-module _ (mode : Mode) (IsIn : Num → Type 0) (short : (n : Num) → IsProperNumber n → IsIn n → IsShort n) (number_reads_back : (n : Num) → IsProperNumber n → IsIn n → SpellsSameNumber mode (number_text n) n) (indent : ℕ) where
+module _ (mode : Mode) (IsIn : Num → Type 0) (short : (n : Num) → IsProperNumber n → IsIn n → IsShort n) (number_reads_back : (n : Num) → IsProperNumber n → IsIn n → EncodesSameNumber mode (number_text n) n) (indent : ℕ) where
   -- the bytes are derived for a tree that is the same
   record IsReadAs (depth : ℕ) (bytes : List ℕ) (t : Tree) : Type 0 where
     tree : Tree
@@ -140,7 +140,7 @@ module _ (mode : Mode) (IsIn : Num → Type 0) (short : (n : Num) → IsProperNu
     keys : HaveSameKeys ms members
     same : members_cmp members ms ≡ Equal
 
-  -- what stands on one line is as `tree_text` has it
+  -- what is on one line is as `tree_text` has it
   on_one_line : (t : Tree) (depth : ℕ) → IsProper t → IsWithin IsIn t depth → IsReadAs depth (tree_text t) t
   on_one_line t depth p w =
       let r = read_tree mode IsIn short number_reads_back t depth p w in
@@ -248,8 +248,8 @@ module _ (mode : Mode) (IsIn : Num → Type 0) (short : (n : Num) → IsProperNu
     read_each_member no_members margin depth p w = record { members = no_members; each = tt; keys = tt; same = refl }
     read_each_member (more_members k t ms) margin depth p w = read_next_member k t ms margin depth p.0 (read_lines t margin depth p.1 w.0) (read_each_member ms margin depth p.2 w.1)
 
-  lines_stand_for : (t : Tree) → IsProper t → IsWithin IsIn t max_depth → StandsFor mode (indented_text indent 0 t) t
-  lines_stand_for t p w =
+  lines_represent : (t : Tree) → IsProper t → IsWithin IsIn t max_depth → Represents mode (indented_text indent 0 t) t
+  lines_represent t p w =
       let r = read_lines t 0 max_depth p w in
       record {
         tree = r.tree;
@@ -258,6 +258,6 @@ module _ (mode : Mode) (IsIn : Num → Type 0) (short : (n : Num) → IsProperNu
       }
 
 -- what is written over lines of a tree in a mode's range is a document of the mode
-pub range_stands_for : (mode : Mode) (indent : ℕ) (t : Tree) → IsProper t → IsInRangeOf mode t → StandsFor mode (indented_text indent 0 t) t
-range_stands_for standard indent t p w = lines_stand_for standard IsIntegral integral_short integer_reads_back indent t p w
-range_stands_for extended indent t p w = lines_stand_for extended HasFewDigits in_texts_short extended_reads_back indent t p w
+pub range_represents : (mode : Mode) (indent : ℕ) (t : Tree) → IsProper t → IsInRangeOf mode t → Represents mode (indented_text indent 0 t) t
+range_represents standard indent t p w = lines_represent standard IsIntegral integral_short integer_reads_back indent t p w
+range_represents extended indent t p w = lines_represent extended HasFewDigits in_texts_short extended_reads_back indent t p w

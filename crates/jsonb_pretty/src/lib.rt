@@ -14,7 +14,7 @@ ghost use Rattle.jsonb_spec.specs.Text.{has_text, items_have_texts, members_have
 ghost use Rattle.jsonb_spec.specs.Tree.{array, object};
 ghost use Rattle.jsonb_value.specs.View.{view, trees_view, members_view};
 ghost use Rattle.jsonb_pretty.specs.Lines.{AppendsLines};
-ghost use Rattle.jsonb_spec.specs.Indented.{new_line, indented_text, item_lines, member_lines, StandsFor};
+ghost use Rattle.jsonb_spec.specs.Indented.{new_line, indented_text, item_lines, member_lines, Represents};
 
 use jsonb_value::error::{Error, Result};
 use jsonb_value::value::{Object, Value};
@@ -53,7 +53,7 @@ pub fn write_text_indented(value: &Value<'_>, indent: usize, buf: &mut Vec<u8>) 
     ensures proper { OnOk result (IsProper (view value.now)) }
     // What is written of a value in a mode's range is a document of the mode, of the same value.
     ensures reads_back { OnOk result ((mode : Mode) → IsInRangeOf mode (view value.now)
-        → StandsFor mode (indented_text indent 0 (view value.now)) (view value.now)) }
+        → Represents mode (indented_text indent 0 (view value.now)) (view value.now)) }
 {
     let old_len = buf.len();
     if append(value, indent, 0, buf).is_ok() {
@@ -184,7 +184,7 @@ fn append_member_lines<'a>(
     Ok(())
 }
 
-// The margin of what stands in an array or an object. Where it is no number there is no room for it.
+// The margin of what is in an array or an object. Where it is no number there is no space for it.
 fn inner_margin(
     indent: usize,
     margin: usize,

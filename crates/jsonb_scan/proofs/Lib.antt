@@ -1,6 +1,6 @@
 pub mod Containers
 pub mod Numbers
-pub mod Places
+pub mod Offsets
 pub mod Scalars
 pub mod Steps
 pub mod Strings

@@ -14,7 +14,7 @@ pub mod HexadecimalAnswers
 pub mod HexadecimalMeaning
 pub mod HexadecimalTexts
 pub mod HexadecimalValues
-pub mod Kept
+pub mod Verbatim
 pub mod Runs
 pub mod Scan
 pub mod ScanStates

@@ -9,19 +9,19 @@ use Rattle.jsonb_scan.specs.declared.parser.Mode as parser
 use Rattle.jsonb_scan.specs.declared.parser.Mode.TheVariants.{Standard, Extended}
 use Rattle.jsonb_scan.specs.Parsing.{Fault}
 
--- the grammar that a parser's mode stands for
+-- the grammar that a parser's mode means
 abbrev pub mode_of : parser.Mode → Mode
 mode_of Standard = standard
 mode_of Extended = extended
 
 -- the error names this fault
 abbrev pub NamesFault : Error → Fault → Type 0
-NamesFault (Syntax code place) f = f ≡ record { code = code_of code; place = place }
+NamesFault (Syntax code offset) f = f ≡ record { code = code_of code; offset = offset }
 NamesFault other f = ⊥
 
 -- The error is the fault that parsing gives, or want of memory.
 abbrev pub Fails : {Y : Type 0} → Error → Result Y Fault → Type 0
-Fails (Syntax code place) read = read ≡ Err (record { code = code_of code; place = place })
+Fails (Syntax code offset) read = read ≡ Err (record { code = code_of code; offset = offset })
 Fails OutOfMemory read = Unit {0}
 Fails other read = ⊥
 
@@ -32,7 +32,7 @@ Gives view (Err e) read = Fails e read
 
 -- a fault of the text, or want of memory
 abbrev pub IsTextError : Error → Type 0
-IsTextError (Syntax code place) = Unit {0}
+IsTextError (Syntax code offset) = Unit {0}
 IsTextError OutOfMemory = Unit {0}
 IsTextError other = ⊥
 

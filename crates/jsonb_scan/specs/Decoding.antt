@@ -4,7 +4,7 @@ use Rattle.std.specs.List.{flat_map, AllByRecursion}
 use Rattle.jsonb_spec.specs.Ascii as ascii
 use Rattle.jsonb_spec.specs.Mode.{Mode}
 use Rattle.jsonb_spec.specs.Code.{Code}
-use Rattle.jsonb_spec.specs.Grammar.StringBody.{Item, after_u, spelling, IsItem, IsHexDigit, meaning}
+use Rattle.jsonb_spec.specs.Grammar.StringBody.{Item, after_u, encoding, IsItem, IsHexDigit, meaning}
 use Rattle.jsonb_spec.specs.Grammar.StringFault.{BadUnit, IsCutShort}
 use Rattle.std.specs.Str.Parse.{digits_value}
 
@@ -26,8 +26,8 @@ pub record ParsesUnit (bytes digits rest : List ℕ) (value : ℕ) : Type 0 wher
 pub record DecodesUpTo (mode : Mode) (bytes rest text : List ℕ) : Type 0 where
   pub items : List Item
   pub each : AllByRecursion (IsItem mode) items
-  pub spelled : bytes ≡ flat_map spelling items ++ rest
-  pub meant : (tail : List Item) → rest ≡ flat_map spelling tail → meaning (items ++ tail) ≡ text ++ meaning tail
+  pub encoded : bytes ≡ flat_map encoding items ++ rest
+  pub meant : (tail : List Item) → rest ≡ flat_map encoding tail → meaning (items ++ tail) ≡ text ++ meaning tail
   pub short : length text + length rest ≤ length bytes
 
 -- The bytes are items, which mean some text, and then the rest.
@@ -80,6 +80,6 @@ pub record CopiesRun (bytes rest old new : List ℕ) : Type 0 where
   pub begins : 0 < length rest → slice_index rest 0 ≡ ascii.backslash
 
 -- whether a backslash is among the first bytes
-abbrev pub TellsBackslash : List ℕ → ℕ → Bool → Type 0
-TellsBackslash bytes count true = SeesBackslash bytes count
-TellsBackslash bytes count false = SeesNoBackslash bytes count
+abbrev pub ReportsBackslash : List ℕ → ℕ → Bool → Type 0
+ReportsBackslash bytes count true = SeesBackslash bytes count
+ReportsBackslash bytes count false = SeesNoBackslash bytes count

@@ -5,5 +5,5 @@ pub mod QuotedString
 pub mod Parsing
 pub mod ScannedNumber
 pub mod ShortInteger
-pub mod Spelled
+pub mod Encoded
 pub mod StringError

@@ -11,10 +11,10 @@ pub mod String
 use Rattle.std.specs.Prelude.{ℕ, ◌+◌, ◌-◌, Bool, true, false, List, [], ◌∷◌, length, Result, Ok, Err, ◌==◌, if◌then◌else◌}
 use Rattle.jsonb_spec.specs.Code.{Code, invalid_eof}
 
--- A fault, and the place in the whole input that it names.
+-- A fault, and the offset in the whole input that it names.
 pub record Fault : Type 0 where
   pub code : Code
-  pub place : ℕ
+  pub offset : ℕ
 
 -- what is parsed and the bytes after it, or a fault
 abbrev pub Parse : Type 0 → Type 0
@@ -37,12 +37,12 @@ begins c bytes = on_byte c bytes (λ rest. true) false
 -- ---- faults, in an input of this size
 
 abbrev pub fault : {A : Type 0} → Code → ℕ → Result A Fault
-fault code place = Err (record { code = code; place = place })
+fault code offset = Err (record { code = code; offset = offset })
 
--- the end of the input, or a byte that may not stand here, which is named by its index and a step
+-- the end of the input, or a byte that may not be here, which is named by its index and a step
 abbrev pub fault_at : ℕ → Code → ℕ → List ℕ → Fault
-fault_at size code step [] = record { code = invalid_eof; place = size }
-fault_at size code step (b ∷ bytes) = record { code = code; place = size - length (b ∷ bytes) + step }
+fault_at size code step [] = record { code = invalid_eof; offset = size }
+fault_at size code step (b ∷ bytes) = record { code = code; offset = size - length (b ∷ bytes) + step }
 
 abbrev pub reject : {A : Type 0} → ℕ → Code → ℕ → List ℕ → Result A Fault
 reject size code step bytes = Err (fault_at size code step bytes)

@@ -17,20 +17,20 @@ use Rattle.jsonb_scan.specs.declared.parser.string.StringEnd.{StringEnd}
 use Rattle.jsonb_scan.specs.declared.parser.string.StringEnd.TheVariants.{Closed, Unclosed}
 use Rattle.jsonb_scan.specs.declared.parser.key.KeyEnd.{KeyEnd}
 use Rattle.jsonb_scan.specs.declared.parser.key.KeyEnd.TheVariants as key_ends
-use Rattle.jsonb_scan.specs.Decoding.{TellsBackslash}
+use Rattle.jsonb_scan.specs.Decoding.{ReportsBackslash}
 use Rattle.jsonb_scan.specs.Parsing.BareKey.{key_end}
 use Rattle.jsonb_scan.specs.Parsing.String.{Body, items_within, quote_end}
 
 -- the search ends where parsing does; and whether a backslash was passed
 abbrev pub EndsString : ℕ → List ℕ → StringEnd → Type 0
-EndsString quote bytes (Closed end escaped) = (quote_end quote bytes ≡ Ok end) × TellsBackslash bytes end escaped
+EndsString quote bytes (Closed end escaped) = (quote_end quote bytes ≡ Ok end) × ReportsBackslash bytes end escaped
 EndsString quote bytes (Unclosed at) = (quote_end quote bytes ≡ Err at) × (at < length bytes + 8)
 
 -- The text and its mark are those that are parsed of the body, or the fault is, where the decoder counts from `idx`.
 abbrev pub DecodesContents : ℕ → Result (CowStr Global) Error → Body (Mark × List ℕ) → Type 0
 DecodesContents idx (Ok text) read = read ≡ Ok (mark_view text, cow_str_bytes text)
-DecodesContents idx (Err (Syntax code place)) read = (count : ℕ) × (read ≡ Err (code_of code, count))
-    × (place ≡ idx + count)
+DecodesContents idx (Err (Syntax code offset)) read = (count : ℕ) × (read ≡ Err (code_of code, count))
+    × (offset ≡ idx + count)
 DecodesContents idx (Err OutOfMemory) read = Unit {0}
 DecodesContents idx (Err other) read = ⊥
 
@@ -46,8 +46,8 @@ decoded_text mode bytes = meaning_of_body (items_within (length bytes) mode byte
 -- This text is parsed of a body with a backslash, or the fault is, where the check counts from `idx`.
 abbrev pub ChecksContents : ℕ → Result (Unit {0}) Error → List ℕ → Body (Mark × List ℕ) → Type 0
 ChecksContents idx (Ok done) text read = read ≡ Ok (escaped_mark, text)
-ChecksContents idx (Err (Syntax code place)) text read = (count : ℕ) × (read ≡ Err (code_of code, count))
-    × (place ≡ idx + count)
+ChecksContents idx (Err (Syntax code offset)) text read = (count : ℕ) × (read ≡ Err (code_of code, count))
+    × (offset ≡ idx + count)
 ChecksContents idx (Err other) text read = ⊥
 
 -- the search for the end of a bare key ends where parsing does
@@ -63,13 +63,13 @@ abbrev pub IsClear : ℕ → List ℕ → ℕ → ℕ → Type 0
 IsClear quote bytes from to = (k : ℕ) → from ≤ k → k < to
     → (slice_index bytes k ≢ quote) × (slice_index bytes k ≢ ascii.backslash)
 
--- bit k tells whether the byte at + k is the quote or a backslash, of those before end
-pub record TellsMarks (quote : ℕ) (bytes : List ℕ) (at end bits : ℕ) : Type 0 where
+-- bit k says whether the byte at + k is the quote or a backslash, of those before end
+pub record ReportsMarks (quote : ℕ) (bytes : List ℕ) (at end bits : ℕ) : Type 0 where
   pub within : end ≤ length bytes
   pub set : (k : ℕ) → at + k < end → IsQuoteOrBackslash quote (slice_index bytes (at + k)) → bit_at bits k ≡ 1
   pub marked : (k : ℕ) → bit_at bits k ≡ 1 → IsQuoteOrBackslash quote (slice_index bytes (at + k))
   pub short : (k : ℕ) → bit_at bits k ≡ 1 → at + k < end
 
--- the same of those before some place
+-- the same of those before some offset
 abbrev pub KnowsMarks : ℕ → List ℕ → ℕ → ℕ → Type 0
-KnowsMarks quote bytes at bits = (end : ℕ) × TellsMarks quote bytes at end bits
+KnowsMarks quote bytes at bits = (end : ℕ) × ReportsMarks quote bytes at end bits

@@ -17,11 +17,11 @@ number_views None = None
 
 abbrev pub scanned_view : Result NumberText NumberFault → Scanned
 scanned_view (Ok text) = Ok (number_views text.number, text.end)
-scanned_view (Err f) = Err (code_of f.code, f.place)
+scanned_view (Err f) = Err (code_of f.code, f.offset)
 
 abbrev pub letters_view : Result ℕ NumberFault → Result ℕ (Code × ℕ)
 letters_view (Ok end) = Ok end
-letters_view (Err f) = Err (code_of f.code, f.place)
+letters_view (Err f) = Err (code_of f.code, f.offset)
 
 -- where the parts of the decimal end that the bytes begin with
 pub record AreEnds (bytes : List ℕ) (ends : DecimalEnds) : Type 0 where

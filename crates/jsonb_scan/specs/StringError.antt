@@ -7,7 +7,7 @@ use Rattle.jsonb_value.specs.declared.error.Error.{Error}
 use Rattle.jsonb_value.specs.declared.error.Error.TheVariants.{Syntax, OutOfMemory}
 
 -- What a decoder may reject, whose index is `before` as it begins and `after` as it ends: a fault of the bytes, which
--- names the index where the decoder stands then; and want of memory, which leaves the index.
+-- names the index where the decoder is then; and want of memory, which leaves the index.
 abbrev pub IsDecodingError : Mode → List ℕ → ℕ → ℕ → Error → Type 0
 IsDecodingError mode bytes before after (Syntax code position) = (read : ℕ)
     × IsFaultyBody mode bytes (code_of code) read × (after ≡ before + read) × (position ≡ after)

@@ -68,13 +68,13 @@ fn line_feeds(bytes: &[u8]) -> usize
     memchr_iter(b'\n', bytes).count()
 }
 
-// How many bytes stand behind the last line feed, or in all where there is none.
+// How many bytes are behind the last line feed, or in all where there is none.
 fn last_line_len(bytes: &[u8]) -> usize
     ensures value { result ≡ suffix_len (λ byte. not (is_line_feed byte)) bytes.now }
     ensures within { result ≤ length bytes.now }
 {
     match memrchr(b'\n', bytes) {
-        Some(place) => bytes.len() - place - 1,
+        Some(offset) => bytes.len() - offset - 1,
         None => bytes.len(),
     }
 }

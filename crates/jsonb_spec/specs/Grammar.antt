@@ -16,18 +16,18 @@ use Rattle.jsonb_spec.specs.Tree.{Mark, Tree, null, array, object, no_members, t
 use Rattle.jsonb_spec.specs.Grammar.Whitespace.{IsWhitespace, IsLastWhitespace}
 use Rattle.jsonb_spec.specs.Grammar.Scalar.{IsScalar, IsKey}
 
--- `Spells bytes a` says that the bytes spell a. Whitespace may stand before and after what is padded.
-pub data IsPadded {A : Type 0} (mode : Mode) (Spells : List ℕ → A → Type 0) : List ℕ → A → Type 0 where
-  padded : {before core after : List ℕ} {a : A} → IsWhitespace mode before → Spells core a → IsWhitespace mode after
-      → IsPadded mode Spells (before ++ (core ++ after)) a
+-- `Spells bytes a` says that the bytes encode a. Whitespace may be before and after what is padded.
+pub data IsPadded {A : Type 0} (mode : Mode) (Encodes : List ℕ → A → Type 0) : List ℕ → A → Type 0 where
+  padded : {before core after : List ℕ} {a : A} → IsWhitespace mode before → Encodes core a → IsWhitespace mode after
+      → IsPadded mode Encodes (before ++ (core ++ after)) a
 
 -- one part, or more with a comma after each but the last
-pub data IsJoined {A : Type 0} (Spells : List ℕ → A → Type 0) : List ℕ → List A → Type 0 where
-  one_part : {bytes : List ℕ} {a : A} → Spells bytes a → IsJoined Spells bytes (a ∷ [])
-  more_parts : {first rest : List ℕ} {a : A} {others : List A} → Spells first a → IsJoined Spells rest others
-      → IsJoined Spells (first ++ ascii.comma ∷ rest) (a ∷ others)
+pub data IsJoined {A : Type 0} (Encodes : List ℕ → A → Type 0) : List ℕ → List A → Type 0 where
+  one_part : {bytes : List ℕ} {a : A} → Encodes bytes a → IsJoined Encodes bytes (a ∷ [])
+  more_parts : {first rest : List ℕ} {a : A} {others : List A} → Encodes first a → IsJoined Encodes rest others
+      → IsJoined Encodes (first ++ ascii.comma ∷ rest) (a ∷ others)
 
--- An element of an array: a value with whitespace round it. In extended mode whitespace alone stands for null.
+-- An element of an array: a value with whitespace round it. In extended mode whitespace alone means null.
 pub data IsElement (mode : Mode) (Value : List ℕ → Tree → Type 0) : List ℕ → Tree → Type 0 where
   whole_element : {bytes : List ℕ} {t : Tree} → IsPadded mode Value bytes t → IsElement mode Value bytes t
   empty_element : {bytes : List ℕ} → mode ≡ extended → IsWhitespace mode bytes → IsElement mode Value bytes null
@@ -42,7 +42,7 @@ abbrev pub AreDistinct : List (List ℕ) → Type 0
 AreDistinct [] = ⊤
 AreDistinct (key ∷ keys) = AllByRecursion (λ other. key ≢ other) keys × AreDistinct keys
 
--- A value, where Value says which values may stand inside of it. One element alone is not whitespace alone.
+-- A value, where Value says which values may be inside of it. One element alone is not whitespace alone.
 pub data IsValue (mode : Mode) (Value : List ℕ → Tree → Type 0) : List ℕ → Tree → Type 0 where
   scalar : {bytes : List ℕ} {t : Tree} → IsScalar mode bytes t → IsValue mode Value bytes t
   empty_array : {whitespace : List ℕ} → IsWhitespace mode whitespace
@@ -55,7 +55,7 @@ pub data IsValue (mode : Mode) (Value : List ℕ → Tree → Type 0) : List ℕ
       → AreDistinct (map (λ m. m.0) ms)
       → IsValue mode Value (ascii.open_brace ∷ (body ++ ascii.close_brace ∷ [])) (object (put_all ms no_members))
 
--- the bytes spell the tree, with arrays and objects nested no deeper than the number
+-- the bytes encode the tree, with arrays and objects nested no deeper than the number
 abbrev pub Derives : Mode → ℕ → List ℕ → Tree → Type 0
 Derives mode zero bytes t = IsScalar mode bytes t
 Derives mode (suc depth) bytes t = IsValue mode (Derives mode depth) bytes t
@@ -64,7 +64,7 @@ Derives mode (suc depth) bytes t = IsValue mode (Derives mode depth) bytes t
 abbrev pub max_depth : ℕ
 max_depth = 512
 
--- A whole text: a value with whitespace round it. In extended mode whitespace alone stands for null.
+-- A whole text: a value with whitespace round it. In extended mode whitespace alone means null.
 pub data IsDocument (mode : Mode) : List ℕ → Tree → Type 0 where
   value_alone : {before core after : List ℕ} {t : Tree} → IsWhitespace mode before → Derives mode max_depth core t
       → IsLastWhitespace mode after → IsDocument mode (before ++ (core ++ after)) t

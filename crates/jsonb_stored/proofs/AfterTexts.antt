@@ -6,7 +6,7 @@ use Rattle.jsonb_spec.specs.SortKey.{text_key}
 use Rattle.jsonb_value.proofs.SortKeys.Texts.{text_key-other}
 use Rattle.jsonb_value.proofs.Trees.Runs.{heads, tails}
 
--- the key of a text that is left stands first
+-- the key of a text that is left is first
 abbrev pub TextLeft : List ℕ → List ℕ → Type 0
 TextLeft rest more = (left : List ℕ) × (rest ≡ text_key left ++ more)
 
@@ -14,7 +14,7 @@ TextLeft rest more = (left : List ℕ) × (rest ≡ text_key left ++ more)
 abbrev pub SkipsText : List ℕ → List ℕ → Type 0
 SkipsText bytes rest = (text more : List ℕ) → bytes ≡ text_key text ++ more → TextLeft rest more
 
--- what stands behind the first zero: the end, or more of the text
+-- what is behind the first zero: the end, or more of the text
 abbrev pub BehindZero : ℕ → List ℕ → List ℕ → Type 0
 BehindZero mark others more = ((mark ≡ 1) × (others ≡ more)) ⊎ ((mark ≡ 255) × TextLeft others more)
 
@@ -37,7 +37,7 @@ at_zero (suc b ∷ left) more rest (suc z) mark others e before zero_there behin
     (sym (ap (λ xs. get_or xs (suc z) 0) is) ∙ zero_there)
     (sym (ap (drop (suc (suc z))) is) ∙ behind)
 
--- where no zero stands before an end, the whole text does
+-- where no zero is before an end, the whole text does
 pub split_there : (text more bytes : List ℕ) (z : ℕ) (others : List ℕ) → bytes ≡ text_key text ++ more → ((k : ℕ) → k < z → get_or bytes k 0 ≢ 0) → drop z bytes ≡ 0 ∷ 1 ∷ others → (take z bytes ≡ text) × (others ≡ more)
 split_there [] more bytes zero others e none ended = (refl, tails 1 1 others more (tails 0 0 (1 ∷ others) (1 ∷ more) (sym ended ∙ e)))
 split_there [] more bytes (suc z) others e none ended = absurd (none 0 (omega arith) (ap (λ xs. get_or xs 0 0) e))
@@ -52,12 +52,12 @@ split_there (suc b ∷ text) more bytes (suc z) others e none ended =
     let inner = split_there text more (text_key text ++ more) z others refl (λ k l h. none (suc k) (omega (arith, l)) (ap (λ xs. get_or xs (suc k) 0) is ∙ h)) (sym (ap (drop (suc z)) is) ∙ ended) in
     (ap (take (suc z)) is ∙ ap (λ xs. suc b ∷ xs) inner.0, inner.1)
 
--- and what stands first is no end of an object
+-- and what is first is no end of an object
 pub not_over : (bytes others tail : List ℕ) (z : ℕ) → ((k : ℕ) → k < z → get_or bytes k 0 ≢ 0) → drop z bytes ≡ 0 ∷ 1 ∷ others → bytes ≡ 0 ∷ 0 ∷ tail → ⊥
 not_over bytes others tail zero none ended e = absurd (omega (arith, heads 1 0 others tail (tails 0 0 (1 ∷ others) (0 ∷ tail) (sym ended ∙ e))))
 not_over bytes others tail (suc z) none ended e = none 0 (omega arith) (ap (λ xs. get_or xs 0 0) e)
 
--- a byte stands behind the first zero
+-- a byte is behind the first zero
 zero_not_last : (left more rest : List ℕ) (z : ℕ) → rest ≡ text_key left ++ more → ((k : ℕ) → k < z → get_or rest k 0 ≢ 0) → get_or rest z 0 ≡ 0 → length (drop (suc z) rest) ≡ 0 → ⊥
 zero_not_last [] more rest zero e before zero_at none = absurd (omega (arith, none, ap (λ xs. length (drop 1 xs)) e))
 zero_not_last [] more rest (suc z) e before zero_at none = absurd (before 0 (omega arith) (ap (λ xs. get_or xs 0 0) e))
@@ -83,7 +83,7 @@ some_zero (suc b ∷ left) more rest e none =
 
 -- ---- one step
 
--- the byte at that place is a zero
+-- the byte at that exponent is a zero
 pub is_zero : (x : ℕ) → x == 0 ≡ true → x ≡ 0
 is_zero x p = elim (cases_eq x 0) [
   | inl e ↦ e

@@ -1,9 +1,9 @@
--- The kind of a value, told by the first byte of its key.
+-- The kind of a value, determined by the first byte of its key.
 use Rattle.std.proofs.Common.{◌↔◌, subst, length, ◌≡◌, ◌≢◌, inl, inr, Bool, true, false, if◌then◌else◌, ℕ, ◌+◌, ◌-◌, ◌<◌, ◌≤◌, ◌∷◌, ◌++◌, List, map, unsigned_abs, Option, Some, None, MatchOption, refl, sym, ap, ◌∙◌, arith}
 use Rattle.std.proofs.lemmas.Bool.{cases_lt, cases_eq}
 use Rattle.std.specs.Bool.{nat_lt}
 use Rattle.jsonb_key.specs.Readable.{IsReadable}
-use Rattle.jsonb_key.proofs.Numbers.{far_place, near_place}
+use Rattle.jsonb_key.proofs.Numbers.{far_exponent, near_exponent}
 use Rattle.jsonb_key.proofs.Signs.{signed_read}
 use Rattle.jsonb_stored.specs.declared.walk.Kind.{Kind}
 use Rattle.jsonb_stored.specs.declared.walk.Kind.TheVariants as kind
@@ -15,22 +15,22 @@ use Rattle.jsonb_spec.specs.Tree.{Num, Tree, null, boolean, string, number, arra
 use Rattle.jsonb_value.proofs.SortKeys.Kinds.{is_small, number_begins}
 use Rattle.jsonb_value.proofs.Trees.Runs.{heads}
 
--- a byte of a place, inverted or not
-place_byte : (negative : Bool) (byte first : ℕ) → 0x81 ≤ byte → byte ≤ 0xC7 → first ≡ invert_if negative byte → IsNumberByte first
-place_byte true byte first low high is = (omega (arith, high, is), omega (arith, low, is), λ e. absurd (omega (arith, low, is, e)))
-place_byte false byte first low high is = (omega (arith, low, is), omega (arith, high, is), λ e. absurd (omega (arith, low, is, e)))
+-- a byte of an exponent, inverted or not
+exponent_byte : (negative : Bool) (byte first : ℕ) → 0x81 ≤ byte → byte ≤ 0xC7 → first ≡ invert_if negative byte → IsNumberByte first
+exponent_byte true byte first low high is = (omega (arith, high, is), omega (arith, low, is), λ e. absurd (omega (arith, low, is, e)))
+exponent_byte false byte first low high is = (omega (arith, low, is), omega (arith, high, is), λ e. absurd (omega (arith, low, is, e)))
 
 -- the first byte of a number
 number_byte : (n : Num) → IsProperNumber n → (first : ℕ) (rest bytes more : List ℕ) → bytes ≡ first ∷ rest → bytes ≡ number_key n ++ more → IsNumberByte first
-number_byte n proper first rest bytes more e stands = elim (cases_eq first 0x80) [
+number_byte n proper first rest bytes more e occurs = elim (cases_eq first 0x80) [
   | inl zero ↦ (omega (arith, zero), omega (arith, zero), λ is. absurd (omega (arith, zero, is)))
   | inr other ↦
       let sign = nat_lt first 0x80 in
-      let s = signed_read n proper first rest bytes more e other stands in
+      let s = signed_read n proper first rest bytes more e other occurs in
       let behind : List ℕ = map (invert_if sign) (digits_key s.count (unsigned_abs n.whole)) ++ more in
-      elim (cases_lt s.place 225) [
-        | inl low ↦ place_byte sign 0x81 first (omega arith) (omega arith) (heads first (invert_if sign 0x81) rest (invert_if sign s.place ∷ behind) (sym e ∙ s.stands ∙ ap (λ key. map (invert_if sign) key ++ behind) (far_place s.place low)))
-        | inr high ↦ place_byte sign (s.place - 95) first (omega (arith, high)) (omega (arith, s.is_place, s.few)) (heads first (invert_if sign (s.place - 95)) rest behind (sym e ∙ s.stands ∙ ap (λ key. map (invert_if sign) key ++ behind) (near_place s.place high)))
+      elim (cases_lt s.exponent 225) [
+        | inl low ↦ exponent_byte sign 0x81 first (omega arith) (omega arith) (heads first (invert_if sign 0x81) rest (invert_if sign s.exponent ∷ behind) (sym e ∙ s.occurs ∙ ap (λ key. map (invert_if sign) key ++ behind) (far_exponent s.exponent low)))
+        | inr high ↦ exponent_byte sign (s.exponent - 95) first (omega (arith, high)) (omega (arith, s.is_exponent_key, s.few)) (heads first (invert_if sign (s.exponent - 95)) rest behind (sym e ∙ s.occurs ∙ ap (λ key. map (invert_if sign) key ++ behind) (near_exponent s.exponent high)))
       ]
 ]
 
@@ -41,14 +41,14 @@ pub record KindOf (t : Tree) (first : ℕ) : Type 0 where
   pub begins : IsFirstByte which first
 
 pub kind_begins : (t : Tree) → IsReadable t → (first : ℕ) (rest bytes more : List ℕ) → bytes ≡ first ∷ rest → bytes ≡ key_of t ++ more → KindOf t first
-kind_begins null r first rest bytes more e stands = record { which = kind.Null; is = refl; begins = heads first 0xD3 rest more (sym e ∙ stands) }
-kind_begins (boolean true) r first rest bytes more e stands = record { which = kind.Bool; is = refl; begins = inr (heads first 0x16 rest more (sym e ∙ stands)) }
-kind_begins (boolean false) r first rest bytes more e stands = record { which = kind.Bool; is = refl; begins = inl (heads first 0x15 rest more (sym e ∙ stands)) }
-kind_begins (string mark text) r first rest bytes more e stands = record { which = kind.String; is = refl; begins = heads first 0xD0 rest (text_key text ++ more) (sym e ∙ stands) }
-kind_begins (number n) r first rest bytes more e stands = record { which = kind.Number; is = refl; begins = number_byte n r.proper first rest bytes more e stands }
-kind_begins (array ts) r first rest bytes more e stands = record { which = kind.Array; is = refl; begins = heads first 0xD2 rest (items_key ts ++ more) (sym e ∙ stands) }
-kind_begins (object ms) r first rest bytes more e stands = record { which = kind.Object; is = refl; begins = heads first 0xD1 rest (members_key ms ++ more) (sym e ∙ stands) }
-kind_begins t r first rest bytes more e stands = absurd r.within
+kind_begins null r first rest bytes more e occurs = record { which = kind.Null; is = refl; begins = heads first 0xD3 rest more (sym e ∙ occurs) }
+kind_begins (boolean true) r first rest bytes more e occurs = record { which = kind.Bool; is = refl; begins = inr (heads first 0x16 rest more (sym e ∙ occurs)) }
+kind_begins (boolean false) r first rest bytes more e occurs = record { which = kind.Bool; is = refl; begins = inl (heads first 0x15 rest more (sym e ∙ occurs)) }
+kind_begins (string mark text) r first rest bytes more e occurs = record { which = kind.String; is = refl; begins = heads first 0xD0 rest (text_key text ++ more) (sym e ∙ occurs) }
+kind_begins (number n) r first rest bytes more e occurs = record { which = kind.Number; is = refl; begins = number_byte n r.proper first rest bytes more e occurs }
+kind_begins (array ts) r first rest bytes more e occurs = record { which = kind.Array; is = refl; begins = heads first 0xD2 rest (items_key ts ++ more) (sym e ∙ occurs) }
+kind_begins (object ms) r first rest bytes more e occurs = record { which = kind.Object; is = refl; begins = heads first 0xD1 rest (members_key ms ++ more) (sym e ∙ occurs) }
+kind_begins t r first rest bytes more e occurs = absurd r.within
 
 -- where the keys of a kind begin: the least and the greatest first byte
 abbrev least : Kind → ℕ
@@ -139,23 +139,23 @@ of_boolean false first is = (omega (arith, is), omega (arith, is))
 -- what is found by the byte is the boolean
 pub boolean_as_found : (t : Tree) → IsReadable t → (first : ℕ) (rest bytes more : List ℕ) → bytes ≡ first ∷ rest → bytes ≡ key_of t ++ more → (result : Option Bool)
     → MatchOption result ((first ≢ 0x15) × (first ≢ 0x16)) (λ b. first ≡ (if b then 0x16 else 0x15)) → result ≡ as_boolean t
-boolean_as_found (boolean true) r first rest bytes more e stands (Some true) found = refl
-boolean_as_found (boolean true) r first rest bytes more e stands (Some false) found = absurd (omega (arith, found, heads first 0x16 rest more (sym e ∙ stands)))
-boolean_as_found (boolean true) r first rest bytes more e stands None found = absurd (found.1 (heads first 0x16 rest more (sym e ∙ stands)))
-boolean_as_found (boolean false) r first rest bytes more e stands (Some false) found = refl
-boolean_as_found (boolean false) r first rest bytes more e stands (Some true) found = absurd (omega (arith, found, heads first 0x15 rest more (sym e ∙ stands)))
-boolean_as_found (boolean false) r first rest bytes more e stands None found = absurd (found.0 (heads first 0x15 rest more (sym e ∙ stands)))
-boolean_as_found null r first rest bytes more e stands None found = refl
-boolean_as_found null r first rest bytes more e stands (Some b) found = absurd (omega (arith, (of_boolean b first found).1, heads first 0xD3 rest more (sym e ∙ stands)))
-boolean_as_found (string mark text) r first rest bytes more e stands None found = refl
-boolean_as_found (string mark text) r first rest bytes more e stands (Some b) found = absurd (omega (arith, (of_boolean b first found).1, heads first 0xD0 rest (text_key text ++ more) (sym e ∙ stands)))
-boolean_as_found (number n) r first rest bytes more e stands None found = refl
-boolean_as_found (number n) r first rest bytes more e stands (Some b) found =
+boolean_as_found (boolean true) r first rest bytes more e occurs (Some true) found = refl
+boolean_as_found (boolean true) r first rest bytes more e occurs (Some false) found = absurd (omega (arith, found, heads first 0x16 rest more (sym e ∙ occurs)))
+boolean_as_found (boolean true) r first rest bytes more e occurs None found = absurd (found.1 (heads first 0x16 rest more (sym e ∙ occurs)))
+boolean_as_found (boolean false) r first rest bytes more e occurs (Some false) found = refl
+boolean_as_found (boolean false) r first rest bytes more e occurs (Some true) found = absurd (omega (arith, found, heads first 0x15 rest more (sym e ∙ occurs)))
+boolean_as_found (boolean false) r first rest bytes more e occurs None found = absurd (found.0 (heads first 0x15 rest more (sym e ∙ occurs)))
+boolean_as_found null r first rest bytes more e occurs None found = refl
+boolean_as_found null r first rest bytes more e occurs (Some b) found = absurd (omega (arith, (of_boolean b first found).1, heads first 0xD3 rest more (sym e ∙ occurs)))
+boolean_as_found (string mark text) r first rest bytes more e occurs None found = refl
+boolean_as_found (string mark text) r first rest bytes more e occurs (Some b) found = absurd (omega (arith, (of_boolean b first found).1, heads first 0xD0 rest (text_key text ++ more) (sym e ∙ occurs)))
+boolean_as_found (number n) r first rest bytes more e occurs None found = refl
+boolean_as_found (number n) r first rest bytes more e occurs (Some b) found =
     let begun = number_begins n (is_small n r.proper) in
-    let is = heads first begun.head rest (begun.tail ++ more) (sym e ∙ stands ∙ ap (λ key. key ++ more) begun.is) in
+    let is = heads first begun.head rest (begun.tail ++ more) (sym e ∙ occurs ∙ ap (λ key. key ++ more) begun.is) in
     absurd (omega (arith, (of_boolean b first found).1, is, begun.low))
-boolean_as_found (array ts) r first rest bytes more e stands None found = refl
-boolean_as_found (array ts) r first rest bytes more e stands (Some b) found = absurd (omega (arith, (of_boolean b first found).1, heads first 0xD2 rest (items_key ts ++ more) (sym e ∙ stands)))
-boolean_as_found (object ms) r first rest bytes more e stands None found = refl
-boolean_as_found (object ms) r first rest bytes more e stands (Some b) found = absurd (omega (arith, (of_boolean b first found).1, heads first 0xD1 rest (members_key ms ++ more) (sym e ∙ stands)))
-boolean_as_found t r first rest bytes more e stands result found = absurd r.within
+boolean_as_found (array ts) r first rest bytes more e occurs None found = refl
+boolean_as_found (array ts) r first rest bytes more e occurs (Some b) found = absurd (omega (arith, (of_boolean b first found).1, heads first 0xD2 rest (items_key ts ++ more) (sym e ∙ occurs)))
+boolean_as_found (object ms) r first rest bytes more e occurs None found = refl
+boolean_as_found (object ms) r first rest bytes more e occurs (Some b) found = absurd (omega (arith, (of_boolean b first found).1, heads first 0xD1 rest (members_key ms ++ more) (sym e ∙ occurs)))
+boolean_as_found t r first rest bytes more e occurs result found = absurd r.within

@@ -28,12 +28,12 @@ whole t bytes e = e ∙ sym (append-nil (key_of t))
 
 -- the key of a child ends where a key ends that the bytes begin with
 pub no_end_of_child : (t : Tree) → IsReadable t → (name part : List ℕ) → ChildAt t name part → ((u : Tree) → IsReadable u → (more : List ℕ) → part ≡ key_of u ++ more → None ≡ Some more) → ⊥
-no_end_of_child t r name part x none = none_some x.behind (none x.child (child_readable t r name x.child x.is) x.behind x.stands)
+no_end_of_child t r name part x none = none_some x.behind (none x.child (child_readable t r name x.child x.is) x.behind x.occurs)
 
 pub key_of_child : (t : Tree) → IsReadable t → (name part rest key : List ℕ) → ChildAt t name part → ((u : Tree) → IsReadable u → (more : List ℕ) → part ≡ key_of u ++ more → Some rest ≡ Some more) → ((b : List ℕ) → part ≡ b ++ rest → key ≡ b) → IsKeyOfChild t name key
 key_of_child t r name part rest key x found fronted =
-    let behind = some_same rest x.behind (found x.child (child_readable t r name x.child x.is) x.behind x.stands) in
-    record { child = x.child; is = x.is; is_key = fronted (key_of x.child) (x.stands ∙ ap (λ b. key_of x.child ++ b) (sym behind)) }
+    let behind = some_same rest x.behind (found x.child (child_readable t r name x.child x.is) x.behind x.occurs) in
+    record { child = x.child; is = x.is; is_key = fronted (key_of x.child) (x.occurs ∙ ap (λ b. key_of x.child ++ b) (sym behind)) }
 
 -- a checked key is that of a value of JSON's kinds
 pub key_readable : (bytes : List ℕ) (k : IsSortKey bytes) → IsReadable k.value

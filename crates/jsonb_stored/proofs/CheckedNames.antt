@@ -22,8 +22,8 @@ pub above_last : (bytes earlier rest key_before key : List ℕ) (last start : �
     → (before : Option (List ℕ)) → IsFrame bytes (in_object before) last → (name : List ℕ) → key ≡ text_key name → IsTrue lt ↔ IsAbove before name
 above_last bytes earlier rest key_before key last start lt some size back found fronted is None h name named = absurd (some h)
 above_last bytes earlier rest key_before key last start lt some size back found fronted is (Some l) h name named =
-    let at : start ≡ length h.front = omega (arith, size, ap length h.stands, length-append h.front (text_key l ++ h.behind), h.is_size) in
-    let there : earlier ≡ text_key l ++ h.behind = back ∙ (λ i. drop (at i) (h.stands i)) ∙ drop-append_seam h.front (text_key l ++ h.behind) in
+    let at : start ≡ length h.front = omega (arith, size, ap length h.occurs, length-append h.front (text_key l ++ h.behind), h.is_size) in
+    let there : earlier ≡ text_key l ++ h.behind = back ∙ (λ i. drop (at i) (h.occurs i)) ∙ drop-append_seam h.front (text_key l ++ h.behind) in
     let behind : rest ≡ h.behind = some_same rest h.behind (found l h.behind there) in
     let first : key_before ≡ text_key l = fronted (text_key l) (there ∙ ap (λ r. text_key l ++ r) (sym behind)) in
     let order : slice_cmp nat_cmp key_before key ≡ slice_cmp nat_cmp l name = (λ i. slice_cmp nat_cmp (first i) (named i)) ∙ names_compare l name in
@@ -31,7 +31,7 @@ above_last bytes earlier rest key_before key last start lt some size back found 
     (λ yes. sym order ∙ both.0 (sym is ∙ yes), λ above. is ∙ both.1 (order ∙ above))
 
 text_of_name : (before : Option (List ℕ)) (name rest more : List ℕ) → NameFirst (in_object before) name rest more → TextFirst rest more
-text_of_name before name rest more n = record { text = name; utf8 = n.1; stands = n.2 }
+text_of_name before name rest more n = record { text = name; utf8 = n.1; occurs = n.2 }
 
 pub no_text : (bytes rest : List ℕ) (last : ℕ) → last ≢ 0 → ((more : List ℕ) → (None ≡ Some more) ↔ TextFirst rest more) → (f : Frame) → IsFrame bytes f last → (more : List ℕ) → (None ≡ Some more) ↔ ((name : List ℕ) × NameFirst f name rest more)
 no_text bytes rest last object found in_array h more = absurd (object h)
@@ -46,8 +46,8 @@ not_above bytes rest value key last object found fronted above (in_object before
     clash : (name : List ℕ) → NameFirst (in_object before) name rest more → ⊥
     clash name n =
         let t = (found value).0 refl in
-        let same : t.text ≡ name = one_name t.text name value more (sym t.stands ∙ n.2) in
-        true≢false (sym ((above before h t.text (fronted (text_key t.text) t.stands)).1 (subst (IsAbove before) (sym same) n.0)))
+        let same : t.text ≡ name = one_name t.text name value more (sym t.occurs ∙ n.2) in
+        true≢false (sym ((above before h t.text (fronted (text_key t.text) t.occurs)).1 (subst (IsAbove before) (sym same) n.0)))
 
 pub name_above : (bytes rest value key : List ℕ) (last : ℕ) → last ≢ 0 → ((more : List ℕ) → (Some value ≡ Some more) ↔ TextFirst rest more) → ((b : List ℕ) → rest ≡ b ++ value → key ≡ b)
     → ((before : Option (List ℕ)) → IsFrame bytes (in_object before) last → (name : List ℕ) → key ≡ text_key name → IsTrue true ↔ IsAbove before name)
@@ -59,4 +59,4 @@ name_above bytes rest value key last object found fronted above (in_object befor
     to e =
         let t = (found value).0 refl in
         let same = some_same value more e in
-        (t.text, ((above before h t.text (fronted (text_key t.text) t.stands)).0 refl, t.utf8, t.stands ∙ ap (λ v. text_key t.text ++ v) same))
+        (t.text, ((above before h t.text (fronted (text_key t.text) t.occurs)).0 refl, t.utf8, t.occurs ∙ ap (λ v. text_key t.text ++ v) same))

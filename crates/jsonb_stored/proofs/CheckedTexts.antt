@@ -34,7 +34,7 @@ at_zero (suc z) rest (suc b ∷ text) more tail e none at =
     (one_more (suc b) (take z (text_key text ++ more)) text tail more
     (at_zero z (text_key text ++ more) text more tail refl (λ k l h. none (suc k) (omega (arith, l)) (ap (λ xs. get_or xs (suc k) 0) is ∙ h)) (sym (ap (drop (suc z)) is) ∙ at)))
 
--- what has no zero stands in the key of a text as it is
+-- what has no zero is in the key of a text as it is
 run_first : (z : ℕ) (rest left : List ℕ) → NoneBefore rest z → text_key (take z rest ++ left) ≡ take z rest ++ text_key left
 run_first zero rest left none = refl
 run_first (suc z) [] left none = refl
@@ -96,7 +96,7 @@ zero_at rest tail z u back =
     subst (ZeroAt rest (take z rest)) (ap (λ k. drop k rest) one_more ∙ sym back) (zero_up_to rest z u.within u.none_before u.here)
 
 cases : (rest run tail more : List ℕ) → ZeroAt rest run tail → (t : TextFirst rest more) → AtZero run t.text tail more
-cases rest run tail more z t = subst (λ r. AtZero r t.text tail more) (sym z.before) (at_zero z.at rest t.text more tail t.stands z.none z.behind)
+cases rest run tail more z t = subst (λ r. AtZero r t.text tail more) (sym z.before) (at_zero z.at rest t.text more tail t.occurs z.none z.behind)
 
 pub run_is_utf8 : (rest run tail more : List ℕ) → ZeroAt rest run tail → TextFirst rest more → IsUtf8 run
 run_is_utf8 rest run tail more z t = by (cases rest run tail more z t)
@@ -130,7 +130,7 @@ text_ends rest run tail others mark z first one u more = (to, λ t. from t (case
     to e = record {
       text = take z.at rest ++ [];
       utf8 = subst IsUtf8 (z.before ∙ sym (append-nil (take z.at rest))) u;
-      stands = whole rest run tail z ∙ ap (λ bs. take z.at rest ++ 0 ∷ bs) (first ∙ (λ i. one i ∷ e i))
+      occurs = whole rest run tail z ∙ ap (λ bs. take z.at rest ++ 0 ∷ bs) (first ∙ (λ i. one i ∷ e i))
           ∙ sym (append_assoc (take z.at rest) (0 ∷ 1 ∷ []) more) ∙ ap (λ key. key ++ more) (sym (run_first z.at rest [] z.none));
     }
 
@@ -145,10 +145,10 @@ text_goes_on rest run tail others mark z first last u more = (to, λ t. from t (
     to t = record {
       text = take z.at rest ++ 0 ∷ t.text;
       utf8 = utf8_both (take z.at rest) t.text (subst IsUtf8 z.before u) t.utf8;
-      stands = whole rest run tail z ∙ ap (λ bs. take z.at rest ++ 0 ∷ bs) (first ∙ (λ i. last i ∷ t.stands i))
+      occurs = whole rest run tail z ∙ ap (λ bs. take z.at rest ++ 0 ∷ bs) (first ∙ (λ i. last i ∷ t.occurs i))
           ∙ sym (append_assoc (take z.at rest) (0 ∷ 255 ∷ text_key t.text) more) ∙ ap (λ key. key ++ more) (sym (run_first z.at rest (0 ∷ t.text) z.none));
     }
 
     from : (t : TextFirst rest more) → AtZero run t.text tail more → TextFirst others more
     from t (inl p) = absurd (omega (arith, last, heads mark 1 others more (sym first ∙ p.1)))
-    from t (inr p) = record { text = p.0; utf8 = utf8_behind run p.0 (subst IsUtf8 p.1 t.utf8); stands = tails mark 255 others (text_key p.0 ++ more) (sym first ∙ p.2) }
+    from t (inr p) = record { text = p.0; utf8 = utf8_behind run p.0 (subst IsUtf8 p.1 t.utf8); occurs = tails mark 255 others (text_key p.0 ++ more) (sym first ∙ p.2) }

@@ -1,12 +1,12 @@
--- What is returned where bytes were checked: the bytes behind a key, exactly where one stands first.
+-- What is returned where bytes were checked: the bytes behind a key, exactly where one is first.
 use Rattle.std.proofs.Common.{◌≡◌, ◌↔◌, List, ℕ, Some, None, ap}
 use Rattle.jsonb_key.proofs.Texts.{none_some, some_same}
 
--- no key stands first
+-- no key is first
 pub never : (P : List ℕ → Type 0) → ((more : List ℕ) → P more → ⊥) → (more : List ℕ) → (None ≡ Some more) ↔ P more
 never P none more = (λ e. absurd (none_some more e), λ p. absurd (none more p))
 
--- a key stands first, and the rest behind it
+-- a key is first, and the rest behind it
 pub exactly : (P : List ℕ → Type 0) (rest : List ℕ) → ((more : List ℕ) → (rest ≡ more) ↔ P more) → (more : List ℕ) → (Some rest ≡ Some more) ↔ P more
 exactly P rest both more = (λ e. (both more).0 (some_same rest more e), λ p. ap (λ r. Some r) ((both more).1 p))
 

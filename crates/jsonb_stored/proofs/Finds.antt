@@ -8,7 +8,7 @@ use Rattle.jsonb_path.proofs.PartIndex.{is_named, names_index}
 use Rattle.jsonb_stored.specs.Found.{Finds}
 use Rattle.jsonb_path.proofs.PartsReadBack.{part_within, part_proper, deeper}
 use Rattle.jsonb_stored.specs.Open.{Open, items, members, is_object, open_key, IsOpen, opening_byte}
-use Rattle.jsonb_stored.specs.Parts.{opened_tree, ChildAt, StandsAt}
+use Rattle.jsonb_stored.specs.Parts.{opened_tree, ChildAt, OccursAt}
 use Rattle.jsonb_spec.specs.Accessors.{item_at, trees_len}
 use Rattle.jsonb_spec.specs.Proper.{AreProper}
 use Rattle.jsonb_spec.specs.SortKey.{key_of, items_key, members_key, text_key}
@@ -49,16 +49,16 @@ child_there name t u e = absurd (no_tree u e)
 -- the items of an array are no more than the bytes of its key
 no_child_there : (t : Tree) → IsReadable t → (name key more : List ℕ) (count : ℕ) → key ≡ key_of t ++ more → count ≡ length key → count < 2 ^ 64 → child_at name t ≡ None → (u : Tree) → IsChild t name u → ⊥
 no_child_there (object ms) r name key more count e len fits none u is = no_tree u (sym none ∙ is)
-no_child_there (array ts) r name key more count e len fits none u (i, spells, at) =
+no_child_there (array ts) r name key more count e len fits none u (i, encodes, at) =
     let within = item_within ts i u at in
     let long = longer ts r.proper r.within in
-    let named = is_named name i spells (omega (arith, within, long, len, fits, ap length e, length-append (items_key ts) more)) in
+    let named = is_named name i encodes (omega (arith, within, long, len, fits, ap length e, length-append (items_key ts) more)) in
     no_tree u (sym none ∙ ap (option_and_then (item_at ts)) named ∙ at)
 no_child_there t r name key more count e len fits none u is = absurd is
 
 some_child : (key name : List ℕ) (t : Tree) (x : Bor (List ℕ)) (o : Option Tree) → child_at name t ≡ o → Finds key o (Ok (Some x)) → ChildAt t name x.now
 some_child key name t x None is f = absurd f
-some_child key name t x (Some u) is f = record { child = u; is = child_there name t u is; behind = f.behind; stands = f.stands }
+some_child key name t x (Some u) is f = record { child = u; is = child_there name t u is; behind = f.behind; occurs = f.occurs }
 
 none_found : (key : List ℕ) (o : Option Tree) → Finds key o (Ok None) → o ≡ None
 none_found key None f = refl
@@ -75,7 +75,7 @@ pub record Parent (t : Tree) (b : Bool) (rest more : List ℕ) : Type 0 where
   pub open_there : Open
   pub is : is_object open_there ≡ b
   pub fits : IsOpen open_there 511
-  pub stands : rest ≡ open_key open_there ++ more
+  pub occurs : rest ≡ open_key open_there ++ more
   pub whole : opened_tree open_there ≡ t
 
 between : (b : Bool) → (209 ≤ opening_byte b) × (opening_byte b ≤ 210)
@@ -83,18 +83,18 @@ between true = (omega arith, omega arith)
 between false = (omega arith, omega arith)
 
 pub parent_of : (t : Tree) → IsReadable t → (first : ℕ) (rest bytes more : List ℕ) → bytes ≡ first ∷ rest → bytes ≡ key_of t ++ more → (b : Bool) → first ≡ opening_byte b → Parent t b rest more
-parent_of null r first rest bytes more e stands b is = absurd (omega (arith, is, between b, heads first 211 rest more (sym e ∙ stands)))
-parent_of (boolean true) r first rest bytes more e stands b is = absurd (omega (arith, is, between b, heads first 22 rest more (sym e ∙ stands)))
-parent_of (boolean false) r first rest bytes more e stands b is = absurd (omega (arith, is, between b, heads first 21 rest more (sym e ∙ stands)))
-parent_of (string mark text) r first rest bytes more e stands b is = absurd (omega (arith, is, between b, heads first 208 rest (text_key text ++ more) (sym e ∙ stands)))
-parent_of (number n) r first rest bytes more e stands b is =
+parent_of null r first rest bytes more e occurs b is = absurd (omega (arith, is, between b, heads first 211 rest more (sym e ∙ occurs)))
+parent_of (boolean true) r first rest bytes more e occurs b is = absurd (omega (arith, is, between b, heads first 22 rest more (sym e ∙ occurs)))
+parent_of (boolean false) r first rest bytes more e occurs b is = absurd (omega (arith, is, between b, heads first 21 rest more (sym e ∙ occurs)))
+parent_of (string mark text) r first rest bytes more e occurs b is = absurd (omega (arith, is, between b, heads first 208 rest (text_key text ++ more) (sym e ∙ occurs)))
+parent_of (number n) r first rest bytes more e occurs b is =
     let x = number_begins n (is_small n r.proper) in
-    absurd (omega (arith, is, between b, x.high, heads first x.head rest (x.tail ++ more) (sym e ∙ stands ∙ ap (λ key. key ++ more) x.is)))
-parent_of (array ts) r first rest bytes more e stands true is = absurd (omega (arith, is, heads first 210 rest (items_key ts ++ more) (sym e ∙ stands)))
-parent_of (array ts) r first rest bytes more e stands false is = record { open_there = items ts; is = refl; fits = (r.proper, r.within); stands = tails first 210 rest (items_key ts ++ more) (sym e ∙ stands); whole = refl }
-parent_of (object ms) r first rest bytes more e stands true is = record { open_there = members ms; is = refl; fits = (r.proper.1, r.within); stands = tails first 209 rest (members_key ms ++ more) (sym e ∙ stands); whole = refl }
-parent_of (object ms) r first rest bytes more e stands false is = absurd (omega (arith, is, heads first 209 rest (members_key ms ++ more) (sym e ∙ stands)))
-parent_of t r first rest bytes more e stands b is = absurd r.within
+    absurd (omega (arith, is, between b, x.high, heads first x.head rest (x.tail ++ more) (sym e ∙ occurs ∙ ap (λ key. key ++ more) x.is)))
+parent_of (array ts) r first rest bytes more e occurs true is = absurd (omega (arith, is, heads first 210 rest (items_key ts ++ more) (sym e ∙ occurs)))
+parent_of (array ts) r first rest bytes more e occurs false is = record { open_there = items ts; is = refl; fits = (r.proper, r.within); occurs = tails first 210 rest (items_key ts ++ more) (sym e ∙ occurs); whole = refl }
+parent_of (object ms) r first rest bytes more e occurs true is = record { open_there = members ms; is = refl; fits = (r.proper.1, r.within); occurs = tails first 209 rest (members_key ms ++ more) (sym e ∙ occurs); whole = refl }
+parent_of (object ms) r first rest bytes more e occurs false is = absurd (omega (arith, is, heads first 209 rest (members_key ms ++ more) (sym e ∙ occurs)))
+parent_of t r first rest bytes more e occurs b is = absurd r.within
 
 pub child_readable : (t : Tree) → IsReadable t → (name : List ℕ) (u : Tree) → IsChild t name u → IsReadable u
 child_readable t r name u is = record {
@@ -107,14 +107,14 @@ child_readable t r name u is = record {
 pub part_readable : (t : Tree) → IsReadable t → (names : List (List ℕ)) (part : Tree) → IsAt t names part → IsReadable part
 part_readable t r names part at = record { proper = part_proper t names part at r.proper; within = part_within IsAnyNumber t names part 512 at r.within }
 
--- what stands one level further in is readable by itself
+-- what is one level further in is readable by itself
 pub readable_inside : (t : Tree) → IsReadableAt 511 t → IsReadable t
 readable_inside t r = record { proper = r.proper; within = deeper IsAnyNumber t 511 r.within }
 
 one_child : (t : Tree) (name : List ℕ) (u v : Tree) → IsChild t name u → IsChild t name v → u ≡ v
 one_child (object ms) name u v a b = let both : Some u ≡ Some v = sym a ∙ b in cc
-one_child (array ts) name u v (i, spells, at) (j, others, there) =
-    let both : Some u ≡ Some v = sym at ∙ ap (item_at ts) (one_index name i j spells others) ∙ there in
+one_child (array ts) name u v (i, encodes, at) (j, others, there) =
+    let both : Some u ≡ Some v = sym at ∙ ap (item_at ts) (one_index name i j encodes others) ∙ there in
     cc
 one_child t name u v a b = absurd a
 
@@ -123,7 +123,7 @@ pub record PartHere (t : Tree) (names left : List (List ℕ)) (rest : List ℕ) 
   pub inner : Tree
   pub readable : IsReadable inner
   pub behind : List ℕ
-  pub stands : rest ≡ key_of inner ++ behind
+  pub occurs : rest ≡ key_of inner ++ behind
   pub up : (u : Tree) → IsAt inner left u → IsAt t names u
   pub down : (u : Tree) → IsAt t names u → IsAt inner left u
 
@@ -131,14 +131,14 @@ abbrev pub FollowsPath : List ℕ → List (List ℕ) → List (List ℕ) → Li
 FollowsPath key names left rest = (t : Tree) → IsReadable t → (more : List ℕ) → key ≡ key_of t ++ more → PartHere t names left rest
 
 pub following : (key : List ℕ) (names : List (List ℕ)) → FollowsPath key names names key
-following key names = λ t r more e. record { inner = t; readable = r; behind = more; stands = e; up = λ u at. at; down = λ u at. at }
+following key names = λ t r more e. record { inner = t; readable = r; behind = more; occurs = e; up = λ u at. at; down = λ u at. at }
 
 pub followed : (t : Tree) (names left others : List (List ℕ)) (name rest key : List ℕ) (p : PartHere t names left rest) → left ≡ name ∷ others → ChildAt p.inner name key → PartHere t names others key
 followed t names left others name rest key p first x = record {
   inner = x.child;
   readable = child_readable p.inner p.readable name x.child x.is;
   behind = x.behind;
-  stands = x.stands;
+  occurs = x.occurs;
   up = λ u at. p.up u (subst (λ path. IsAt p.inner path u) (sym first) (x.child, x.is, at));
   down = λ u at. inside u (subst (λ path. IsAt p.inner path u) first (p.down u at));
 }
@@ -152,6 +152,6 @@ lost t names left others name rest p first none u at = step (subst (λ path. IsA
     step : IsAt p.inner (name ∷ others) u → ⊥
     step x = none x.0 x.1
 
-pub arrived : (t : Tree) (names left : List (List ℕ)) (rest : List ℕ) → PartHere t names left rest → length left ≡ 0 → StandsAt t names rest
-arrived t names [] rest p over = record { part = p.inner; at = p.up p.inner refl; behind = p.behind; stands = p.stands }
+pub arrived : (t : Tree) (names left : List (List ℕ)) (rest : List ℕ) → PartHere t names left rest → length left ≡ 0 → OccursAt t names rest
+arrived t names [] rest p over = record { part = p.inner; at = p.up p.inner refl; behind = p.behind; occurs = p.occurs }
 arrived t names (name ∷ left) rest p over = absurd (omega (arith, over))

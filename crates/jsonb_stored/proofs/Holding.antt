@@ -10,7 +10,7 @@ use Rattle.jsonb_path.proofs.PartsReadBack.{deeper}
 use Rattle.jsonb_spec.specs.Containment.{holds, holds_members}
 use Rattle.jsonb_stored.specs.Open.{items, members, IsOpen}
 use Rattle.jsonb_stored.specs.SideBySide.{AreReadableAt, HaveReadableAt}
-use Rattle.jsonb_stored.proofs.Standing.{equal_names, below_all}
+use Rattle.jsonb_stored.proofs.Occurrence.{equal_names, below_all}
 use Rattle.jsonb_spec.specs.Accessors.{find_member}
 use Rattle.jsonb_spec.specs.Keys.{IsBelowKeys}
 use Rattle.jsonb_spec.specs.Order.{bytes_cmp}

@@ -25,7 +25,7 @@ top_of true = refl
 top_of false = refl
 
 -- each lane of `lt` says by its top bit whether the first byte is below the second
-module _ (lt : ℕ → ℕ → ℕ) (is_lt : (a b : ℕ) → top 7 (lt a b) ≡ ltb a b) (bytes others : List ℕ) (n : ℕ) (room : n ≤ length bytes) (room_too : n ≤ length others) where
+module _ (lt : ℕ → ℕ → ℕ) (is_lt : (a b : ℕ) → top 7 (lt a b) ≡ ltb a b) (bytes others : List ℕ) (n : ℕ) (space : n ≤ length bytes) (capacity_too : n ≤ length others) where
   abbrev ms : List Bool
   ms = map (top 7) (zip2 lt (chunk 0 n bytes) (chunk 0 n others))
 
@@ -33,10 +33,10 @@ module _ (lt : ℕ → ℕ → ℕ) (is_lt : (a b : ℕ) → top 7 (lt a b) ≡ 
   least = sel_l ms (chunk 0 n bytes) (chunk 0 n others)
 
   long_xs : length (chunk 0 n bytes) ≡ n
-  long_xs = length-chunk 0 n bytes (omega (arith, room))
+  long_xs = length-chunk 0 n bytes (omega (arith, space))
 
   long_ys : length (chunk 0 n others) ≡ n
-  long_ys = length-chunk 0 n others (omega (arith, room_too))
+  long_ys = length-chunk 0 n others (omega (arith, capacity_too))
 
   long_zs : length (zip2 lt (chunk 0 n bytes) (chunk 0 n others)) ≡ n
   long_zs = length-zip2 lt (chunk 0 n bytes) (chunk 0 n others) (long_xs ∙ sym long_ys) ∙ long_xs

@@ -5,7 +5,7 @@ pub mod ByFirstByte
 pub mod Opens
 pub mod Finds
 pub mod FirstZeros
-pub mod Standing
+pub mod Occurrence
 pub mod PlainPaths
 pub mod Strings
 pub mod CheckedTexts

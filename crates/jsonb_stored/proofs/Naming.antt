@@ -52,7 +52,7 @@ head_compares text wanted more bytes name head rest e n cut =
     (ap (ordering_then (bytes_cmp head name)) (sym (tied rest)) ∙ both rest)
     (both more ∙ ap (ordering_then (bytes_cmp text wanted)) (tied more))
 
--- what stands behind the name, where the names are equal
+-- what is behind the name, where the names are equal
 pub behind_name : (text wanted more bytes name head rest : List ℕ) → bytes ≡ text_key text ++ more → name ≡ text_key wanted → IsSplitAt bytes (length name) head rest → bytes_cmp head name ≡ Equal → bytes_cmp text wanted ≡ Equal → rest ≡ more
 behind_name text wanted more bytes name head rest e n cut same names =
     let heads : head ≡ text_key text = exact_bytes head name same ∙ n ∙ ap text_key (sym (exact_bytes text wanted names)) in

@@ -13,14 +13,14 @@ use Rattle.std.specs.Prelude.{FitsSigned}
 use Rattle.std.specs.Ordering.{ordering_then}
 use Rattle.std.specs.declared.cmp.Ordering.{Ordering}
 use Rattle.std.specs.declared.cmp.Ordering.TheVariants.{Less, Equal, Greater}
-use Rattle.jsonb_key.specs.Reading.{IsLastPair, place_of}
+use Rattle.jsonb_key.specs.Reading.{IsLastPair, exponent_of}
 use Rattle.jsonb_key.proofs.Exact.{DigitsRead, none_read, one_pair_read, last_pair_read, first_digit, digit_there, up_key, down_key}
-use Rattle.jsonb_key.proofs.Numbers.{ReadsDigits, digits_begun, last_none, last_some, pair_read, pair_small, not_over, place_read}
+use Rattle.jsonb_key.proofs.Numbers.{ReadsDigits, digits_begun, last_none, last_some, pair_read, pair_small, not_over, exponent_read}
 use Rattle.jsonb_key.proofs.Signs.{IsSigned, signed_read}
 use Rattle.jsonb_stored.specs.Frames.{NumberFirst, DigitsFirst}
 use Rattle.jsonb_spec.specs.Number.Signed.{signed_by}
 use Rattle.jsonb_spec.specs.Order.{bytes_cmp, num_cmp}
-use Rattle.jsonb_spec.specs.SortKey.{number_key, place_key, digits_key, invert_if}
+use Rattle.jsonb_spec.specs.SortKey.{number_key, exponent_key, digits_key, invert_if}
 use Rattle.jsonb_spec.specs.Text.Range.{HasFewDigits}
 use Rattle.jsonb_spec.specs.Tree.{Num, decimal128}
 use Rattle.jsonb_value.proofs.Numbers.Nearest.{unsigned_abs-signed}
@@ -80,7 +80,7 @@ pub digits_end : (negative : Bool) (bytes : List ℕ) (count : ℕ) (rest others
 digits_end negative bytes count rest others byte b last first tail so_far e fits is even small pair head high =
     let p = last_is so_far.digits (b / 2) last (omega (arith, small)) pair in
     let read = last_pair_read negative bytes so_far.digits count rest others byte b (b / 2) p.0 last so_far.read e fits is refl even p.1 in
-    record { digits = p.0; below = read.1; least = first_digit negative (count + last) p.0 first bytes tail others (some p.0 p.1.not_zero) read.1 read.0 head high; stands = read.0 }
+    record { digits = p.0; below = read.1; least = first_digit negative (count + last) p.0 first bytes tail others (some p.0 p.1.not_zero) read.1 read.0 head high; occurs = read.0 }
   where
     some : (all : ℕ) → all % 10 ≢ 0 → 0 < all
     some zero h = absurd (h refl)
@@ -91,20 +91,20 @@ digits_end negative bytes count rest others byte b last first tail so_far e fits
 fits_all : (C M : ℕ) → C ≤ 38 → M < 10 ^ C → 10 ^ C ≤ M * 10 → (0 < M) × (M ≤ 2 ^ 127)
 fits_all C M few below least = (omega (arith, least, ten C), omega (arith, below, power_le C 38 few))
 
--- What is told of any number's digits holds: the count and the rest are those of the number whose digits stand first.
-abbrev pub TellsAll : Bool → List ℕ → Option (ℕ × Bor (List ℕ)) → Type 0
-TellsAll negative bytes result = (C M : ℕ) → C ≤ 38 → M < 10 ^ C → 10 ^ C ≤ M * 10 → (more : List ℕ) → bytes ≡ map (invert_if negative) (digits_key C M) ++ more → MatchOption result ⊥ (λ r. (r.0 ≤ C) × (r.1.now ≡ more))
+-- What is reported of any number's digits holds: the count and the rest are those of the number whose digits are first.
+abbrev pub ReportsAll : Bool → List ℕ → Option (ℕ × Bor (List ℕ)) → Type 0
+ReportsAll negative bytes result = (C M : ℕ) → C ≤ 38 → M < 10 ^ C → 10 ^ C ≤ M * 10 → (more : List ℕ) → bytes ≡ map (invert_if negative) (digits_key C M) ++ more → MatchOption result ⊥ (λ r. (r.0 ≤ C) × (r.1.now ≡ more))
 
-pub all_over : (negative : Bool) (bytes : List ℕ) (count : ℕ) (rest : List ℕ) → SomeRead negative bytes count rest → length rest ≡ 0 → TellsAll negative bytes None
+pub all_over : (negative : Bool) (bytes : List ℕ) (count : ℕ) (rest : List ℕ) → SomeRead negative bytes count rest → length rest ≡ 0 → ReportsAll negative bytes None
 all_over negative bytes count rest so_far none C M few below least more e =
     let f = fits_all C M few below least in
     not_over negative bytes so_far.digits count rest so_far.reads none C M below f.0 f.1 (omega (arith, few)) more e
 
-pub all_low : (negative : Bool) (bytes : List ℕ) (first : ℕ) (rest : List ℕ) → bytes ≡ first ∷ rest → invert_if negative first < 20 → TellsAll negative bytes None
+pub all_low : (negative : Bool) (bytes : List ℕ) (first : ℕ) (rest : List ℕ) → bytes ≡ first ∷ rest → invert_if negative first < 20 → ReportsAll negative bytes None
 all_low negative bytes first rest at low C M few below least more e =
     digit_there negative C M bytes more (fits_all C M few below least).0 below least e (λ byte others is. subst (λ b. invert_if negative b < 20) (heads first byte rest others (sym at ∙ is)) low)
 
-pub all_large : (negative : Bool) (bytes : List ℕ) (count : ℕ) (rest others : List ℕ) (byte b : ℕ) → SomeRead negative bytes count rest → rest ≡ byte ∷ others → b ≡ invert_if negative byte → 199 < b → TellsAll negative bytes None
+pub all_large : (negative : Bool) (bytes : List ℕ) (count : ℕ) (rest others : List ℕ) (byte b : ℕ) → SomeRead negative bytes count rest → rest ≡ byte ∷ others → b ≡ invert_if negative byte → 199 < b → ReportsAll negative bytes None
 all_large negative bytes count rest others byte b so_far at is large C M few below least more e =
     let f = fits_all C M few below least in
     elim (cases_eq (b % 2) 0) [
@@ -112,12 +112,12 @@ all_large negative bytes count rest others byte b so_far at is large C M few bel
       | inr odd ↦ omega (arith, large, pair_small negative bytes so_far.digits count rest byte others b so_far.reads at is C M below f.0 f.1 (omega (arith, few)) more e odd (b / 2) refl)
     ]
 
-pub all_zeros : (negative : Bool) (bytes : List ℕ) (count : ℕ) (rest others : List ℕ) (byte b : ℕ) → SomeRead negative bytes count rest → rest ≡ byte ∷ others → b ≡ invert_if negative byte → b % 2 ≡ 0 → b / 2 ≡ 0 → TellsAll negative bytes None
+pub all_zeros : (negative : Bool) (bytes : List ℕ) (count : ℕ) (rest others : List ℕ) (byte b : ℕ) → SomeRead negative bytes count rest → rest ≡ byte ∷ others → b ≡ invert_if negative byte → b % 2 ≡ 0 → b / 2 ≡ 0 → ReportsAll negative bytes None
 all_zeros negative bytes count rest others byte b so_far at is even none C M few below least more e =
     let f = fits_all C M few below least in
     last_none negative bytes so_far.digits count rest byte others b so_far.reads at is C M below f.0 f.1 (omega (arith, few)) more e even (b / 2) refl (inl none)
 
-pub all_many : (negative : Bool) (bytes : List ℕ) (count : ℕ) (rest others : List ℕ) (byte b : ℕ) → SomeRead negative bytes count rest → rest ≡ byte ∷ others → b ≡ invert_if negative byte → b % 2 ≢ 0 → count % 2 ≡ 0 → 34 < count → TellsAll negative bytes None
+pub all_many : (negative : Bool) (bytes : List ℕ) (count : ℕ) (rest others : List ℕ) (byte b : ℕ) → SomeRead negative bytes count rest → rest ≡ byte ∷ others → b ≡ invert_if negative byte → b % 2 ≢ 0 → count % 2 ≡ 0 → 34 < count → ReportsAll negative bytes None
 all_many negative bytes count rest others byte b so_far at is odd even many C M few below least more e =
     let f = fits_all C M few below least in
     let d = pair_read negative bytes so_far.digits count rest byte others b so_far.reads at is C M below f.0 f.1 (omega (arith, few)) more e odd (b / 2) (so_far.digits * 100 + b / 2) (count + 2) refl refl refl in
@@ -127,12 +127,12 @@ all_many negative bytes count rest others byte b so_far at is odd even many C M 
     left zero tail counted below some = omega (arith, below, some, pow-zero 10)
     left (suc l) tail counted below some = omega (arith, counted, few, many, even)
 
-pub all_told : (negative : Bool) (bytes : List ℕ) (count : ℕ) (rest : List ℕ) (others : Bor (List ℕ)) (byte b last : ℕ) → SomeRead negative bytes count rest → rest ≡ byte ∷ others.now → b ≡ invert_if negative byte → b % 2 ≡ 0 → b ≤ 199 → ((last ≡ 1) × (b / 2 % 10 ≡ 0) × (0 < b / 2)) ⊎ ((last ≡ 2) × (0 < b / 2 % 10)) → TellsAll negative bytes (Some (count + last, others))
-all_told negative bytes count rest others byte b last so_far at is even small pair C M few below least more e =
+pub all_reported : (negative : Bool) (bytes : List ℕ) (count : ℕ) (rest : List ℕ) (others : Bor (List ℕ)) (byte b last : ℕ) → SomeRead negative bytes count rest → rest ≡ byte ∷ others.now → b ≡ invert_if negative byte → b % 2 ≡ 0 → b ≤ 199 → ((last ≡ 1) × (b / 2 % 10 ≡ 0) × (0 < b / 2)) ⊎ ((last ≡ 2) × (0 < b / 2 % 10)) → ReportsAll negative bytes (Some (count + last, others))
+all_reported negative bytes count rest others byte b last so_far at is even small pair C M few below least more e =
     let f = fits_all C M few below least in
     let p = last_is so_far.digits (b / 2) last (omega (arith, small)) pair in
-    let told = last_some negative bytes so_far.digits count rest byte others.now b so_far.reads at is C M below f.0 f.1 (omega (arith, few)) more e even (b / 2) p.0 last refl p.1 in
-    (told.0.fewer, told.1)
+    let reported = last_some negative bytes so_far.digits count rest byte others.now b so_far.reads at is C M below f.0 f.1 (omega (arith, few)) more e even (b / 2) p.0 last refl p.1 in
+    (reported.0.fewer, reported.1)
 
 -- ---- the number
 
@@ -141,25 +141,25 @@ wide false m h = record { sfits = omega arith }
 wide true zero h = record { sfits = omega arith }
 wide true (suc m) h = record { sfits = omega arith }
 
-joined : (sign : Bool) (place digits more bytes key rest : List ℕ) → bytes ≡ map (invert_if sign) place ++ rest → rest ≡ map (invert_if sign) digits ++ more → key ≡ map (invert_if sign) (place ++ digits) → bytes ≡ key ++ more
-joined sign place digits more bytes key rest e f is =
-    e ∙ ap (λ bs. map (invert_if sign) place ++ bs) f ∙ sym (append_assoc (map (invert_if sign) place) (map (invert_if sign) digits) more)
-    ∙ ap (λ bs. bs ++ more) (sym (map-append (invert_if sign) place digits) ∙ sym is)
+joined : (sign : Bool) (exponent digits more bytes key rest : List ℕ) → bytes ≡ map (invert_if sign) exponent ++ rest → rest ≡ map (invert_if sign) digits ++ more → key ≡ map (invert_if sign) (exponent ++ digits) → bytes ≡ key ++ more
+joined sign exponent digits more bytes key rest e f is =
+    e ∙ ap (λ bs. map (invert_if sign) exponent ++ bs) f ∙ sym (append_assoc (map (invert_if sign) exponent) (map (invert_if sign) digits) more)
+    ∙ ap (λ bs. bs ++ more) (sym (map-append (invert_if sign) exponent digits) ∙ sym is)
 
-pub number_there : (sign : Bool) (place count : ℕ) (bytes rest more : List ℕ) → bytes ≡ map (invert_if sign) (place_key place) ++ rest → (d : DigitsFirst sign rest count more) → count ≤ 38 → place ≤ 293 → 255 + count ≤ place + 38 → NumberFirst bytes more
-number_there sign place count bytes rest more e d few near far = elim (cases_lt place (255 + count)) [
+pub number_there : (sign : Bool) (exponent count : ℕ) (bytes rest more : List ℕ) → bytes ≡ map (invert_if sign) (exponent_key exponent) ++ rest → (d : DigitsFirst sign rest count more) → count ≤ 38 → exponent ≤ 293 → 255 + count ≤ exponent + 38 → NumberFirst bytes more
+number_there sign exponent count bytes rest more e d few near far = elim (cases_lt exponent (255 + count)) [
   | inl low ↦
       let small : d.digits < 10 ^ 38 = omega (arith, d.below, power_le count 38 few) in
-      let n : Num = record { form = decimal128; scale = (255 + count) - place; whole = signed_by sign d.digits } in
+      let n : Num = record { form = decimal128; scale = (255 + count) - exponent; whole = signed_by sign d.digits } in
       record {
         value = n;
         proper = (omega (arith, far), wide sign d.digits small);
         in_range = (omega (arith, far), omega (arith, small, unsigned_abs-signed sign d.digits));
-        stands = joined sign (place_key place) (digits_key count d.digits) more bytes (number_key n) rest e d.stands
-            (down_key n sign ((255 + count) - place) d.digits count place refl refl refl (omega (arith, low)) some d.below d.least (omega (arith, small)));
+        occurs = joined sign (exponent_key exponent) (digits_key count d.digits) more bytes (number_key n) rest e d.occurs
+            (down_key n sign ((255 + count) - exponent) d.digits count exponent refl refl refl (omega (arith, low)) some d.below d.least (omega (arith, small)));
       }
   | inr high ↦
-      let k = place - (255 + count) in
+      let k = exponent - (255 + count) in
       let up = d.digits * 10 ^ k in
       let power : 10 ^ (count + k) ≡ 10 ^ count * 10 ^ k = pow-add 10 count k in
       let less : up < 10 ^ (count + k) = omega (arith, power, mul-lt-mul_of_pos_right d.below (ten k)) in
@@ -169,8 +169,8 @@ number_there sign place count bytes rest more e d few near far = elim (cases_lt 
         value = n;
         proper = (omega arith, wide sign up small);
         in_range = (omega arith, omega (arith, small, unsigned_abs-signed sign up));
-        stands = joined sign (place_key place) (digits_key count d.digits) more bytes (number_key n) rest e d.stands
-            (up_key n sign d.digits count place (10 ^ k) up refl refl refl refl high some d.below d.least (omega (arith, small)));
+        occurs = joined sign (exponent_key exponent) (digits_key count d.digits) more bytes (number_key n) rest e d.occurs
+            (up_key n sign d.digits count exponent (10 ^ k) up refl refl refl refl high some d.below d.least (omega (arith, small)));
       }
 ]
   where
@@ -187,7 +187,7 @@ first_ties Greater s e = cc e
 one_end : (bytes rest more : List ℕ) → NumberFirst bytes rest → NumberFirst bytes more → rest ≡ more
 one_end bytes rest more m n =
     let compared = (numbers_compare m.value n.value (is_small m.value m.proper) (is_small n.value n.proper)).compared rest more in
-    let same : number_key m.value ++ rest ≡ number_key n.value ++ more = sym m.stands ∙ n.stands in
+    let same : number_key m.value ++ rest ≡ number_key n.value ++ more = sym m.occurs ∙ n.occurs in
     exact_bytes rest more (first_ties (num_cmp m.value n.value) (bytes_cmp rest more)
     (sym compared ∙ ap (bytes_cmp (number_key m.value ++ rest)) (sym same) ∙ tied_itself nat_list_cmp_total (number_key m.value ++ rest))).1
 
@@ -196,9 +196,9 @@ number_ends bytes rest m more = (λ e. subst (NumberFirst bytes) e m, λ n. one_
 
 -- ---- whether one is there
 
--- what stands first where the key of a number in range does
+-- what is first where the key of a number in range is
 pub number_read : (first : ℕ) (rest bytes more : List ℕ) → bytes ≡ first ∷ rest → ((tail : List ℕ) → bytes ≢ 128 ∷ tail) → (n : NumberFirst bytes more) → IsSigned n.value (nat_lt first 128) bytes more
-number_read first rest bytes more at not_zero n = signed_read n.value n.proper first rest bytes more at (λ is. not_zero rest (at ∙ ap (λ b. b ∷ rest) is)) n.stands
+number_read first rest bytes more at not_zero n = signed_read n.value n.proper first rest bytes more at (λ is. not_zero rest (at ∙ ap (λ b. b ∷ rest) is)) n.occurs
 
 pub few_digits : (n : Num) (sign : Bool) (bytes more : List ℕ) (s : IsSigned n sign bytes more) → HasFewDigits n → s.count ≤ 38
 few_digits n sign bytes more s few = elim (cases_lt s.count 39) [
@@ -206,6 +206,6 @@ few_digits n sign bytes more s few = elim (cases_lt s.count 39) [
   | inr many ↦ absurd (omega (arith, s.least, few.1, power_le 39 s.count many))
 ]
 
--- the place of its first digit, and what stands behind it
-pub place_there : (n : Num) (sign : Bool) (bytes more : List ℕ) (s : IsSigned n sign bytes more) → place_of sign bytes ≡ Some (s.place, map (invert_if sign) (digits_key s.count (unsigned_abs n.whole)) ++ more)
-place_there n sign bytes more s = ap (place_of sign) s.stands ∙ place_read sign s.place (map (invert_if sign) (digits_key s.count (unsigned_abs n.whole)) ++ more) s.low
+-- the exponent of its first digit, and what is behind it
+pub exponent_there : (n : Num) (sign : Bool) (bytes more : List ℕ) (s : IsSigned n sign bytes more) → exponent_of sign bytes ≡ Some (s.exponent, map (invert_if sign) (digits_key s.count (unsigned_abs n.whole)) ++ more)
+exponent_there n sign bytes more s = ap (exponent_of sign) s.occurs ∙ exponent_read sign s.exponent (map (invert_if sign) (digits_key s.count (unsigned_abs n.whole)) ++ more) s.low

@@ -19,7 +19,7 @@ abbrev pub AreOpen : List Open → ℕ → Type 0
 AreOpen [] left = ⊤
 AreOpen (o ∷ os) left = IsOpen o left × AreOpen os (suc left)
 
--- which of them are objects stands in a list, the outermost first
+-- which of them are objects is in a list, the outermost first
 abbrev pub Stacks : List Open → List Bool → ℕ → Type 0
 Stacks [] objects zero = ⊤
 Stacks [] objects (suc depth) = ⊥
@@ -32,19 +32,19 @@ pub record OpenLeft (objects : List Bool) (depth : ℕ) (rest more : List ℕ) :
   pub levels : left + depth ≡ 512
   pub are_open : AreOpen opens left
   pub stacked : Stacks opens objects depth
-  pub stands : rest ≡ opens_key opens ++ more
+  pub occurs : rest ≡ opens_key opens ++ more
 
 -- Whatever is open where the bytes begin, what is left begins with what is left of it.
 abbrev pub SkipsParts : Bool → List ℕ → List Bool → ℕ → List ℕ → Type 0
 SkipsParts object bytes objects depth rest = (o : Open) → is_object o ≡ object → IsOpen o 511 → (more : List ℕ) → bytes ≡ open_key o ++ more → OpenLeft objects depth rest more
 
-pub stack_kept : (os : List Open) (objects : List Bool) (e : ℕ) (b : Bool) (d : ℕ) → d ≤ e → Stacks os objects d → Stacks os (set objects e b) d
-stack_kept [] objects e b zero l s = tt
-stack_kept [] objects e b (suc d) l s = absurd s
-stack_kept (o ∷ os) objects e b zero l s = absurd s
-stack_kept (o ∷ os) objects e b (suc d) l s =
+pub stack_retained : (os : List Open) (objects : List Bool) (e : ℕ) (b : Bool) (d : ℕ) → d ≤ e → Stacks os objects d → Stacks os (set objects e b) d
+stack_retained [] objects e b zero l s = tt
+stack_retained [] objects e b (suc d) l s = absurd s
+stack_retained (o ∷ os) objects e b zero l s = absurd s
+stack_retained (o ∷ os) objects e b (suc d) l s =
     let other : d ≢ e = omega (arith, l) in
-    (get_or-set_other objects e d b false other ∙ s.0, stack_kept os objects e b d (omega (arith, l)) s.1)
+    (get_or-set_other objects e d b false other ∙ s.0, stack_retained os objects e b d (omega (arith, l)) s.1)
 
 pub parts_begun : (objects : List Bool) (object : Bool) (bytes : List ℕ) → get_or objects 0 false ≡ object → SkipsParts object bytes objects 1 bytes
 parts_begun objects object bytes top = λ o is h more e. record {
@@ -53,7 +53,7 @@ parts_begun objects object bytes top = λ o is h more e. record {
   levels = omega arith;
   are_open = (h, tt);
   stacked = (top ∙ sym is, tt);
-  stands = e ∙ ap (λ key. key ++ more) (sym (append-nil (open_key o)));
+  occurs = e ∙ ap (λ key. key ++ more) (sym (append-nil (open_key o)));
 }
 
 -- the next part of what is open
@@ -72,13 +72,13 @@ cases_of (items (more_trees t ts)) left h = inr (record { name = []; value = t; 
 cases_of (members no_members) left h = inl refl
 cases_of (members (more_members k t ms)) left h = inr (record { name = k; value = t; others = members ms; same = refl; readable = record { proper = h.0.1; within = h.1.0 }; open_there = (h.0.2, h.1.1); is = refl })
 
--- the end of the innermost stands first
+-- the end of the innermost is first
 pub record EndsHere (objects : List Bool) (depth : ℕ) (rest more : List ℕ) (object : Bool) : Type 0 where
   pub under : List Open
-  pub stands : rest ≡ end_key object ++ (opens_key under ++ more)
+  pub occurs : rest ≡ end_key object ++ (opens_key under ++ more)
   pub closed : (others : List ℕ) → others ≡ opens_key under ++ more → OpenLeft objects depth others more
 
--- a part of the innermost stands first
+-- a part of the innermost is first
 pub record Next (objects : List Bool) (depth : ℕ) (rest more : List ℕ) (object : Bool) : Type 0 where
   pub name : List ℕ
   pub value : Tree
@@ -89,13 +89,13 @@ pub record Next (objects : List Bool) (depth : ℕ) (rest more : List ℕ) (obje
   pub levels : left + depth ≡ 512
   pub are_open : AreOpen (others ∷ under) left
   pub stacked : Stacks (others ∷ under) objects depth
-  pub stands : rest ≡ name_key object name ++ (key_of value ++ (opens_key (others ∷ under) ++ more))
+  pub occurs : rest ≡ name_key object name ++ (key_of value ++ (opens_key (others ∷ under) ++ more))
 
 regroup : (n k o u more : List ℕ) → ((n ++ (k ++ o)) ++ u) ++ more ≡ n ++ (k ++ ((o ++ u) ++ more))
 regroup n k o u more = simp append_assoc
 
 pub end_or_next : (objects : List Bool) (depth top : ℕ) (rest more : List ℕ) (object : Bool) → top + 1 ≡ depth → object ≡ get_or objects top false → OpenLeft objects depth rest more → EndsHere objects top rest more object ⊎ Next objects depth rest more object
-end_or_next objects depth top rest more object below is_top l = go l.opens l.left depth l.levels l.are_open l.stacked l.stands below
+end_or_next objects depth top rest more object below is_top l = go l.opens l.left depth l.levels l.are_open l.stacked l.occurs below
   where
     go : (opens : List Open) (left depth : ℕ) → left + depth ≡ 512 → AreOpen opens left → Stacks opens objects depth → rest ≡ opens_key opens ++ more → top + 1 ≡ depth → EndsHere objects top rest more object ⊎ Next objects depth rest more object
     go [] left zero levels a s st below = absurd (omega (arith, below))
@@ -107,8 +107,8 @@ end_or_next objects depth top rest more object below is_top l = go l.opens l.lef
         elim (cases_of o left a.0) [
           | inl over ↦ inl (record {
             under = os;
-            stands = st ∙ ap (λ key. (key ++ opens_key os) ++ more) (over ∙ ap end_key kind) ∙ append_assoc (end_key object) (opens_key os) more;
-            closed = λ others e. record { opens = os; left = suc left; levels = omega (arith, levels, same); are_open = a.1; stacked = subst (λ i. Stacks os objects i) (sym same) s.1; stands = e };
+            occurs = st ∙ ap (λ key. (key ++ opens_key os) ++ more) (over ∙ ap end_key kind) ∙ append_assoc (end_key object) (opens_key os) more;
+            closed = λ others e. record { opens = os; left = suc left; levels = omega (arith, levels, same); are_open = a.1; stacked = subst (λ i. Stacks os objects i) (sym same) s.1; occurs = e };
           })
           | inr p ↦ inr (record {
             name = p.name;
@@ -120,24 +120,24 @@ end_or_next objects depth top rest more object below is_top l = go l.opens l.lef
             levels = levels;
             are_open = (p.open_there, a.1);
             stacked = (s.0 ∙ sym p.same, s.1);
-            stands = st ∙ ap (λ key. (key ++ opens_key os) ++ more) (p.is ∙ ap (λ b. name_key b p.name ++ (key_of p.value ++ open_key p.others)) kind) ∙ regroup (name_key object p.name) (key_of p.value) (open_key p.others) (opens_key os) more;
+            occurs = st ∙ ap (λ key. (key ++ opens_key os) ++ more) (p.is ∙ ap (λ b. name_key b p.name ++ (key_of p.value ++ open_key p.others)) kind) ∙ regroup (name_key object p.name) (key_of p.value) (open_key p.others) (opens_key os) more;
           })
         ]
 
--- where a part stands, nothing ends
+-- where a part is, nothing ends
 pub no_end : (object : Bool) (name : List ℕ) (value : Tree) (left : ℕ) → IsReadableAt left value → (rest tail others : List ℕ) → rest ≡ end_key object ++ tail → rest ≡ name_key object name ++ (key_of value ++ others) → ⊥
-no_end true name value left r rest tail others e stands = no_pair name (key_of value ++ others) rest tail e stands
-no_end false name value left r rest tail others e stands = no_zero value left others rest 0 tail r.proper r.within e refl stands
+no_end true name value left r rest tail others e occurs = no_pair name (key_of value ++ others) rest tail e occurs
+no_end false name value left r rest tail others e occurs = no_zero value left others rest 0 tail r.proper r.within e refl occurs
 
 -- behind the part
 pub part_skipped : (objects : List Bool) (depth : ℕ) (rest more : List ℕ) (object : Bool) (n : Next objects depth rest more object) (others : List ℕ) → others ≡ opens_key (n.others ∷ n.under) ++ more → OpenLeft objects depth others more
-part_skipped objects depth rest more object n others e = record { opens = n.others ∷ n.under; left = n.left; levels = n.levels; are_open = n.are_open; stacked = n.stacked; stands = e }
+part_skipped objects depth rest more object n others e = record { opens = n.others ∷ n.under; left = n.left; levels = n.levels; are_open = n.are_open; stacked = n.stacked; occurs = e }
 
 -- within the part, which is an array or an object
 pub part_opened : (objects : List Bool) (depth : ℕ) (rest more : List ℕ) (object : Bool) (n : Next objects depth rest more object) (o : Open) (inner : ℕ) → n.left ≡ suc inner → IsOpen o inner → (b : Bool) → is_object o ≡ b → depth < length objects
     → (others : List ℕ) → others ≡ open_key o ++ (opens_key (n.others ∷ n.under) ++ more) → OpenLeft (set objects depth b) (depth + 1) others more
 part_opened objects depth rest more object n o inner deeper h b is fits others e =
-    let there : Stacks (o ∷ n.others ∷ n.under) (set objects depth b) (suc depth) = (get_or-set_same objects depth b false fits ∙ sym is, stack_kept (n.others ∷ n.under) objects depth b depth (omega arith) n.stacked) in
+    let there : Stacks (o ∷ n.others ∷ n.under) (set objects depth b) (suc depth) = (get_or-set_same objects depth b false fits ∙ sym is, stack_retained (n.others ∷ n.under) objects depth b depth (omega arith) n.stacked) in
     let one_more : suc depth ≡ depth + 1 = omega arith in
     record {
       opens = o ∷ n.others ∷ n.under;
@@ -145,7 +145,7 @@ part_opened objects depth rest more object n o inner deeper h b is fits others e
       levels = omega (arith, n.levels, deeper);
       are_open = (h, subst (λ d. AreOpen (n.others ∷ n.under) d) deeper n.are_open);
       stacked = subst (λ d. Stacks (o ∷ n.others ∷ n.under) (set objects depth b) d) one_more there;
-      stands = e ∙ sym (append_assoc (open_key o) (opens_key (n.others ∷ n.under)) more);
+      occurs = e ∙ sym (append_assoc (open_key o) (opens_key (n.others ∷ n.under)) more);
     }
 
 -- with as many open as may be no part is an array or an object
@@ -154,7 +154,7 @@ too_deep objects depth rest more object n inner deeper full = absurd (omega (ari
 
 -- with none open all is read
 pub all_skipped : (objects : List Bool) (rest more : List ℕ) (depth : ℕ) → depth ≡ 0 → OpenLeft objects depth rest more → rest ≡ more
-all_skipped objects rest more depth none l = go l.opens depth none l.stacked l.stands
+all_skipped objects rest more depth none l = go l.opens depth none l.stacked l.occurs
   where
     go : (opens : List Open) (depth : ℕ) → depth ≡ 0 → Stacks opens objects depth → rest ≡ opens_key opens ++ more → rest ≡ more
     go [] zero n s e = e
@@ -170,18 +170,18 @@ none_some x e = cc
 some_same : (x y : List ℕ) → Some x ≡ Some y → x ≡ y
 some_same x y e = cc
 
--- where an end was read, it stands there
+-- where an end was read, it is there
 pub end_read : (objects : List Bool) (depth top : ℕ) (rest more others : List ℕ) (object : Bool) → top + 1 ≡ depth → object ≡ get_or objects top false → OpenLeft objects depth rest more → rest ≡ end_key object ++ others → ((tail : List ℕ) → rest ≡ end_key object ++ tail → Some others ≡ Some tail)
     → OpenLeft objects top others more
 end_read objects depth top rest more others object below is_top l read found = elim (end_or_next objects depth top rest more object below is_top l) [
-  | inl x ↦ x.closed others (some_same others (opens_key x.under ++ more) (found (opens_key x.under ++ more) x.stands))
-  | inr n ↦ absurd (no_end object n.name n.value n.left n.readable rest others (opens_key (n.others ∷ n.under) ++ more) read n.stands)
+  | inl x ↦ x.closed others (some_same others (opens_key x.under ++ more) (found (opens_key x.under ++ more) x.occurs))
+  | inr n ↦ absurd (no_end object n.name n.value n.left n.readable rest others (opens_key (n.others ∷ n.under) ++ more) read n.occurs)
 ]
 
--- where none was read, a part stands there
+-- where none was read, a part is there
 pub part_there : (objects : List Bool) (depth top : ℕ) (rest more : List ℕ) (object : Bool) → top + 1 ≡ depth → object ≡ get_or objects top false → OpenLeft objects depth rest more → ((tail : List ℕ) → rest ≡ end_key object ++ tail → None ≡ Some tail) → Next objects depth rest more object
 part_there objects depth top rest more object below is_top l none = elim (end_or_next objects depth top rest more object below is_top l) [
-  | inl x ↦ absurd (none_some (opens_key x.under ++ more) (none (opens_key x.under ++ more) x.stands))
+  | inl x ↦ absurd (none_some (opens_key x.under ++ more) (none (opens_key x.under ++ more) x.occurs))
   | inr n ↦ n
 ]
 

@@ -40,8 +40,9 @@ plain_on bytes others n m e front back = λ k l. elim (cases_lt k n) [
     same : (k : ℕ) → n ≤ k → get_or others (k - n) 0 ≡ get_or bytes k 0
     same k high = ap (λ xs. get_or xs (k - n) 0) e ∙ get_or-drop n bytes (k - n) 0 ∙ ap (λ i. get_or bytes i 0) (omega (arith, high))
 
--- the first n bytes in a vector, f of each in another, and r the first of these whose top bit is set, by which bytes stop
-module _ (stops : ℕ → Bool) (bytes : List ℕ) (n r : ℕ) (marks : List ℕ) (f : ℕ → ℕ) (room : n ≤ length bytes) (few : n ≤ 64)
+-- the first n bytes in a vector, f of each in another, and r the first of these whose top bit is set, by which bytes
+-- stop
+module _ (stops : ℕ → Bool) (bytes : List ℕ) (n r : ℕ) (marks : List ℕ) (f : ℕ → ℕ) (space : n ≤ length bytes) (few : n ≤ 64)
     (found : r ≡ cond (eqb (mask_l (map (top 7) marks) % 2 ^ 64) 0) n (trailing_zeros w64 (mask_l (map (top 7) marks) % 2 ^ 64)))
     (lanes : marks ≡ map f (chunk 0 n bytes)) where
   abbrev is_marked : ℕ → Bool
@@ -50,17 +51,17 @@ module _ (stops : ℕ → Bool) (bytes : List ℕ) (n r : ℕ) (marks : List ℕ
   counted : r ≡ prefix_len (λ b. not (is_marked b)) (chunk 0 n bytes)
   counted =
       let v = chunk 0 n bytes in
-      let long : length v ≡ n = length-chunk 0 n bytes (omega (arith, room)) in
+      let long : length v ≡ n = length-chunk 0 n bytes (omega (arith, space)) in
       let mask = ap (λ l. mask_l l % 2 ^ 64) (ap (map (top 7)) lanes ∙ map-map (top 7) f v) ∙ mask_l-mod (map is_marked v) 64 (omega (arith, length-map v is_marked, long)) in
       found ∙ ap (λ m. cond (eqb m 0) n (trailing_zeros w64 m)) mask ∙ first_set_mask_l is_marked v n long few
 
   pub marks_within : r ≤ n
-  marks_within = run_in_chunk_le is_marked bytes 0 n r 0 (omega (arith, room)) counted
+  marks_within = run_in_chunk_le is_marked bytes 0 n r 0 (omega (arith, space)) counted
 
   pub marks_pass : agree_below is_marked stops 256 ≡ true → (k : ℕ) → k < r → Fits w8 (get_or bytes k 0) → stops (get_or bytes k 0) ≡ false
   marks_pass exact k l fit =
       sym (agree_below_at is_marked stops 256 (get_or bytes k 0) exact fit.fits)
-      ∙ run_in_chunk_fails is_marked bytes 0 n r 0 (omega (arith, room)) counted k (omega arith) (omega (arith, l))
+      ∙ run_in_chunk_fails is_marked bytes 0 n r 0 (omega (arith, space)) counted k (omega arith) (omega (arith, l))
 
 -- the bytes are plain that don't stop
 pub plain_bytes : (bytes : List ℕ) (r : ℕ) → ((k : ℕ) → k < r → is_other (get_or bytes k 0) ≡ false) → ArePlain bytes r
@@ -98,7 +99,7 @@ plain_utf8 bytes n p = IsUtf8-from_ascii (take n bytes) (take_plain bytes n p)
 -- all bytes are plain
 pub no_zero_there : (bytes rest more : List ℕ) (run : ℕ) → run ≤ length bytes → ArePlain bytes run → rest ≡ drop run bytes → ((k : ℕ) → k < length rest → get_or rest k 0 ≢ 0) → TextFirst bytes more → ⊥
 no_zero_there bytes rest more run within plain back none t =
-    some_zero t.text more bytes t.stands (λ k l h. elim (cases_lt k run) [
+    some_zero t.text more bytes t.occurs (λ k l h. elim (cases_lt k run) [
       | inl low ↦ (plain k low).0 h
       | inr high ↦ none (k - run) (omega (arith, l, high, ap length back, length-drop run bytes)) (ap (λ xs. get_or xs (k - run) 0) back ∙ get_or-drop run bytes (k - run) 0 ∙ ap (λ i. get_or bytes i 0) (omega (arith, high)) ∙ h)
     ])

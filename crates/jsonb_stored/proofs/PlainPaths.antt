@@ -3,15 +3,15 @@ use Rattle.std.proofs.Common.{◌≡◌, ℕ, List, [], ◌∷◌, ◌++◌, Bor
 use Rattle.std.specs.List.{AllByRecursion}
 use Rattle.std.specs.Option.{option_and_then}
 use Rattle.jsonb_key.specs.Readable.{IsReadable}
-use Rattle.jsonb_path.proofs.KeySpelling.{after_key, path_alone}
-use Rattle.jsonb_path.specs.KeySpelling.{BeginsPlain, Reads}
-use Rattle.jsonb_path.specs.Path.{IsPath, IsPlainKey, IsPlainPath, spelled_keys}
+use Rattle.jsonb_path.proofs.KeyEncoding.{after_key, path_alone}
+use Rattle.jsonb_path.specs.KeyEncoding.{BeginsPlain, Reads}
+use Rattle.jsonb_path.specs.Path.{IsPath, IsPlainKey, IsPlainPath, encoded_keys}
 use Rattle.jsonb_spec.specs.PartAt.{child_at, part_at}
 use Rattle.jsonb_spec.specs.SortKey.{key_of}
 use Rattle.jsonb_spec.specs.Tree.{Tree}
 use Rattle.jsonb_stored.specs.declared.find.NoKey.{NoKey}
-use Rattle.jsonb_stored.specs.Found.{Finds, PartStands}
-use Rattle.jsonb_stored.proofs.Standing.{inside_of}
+use Rattle.jsonb_stored.specs.Found.{Finds, PartOccurs}
+use Rattle.jsonb_stored.proofs.Occurrence.{inside_of}
 
 -- what is found of a path of which so much is read
 pub record PathSoFar (path rest key : List ℕ) (found : Result (Option (Bor (List ℕ))) NoKey) : Type 0 where
@@ -23,9 +23,9 @@ pub record PathSoFar (path rest key : List ℕ) (found : Result (Option (Bor (Li
 pub plain_path_begun : (path : List ℕ) (key : Bor (List ℕ)) → PathSoFar path path key.now (Ok (Some key))
 plain_path_begun path key = record {
   names = [];
-  reads = record { spelled = refl; only = λ others same. (others, refl, same) };
+  reads = record { encoded = refl; only = λ others same. (others, refl, same) };
   texts = tt;
-  finds = λ t r more e. record { readable = r; before = []; inside = refl; behind = more; stands = e };
+  finds = λ t r more e. record { readable = r; before = []; inside = refl; behind = more; occurs = e };
 }
 
 last_text : (names : List (List ℕ)) (name : List ℕ) → AllByRecursion IsUtf8 names → IsUtf8 name → AllByRecursion IsUtf8 (names ++ name ∷ [])
@@ -48,7 +48,7 @@ last_name (n ∷ names) name t = inside names name (child_at n t) (λ u. last_na
 pub plain_name_read : (path rest others key text name : List ℕ) (found next : Result (Option (Bor (List ℕ))) NoKey) → PathSoFar path rest key found → rest ≡ 47 ∷ text → BeginsPlain text name others → IsUtf8 name → ((bytes : List ℕ) → (part : Option Tree) → Finds bytes part found → Finds bytes (option_and_then (child_at name) part) next) → PathSoFar path others key next
 plain_name_read path rest others key text name found next p first plain is_text child = record {
   names = p.names ++ name ∷ [];
-  reads = after_key path p.names text name others (subst (Reads path p.names) first p.reads) (plain.whole ∙ ap (λ l. l ++ others) (sym plain.spelled)) plain.ended;
+  reads = after_key path p.names text name others (subst (Reads path p.names) first p.reads) (plain.whole ∙ ap (λ l. l ++ others) (sym plain.encoded)) plain.ended;
   texts = last_text p.names name p.texts is_text;
   finds = λ t r more e. subst (λ part. Finds key part next) (sym (last_name p.names name t)) (child key (part_at p.names t) (p.finds t r more e));
 }
@@ -56,7 +56,7 @@ plain_name_read path rest others key text name found next p first plain is_text 
 -- all of the path is read
 pub plain_path : (path rest key : List ℕ) (found : Result (Option (Bor (List ℕ))) NoKey) → PathSoFar path rest key found → rest ≡ [] → (names : List (List ℕ)) × IsPath path names
 plain_path path rest key found p over =
-    (p.names, record { texts = p.texts; spelled = p.reads.spelled ∙ ap (λ l. spelled_keys p.names ++ l) over ∙ append-nil (spelled_keys p.names) })
+    (p.names, record { texts = p.texts; encoded = p.reads.encoded ∙ ap (λ l. encoded_keys p.names ++ l) over ∙ append-nil (encoded_keys p.names) })
 
 pub plain_path_found : (path rest key : List ℕ) (found : Result (Option (Bor (List ℕ))) NoKey) → PathSoFar path rest key found → rest ≡ [] → (t : Tree) → IsReadable t → (more : List ℕ) → key ≡ key_of t ++ more → (names : List (List ℕ)) → IsPath path names → Finds key (part_at names t) found
 plain_path_found path rest key found p over = λ t r more e names is_path.
@@ -70,16 +70,16 @@ behind P (x ∷ front) more h = behind P front more h.1
 -- where no name without escapes can be read, though some of the path is left, the path has an escape or is none
 pub plain_path_stopped : (path rest key : List ℕ) (found : Result (Option (Bor (List ℕ))) NoKey) → PathSoFar path rest key found → eqb (length rest) 0 ≡ false → ((name : List ℕ) → (names : List (List ℕ)) → IsPath rest (name ∷ names) → IsPlainKey name → ⊥) → (names : List (List ℕ)) → IsPlainPath path names → ⊥
 plain_path_stopped path rest key found p some unread = λ names plain.
-    let left = p.reads.only names plain.is_path.spelled in
+    let left = p.reads.only names plain.is_path.encoded in
     stopped left.0 (subst (AllByRecursion IsUtf8) left.1 plain.is_path.texts) (subst (AllByRecursion IsPlainKey) left.1 plain.plain) left.2
   where
-    stopped : (more : List (List ℕ)) → AllByRecursion IsUtf8 (p.names ++ more) → AllByRecursion IsPlainKey (p.names ++ more) → rest ≡ spelled_keys more → ⊥
+    stopped : (more : List (List ℕ)) → AllByRecursion IsUtf8 (p.names ++ more) → AllByRecursion IsPlainKey (p.names ++ more) → rest ≡ encoded_keys more → ⊥
     stopped [] texts plain same = true≢false (sym (ap (λ l. eqb (length l) 0) same) ∙ some)
     stopped (name ∷ more) texts plain same =
-        unread name more (record { texts = behind IsUtf8 p.names (name ∷ more) texts; spelled = same }) (behind IsPlainKey p.names (name ∷ more) plain).0
+        unread name more (record { texts = behind IsUtf8 p.names (name ∷ more) texts; encoded = same }) (behind IsPlainKey p.names (name ∷ more) plain).0
 
 -- what is found in a part that was found
-pub found_inside : (bytes part : List ℕ) (t : Tree) (child : Option Tree) (found : Result (Option (Bor (List ℕ))) NoKey) → PartStands bytes part t → Finds part child found → Finds bytes child found
+pub found_inside : (bytes part : List ℕ) (t : Tree) (child : Option Tree) (found : Result (Option (Bor (List ℕ))) NoKey) → PartOccurs bytes part t → Finds part child found → Finds bytes child found
 found_inside bytes part t (Some u) (Ok (Some rest)) s f = inside_of bytes part rest.now t u s f
 found_inside bytes part t None (Ok None) s f = tt
 found_inside bytes part t (Some u) (Ok None) s f = absurd f

@@ -11,36 +11,36 @@ use Rattle.jsonb_value.proofs.Trees.Runs.{heads}
 
 -- what begins with another byte than those of arrays and objects is neither
 pub scalar_there : (depth : ℕ) (t : Tree) → IsReadableAt depth t → (first : ℕ) (rest bytes more : List ℕ) → bytes ≡ first ∷ rest → bytes ≡ key_of t ++ more → first ≢ 209 → first ≢ 210 → IsScalar t
-scalar_there depth null r first rest bytes more e stands a b = tt
-scalar_there depth (boolean x) r first rest bytes more e stands a b = tt
-scalar_there depth (string mark text) r first rest bytes more e stands a b = tt
-scalar_there depth (number n) r first rest bytes more e stands a b = tt
-scalar_there depth (array ts) r first rest bytes more e stands a b = absurd (b (heads first 210 rest (items_key ts ++ more) (sym e ∙ stands)))
-scalar_there depth (object ms) r first rest bytes more e stands a b = absurd (a (heads first 209 rest (members_key ms ++ more) (sym e ∙ stands)))
-scalar_there depth t r first rest bytes more e stands a b = absurd r.within
+scalar_there depth null r first rest bytes more e occurs a b = tt
+scalar_there depth (boolean x) r first rest bytes more e occurs a b = tt
+scalar_there depth (string mark text) r first rest bytes more e occurs a b = tt
+scalar_there depth (number n) r first rest bytes more e occurs a b = tt
+scalar_there depth (array ts) r first rest bytes more e occurs a b = absurd (b (heads first 210 rest (items_key ts ++ more) (sym e ∙ occurs)))
+scalar_there depth (object ms) r first rest bytes more e occurs a b = absurd (a (heads first 209 rest (members_key ms ++ more) (sym e ∙ occurs)))
+scalar_there depth t r first rest bytes more e occurs a b = absurd r.within
 
 -- it begins with another byte than those of arrays and objects
 pub scalar_begins : (depth : ℕ) (t : Tree) → IsReadableAt depth t → IsScalar t → (first : ℕ) (rest bytes more : List ℕ) → bytes ≡ first ∷ rest → bytes ≡ key_of t ++ more → (first ≢ 209) × (first ≢ 210)
-scalar_begins depth null r s first rest bytes more e stands = let is = heads first 211 rest more (sym e ∙ stands) in ((λ h. absurd (omega (arith, is, h))), (λ h. absurd (omega (arith, is, h))))
-scalar_begins depth (boolean true) r s first rest bytes more e stands = let is = heads first 22 rest more (sym e ∙ stands) in ((λ h. absurd (omega (arith, is, h))), (λ h. absurd (omega (arith, is, h))))
-scalar_begins depth (boolean false) r s first rest bytes more e stands = let is = heads first 21 rest more (sym e ∙ stands) in ((λ h. absurd (omega (arith, is, h))), (λ h. absurd (omega (arith, is, h))))
-scalar_begins depth (string mark text) r s first rest bytes more e stands = let is = heads first 208 rest (text_key text ++ more) (sym e ∙ stands) in ((λ h. absurd (omega (arith, is, h))), (λ h. absurd (omega (arith, is, h))))
-scalar_begins depth (number n) r s first rest bytes more e stands =
+scalar_begins depth null r s first rest bytes more e occurs = let is = heads first 211 rest more (sym e ∙ occurs) in ((λ h. absurd (omega (arith, is, h))), (λ h. absurd (omega (arith, is, h))))
+scalar_begins depth (boolean true) r s first rest bytes more e occurs = let is = heads first 22 rest more (sym e ∙ occurs) in ((λ h. absurd (omega (arith, is, h))), (λ h. absurd (omega (arith, is, h))))
+scalar_begins depth (boolean false) r s first rest bytes more e occurs = let is = heads first 21 rest more (sym e ∙ occurs) in ((λ h. absurd (omega (arith, is, h))), (λ h. absurd (omega (arith, is, h))))
+scalar_begins depth (string mark text) r s first rest bytes more e occurs = let is = heads first 208 rest (text_key text ++ more) (sym e ∙ occurs) in ((λ h. absurd (omega (arith, is, h))), (λ h. absurd (omega (arith, is, h))))
+scalar_begins depth (number n) r s first rest bytes more e occurs =
     let b = number_begins n (is_small n r.proper) in
-    let is = heads first b.head rest (b.tail ++ more) (sym e ∙ stands ∙ ap (λ key. key ++ more) b.is) in
+    let is = heads first b.head rest (b.tail ++ more) (sym e ∙ occurs ∙ ap (λ key. key ++ more) b.is) in
     ((λ h. absurd (omega (arith, is, b.high, h))), (λ h. absurd (omega (arith, is, b.high, h))))
-scalar_begins depth (array ts) r s first rest bytes more e stands = absurd s
-scalar_begins depth (object ms) r s first rest bytes more e stands = absurd s
-scalar_begins depth t r s first rest bytes more e stands = absurd r.within
+scalar_begins depth (array ts) r s first rest bytes more e occurs = absurd s
+scalar_begins depth (object ms) r s first rest bytes more e occurs = absurd s
+scalar_begins depth t r s first rest bytes more e occurs = absurd r.within
 
--- where a key of one byte stands
+-- where a key of one byte is
 pub word_skipped : (depth : ℕ) (t : Tree) → IsReadableAt depth t → IsScalar t → (first : ℕ) (rest bytes more : List ℕ) → bytes ≡ first ∷ rest → bytes ≡ key_of t ++ more → (first ≡ 21) ⊎ ((first ≡ 22) ⊎ ((first ≡ 128) ⊎ (first ≡ 211))) → rest ≡ more
-word_skipped depth t r s first rest bytes more e stands (inl is) = (one_byte depth t r first rest bytes more e stands 21 is (λ head low high h. omega (arith, low, h))).1
-word_skipped depth t r s first rest bytes more e stands (inr (inl is)) = (one_byte depth t r first rest bytes more e stands 22 is (λ head low high h. omega (arith, low, h))).1
-word_skipped depth t r s first rest bytes more e stands (inr (inr (inl is))) =
-    let n = number_there depth t r first rest bytes more e stands (λ h. absurd (omega (arith, is, h))) (λ h. absurd (omega (arith, is, h))) (λ h. absurd (omega (arith, is, h))) (λ h. absurd (omega (arith, is, h))) (λ h. absurd (omega (arith, is, h))) (λ h. absurd (omega (arith, is, h))) in
+word_skipped depth t r s first rest bytes more e occurs (inl is) = (one_byte depth t r first rest bytes more e occurs 21 is (λ head low high h. omega (arith, low, h))).1
+word_skipped depth t r s first rest bytes more e occurs (inr (inl is)) = (one_byte depth t r first rest bytes more e occurs 22 is (λ head low high h. omega (arith, low, h))).1
+word_skipped depth t r s first rest bytes more e occurs (inr (inr (inl is))) =
+    let n = number_there depth t r first rest bytes more e occurs (λ h. absurd (omega (arith, is, h))) (λ h. absurd (omega (arith, is, h))) (λ h. absurd (omega (arith, is, h))) (λ h. absurd (omega (arith, is, h))) (λ h. absurd (omega (arith, is, h))) (λ h. absurd (omega (arith, is, h))) in
     (zero_read n.0 n.1 first rest bytes more e is n.2).1
-word_skipped depth t r s first rest bytes more e stands (inr (inr (inr is))) = (one_byte depth t r first rest bytes more e stands 211 is (λ head low high h. omega (arith, high, h))).1
+word_skipped depth t r s first rest bytes more e occurs (inr (inr (inr is))) = (one_byte depth t r first rest bytes more e occurs 211 is (λ head low high h. omega (arith, high, h))).1
 
 -- what is left of an array or an object that begins is well-formed one level further in
 pub array_open : (ts : Trees) (left : ℕ) → IsReadableAt left (array ts) → (inner : ℕ) × (left ≡ suc inner) × IsOpen (items ts) inner
@@ -58,17 +58,17 @@ pub record Opened (left : ℕ) (b : Bool) (rest more : List ℕ) : Type 0 where
   pub inner : ℕ
   pub deeper : left ≡ suc inner
   pub fits : IsOpen open_there inner
-  pub stands : rest ≡ open_key open_there ++ more
+  pub occurs : rest ≡ open_key open_there ++ more
 
 pub opened : (left : ℕ) (t : Tree) → IsReadableAt left t → (first : ℕ) (rest bytes more : List ℕ) → bytes ≡ first ∷ rest → bytes ≡ key_of t ++ more → (b : Bool) → first ≡ opening_byte b → Opened left b rest more
-opened left t r first rest bytes more e stands true is =
-    let x = object_there left t r first rest bytes more e stands is in
+opened left t r first rest bytes more e occurs true is =
+    let x = object_there left t r first rest bytes more e occurs is in
     let o = object_open x.0 left x.1 in
-    record { open_there = members x.0; is = refl; inner = o.0; deeper = o.1; fits = o.2; stands = x.2 }
-opened left t r first rest bytes more e stands false is =
-    let x = array_there left t r first rest bytes more e stands is in
+    record { open_there = members x.0; is = refl; inner = o.0; deeper = o.1; fits = o.2; occurs = x.2 }
+opened left t r first rest bytes more e occurs false is =
+    let x = array_there left t r first rest bytes more e occurs is in
     let o = array_open x.0 left x.1 in
-    record { open_there = items x.0; is = refl; inner = o.0; deeper = o.1; fits = o.2; stands = x.2 }
+    record { open_there = items x.0; is = refl; inner = o.0; deeper = o.1; fits = o.2; occurs = x.2 }
 
 pub opened_at_top : (o : Open) (inner : ℕ) → 512 ≡ suc inner → IsOpen o inner → IsOpen o 511
 opened_at_top o inner deeper h = let same : inner ≡ 511 = omega (arith, deeper) in subst (IsOpen o) same h

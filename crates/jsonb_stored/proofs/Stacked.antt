@@ -16,13 +16,13 @@ Stacked bytes [] frames (suc depth) = ⊥
 Stacked bytes (f ∷ fs) frames zero = ⊥
 Stacked bytes (f ∷ fs) frames (suc depth) = IsFrame bytes f (get_or frames depth 0) × Stacked bytes fs frames depth
 
-kept : (bytes : List ℕ) (fs : List Frame) (frames : List ℕ) (e v d : ℕ) → d ≤ e → Stacked bytes fs frames d → Stacked bytes fs (set frames e v) d
-kept bytes [] frames e v zero l s = tt
-kept bytes [] frames e v (suc d) l s = absurd s
-kept bytes (f ∷ fs) frames e v zero l s = absurd s
-kept bytes (f ∷ fs) frames e v (suc d) l s =
+retained : (bytes : List ℕ) (fs : List Frame) (frames : List ℕ) (e v d : ℕ) → d ≤ e → Stacked bytes fs frames d → Stacked bytes fs (set frames e v) d
+retained bytes [] frames e v zero l s = tt
+retained bytes [] frames e v (suc d) l s = absurd s
+retained bytes (f ∷ fs) frames e v zero l s = absurd s
+retained bytes (f ∷ fs) frames e v (suc d) l s =
     let other : d ≢ e = omega (arith, l) in
-    (subst (IsFrame bytes f) (sym (get_or-set_other frames e d v 0 other)) s.0, kept bytes fs frames e v d (omega (arith, l)) s.1)
+    (subst (IsFrame bytes f) (sym (get_or-set_other frames e d v 0 other)) s.0, retained bytes fs frames e v d (omega (arith, l)) s.1)
 
 -- The bytes are parts that end, exactly where what is left ends all that are open.
 pub record Left (object : Bool) (bytes frames : List ℕ) (depth : ℕ) (rest : List ℕ) : Type 0 where
@@ -123,7 +123,7 @@ named_next object bytes frames top v rest value name t within none first one is 
       opens = frame_behind t.frame name ∷ t.under;
       left = t.left;
       levels = t.levels;
-      stacked = (subst (IsFrame bytes (frame_behind t.frame name)) (sym (get_or-set_same frames top v 0 within)) is, kept bytes t.under frames top v top (omega arith) t.stacked);
+      stacked = (subst (IsFrame bytes (frame_behind t.frame name)) (sym (get_or-set_same frames top v 0 within)) is, retained bytes t.under frames top v top (omega arith) t.stacked);
       front = t.front ++ part.0;
       suffix = farther bytes t.front rest part.0 value t.suffix part.1;
       whole = λ more. through _ _ _ (name_passed t.frame t.under t.left rest value name more none first one) (t.whole more);
@@ -139,7 +139,7 @@ scalar_next object bytes frames depth first value tail others d e other s one = 
   levels = d.levels;
   stacked = d.stacked;
   front = d.front ++ key_of s.value;
-  suffix = farther bytes d.front value (key_of s.value) others d.suffix s.stands;
+  suffix = farther bytes d.front value (key_of s.value) others d.suffix s.occurs;
   whole = λ more. through _ _ _ (scalar_passed d.opens d.left first value tail others more e other s one) (d.whole more);
 }
 
@@ -162,7 +162,7 @@ opened_next object bytes frames depth first v b value others d e is shallow with
       left = inner;
       levels = omega (arith, l);
       stacked = subst (Stacked bytes (new_frame b ∷ d.opens) (set frames depth v)) one_more
-          (subst (IsFrame bytes (new_frame b)) (sym (get_or-set_same frames depth v 0 within)) new, kept bytes d.opens frames depth v depth (omega arith) d.stacked);
+          (subst (IsFrame bytes (new_frame b)) (sym (get_or-set_same frames depth v 0 within)) new, retained bytes d.opens frames depth v depth (omega arith) d.stacked);
       front = d.front ++ first ∷ [];
       suffix = farther bytes d.front value (first ∷ []) others d.suffix e;
       whole = λ more. through _ _ _ (opening_passed d.opens inner first b value others more e is) (w more);

@@ -10,9 +10,9 @@ use Rattle.jsonb_value.proofs.SortKeys.Texts.{text_key-other}
 
 -- one byte more is put behind those that were
 pub byte_put : (read old out : List ℕ) (at byte : ℕ) → length read ≡ at → at < length old → out ≡ read ++ drop at old → slice_set out at byte ≡ (read ++ byte ∷ []) ++ drop (at + 1) old
-byte_put read old out at byte long room put =
+byte_put read old out at byte long space put =
     let one : suc at ≡ at + 1 = omega arith in
-    ap (λ l. slice_set l at byte) (put ∙ ap (λ l. read ++ l) (drop-cons old at 0 room))
+    ap (λ l. slice_set l at byte) (put ∙ ap (λ l. read ++ l) (drop-cons old at 0 space))
     ∙ ap (λ n. slice_set (read ++ get_or old at 0 ∷ drop (suc at) old) n byte) (sym long)
     ∙ set-append_seam read (get_or old at 0) (drop (suc at) old) byte
     ∙ ap (λ n. read ++ byte ∷ drop n old) one
@@ -30,7 +30,7 @@ text_read key read rest reads none text e = text_ended key read rest reads none 
 long_enough : (text : List ℕ) → 1 < length (text_key text)
 long_enough text = omega (arith, length-append (flat_map byte_key text) (0 ∷ 1 ∷ []))
 
--- where the first zero stands before the last byte, the text stands before it
+-- where the first zero is before the last byte, the text is before it
 pub plain_is : (text key : List ℕ) (z : ℕ) → key ≡ text_key text → ((k : ℕ) → k < z → get_or key k 0 ≢ 0) → get_or key z 0 ≡ 0 → z + 2 ≡ length key → take z key ≡ text
 plain_is [] key z e before there last =
     let none : z ≡ 0 = omega (arith, last, ap length e) in

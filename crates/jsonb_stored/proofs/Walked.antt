@@ -11,20 +11,20 @@ use Rattle.jsonb_spec.specs.Containment.{holds}
 use Rattle.jsonb_stored.specs.Open.{Open, is_object, open_key, IsOpen, end_key, IsScalar}
 use Rattle.jsonb_stored.specs.SideBySide.{EndsWith, IsLeft}
 use Rattle.jsonb_stored.proofs.Opens.{no_end}
-use Rattle.jsonb_stored.proofs.Standing.{over_or_first, regroup, true_false}
+use Rattle.jsonb_stored.proofs.Occurrence.{over_or_first, regroup, true_false}
 use Rattle.jsonb_spec.specs.Order.{bytes_cmp, tree_cmp}
 use Rattle.jsonb_spec.specs.SortKey.{key_of}
 use Rattle.jsonb_spec.specs.Tree.{Tree, array, object}
 use Rattle.jsonb_value.proofs.SortKeys.Trees.{tree_compares, keys_same}
 use Rattle.jsonb_spec.specs.Proper.{IsProper}
 
--- ---- what is told
+-- ---- what is reported
 
-pub told_no : {X : Type 0} (b : Bool) → b ≡ false → (false ≡ b) × (IsTrue b → X)
-told_no b isnt = (sym isnt, λ is. absurd (true_false (sym is ∙ isnt)))
+pub reported_no : {X : Type 0} (b : Bool) → b ≡ false → (false ≡ b) × (IsTrue b → X)
+reported_no b isnt = (sym isnt, λ is. absurd (true_false (sym is ∙ isnt)))
 
-pub told_yes : {X : Type 0} (b : Bool) → b ≡ true → X → (true ≡ b) × (IsTrue b → X)
-told_yes b is x = (sym is, λ _. x)
+pub reported_yes : {X : Type 0} (b : Bool) → b ≡ true → X → (true ≡ b) × (IsTrue b → X)
+reported_yes b is x = (sym is, λ _. x)
 
 pub some_number : (m n : ℕ) → ◌≡◌ {A = Option ℕ} (Some m) (Some n) → m ≡ n
 some_number m n e = cc
@@ -39,9 +39,9 @@ moved_on key left part others more l is = record { ends = (l.ends.0 ++ part, l.e
 
 -- behind a part by which it begins in two ways
 pub passed : (key left bytes part others more : List ℕ) → IsLeft key left bytes → left ≡ part ++ more → left ≡ part ++ others → IsLeft key others more
-passed key left bytes part others more l stands cut = record {
-  ends = (l.ends.0 ++ part, l.ends.1 ∙ ap (λ b. l.ends.0 ++ b) (sym l.is ∙ stands) ∙ sym (append_assoc l.ends.0 part more));
-  is = append_cancel_left part others more (sym cut ∙ stands);
+passed key left bytes part others more l occurs cut = record {
+  ends = (l.ends.0 ++ part, l.ends.1 ∙ ap (λ b. l.ends.0 ++ b) (sym l.is ∙ occurs) ∙ sym (append_assoc l.ends.0 part more));
+  is = append_cancel_left part others more (sym cut ∙ occurs);
 }
 
 pub same_end : (key other bytes : List ℕ) → other ≡ key → EndsWith key bytes → EndsWith other bytes
@@ -50,7 +50,7 @@ same_end key other bytes is e = (e.0, is ∙ e.1)
 pub same_key : (key other left bytes : List ℕ) → other ≡ key → IsLeft key left bytes → IsLeft other left bytes
 same_key key other left bytes is l = record { ends = same_end key other bytes is l.ends; is = l.is }
 
--- where an end stands first, nothing is left
+-- where an end is first, nothing is left
 pub ended_here : (of_object : Bool) (o : Open) (bytes rest more : List ℕ) → is_object o ≡ of_object → IsOpen o 511 → bytes ≡ open_key o ++ more → bytes ≡ end_key of_object ++ rest → open_key o ≡ end_key of_object
 ended_here of_object o bytes rest more is h e over = elim (over_or_first o h) [
   | inl x ↦ x.0 ∙ ap end_key is
@@ -97,17 +97,17 @@ pub record Stripped (t u : Tree) (rest more : List ℕ) : Type 0 where
 -- the bytes begin with the key of the scalar
 pub stripped : (t u : Tree) (d e : ℕ) → IsReadableAt d t → IsReadableAt e u → IsScalar u → (ours wanted rest more : List ℕ) → ours ≡ key_of t ++ more → wanted ≡ key_of u
     → pointwise nat_eq (take (length wanted) ours) wanted ≡ true → rest ≡ drop (length wanted) ours → Stripped t u rest more
-stripped t u d e p q s ours wanted rest more stands is found behind =
+stripped t u d e p q s ours wanted rest more occurs is found behind =
     let front = same_text (take (length wanted) ours) wanted (sym found) in
     let cut : ours ≡ key_of u ++ rest = sym (take-append-drop (length wanted) ours) ∙ (λ i. (front ∙ is) i ++ sym behind i) in
-    let one = one_key t u p.proper q.proper more rest (sym stands ∙ cut) in
+    let one = one_key t u p.proper q.proper more rest (sym occurs ∙ cut) in
     record { held = scalar_holds t u s ∙ ap is_eq one.0; behind = one.1 }
 
 -- they begin with another key
 pub not_stripped : (t u : Tree) (d e : ℕ) → IsReadableAt d t → IsReadableAt e u → IsScalar u → (ours wanted more : List ℕ) → ours ≡ key_of t ++ more → wanted ≡ key_of u
     → pointwise nat_eq (take (length wanted) ours) wanted ≡ false → holds t u ≡ false
-not_stripped t u d e p q s ours wanted more stands is none =
+not_stripped t u d e p q s ours wanted more occurs is none =
     scalar_holds t u s ∙ not_equal (tree_cmp t u) (λ same.
     let keys : key_of t ≡ wanted = (keys_same t u p.proper q.proper).1 same ∙ sym is in
-    let front : take (length wanted) ours ≡ wanted = ap (take (length wanted)) (stands ∙ ap (λ key. key ++ more) keys) ∙ take-append_seam wanted more in
+    let front : take (length wanted) ours ≡ wanted = ap (take (length wanted)) (occurs ∙ ap (λ key. key ++ more) keys) ∙ take-append_seam wanted more in
     absurd (other_text (take (length wanted) ours) wanted (sym none) front))

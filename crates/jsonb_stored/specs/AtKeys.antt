@@ -14,7 +14,7 @@ use Rattle.jsonb_spec.specs.Tree.{Members, Tree, Trees}
 use Rattle.jsonb_stored.specs.declared.find.NoKey.{NoKey}
 use Rattle.jsonb_stored.specs.Found.{Finds}
 use Rattle.jsonb_stored.specs.Open.{Open, end_key, is_object, open_key, IsOpen}
-use Rattle.jsonb_stored.specs.Parts.{ChildAt, IsKeyAt, StandsAt}
+use Rattle.jsonb_stored.specs.Parts.{ChildAt, IsKeyAt, OccursAt}
 
 -- Whichever value's key the bytes begin with, this is so of the value, and of the bytes behind its key.
 abbrev pub AtKey : List ℕ → (Tree → List ℕ → Type 0) → Type 0
@@ -45,7 +45,7 @@ AtMembers bytes Is =
 abbrev pub Leaves : Option (Bor (List ℕ)) → List ℕ → Type 0
 Leaves result more = option_map (λ rest. rest.now) result ≡ Some more
 
--- Bytes are left exactly where they may stand behind what is checked, and fewer than there were.
+-- Bytes are left exactly where they may be behind what is checked, and fewer than there were.
 pub record Checks (IsBehind : List ℕ → Type 0) (bytes : List ℕ) (result : Option (Bor (List ℕ))) : Type 0 where
   pub found : (more : List ℕ) → Leaves result more ↔ IsBehind more
   pub shorter : IfSome result (λ rest. length rest.now < length bytes)
@@ -65,7 +65,7 @@ FindsChild t name result = MatchOption result ((u : Tree) → IsChild t name u �
 
 -- The bytes from the part at the path of these names on, or nothing where there is none.
 abbrev pub FindsAt : Tree → List (List ℕ) → Option (Bor (List ℕ)) → Type 0
-FindsAt t names result = MatchOption result ((u : Tree) → IsAt t names u → ⊥) (λ rest. StandsAt t names rest.now)
+FindsAt t names result = MatchOption result ((u : Tree) → IsAt t names u → ⊥) (λ rest. OccursAt t names rest.now)
 
 -- The key of the part at the path of these names, or nothing where there is none.
 abbrev pub FindsKeyAt : Tree → List (List ℕ) → Option (Bor (List ℕ)) → Type 0
@@ -82,9 +82,9 @@ pub record FindsPart (bytes : List ℕ) (part_of : Tree → Option Tree) (result
   pub found : AtKey bytes (λ t more. Finds bytes (part_of t) result)
   pub within : FindsWithin bytes result
 
--- This is the order that is told, and where it is that of equal names, these bytes are left.
-pub record TellsOrder (order : Ordering) (more : List ℕ) (result : Ordering × Bor (List ℕ)) : Type 0 where
-  pub told : result.0 ≡ order
+-- This is the order that is reported, and where it is that of equal names, these bytes are left.
+pub record ReportsOrder (order : Ordering) (more : List ℕ) (result : Ordering × Bor (List ℕ)) : Type 0 where
+  pub reported : result.0 ≡ order
   pub behind : result.0 ≡ Equal → result.1.now ≡ more
 
 -- The bytes don't begin with the end of an object.

@@ -1,4 +1,4 @@
--- Parts of keys where they stand in the bytes, and how many parts there are.
+-- Parts of keys where they are in the bytes, and how many parts there are.
 use Rattle.std.specs.Prelude.{◌≡◌, ℕ, suc, ◌-◌, ℤ, pos, negsuc, nat_lt, Bool, List, ◌++◌, length, Option, Some, None, Result, Ok, Err, if◌then◌else◌, ⊤}
 use Rattle.std.specs.Borrow.{Bor}
 use Rattle.jsonb_key.specs.Readable.{IsReadable}
@@ -36,16 +36,16 @@ item_from (negsuc back) (array ts) = item_back ts (suc back)
 item_from index t = None
 
 -- The rest of the bytes begins with the key of the part.
-pub record PartStands (bytes rest : List ℕ) (part : Tree) : Type 0 where
+pub record PartOccurs (bytes rest : List ℕ) (part : Tree) : Type 0 where
   pub readable : IsReadable part
   pub before : List ℕ
   pub inside : bytes ≡ before ++ rest
   pub behind : List ℕ
-  pub stands : rest ≡ key_of part ++ behind
+  pub occurs : rest ≡ key_of part ++ behind
 
 -- What is found in the bytes is the part, or nothing where there is none.
 abbrev pub Finds : List ℕ → Option Tree → Result (Option (Bor (List ℕ))) NoKey → Type 0
-Finds bytes (Some part) (Ok (Some rest)) = PartStands bytes rest.now part
+Finds bytes (Some part) (Ok (Some rest)) = PartOccurs bytes rest.now part
 Finds bytes None (Ok None) = ⊤
 Finds bytes part found = ⊥
 
@@ -55,30 +55,30 @@ pub record IsLeftOf (t : Tree) (of_object : Bool) (rest more : List ℕ) : Type 
   pub whole : opened_tree all ≡ t
   pub is : is_object all ≡ of_object
   pub fits : IsOpen all 511
-  pub stands : rest ≡ open_key all ++ more
+  pub occurs : rest ≡ open_key all ++ more
 
--- It is told whether the tree is an object, and what stands behind the first byte of its key; nothing where it is
+-- It is reported whether the tree is an object, and what is behind the first byte of its key; nothing where it is
 -- neither an object nor an array.
 abbrev pub Opens : Tree → List ℕ → Result (Option (Bool × Bor (List ℕ))) NoKey → Type 0
 Opens t more (Ok (Some parts)) = IsLeftOf t parts.0 parts.1.now more
 Opens t more (Ok None) = IsScalar t
 Opens t more (Err e) = ⊥
 
--- What is told of what is left of an array or an object: the bytes from the value of the first part on, and those
+-- What is reported of what is left of an array or an object: the bytes from the value of the first part on, and those
 -- behind that part; or nothing where no part is left.
 abbrev pub IsNext : Open → List ℕ → Result (Option (Bor (List ℕ) × Bor (List ℕ))) NoKey → Type 0
 IsNext (items no_trees) more (Ok None) = ⊤
-IsNext (items (more_trees t ts)) more (Ok (Some told)) =
-    (told.0.now ≡ key_of t ++ (items_key ts ++ more)) × (told.1.now ≡ items_key ts ++ more)
+IsNext (items (more_trees t ts)) more (Ok (Some reported)) =
+    (reported.0.now ≡ key_of t ++ (items_key ts ++ more)) × (reported.1.now ≡ items_key ts ++ more)
 IsNext (members no_members) more (Ok None) = ⊤
-IsNext (members (more_members key t ms)) more (Ok (Some told)) =
-    (told.0.now ≡ key_of t ++ (members_key ms ++ more)) × (told.1.now ≡ members_key ms ++ more)
-IsNext o more told = ⊥
+IsNext (members (more_members key t ms)) more (Ok (Some reported)) =
+    (reported.0.now ≡ key_of t ++ (members_key ms ++ more)) × (reported.1.now ≡ members_key ms ++ more)
+IsNext o more reported = ⊥
 
--- The bytes stand in the key, at the offset and of the size.
+-- The bytes are in the key, at the offset and of the size.
 pub record IsRange (key : List ℕ) (offset size : ℕ) (bytes : List ℕ) : Type 0 where
   pub before : List ℕ
   pub behind : List ℕ
-  pub stands : key ≡ before ++ (bytes ++ behind)
+  pub occurs : key ≡ before ++ (bytes ++ behind)
   pub offset_is : offset ≡ length before
   pub size_is : size ≡ length bytes

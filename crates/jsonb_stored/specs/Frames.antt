@@ -17,38 +17,38 @@ pub record IsInRangeAt (depth : ℕ) (t : Tree) : Type 0 where
   pub proper : IsProper t
   pub within : IsWithin HasFewDigits t depth
 
--- The bytes begin with the key of a value in range, and these stand behind it.
+-- The bytes begin with the key of a value in range, and these are behind it.
 pub record KeyFirst (bytes more : List ℕ) : Type 0 where
   pub value : Tree
   pub in_range : IsInRangeAt max_depth value
-  pub stands : bytes ≡ key_of value ++ more
+  pub occurs : bytes ≡ key_of value ++ more
 
--- The bytes begin with the key of a scalar in range, and these stand behind it.
+-- The bytes begin with the key of a scalar in range, and these are behind it.
 pub record ScalarFirst (bytes more : List ℕ) : Type 0 where
   pub value : Tree
   pub scalar : IsScalar value
   pub in_range : (depth : ℕ) → IsInRangeAt depth value
-  pub stands : bytes ≡ key_of value ++ more
+  pub occurs : bytes ≡ key_of value ++ more
 
--- The bytes begin with the key of a number in range, and these stand behind it.
+-- The bytes begin with the key of a number in range, and these are behind it.
 pub record NumberFirst (bytes more : List ℕ) : Type 0 where
   pub value : Num
   pub proper : IsProperNumber value
   pub in_range : HasFewDigits value
-  pub stands : bytes ≡ number_key value ++ more
+  pub occurs : bytes ≡ number_key value ++ more
 
--- The bytes begin with the key of a text, without its first byte, and these stand behind it.
+-- The bytes begin with the key of a text, without its first byte, and these are behind it.
 pub record TextFirst (bytes more : List ℕ) : Type 0 where
   pub text : List ℕ
   pub utf8 : IsUtf8 text
-  pub stands : bytes ≡ text_key text ++ more
+  pub occurs : bytes ≡ text_key text ++ more
 
--- The bytes begin with the key of an array or an object in range, without its first byte, and these stand behind it.
+-- The bytes begin with the key of an array or an object in range, without its first byte, and these are behind it.
 pub record PartsFirst (object : Bool) (bytes more : List ℕ) : Type 0 where
   pub opened : Open
   pub is : is_object opened ≡ object
   pub in_range : IsInRangeAt max_depth (opened_tree opened)
-  pub stands : bytes ≡ open_key opened ++ more
+  pub occurs : bytes ≡ open_key opened ++ more
 
 -- an array, or an object with the last name of those that were passed
 pub data Frame : Type 0 where
@@ -70,7 +70,7 @@ abbrev pub IsAbove : Option (List ℕ) → List ℕ → Type 0
 IsAbove None name = ⊤
 IsAbove (Some last) name = slice_cmp nat_cmp last name ≡ Less
 
--- A name in its place stands first, and these bytes behind it; an item has no name.
+-- A name in order is first, and these bytes behind it; an item has no name.
 abbrev pub NameFirst : Frame → List ℕ → List ℕ → List ℕ → Type 0
 NameFirst in_array name bytes more = bytes ≡ more
 NameFirst (in_object last) name bytes more = IsAbove last name × IsUtf8 name × (bytes ≡ text_key name ++ more)
@@ -84,7 +84,7 @@ frame_behind (in_object last) name = in_object (Some name)
 pub record NameAt (bytes name : List ℕ) (size : ℕ) : Type 0 where
   pub front : List ℕ
   pub behind : List ℕ
-  pub stands : bytes ≡ front ++ (text_key name ++ behind)
+  pub occurs : bytes ≡ front ++ (text_key name ++ behind)
   pub is_size : size ≡ length (text_key name ++ behind)
 
 -- The frame by a number: 0 for an array, 1 for an object with no name passed, or how many bytes the last name's key and
@@ -98,7 +98,7 @@ IsFrame bytes (in_object (Some name)) size = NameAt bytes name size
 abbrev pub ArePlain : List ℕ → ℕ → Type 0
 ArePlain bytes count = (k : ℕ) → k < count → (get_or bytes k 0 ≢ 0) × (get_or bytes k 0 < ascii.end)
 
--- So many of the bytes stand first, and are ASCII and no zeros.
+-- So many of the bytes are first, and are ASCII and no zeros.
 pub record PlainRun (bytes : List ℕ) (count : ℕ) : Type 0 where
   pub within : count ≤ length bytes
   pub plain : ArePlain bytes count
@@ -112,16 +112,16 @@ pub record RunBeforeZero (bytes : List ℕ) (count : ℕ) : Type 0 where
   pub within : count ≤ length bytes
   pub none : AreNoZeros bytes count
 
--- The first zero stands at this index, and the bytes before it are UTF-8.
+-- The first zero is at this index, and the bytes before it are UTF-8.
 pub record Utf8UpTo (bytes : List ℕ) (zero : ℕ) : Type 0 where
   pub within : zero < length bytes
   pub none_before : (k : ℕ) → k < zero → get_or bytes k 0 ≢ 0
   pub here : get_or bytes zero 0 ≡ 0
   pub utf8 : IsUtf8 (take zero bytes)
 
--- The bytes begin with the key of so many digits, of which the first isn't 0, and these stand behind it.
+-- The bytes begin with the key of so many digits, of which the first isn't 0, and these are behind it.
 pub record DigitsFirst (negative : Bool) (bytes : List ℕ) (count : ℕ) (more : List ℕ) : Type 0 where
   pub digits : ℕ
   pub below : digits < 10 ^ count
   pub least : 10 ^ count ≤ digits * 10
-  pub stands : bytes ≡ map (invert_if negative) (digits_key count digits) ++ more
+  pub occurs : bytes ≡ map (invert_if negative) (digits_key count digits) ++ more

@@ -1,4 +1,4 @@
--- What stands in a key behind the beginning of an array or an object: parts, and an end.
+-- What is in a key behind the beginning of an array or an object: parts, and an end.
 use Rattle.std.specs.Prelude.{ℕ, Bool, true, false, List, [], ◌∷◌, ⊤}
 use Rattle.jsonb_key.specs.Readable.{IsAnyNumber}
 use Rattle.jsonb_spec.specs.Proper.{AreProper, HaveProperParts}

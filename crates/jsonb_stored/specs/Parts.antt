@@ -45,14 +45,14 @@ pub record ChildAt (t : Tree) (name rest : List ℕ) : Type 0 where
   pub child : Tree
   pub is : IsChild t name child
   pub behind : List ℕ
-  pub stands : rest ≡ key_of child ++ behind
+  pub occurs : rest ≡ key_of child ++ behind
 
 -- The bytes begin with the key of the part at the path of these names.
-pub record StandsAt (t : Tree) (names : List (List ℕ)) (rest : List ℕ) : Type 0 where
+pub record OccursAt (t : Tree) (names : List (List ℕ)) (rest : List ℕ) : Type 0 where
   pub part : Tree
   pub at : IsAt t names part
   pub behind : List ℕ
-  pub stands : rest ≡ key_of part ++ behind
+  pub occurs : rest ≡ key_of part ++ behind
 
 -- The bytes are the key of the member of that name, or of the item of that index.
 pub record IsKeyOfChild (t : Tree) (name key : List ℕ) : Type 0 where

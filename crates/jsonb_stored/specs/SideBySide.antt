@@ -34,19 +34,19 @@ pub record IsLeft (key left bytes : List ℕ) : Type 0 where
   pub is : left ≡ bytes
 
 -- Ours are these bytes of the first key, and theirs are these of the other.
-abbrev pub Stands : Walk → List ℕ → List ℕ → Type 0
-Stands walk ours theirs = IsLeft walk.key.now walk.ours.now ours × IsLeft walk.other.now walk.theirs.now theirs
+abbrev pub Occurs : Walk → List ℕ → List ℕ → Type 0
+Occurs walk ours theirs = IsLeft walk.key.now walk.ours.now ours × IsLeft walk.other.now walk.theirs.now theirs
 
--- Ours are some parts of an object or an array, and what stands behind it.
-pub record StandsInside (object : Bool) (walk : Walk) (more behind : List ℕ) : Type 0 where
+-- Ours are some parts of an object or an array, and what is behind it.
+pub record OccursInside (object : Bool) (walk : Walk) (more behind : List ℕ) : Type 0 where
   pub parts : Open
   pub is : is_object parts ≡ object
   pub fits : IsOpen parts 511
-  pub stands : Stands walk (open_key parts ++ more) behind
+  pub occurs : Occurs walk (open_key parts ++ more) behind
 
--- Ours stand so, and it is kept of which kind the object or the array is.
+-- Ours are so, and it is held of which kind the object or the array is.
 pub record EndsInside (object : Bool) (walk : Walk) (more behind : List ℕ) : Type 0 where
-  pub inside : StandsInside object walk more behind
+  pub inside : OccursInside object walk more behind
   pub kind : walk.in_object ≡ object
 
 -- The keys as a whole are the same, and as many arrays and objects may be opened.
@@ -62,19 +62,19 @@ pub record Walks (old new : Walk) (result : Result Bool NoKey) : Type 0 where
   pub keys : IfOk result (λ found. SameKeys old new)
   pub passed : IsPassed old new result
 
--- This is what is told, and where it is yes, the walk stands there.
-abbrev pub Told : Bool → Type 0 → Result Bool NoKey → Type 0
-Told answer Behind (Ok told) = (told ≡ answer) × (IsTrue answer → Behind)
-Told answer Behind (Err e) = ⊥
+-- This is what is reported, and where it is yes, the walk is there.
+abbrev pub Reported : Bool → Type 0 → Result Bool NoKey → Type 0
+Reported answer Behind (Ok reported) = (reported ≡ answer) × (IsTrue answer → Behind)
+Reported answer Behind (Err e) = ⊥
 
--- Whichever two the keys are of that stand there, nested no deeper than may be opened, it is told whether the first
--- holds the other, and where it does, the walk stands so.
-abbrev pub TellsHeld : {A : Type 0} → ℕ → (ℕ → A → Type 0) → (A → List ℕ) → (A → A → Bool)
+-- Whichever two the keys are of that are there, nested no deeper than may be opened, it is reported whether the first
+-- holds the other, and where it does, the walk is so.
+abbrev pub ReportsHeld : {A : Type 0} → ℕ → (ℕ → A → Type 0) → (A → List ℕ) → (A → A → Bool)
     → (List ℕ → List ℕ → Type 0) → Walk → Result Bool NoKey → Type 0
-TellsHeld most Readable key holds Behind old result =
+ReportsHeld most Readable key holds Behind old result =
     (depth : ℕ) → old.depth ≡ depth → depth ≤ most → (a b : _) → Readable depth a → Readable depth b
-    → (more behind : List ℕ) → Stands old (key a ++ more) (key b ++ behind)
-    → Told (holds a b) (Behind more behind) result
+    → (more behind : List ℕ) → Occurs old (key a ++ more) (key b ++ behind)
+    → Reported (holds a b) (Behind more behind) result
 
 -- The member of that name, and those behind it, among which all names are looked for that are above.
 pub record MemberFound (depth : ℕ) (ms : Members) (name : List ℕ) (walk : Walk) (more behind : List ℕ) : Type 0 where
@@ -84,9 +84,9 @@ pub record MemberFound (depth : ℕ) (ms : Members) (name : List ℕ) (walk : Wa
   pub have_readable : HaveReadableAt depth others
   pub same : (u : Tree) → (ns : Members) → IsBelowKeys name ns
       → holds_members ms (more_members name u ns) ≡ (holds value u && holds_members others ns)
-  pub stands : Stands walk (key_of value ++ (members_key others ++ more)) behind
+  pub occurs : Occurs walk (key_of value ++ (members_key others ++ more)) behind
 
--- It is told whether one of the members has the name.
+-- It is reported whether one of the members has the name.
 abbrev pub FindsMember : ℕ → Members → List ℕ → Walk → List ℕ → List ℕ → Result Bool NoKey → Type 0
 FindsMember depth ms name walk more behind (Ok true) = MemberFound depth ms name walk more behind
 FindsMember depth ms name walk more behind (Ok false) = find_member (bytes_eq name) ms ≡ None

@@ -12,14 +12,14 @@ use crate::skip::{MAX_DEPTH, after_end, after_text, is_word, opening};
 use crate::walk::front;
 use jsonb_value::sort_key::kind;
 
-// What is kept of each open array and object: that it is an array, that it is an object with no name passed, or else
+// What is held of each open array and object: that it is an array, that it is an object with no name passed, or else
 // how many bytes there are from the last name on.
 const ARRAY: usize = 0;
 
 const NO_NAME: usize = 1;
 
-// For how many open arrays and objects there is room at first: room for all takes longer to fill than most keys take to
-// check.
+// For how many open arrays and objects there is space at first: space for all takes longer to fill than most keys take
+// to check.
 const FEW: usize = 8;
 
 /// Whether the bytes are the sort key of a value in range: of JSON's kinds, with at most 512 nested arrays and objects,
@@ -63,7 +63,7 @@ fn checked_scalar(bytes: &[u8]) -> Option<&[u8]>
     checked_number(bytes)
 }
 
-// The bytes after the key of a text that they begin with, if it is one, from what stands behind its first byte.
+// The bytes after the key of a text that they begin with, if it is one, from what is behind its first byte.
 fn checked_text(bytes: &[u8]) -> Option<&[u8]>
     ensures checks { Checks (TextFirst bytes.now) bytes.now result }
 {
@@ -91,11 +91,11 @@ fn checked_parts(object: bool, bytes: &[u8]) -> Option<&[u8]>
     let mut frames = [ARRAY; FEW];
     match checked_within(object, bytes, &mut frames) {
         Ok(rest) => rest,
-        Err(NoRoom) => checked_deep(object, bytes),
+        Err(NoCapacity) => checked_deep(object, bytes),
     }
 }
 
-// The bytes after such parts, with room for as many open arrays and objects as there may be.
+// The bytes after such parts, with space for as many open arrays and objects as there may be.
 #[inline(never)]
 fn checked_deep(object: bool, bytes: &[u8]) -> Option<&[u8]>
     ensures { (more : List ℕ) → Leaves result more ↔ PartsFirst object bytes.now more }
@@ -103,25 +103,25 @@ fn checked_deep(object: bool, bytes: &[u8]) -> Option<&[u8]>
     let mut frames = [ARRAY; MAX_DEPTH];
     match checked_within(object, bytes, &mut frames) {
         Ok(rest) => rest,
-        Err(NoRoom) => None,
+        Err(NoCapacity) => None,
     }
 }
 
-// More arrays and objects are open at once than there is room for.
+// More arrays and objects are open at once than there is space for.
 #[derive(Drop)]
-struct NoRoom;
+struct NoCapacity;
 
-// The bytes after such parts, with this room for the open arrays and objects.
+// The bytes after such parts, with this space for the open arrays and objects.
 #[inline(never)]
 fn checked_within<'k>(
     object: bool,
     bytes: &'k [u8],
     frames: &mut [usize],
-) -> Result<Option<&'k [u8]>, NoRoom>
+) -> Result<Option<&'k [u8]>, NoCapacity>
     requires some { 0 < length frames.old }
     requires few { length frames.old ≤ 512 }
     ensures checked { IfOk result (λ rest. (more : List ℕ) → Leaves rest more ↔ PartsFirst object bytes.now more) }
-    ensures no_room { IfErr result (λ e. length frames.old < 512) }
+    ensures no_capacity { IfErr result (λ e. length frames.old < 512) }
 {
     frames[0] = new_frame(object);
     let mut depth: usize = 1;
@@ -149,7 +149,7 @@ fn checked_within<'k>(
                     return Ok(None);
                 }
                 if depth == frames.len() {
-                    return Err(NoRoom);
+                    return Err(NoCapacity);
                 }
                 frames[depth] = new_frame(inner);
                 depth += 1;
@@ -186,7 +186,7 @@ fn is_object(last: usize) -> bool
     last != ARRAY
 }
 
-// The frame with the name that stands first.
+// The frame with the name that is first.
 fn with_name(last: usize, rest: &[u8]) -> usize
     ensures { (bytes front name more : List ℕ) → (f : Frame) → IsFrame bytes f last → NameFirst f name rest.now more
         → bytes ≡ front ++ rest.now → IsFrame bytes (frame_behind f name) result }
@@ -194,7 +194,7 @@ fn with_name(last: usize, rest: &[u8]) -> usize
     if last == ARRAY { ARRAY } else { rest.len() }
 }
 
-// The bytes after the next member's name, if it is in its place. An item has no name.
+// The bytes after the next member's name, if it is in order. An item has no name.
 fn checked_name<'k>(bytes: &'k [u8], last: usize, rest: &'k [u8]) -> Option<&'k [u8]>
     ensures found { (f : Frame) → IsFrame bytes.now f last → (more : List ℕ)
         → Leaves result more ↔ ((name : List ℕ) × NameFirst f name rest.now more) }

@@ -172,7 +172,7 @@ impl<'k> Members<'k> {
     ghost use Rattle.jsonb_spec.specs.SortKey.{members_key};
     ghost use Rattle.jsonb_spec.specs.Tree.{Members as TreeMembers};
 
-    /// The first name as it stands in the key, the key of its value, and the other members.
+    /// The first name as it is in the key, the key of its value, and the other members.
     pub fn split_first(&self) -> Option<(&'k [u8], Key<'k>, Members<'k>)>
         ensures { (ms : TreeMembers) → HaveReadable ms → member_bytes self.now ≡ members_key ms
             → MatchOption result (IsNoMember ms) (λ r. IsFirstMember ms r.0.now (key_bytes r.1) (member_bytes r.2)) }

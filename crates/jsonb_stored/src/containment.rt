@@ -3,10 +3,10 @@
 ghost use Rattle.std.specs.Prelude.{Bool, ◌≡◌, ◌<◌, ◌≤◌, ◌++◌, List, ℕ, suc, length, true, false, IsTrue, IfOk, IfSome, Ok};
 ghost use Rattle.jsonb_key.specs.Readable.{IsReadable, IsReadableAt};
 ghost use Rattle.jsonb_spec.specs.Containment.{contains, holds, holds_items, holds_members, any_item};
-ghost use Rattle.jsonb_stored.specs.AtKeys.{AtParts, Leaves, TellsOrder};
+ghost use Rattle.jsonb_stored.specs.AtKeys.{AtParts, Leaves, ReportsOrder};
 ghost use Rattle.jsonb_stored.specs.Open.{Open, is_object, open_key, IsOpen, IsScalar};
 ghost use Rattle.jsonb_stored.specs.Parts.{opened_tree};
-ghost use Rattle.jsonb_stored.specs.SideBySide.{AreReadableAt, HaveReadableAt, EndsWith, IsLeft, FindsMember, IsPassed, SameKeys, Stands, StandsInside, EndsInside, TellsHeld, Told, Walks};
+ghost use Rattle.jsonb_stored.specs.SideBySide.{AreReadableAt, HaveReadableAt, EndsWith, IsLeft, FindsMember, IsPassed, SameKeys, Occurs, OccursInside, EndsInside, ReportsHeld, Reported, Walks};
 ghost use Rattle.jsonb_spec.specs.Order.{bytes_cmp};
 ghost use Rattle.jsonb_spec.specs.SortKey.{key_of, items_key, members_key, text_key};
 ghost use Rattle.jsonb_spec.specs.Tree.{Tree, Trees, Members};
@@ -72,7 +72,7 @@ impl<'k> Walk<'k> {
     #[inline(always)]
     #[cycle(walk)]
     fn has_value(&mut self) -> Result<bool, NoKey>
-        ensures held { TellsHeld 512 IsReadableAt key_of holds (Stands self.new) self.old result }
+        ensures held { ReportsHeld 512 IsReadableAt key_of holds (Occurs self.new) self.old result }
         ensures walks { Walks self.old self.new result }
     {
         let Some((first, _)) = self.theirs.split_first() else {
@@ -94,8 +94,8 @@ impl<'k> Walk<'k> {
     fn has_parts(&mut self, object: bool) -> Result<bool, NoKey>
         ensures held { (depth : ℕ) → self.old.depth ≡ depth → depth ≤ 512 → (t : Tree) → (o : Open)
             → is_object o ≡ object → IsReadableAt depth t → IsReadableAt depth (opened_tree o) → (more behind : List ℕ)
-            → Stands self.old (key_of t ++ more) (key_of (opened_tree o) ++ behind)
-            → Told (holds t (opened_tree o)) (EndsInside object self.new more behind) result }
+            → Occurs self.old (key_of t ++ more) (key_of (opened_tree o) ++ behind)
+            → Reported (holds t (opened_tree o)) (EndsInside object self.new more behind) result }
         ensures walks { Walks self.old self.new result }
     {
         let Some((mine, ours)) = self.ours.split_first() else {
@@ -125,8 +125,8 @@ impl<'k> Walk<'k> {
         ensures held { (depth : ℕ) → self.old.depth ≡ depth → depth ≤ 511 → (a b : Open) → is_object a ≡ object
             → is_object b ≡ object → IsReadableAt (suc depth) (opened_tree a)
             → IsReadableAt (suc depth) (opened_tree b) → (more behind : List ℕ)
-            → Stands self.old (open_key a ++ more) (open_key b ++ behind)
-            → Told (holds (opened_tree a) (opened_tree b)) (EndsInside object self.new more behind) result }
+            → Occurs self.old (open_key a ++ more) (open_key b ++ behind)
+            → Reported (holds (opened_tree a) (opened_tree b)) (EndsInside object self.new more behind) result }
         ensures walks { Walks self.old self.new result }
     {
         if object {
@@ -140,7 +140,7 @@ impl<'k> Walk<'k> {
     #[inline(never)]
     #[cycle(walk)]
     fn has_members(&mut self) -> Result<bool, NoKey>
-        ensures held { TellsHeld 511 HaveReadableAt members_key holds_members (EndsInside true self.new) self.old
+        ensures held { ReportsHeld 511 HaveReadableAt members_key holds_members (EndsInside true self.new) self.old
             result }
         ensures walks { Walks self.old self.new result }
     {
@@ -163,7 +163,7 @@ impl<'k> Walk<'k> {
     #[inline(never)]
     #[cycle(walk)]
     fn has_items(&mut self) -> Result<bool, NoKey>
-        ensures held { TellsHeld 511 AreReadableAt items_key holds_items (EndsInside false self.new) self.old result }
+        ensures held { ReportsHeld 511 AreReadableAt items_key holds_items (EndsInside false self.new) self.old result }
         ensures walks { Walks self.old self.new result }
     {
         let items = self.ours.len();
@@ -188,7 +188,7 @@ impl<'k> Walk<'k> {
             → EndsWith self.old.key.now (items_key ts ++ more)
             → items ≡ length (items_key ts ++ more)
             → IsLeft self.old.other.now self.old.theirs.now (key_of u ++ behind)
-            → Told (any_item (λ t. holds t u) ts) (StandsInside false self.new more behind) result }
+            → Reported (any_item (λ t. holds t u) ts) (OccursInside false self.new more behind) result }
         ensures walks { Walks self.old self.new result }
     {
         let Some((first, _)) = self.theirs.split_first() else {
@@ -221,8 +221,8 @@ impl<'k> Walk<'k> {
     fn has_scalar_item(&mut self) -> Result<bool, NoKey>
         ensures held { (depth levels : ℕ) → depth ≤ 511 → (ts : Trees) → (u : Tree) → AreReadableAt depth ts
             → IsReadableAt levels u → IsScalar u → (more behind : List ℕ)
-            → Stands self.old (items_key ts ++ more) (key_of u ++ behind)
-            → Told (any_item (λ t. holds t u) ts) (StandsInside false self.new more behind) result }
+            → Occurs self.old (items_key ts ++ more) (key_of u ++ behind)
+            → Reported (any_item (λ t. holds t u) ts) (OccursInside false self.new more behind) result }
         ensures keys { SameKeys self.old self.new }
         ensures passed { IsPassed self.old self.new result }
     {
@@ -248,8 +248,8 @@ impl<'k> Walk<'k> {
     #[inline(never)]
     fn has_equal(&mut self) -> Result<bool, NoKey>
         ensures held { (depth levels : ℕ) → (t u : Tree) → IsReadableAt depth t → IsReadableAt levels u → IsScalar u
-            → (more behind : List ℕ) → Stands self.old (key_of t ++ more) (key_of u ++ behind)
-            → Told (holds t u) (Stands self.new more behind) result }
+            → (more behind : List ℕ) → Occurs self.old (key_of t ++ more) (key_of u ++ behind)
+            → Reported (holds t u) (Occurs self.new more behind) result }
         ensures keys { SameKeys self.old self.new }
         ensures passed { IsPassed self.old self.new result }
     {
@@ -268,7 +268,7 @@ impl<'k> Walk<'k> {
     #[inline(never)]
     fn find_member(&mut self) -> Result<bool, NoKey>
         ensures found { (depth : ℕ) → depth ≤ 511 → (ms : Members) → HaveReadableAt depth ms → (name : List ℕ)
-            → (more behind : List ℕ) → Stands self.old (members_key ms ++ more) (text_key name ++ behind)
+            → (more behind : List ℕ) → Occurs self.old (members_key ms ++ more) (text_key name ++ behind)
             → FindsMember depth ms name self.new more behind result }
         ensures keys { SameKeys self.old self.new }
         ensures within { IfOk result (λ found. IsTrue found → length self.new.theirs.now ≤ length self.old.theirs.now) }
@@ -303,7 +303,7 @@ impl<'k> Walk<'k> {
     #[inline(never)]
     fn close(&mut self) -> Result<(), NoKey>
         ensures closed { (object : Bool) → (more behind : List ℕ) → EndsInside object self.old more behind
-            → (result ≡ Ok tt) × Stands self.new more behind }
+            → (result ≡ Ok tt) × Occurs self.new more behind }
         ensures keys { SameKeys self.old self.new }
         ensures theirs { self.new.theirs.now ≡ self.old.theirs.now }
     {
@@ -314,7 +314,7 @@ impl<'k> Walk<'k> {
         Ok(())
     }
 
-    // How many bytes of our key stand behind the item with which so many of the last ones begin.
+    // How many bytes of our key are behind the item with which so many of the last ones begin.
     #[inline(never)]
     fn behind_item(&self, item: usize) -> Option<usize>
         ensures found { (t : Tree) → IsReadable t → (more : List ℕ) → EndsWith self.now.key.now (key_of t ++ more)
@@ -326,11 +326,11 @@ impl<'k> Walk<'k> {
     }
 }
 
-// How the name whose key the bytes begin with compares with the one of this key, and what stands behind it where they
+// How the name whose key the bytes begin with compares with the one of this key, and what is behind it where they
 // are equal.
 fn compare_names<'k>(bytes: &'k [u8], name: &[u8]) -> (Ordering, &'k [u8])
     ensures compares { (text more wanted : List ℕ) → bytes.now ≡ text_key text ++ more → name.now ≡ text_key wanted
-        → TellsOrder (bytes_cmp text wanted) more result }
+        → ReportsOrder (bytes_cmp text wanted) more result }
 {
     match bytes.split_at_checked(name.len()) {
         Some((head, rest)) => (head.cmp(name), rest),

@@ -6,13 +6,13 @@ ghost use Rattle.jsonb_spec.specs.SortKey.Kind as kind;
 ghost use Rattle.jsonb_stored.specs.AtKeys.{Checks};
 ghost use Rattle.jsonb_stored.specs.Frames.{NumberFirst, DigitsFirst};
 
-use jsonb_key::number::{invert_if, read_place};
+use jsonb_key::number::{invert_if, read_exponent};
 use jsonb_value::sort_key::kind;
 
 // How many digits a number has at most, before the point and behind it.
 const MOST_DIGITS: u32 = 38;
 
-// What `read_place` adds to a place: a number without digits before the point has this one.
+// What `read_exponent` adds to an exponent: a number without digits before the point has this one.
 const POINT: u32 = 255;
 
 // The bytes after the number whose key they begin with, if it is one in range. It isn't 0, whose key is one byte.
@@ -24,14 +24,14 @@ pub(crate) fn checked_number(bytes: &[u8]) -> Option<&[u8]>
         return None;
     };
     let negative = *first < kind::ZERO;
-    let Some((place, digits)) = read_place(negative, bytes) else {
+    let Some((exponent, digits)) = read_exponent(negative, bytes) else {
         return None;
     };
     let Some((count, rest)) = checked_digits(negative, digits) else {
         return None;
     };
-    // So many digits stand before the point, or none where the number is below 1, and behind it.
-    if place > POINT + MOST_DIGITS || place + MOST_DIGITS < POINT + count {
+    // So many digits are before the point, or none where the number is below 1, and behind it.
+    if exponent > POINT + MOST_DIGITS || exponent + MOST_DIGITS < POINT + count {
         return None;
     }
     Some(rest)
@@ -44,7 +44,7 @@ fn checked_digits(negative: bool, bytes: &[u8]) -> Option<(u32, &[u8])>
     ensures found { IfSome result (λ r. DigitsFirst negative bytes.now r.0 r.1.now) }
     ensures few { IfSome result (λ r. r.0 ≤ 38) }
     ensures shorter { IfSome result (λ r. length r.1.now < length bytes.now) }
-    // Where the digits of a number stand first, without its last zeros.
+    // Where the digits of a number are first, without its last zeros.
     ensures all { (count magnitude : ℕ) → count ≤ 38 → magnitude < 10 ^ count → 10 ^ count ≤ magnitude * 10
         → (more : List ℕ) → bytes.now ≡ map (invert_if negative) (digits_key count magnitude) ++ more
         → MatchOption result ⊥ (λ r. (r.0 ≤ count) × (r.1.now ≡ more)) }

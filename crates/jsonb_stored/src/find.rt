@@ -1,4 +1,4 @@
-//! Parts of keys where they stand in the bytes, and how many parts there are.
+//! Parts of keys where they are in the bytes, and how many parts there are.
 
 ghost use Rattle.std.specs.Prelude.{◌≡◌, ◌<◌, ◌≤◌, ◌+◌, ◌++◌, ◌∷◌, List, ℕ, length, map, string_bytes, IfNone, IfOk, IfSome, MatchResult, Ok, Option};
 ghost use Rattle.std.specs.Option.{option_and_then};
@@ -6,8 +6,8 @@ ghost use Rattle.std.specs.Str.{bytes_eq};
 ghost use Rattle.jsonb_key.specs.Readable.{IsAnyNumber};
 ghost use Rattle.jsonb_path.specs.Path.{IsPath, IsPlainPath};
 ghost use Rattle.jsonb_spec.specs.PartAt.{child_at, part_at};
-ghost use Rattle.jsonb_stored.specs.Found.{count_of, item_back, item_from, open_len, Finds, IsNext, IsRange, Opens, PartStands};
-ghost use Rattle.jsonb_stored.specs.AtKeys.{AtItems, AtKey, AtParts, FindsPart, FindsWithin, NoMembersEnd, PassesName, TellsOrder};
+ghost use Rattle.jsonb_stored.specs.Found.{count_of, item_back, item_from, open_len, Finds, IsNext, IsRange, Opens, PartOccurs};
+ghost use Rattle.jsonb_stored.specs.AtKeys.{AtItems, AtKey, AtParts, FindsPart, FindsWithin, NoMembersEnd, PassesName, ReportsOrder};
 ghost use Rattle.jsonb_stored.specs.Open.{opening_byte};
 ghost use Rattle.jsonb_spec.specs.Accessors.{find_member, get_by_name, item_at};
 ghost use Rattle.jsonb_spec.specs.Keys.{KeysAscend};
@@ -27,7 +27,7 @@ use std::cmp::Ordering;
 #[derive(Clone, Copy, Debug, PartialEq, Eq, Drop)]
 pub struct NoKey;
 
-/// Whether the key is of an object, and what stands behind its first byte; `None` where it is of neither an object nor
+/// Whether the key is of an object, and what is behind its first byte; `None` where it is of neither an object nor
 /// an array.
 ///
 /// # Errors
@@ -65,7 +65,7 @@ pub fn count_parts(key: &[u8]) -> Result<Option<usize>, NoKey>
     Ok(Some(count))
 }
 
-/// How many parts stand before the end of the object or the array.
+/// How many parts are before the end of the object or the array.
 ///
 /// # Errors
 ///
@@ -152,7 +152,7 @@ pub fn find_part<'k>(key: &'k [u8], names: &[String]) -> Result<Option<&'k [u8]>
 }
 
 /// The bytes from the part at a path on (RFC 6901), as `find_part` finds them, with nothing copied of the path; `None`
-/// in place of them where an escape is in a key of the path, or where the bytes aren't a path.
+/// instead of them where an escape is in a key of the path, or where the bytes aren't a path.
 pub fn find_plain_part<'k>(key: &'k [u8], path: &[u8]) -> Option<Result<Option<&'k [u8]>, NoKey>>
     ensures path { IfSome result (λ _. (names : List (List ℕ)) × IsPath path.now names) }
     ensures found { IfSome result (λ found. AtKey key.now (λ t more.
@@ -302,10 +302,10 @@ fn item_from_end(items: &[u8], back: usize) -> Result<Option<&[u8]>, NoKey>
     }
 }
 
-/// How the name compares with the one whose key the bytes begin with, and what stands behind that where they are equal.
+/// How the name compares with the one whose key the bytes begin with, and what is behind that where they are equal.
 pub fn compare_name<'k>(name: &[u8], bytes: &'k [u8]) -> (Ordering, &'k [u8])
     ensures compares { (text more : List ℕ) → bytes.now ≡ text_key text ++ more
-        → TellsOrder (bytes_cmp name.now text) more result }
+        → ReportsOrder (bytes_cmp name.now text) more result }
     ensures within { length result.1.now ≤ length bytes.now }
 {
     let mut rest = bytes;
@@ -327,7 +327,7 @@ pub fn compare_name<'k>(name: &[u8], bytes: &'k [u8]) -> (Ordering, &'k [u8])
 }
 
 /// The first part that is left of an object or an array, whose keys the bytes begin with: the bytes from its value on,
-/// before which the name of a member stands, and the bytes behind it. `None` where no part is left.
+/// before which the name of a member is, and the bytes behind it. `None` where no part is left.
 ///
 /// # Errors
 ///
@@ -349,13 +349,13 @@ pub fn next_part(object: bool, left: &[u8]) -> Result<Option<(&[u8], &[u8])>, No
     Ok(Some((value, others)))
 }
 
-/// Where in the key its last bytes stand, and how long the key is that these begin with: an offset and a size.
+/// Where in the key its last bytes are, and how long the key is that these begin with: an offset and a size.
 ///
 /// # Errors
 ///
 /// `NoKey` where the last bytes begin with no key.
 pub fn range_of(key: &[u8], part: &[u8]) -> Result<(usize, usize), NoKey>
-    ensures range { (t : Tree) → PartStands key.now part.now t
+    ensures range { (t : Tree) → PartOccurs key.now part.now t
         → MatchResult result (λ r. IsRange key.now r.0 r.1 (key_of t)) (λ e. ⊥) }
     ensures within { IfOk result (λ r. r.0 + r.1 ≤ length key.now) }
 {

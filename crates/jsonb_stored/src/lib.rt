@@ -1,4 +1,4 @@
-//! Values that are kept as their sort keys: where a key ends, parts and members, straight from the bytes.
+//! Values that are held as their sort keys: where a key ends, parts and members, straight from the bytes.
 #![tactic(auto)]
 
 mod ascii;

@@ -2,7 +2,7 @@
 
 ghost use Rattle.std.specs.Prelude.{◌≡◌, ◌<◌, ◌≤◌, ◌^◌, ◌++◌, ◌∷◌, ◌≢◌, List, ℕ, length, map, nat_lt, IfErr, IfOk, IfSome, IsTrue, IsFalse, MatchOption, get_or, false, Some};
 ghost use Rattle.jsonb_key.specs.Readable.{IsReadableAt};
-ghost use Rattle.jsonb_key.specs.Reading.{place_of};
+ghost use Rattle.jsonb_key.specs.Reading.{exponent_of};
 ghost use Rattle.jsonb_stored.specs.AtKeys.{AtKey, AtParts, IsNoWord, IsWord, Leaves, NoMembersEnd};
 ghost use Rattle.jsonb_stored.specs.Open.{end_key, name_key, opening_byte, IsScalar};
 ghost use Rattle.jsonb_spec.specs.Proper.{IsProperNumber};
@@ -128,19 +128,19 @@ fn after_number(negative: bool, bytes: &[u8]) -> Option<&[u8]>
         → Leaves result more }
     ensures shorter { IfSome result (λ rest. length rest.now < length bytes.now) }
 {
-    let digits = after_place(negative, bytes)?;
+    let digits = after_exponent(negative, bytes)?;
     after_digits(negative, digits)
 }
 
-// The bytes after the place of a number's first digit.
+// The bytes after the exponent of a number's first digit.
 #[inline(always)]
-fn after_place(negative: bool, bytes: &[u8]) -> Option<&[u8]>
-    ensures found { (place : ℕ) → (more : List ℕ) → place_of negative bytes.now ≡ Some (place, more)
+fn after_exponent(negative: bool, bytes: &[u8]) -> Option<&[u8]>
+    ensures found { (exponent : ℕ) → (more : List ℕ) → exponent_of negative bytes.now ≡ Some (exponent, more)
         → Leaves result more }
     ensures shorter { IfSome result (λ rest. length rest.now < length bytes.now) }
 {
     let (first, rest) = bytes.split_first()?;
-    if invert_if(negative, *first) != kind::FAR_PLACE {
+    if invert_if(negative, *first) != kind::FAR_EXPONENT {
         return Some(rest);
     }
     let (_, digits) = rest.split_first()?;
@@ -204,7 +204,7 @@ pub fn after_name(object: bool, bytes: &[u8]) -> Option<&[u8]>
 }
 
 // The bytes after the parts of an object or an array, and after its end. Most have scalars alone, for which nothing is
-// kept of what is open.
+// held of what is open.
 #[inline(never)]
 pub(crate) fn after_parts(object: bool, bytes: &[u8]) -> Option<&[u8]>
     ensures found { AtParts object bytes.now (λ o more. Leaves result more) }

@@ -21,7 +21,7 @@ pub fn text_of_string(key: &[u8]) -> Option<&[u8]>
     Some(rest)
 }
 
-/// The text whose key this is, as it stands in it; `None` where the text has a zero.
+/// The text whose key this is, as it is in it; `None` where the text has a zero.
 pub fn plain_text(key: &[u8]) -> Option<&[u8]>
     ensures plain { (text : List ℕ) → key.now ≡ text_key text → IfSome result (λ plain. plain.now ≡ text) }
     ensures within { IfSome result (λ plain. length plain.now ≤ length key.now) }
@@ -52,7 +52,7 @@ pub fn text_size(key: &[u8]) -> Option<usize>
     Some(size)
 }
 
-/// Puts the text whose key this is at the front of the buffer, as far as it has room.
+/// Puts the text whose key this is at the front of the buffer, as far as it has space.
 pub fn put_text(key: &[u8], out: &mut [u8])
     ensures put { (text more : List ℕ) → key.now ≡ text_key text ++ more → length text ≤ length out.old
         → out.new ≡ text ++ drop (length text) out.old }

@@ -23,8 +23,8 @@ pub enum Kind {
     Object,
 }
 
-/// The kind of the value of JSON's kinds whose key the bytes begin with. It is told by the first byte alone, so other
-/// bytes may have a kind too; `None` where no key of such a value begins with that byte.
+/// The kind of the value of JSON's kinds whose key the bytes begin with. It is determined by the first byte alone, so
+/// other bytes may have a kind too; `None` where no key of such a value begins with that byte.
 pub fn kind_of(key: &[u8]) -> Option<Kind>
     ensures kind { AtKey key.now (λ t more. result ≡ kind_of_tree t) }
     ensures none { (result ≡ None) ↔ BeginsNoKey key.now }
@@ -51,8 +51,8 @@ fn kind_by_byte(first: u8) -> Option<Kind>
     }
 }
 
-/// The boolean whose key the bytes begin with; `None` where they begin with that of another value. Of other bytes it may
-/// be either, or `None`.
+/// The boolean whose key the bytes begin with; `None` where they begin with that of another value. Of other bytes it
+/// may be either, or `None`.
 pub fn boolean_of(key: &[u8]) -> Option<bool>
     ensures boolean { AtKey key.now (λ t more. result ≡ as_boolean t) }
 {
@@ -72,7 +72,7 @@ fn boolean_by_byte(first: u8) -> Option<bool>
     }
 }
 
-/// What stands behind the first byte of an array's key: its items, and what follows the array. `None` for any other
+/// What is behind the first byte of an array's key: its items, and what follows the array. `None` for any other
 /// value.
 pub fn items_of(key: &[u8]) -> Option<&[u8]>
     ensures array { (ts : Trees) → (more : List ℕ) → key.now ≡ key_of (array ts) ++ more
@@ -82,7 +82,7 @@ pub fn items_of(key: &[u8]) -> Option<&[u8]>
     body_of(kind::ARRAY, key)
 }
 
-/// What stands behind the first byte of an object's key: its members, and what follows the object. `None` for any other
+/// What is behind the first byte of an object's key: its members, and what follows the object. `None` for any other
 /// value.
 pub fn members_of(key: &[u8]) -> Option<&[u8]>
     ensures object { (ms : Members) → (more : List ℕ) → key.now ≡ key_of (object ms) ++ more

@@ -3,6 +3,6 @@ pub mod Exclusion
 pub mod Meaning
 pub mod PlainRuns
 pub mod PlainTexts
-pub mod Spelling
+pub mod Encoding
 pub mod Units
 pub mod Writing

@@ -12,14 +12,14 @@ use Rattle.jsonb_value.specs.declared.number.Number.TheVariants as form
 use Rattle.jsonb_value.specs.declared.value.Value.{Value, fold-Value}
 use Rattle.jsonb_value.specs.declared.value.Value.TheOpen.{Value-F}
 
--- the number that a `Number` stands for
+-- the number that a `Number` means
 abbrev pub number_view : Number → Num
 number_view (form.Int64 n) = record { form = int64; scale = 0; whole = n }
 number_view (form.UInt64 n) = record { form = uint64; scale = 0; whole = pos n }
 number_view (form.Decimal64 d) = record { form = decimal64; scale = d.scale; whole = d.value }
 number_view (form.Decimal128 d) = record { form = decimal128; scale = d.scale; whole = d.value }
 
--- the tree that an `ExtensionValue` stands for
+-- the tree that an `ExtensionValue` means
 abbrev pub extension_view : ExtensionValue → Tree
 extension_view (extension.Binary b) = binary b.now
 extension_view (extension.Date d) = date d.value
@@ -51,7 +51,7 @@ view_step (Value-F.Interval i) = interval i.months i.days i.micros
 view_step (Value-F.Array v) = array (trees_of v.items)
 view_step (Value-F.Object m) = object (members_of m.entries)
 
--- the tree that a `Value` stands for
+-- the tree that a `Value` means
 abbrev pub view : Value → Tree
 view = fold-Value Tree view_step
 

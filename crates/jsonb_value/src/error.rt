@@ -187,7 +187,7 @@ impl fmt::Display for Error {
             Error::ObjectDuplicateKey => f.write_str("ObjectDuplicateKey"),
             Error::UnexpectedType => f.write_str("UnexpectedType"),
             Error::Message(message) => f.write_str(message.as_str()),
-            Error::Syntax(code, place) => write!(f, "{code}, pos {place}"),
+            Error::Syntax(code, offset) => write!(f, "{code}, pos {offset}"),
             Error::OutOfMemory => f.write_str("OutOfMemory"),
         }
     }

@@ -89,7 +89,7 @@ fn compare<'a>(left: &ExtensionValue<'a>, right: &ExtensionValue<'a>) -> Orderin
     }
 }
 
-// Where the value's kind stands among the kinds.
+// Where the value's kind is among the kinds.
 fn rank(value: &ExtensionValue) -> u8
     ensures { result ≡ rank (extension_view value.now) }
 {

@@ -37,7 +37,7 @@ pub fn append_number(number: &Number, buf: &mut Vec<u8>) -> Result<(), AllocErro
     number.append_text(buf)
 }
 
-/// Appends a member's key as it stands in a sort key. A string has the byte `kind::STRING` before it.
+/// Appends a member's key as it is in a sort key. A string has the byte `kind::STRING` before it.
 #[inline(always)]
 pub fn append_text_key(text: &str, buf: &mut Vec<u8>) -> Result<(), AllocError>
     ensures appends { Appends result buf.old buf.new (text_key text.now) }

@@ -11,13 +11,13 @@ use Rattle.jsonb_scan.specs.Decoding.{DecodesUpTo, IsDecodedUpTo, SeesNoBackslas
 use Rattle.jsonb_scan.specs.QuotedString.{decoded_text}
 use Rattle.jsonb_scan.proofs.Strings.Checks.{decoded_text-is}
 use Rattle.jsonb_scan.proofs.Strings.Decoding.{decoded_escape, decoded_run, decoded_then}
-use Rattle.jsonb_write.specs.Escaped.{IsKeptLetter, WritesItems}
+use Rattle.jsonb_write.specs.Escaped.{IsVerbatimLetter, WritesItems}
 use Rattle.jsonb_value.proofs.Strings.PlainTexts.{byte_some, no_shorter}
 
 pub writes_start : (mode : Mode) (bytes old : List ℕ) → WritesItems mode bytes bytes old old
 writes_start mode bytes old = record {
   text = [];
-  decodes = record { items = []; each = tt; spelled = refl; meant = λ tail h. refl; short = omega arith };
+  decodes = record { items = []; each = tt; encoded = refl; meant = λ tail h. refl; short = omega arith };
   written = sym (append-nil old);
 }
 
@@ -67,28 +67,28 @@ writes_on mode bytes n m p q =
 
 -- ---- escapes
 
-kept_byte : (mode : Mode) (letter : ℕ) (rest : List ℕ) (byte : ℕ) → escaped_byte mode letter ≡ Some byte → byte_text byte ≡ 92 ∷ letter ∷ [] → WritesItems mode (92 ∷ letter ∷ rest) rest [] (92 ∷ letter ∷ [])
-kept_byte mode letter rest byte is written = record { text = byte ∷ []; decodes = decoded_escape mode letter byte rest is; written = sym (append-nil (byte_text byte) ∙ written) }
+verbatim_byte : (mode : Mode) (letter : ℕ) (rest : List ℕ) (byte : ℕ) → escaped_byte mode letter ≡ Some byte → byte_text byte ≡ 92 ∷ letter ∷ [] → WritesItems mode (92 ∷ letter ∷ rest) rest [] (92 ∷ letter ∷ [])
+verbatim_byte mode letter rest byte is written = record { text = byte ∷ []; decodes = decoded_escape mode letter byte rest is; written = sym (append-nil (byte_text byte) ∙ written) }
 
 by_mode : (letter byte : ℕ) → escaped_byte standard letter ≡ Some byte → escaped_byte extended letter ≡ Some byte → (mode : Mode) → escaped_byte mode letter ≡ Some byte
 by_mode letter byte p q standard = p
 by_mode letter byte p q extended = q
 
-kept_letter : (mode : Mode) (letter : ℕ) (rest : List ℕ) → IsKeptLetter letter → WritesItems mode (92 ∷ letter ∷ rest) rest [] (92 ∷ letter ∷ [])
-kept_letter mode letter rest is =
-    ⊎_elim (λ e. at 34 34 e (kept_byte mode 34 rest 34 (by_mode 34 34 refl refl mode) refl)) (λ is2.
-    ⊎_elim (λ e. at 92 92 e (kept_byte mode 92 rest 92 (by_mode 92 92 refl refl mode) refl)) (λ is3.
-    ⊎_elim (λ e. at 110 10 e (kept_byte mode 110 rest 10 (by_mode 110 10 refl refl mode) refl)) (λ is4.
-    ⊎_elim (λ e. at 114 13 e (kept_byte mode 114 rest 13 (by_mode 114 13 refl refl mode) refl))
-    (λ e. at 116 9 e (kept_byte mode 116 rest 9 (by_mode 116 9 refl refl mode) refl)) is4) is3) is2) is
+verbatim_letter : (mode : Mode) (letter : ℕ) (rest : List ℕ) → IsVerbatimLetter letter → WritesItems mode (92 ∷ letter ∷ rest) rest [] (92 ∷ letter ∷ [])
+verbatim_letter mode letter rest is =
+    ⊎_elim (λ e. at 34 34 e (verbatim_byte mode 34 rest 34 (by_mode 34 34 refl refl mode) refl)) (λ is2.
+    ⊎_elim (λ e. at 92 92 e (verbatim_byte mode 92 rest 92 (by_mode 92 92 refl refl mode) refl)) (λ is3.
+    ⊎_elim (λ e. at 110 10 e (verbatim_byte mode 110 rest 10 (by_mode 110 10 refl refl mode) refl)) (λ is4.
+    ⊎_elim (λ e. at 114 13 e (verbatim_byte mode 114 rest 13 (by_mode 114 13 refl refl mode) refl))
+    (λ e. at 116 9 e (verbatim_byte mode 116 rest 9 (by_mode 116 9 refl refl mode) refl)) is4) is3) is2) is
   where
     at : (n byte : ℕ) → letter ≡ n → WritesItems mode (92 ∷ n ∷ rest) rest [] (92 ∷ n ∷ []) → WritesItems mode (92 ∷ letter ∷ rest) rest [] (92 ∷ letter ∷ [])
     at n byte e p = subst (λ (l : ℕ). WritesItems mode (92 ∷ l ∷ rest) rest [] (92 ∷ l ∷ [])) (sym e) p
 
-pub writes_kept : (mode : Mode) (bytes : List ℕ) → 2 ≤ length bytes → get_or bytes 0 0 ≡ 92 → IsKeptLetter (get_or bytes 1 0) → WritesItems mode bytes (drop 2 bytes) [] (take 2 bytes)
-writes_kept mode [] long first second = absurd (omega (arith, long))
-writes_kept mode (b ∷ []) long first second = absurd (omega (arith, long))
-writes_kept mode (b ∷ letter ∷ rest) long first second = subst (λ (c : ℕ). WritesItems mode (c ∷ letter ∷ rest) rest [] (c ∷ letter ∷ [])) (sym first) (kept_letter mode letter rest second)
+pub writes_verbatim : (mode : Mode) (bytes : List ℕ) → 2 ≤ length bytes → get_or bytes 0 0 ≡ 92 → IsVerbatimLetter (get_or bytes 1 0) → WritesItems mode bytes (drop 2 bytes) [] (take 2 bytes)
+writes_verbatim mode [] long first second = absurd (omega (arith, long))
+writes_verbatim mode (b ∷ []) long first second = absurd (omega (arith, long))
+writes_verbatim mode (b ∷ letter ∷ rest) long first second = subst (λ (c : ℕ). WritesItems mode (c ∷ letter ∷ rest) rest [] (c ∷ letter ∷ [])) (sym first) (verbatim_letter mode letter rest second)
 
 -- ---- answers of tests
 

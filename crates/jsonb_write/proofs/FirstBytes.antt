@@ -1,4 +1,4 @@
--- The first bytes of a list, with another in the place of the first one.
+-- The first bytes of a list, with another instead of the first one.
 use Rattle.std.proofs.Common.{◌≡◌, ℕ, zero, suc, ◌+◌, ◌-◌, ◌<◌, List, [], ◌∷◌, length, set, take, drop, refl, sym, ap, ◌∙◌, arith}
 use Rattle.std.proofs.lemmas.List.{drop-take}
 

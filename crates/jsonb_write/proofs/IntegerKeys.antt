@@ -1,4 +1,4 @@
--- The bytes of a number's digits, as they stand in a text, are its sort key.
+-- The bytes of a number's digits, as they are in a text, are its sort key.
 use Rattle.std.proofs.Common.{◌≡◌, ◌≢◌, ℕ, zero, suc, ◌+◌, ◌-◌, ◌*◌, ◌/◌, ◌%◌, ◌^◌, ◌<◌, ◌≤◌, inl, inr, Bool, true, false, List, [], ◌∷◌, ◌++◌, length, map, take, drop, get_or, refl, sym, ap, ap₂, subst, ◌∙◌, arith, pos, append_assoc, eq-eqb}
 use Rattle.std.specs.Prelude.{slice_index, slice_range, slice_set, neg_ℤ, unsigned_abs, if◌then◌else◌, ◌==◌, FitsSigned}
 use mir.Val.{bool_byte}
@@ -24,10 +24,10 @@ use Rattle.jsonb_value.proofs.Numbers.Pointed.{is_negative-pos}
 use Rattle.std.proofs.lemmas.Bool.Decides.{eqb_tells}
 use Rattle.std.proofs.lemmas.List.{drop-take, drop_all, drop_more, get_or-drop, get_or-take, length-drop, length-take-le, take-append-drop, take-map, take-take, take_rest}
 use Rattle.jsonb_spec.specs.Source.{Source}
-use Rattle.jsonb_write.specs.KeyRoom.{Writes}
+use Rattle.jsonb_write.specs.KeySink.{Writes}
 use Rattle.jsonb_write.specs.Members.{source_key}
-use Rattle.jsonb_write.specs.declared.key.KeyRoom.{KeyRoom}
-use Rattle.text_common.specs.KeptScalar.{IsIntegerAt}
+use Rattle.jsonb_write.specs.declared.key.KeySink.{KeySink}
+use Rattle.text_common.specs.VerbatimScalar.{IsIntegerAt}
 use Rattle.jsonb_write.specs.IntegerKey.{digit_bytes, last_byte, more_byte, more_bytes}
 
 -- ---- what digits are worth
@@ -196,7 +196,7 @@ number_bytes negative ds len all few leads cut =
     let zeros : AreZeros (drop len ds) = λ k l. get_or-drop len ds k 0 ∙ cut.zeros (len + k) (omega arith) (omega (arith, l, length-drop len ds)) in
     let written = digits_written (take len ds) (drop len ds) (digits-take len ds all) (omega (arith, long, cut.some)) (cut_ends ds len leads cut) zeros in
     magnitude_split negative 0 (digits_value 10 ds) (length ds) (length ds + 255) (sym count) (omega arith)
-    ∙ ap₂ (λ place digits. map (invert_if negative) place ++ map (invert_if negative) digits)
+    ∙ ap₂ (λ offset digits. map (invert_if negative) offset ++ map (invert_if negative) digits)
     (far (length ds + 255) (omega arith) ∙ ap (λ n. n ∷ []) {x = length ds + 255 - 95} {y = 160 + length ds} (omega arith))
     (sym (ap (λ xs. digits_key (length xs) (digits_value 10 xs)) whole) ∙ written)
 
@@ -373,15 +373,15 @@ some_key negative (d ∷ ds) n h leads =
 
 -- ---- what is appended
 
-pub appended : (negative : Bool) (digits before mid after : List ℕ) (count len place : ℕ) → 0 < count → count < 32 → count ≤ length digits
-    → get_or digits 0 0 ≢ 48 → IsCut (take count digits) len → mid ≡ before ++ place ∷ [] → place ≡ invert_if negative (160 + count)
+pub appended : (negative : Bool) (digits before mid after : List ℕ) (count len offset : ℕ) → 0 < count → count < 32 → count ≤ length digits
+    → get_or digits 0 0 ≢ 48 → IsCut (take count digits) len → mid ≡ before ++ offset ∷ [] → offset ≡ invert_if negative (160 + count)
     → after ≡ mid ++ map (invert_if negative) (digit_bytes (take len digits)) → AllDigits 10 (take count digits)
     → after ≡ before ++ map (invert_if negative) (magnitude_key 0 (digits_value 10 (take count digits)))
-appended negative digits before mid after count len place some few inside leads cut m p a all =
+appended negative digits before mid after count len offset some few inside leads cut m p a all =
     let long = length-take-le count digits inside in
     let bytes = number_bytes negative (take count digits) len all (omega (arith, long)) (λ z. leads (sym (get_or-take count digits 0 0 some) ∙ z)) cut in
     a ∙ ap₂ (λ xs ds. xs ++ map (invert_if negative) (digit_bytes ds)) m (sym (take-take len count digits (omega (arith, cut.within, long))))
-    ∙ append_assoc before (place ∷ []) (map (invert_if negative) (digit_bytes (take len (take count digits))))
+    ∙ append_assoc before (offset ∷ []) (map (invert_if negative) (digit_bytes (take len (take count digits))))
     ∙ ap (λ xs. before ++ xs) (ap (λ b. b ∷ map (invert_if negative) (digit_bytes (take len (take count digits)))) (p ∙ ap (λ k. invert_if negative (160 + k)) (sym long)) ∙ sym bytes)
 
 -- so many bytes behind a sign
@@ -404,17 +404,17 @@ pub behind_first : (bytes : List ℕ) (len start : ℕ) → start < len → get_
 behind_first bytes len start some = get_or-take (len - start) (take (length bytes - start) (drop start bytes)) 0 0 (omega (arith, some))
 
 -- one digit or two
-pub few_bytes : (negative : Bool) (digits : List ℕ) (count place byte second : ℕ) → 0 < count → count ≤ 2 → count ≤ length digits → get_or digits 0 0 ≢ 48
-    → place ≡ invert_if negative (160 + count) → byte ≡ invert_if negative (last_byte (get_or digits 0 0) second) → (count ≡ 2 → second ≡ get_or digits 1 0) → (count ≢ 2 → second ≡ 48)
-    → AllDigits 10 (take count digits) → place ∷ byte ∷ [] ≡ map (invert_if negative) (magnitude_key 0 (digits_value 10 (take count digits)))
-few_bytes negative digits zero place byte second some few inside leads p b two one all = absurd (omega (arith, some))
-few_bytes negative [] (suc count) place byte second some few inside leads p b two one all = absurd (omega (arith, inside))
-few_bytes negative (d ∷ ds) (suc zero) place byte second some few inside leads p b two one all =
+pub few_bytes : (negative : Bool) (digits : List ℕ) (count offset byte second : ℕ) → 0 < count → count ≤ 2 → count ≤ length digits → get_or digits 0 0 ≢ 48
+    → offset ≡ invert_if negative (160 + count) → byte ≡ invert_if negative (last_byte (get_or digits 0 0) second) → (count ≡ 2 → second ≡ get_or digits 1 0) → (count ≢ 2 → second ≡ 48)
+    → AllDigits 10 (take count digits) → offset ∷ byte ∷ [] ≡ map (invert_if negative) (magnitude_key 0 (digits_value 10 (take count digits)))
+few_bytes negative digits zero offset byte second some few inside leads p b two one all = absurd (omega (arith, some))
+few_bytes negative [] (suc count) offset byte second some few inside leads p b two one all = absurd (omega (arith, inside))
+few_bytes negative (d ∷ ds) (suc zero) offset byte second some few inside leads p b two one all =
     let cut : IsCut (d ∷ []) 1 = record { some = omega arith; within = omega arith; zeros = λ k low high. absurd (omega (arith, low, high)); last = λ l. absurd (omega (arith, l)) } in
     ap₂ (λ x y. x ∷ y ∷ []) p (b ∙ ap (λ e. invert_if negative (last_byte d e)) (one (λ z. absurd (omega (arith, z)))))
     ∙ sym (number_bytes negative (d ∷ []) 1 all (omega arith) leads cut)
-few_bytes negative (d ∷ []) (suc (suc count)) place byte second some few inside leads p b two one all = absurd (omega (arith, inside))
-few_bytes negative (d ∷ e ∷ ds) (suc (suc zero)) place byte second some few inside leads p b two one all =
+few_bytes negative (d ∷ []) (suc (suc count)) offset byte second some few inside leads p b two one all = absurd (omega (arith, inside))
+few_bytes negative (d ∷ e ∷ ds) (suc (suc zero)) offset byte second some few inside leads p b two one all =
     elim (cases_eq e 48) [
       | inl z ↦
           let cut : IsCut (d ∷ e ∷ []) 1 = record { some = omega arith; within = omega arith; zeros = λ k low high. ap (λ n. get_or (d ∷ e ∷ []) n 0) {x = k} {y = 1} (omega (arith, low, high)) ∙ z; last = λ l. absurd (omega (arith, l)) } in
@@ -425,9 +425,9 @@ few_bytes negative (d ∷ e ∷ ds) (suc (suc zero)) place byte second some few 
           ap₂ (λ x y. x ∷ y ∷ []) p (b ∙ ap (λ y. invert_if negative (last_byte d y)) (two refl))
           ∙ sym (number_bytes negative (d ∷ e ∷ []) 2 all (omega arith) leads cut)
     ]
-few_bytes negative (d ∷ e ∷ ds) (suc (suc (suc count))) place byte second some few inside leads p b two one all = absurd (omega (arith, few))
+few_bytes negative (d ∷ e ∷ ds) (suc (suc (suc count))) offset byte second some few inside leads p b two one all = absurd (omega (arith, few))
 
--- ---- in a room
+-- ---- in a sink
 
 -- the form of a number is no part of its key
 same_key : (m n : Num) → m.scale ≡ n.scale → m.whole ≡ n.whole → number_key m ≡ number_key n
@@ -435,7 +435,7 @@ unfolding number_key
 same_key m n scale whole =
     ap₂ (λ s w. if unsigned_abs w == 0 then 128 ∷ [] else map (invert_if (is_negative w)) (magnitude_key s (unsigned_abs w))) scale whole
 
-pub integer_written : {r s : KeyRoom} (v : Source) (from to : ℕ) → IsIntegerAt r.members.text.now from to v
+pub integer_written : {r s : KeySink} (v : Source) (from to : ℕ) → IsIntegerAt r.members.text.now from to v
     → ((n : Num) → to ≤ length r.members.text.now → IsStandardNumber (slice_range r.members.text.now from to) n → Writes (number_key n) r s) → Writes (source_key v) r s
 integer_written {r = r} {s = s} v from to at wrote =
     subst (λ (u : Source). Writes (source_key u) r s) (sym at.is)

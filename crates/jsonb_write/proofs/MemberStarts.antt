@@ -1,50 +1,50 @@
--- What is kept of members that are begun.
+-- What is held of members that are begun.
 use Rattle.std.proofs.Common.{◌≡◌, ℕ, zero, suc, ◌-◌, ◌≤◌, Bool, true, false, List, [], ◌∷◌, ◌++◌, map, length, take, drop, cond, inl, inr, length-drop, slice_range, refl, sym, ap, subst, ◌∙◌, arith, length-append}
 use Rattle.std.specs.Prelude.{All}
 use Rattle.std.proofs.lemmas.Bool.{cases_lt}
 use Rattle.std.proofs.lemmas.List.{drop-append-le, take-append-le}
 use Rattle.std.specs.Str.{IsUtf8}
 use Rattle.jsonb_spec.specs.Source.{Spot}
-use Rattle.jsonb_write.specs.MemberStarts.{AreKept, MemberStart, IsKept}
+use Rattle.jsonb_write.specs.MemberStarts.{AreEntries, MemberStart, IsVerbatim}
 use Rattle.jsonb_write.specs.Members.{AreKeyed, IsKeyed, key_in, prefix_of, spot_at, spot_in}
 use Rattle.jsonb_write.specs.declared.members.Member.{Member}
 
-pub kept_count : (text decoded : List ℕ) (ms : List Member) (bs : List MemberStart) → AreKept text decoded ms bs → length ms ≡ length bs
-kept_count text decoded [] [] k = refl
-kept_count text decoded (m ∷ ms) (b ∷ bs) k = omega (arith, kept_count text decoded ms bs k.1.1)
-kept_count text decoded [] (b ∷ bs) k = absurd k
-kept_count text decoded (m ∷ ms) [] k = absurd k
+pub verbatim_count : (text decoded : List ℕ) (ms : List Member) (bs : List MemberStart) → AreEntries text decoded ms bs → length ms ≡ length bs
+verbatim_count text decoded [] [] k = refl
+verbatim_count text decoded (m ∷ ms) (b ∷ bs) k = omega (arith, verbatim_count text decoded ms bs k.1.1)
+verbatim_count text decoded [] (b ∷ bs) k = absurd k
+verbatim_count text decoded (m ∷ ms) [] k = absurd k
 
 -- one more
-pub one_more : (text decoded : List ℕ) (ms : List Member) (bs : List MemberStart) (m : Member) (b : MemberStart) → AreKept text decoded ms bs → IsKept text decoded m b → IsUtf8 b.spot.key → AreKept text decoded (ms ++ m ∷ []) (bs ++ b ∷ [])
+pub one_more : (text decoded : List ℕ) (ms : List Member) (bs : List MemberStart) (m : Member) (b : MemberStart) → AreEntries text decoded ms bs → IsVerbatim text decoded m b → IsUtf8 b.spot.key → AreEntries text decoded (ms ++ m ∷ []) (bs ++ b ∷ [])
 one_more text decoded [] [] m b k here utf8 = (here, (utf8, tt))
 one_more text decoded (n ∷ ms) (c ∷ bs) m b k here utf8 = (k.0, (k.1.0, one_more text decoded ms bs m b k.1.1 here utf8))
 one_more text decoded [] (c ∷ bs) m b k here utf8 = absurd k
 one_more text decoded (n ∷ ms) [] m b k here utf8 = absurd k
 
--- The first ones and the last ones are kept, where all are.
-pub kept_apart : (text decoded : List ℕ) (ms : List Member) (bs cs : List MemberStart) → AreKept text decoded ms (bs ++ cs) → AreKept text decoded (take (length bs) ms) bs × AreKept text decoded (drop (length bs) ms) cs
-kept_apart text decoded ms [] cs k = (tt, k)
-kept_apart text decoded [] (b ∷ bs) cs k = absurd k
-kept_apart text decoded (m ∷ ms) (b ∷ bs) cs k =
-    let others = kept_apart text decoded ms bs cs k.1.1 in
+-- The first ones and the last ones are held, where all are.
+pub verbatim_apart : (text decoded : List ℕ) (ms : List Member) (bs cs : List MemberStart) → AreEntries text decoded ms (bs ++ cs) → AreEntries text decoded (take (length bs) ms) bs × AreEntries text decoded (drop (length bs) ms) cs
+verbatim_apart text decoded ms [] cs k = (tt, k)
+verbatim_apart text decoded [] (b ∷ bs) cs k = absurd k
+verbatim_apart text decoded (m ∷ ms) (b ∷ bs) cs k =
+    let others = verbatim_apart text decoded ms bs cs k.1.1 in
     ((k.0, (k.1.0, others.0)), others.1)
 
-pub kept_spots : (text decoded : List ℕ) (ms : List Member) (bs : List MemberStart) → AreKept text decoded ms bs → map (spot_in text decoded) ms ≡ map (λ (b : MemberStart). b.spot) bs
-kept_spots text decoded [] [] k = refl
-kept_spots text decoded (m ∷ ms) (b ∷ bs) k = λ i. k.0.spot i ∷ kept_spots text decoded ms bs k.1.1 i
-kept_spots text decoded [] (b ∷ bs) k = absurd k
-kept_spots text decoded (m ∷ ms) [] k = absurd k
+pub entry_spots : (text decoded : List ℕ) (ms : List Member) (bs : List MemberStart) → AreEntries text decoded ms bs → map (spot_in text decoded) ms ≡ map (λ (b : MemberStart). b.spot) bs
+entry_spots text decoded [] [] k = refl
+entry_spots text decoded (m ∷ ms) (b ∷ bs) k = λ i. k.0.spot i ∷ entry_spots text decoded ms bs k.1.1 i
+entry_spots text decoded [] (b ∷ bs) k = absurd k
+entry_spots text decoded (m ∷ ms) [] k = absurd k
 
 all_of : {X : Type 0} (P : X → Type 0) (x : X) (xs : List X) → P x → All P xs → All P (x ∷ xs)
 all_of P x xs p ps zero d h = p
 all_of P x xs p ps (suc k) d h = ps k d (omega arith)
 
-pub kept_keys : (text decoded : List ℕ) (ms : List Member) (bs : List MemberStart) → AreKept text decoded ms bs → AreKeyed text decoded ms
-kept_keys text decoded [] [] k = λ i d h. absurd (omega arith)
-kept_keys text decoded (m ∷ ms) (b ∷ bs) k = all_of (IsKeyed text decoded) m ms k.0.keyed (kept_keys text decoded ms bs k.1.1)
-kept_keys text decoded [] (b ∷ bs) k = absurd k
-kept_keys text decoded (m ∷ ms) [] k = absurd k
+pub entry_keys : (text decoded : List ℕ) (ms : List Member) (bs : List MemberStart) → AreEntries text decoded ms bs → AreKeyed text decoded ms
+entry_keys text decoded [] [] k = λ i d h. absurd (omega arith)
+entry_keys text decoded (m ∷ ms) (b ∷ bs) k = all_of (IsKeyed text decoded) m ms k.0.keyed (entry_keys text decoded ms bs k.1.1)
+entry_keys text decoded [] (b ∷ bs) k = absurd k
+entry_keys text decoded (m ∷ ms) [] k = absurd k
 
 -- ---- more keys are decoded
 
@@ -64,26 +64,26 @@ chosen_stays false text decoded more from to h = refl
 key_stays : (text decoded more : List ℕ) (m : Member) → (m.decoded ≡ true → m.to ≤ length decoded) → key_in text (decoded ++ more) m ≡ key_in text decoded m
 key_stays text decoded more m within = chosen_stays m.decoded text decoded more m.from m.to within
 
-kept_on : (text decoded more : List ℕ) (m : Member) (b : MemberStart) → IsKept text decoded m b → IsKept text (decoded ++ more) m b
-kept_on text decoded more m b k =
+retained_on : (text decoded more : List ℕ) (m : Member) (b : MemberStart) → IsVerbatim text decoded m b → IsVerbatim text (decoded ++ more) m b
+retained_on text decoded more m b k =
     let same = key_stays text decoded more m k.within in
     record {
-      spot = ap (λ key. record { key = key; place = m.after }) same ∙ k.spot;
+      spot = ap (λ key. record { key = key; offset = m.after }) same ∙ k.spot;
       starts = k.starts;
       keyed = subst (λ key. m.prefix ≡ prefix_of key) (sym same) k.keyed;
       within = λ is. omega (arith, k.within is, length-append decoded more);
     }
 
-pub kept_all : (text decoded more : List ℕ) (ms : List Member) (bs : List MemberStart) → AreKept text decoded ms bs → AreKept text (decoded ++ more) ms bs
-kept_all text decoded more [] [] k = tt
-kept_all text decoded more (m ∷ ms) (b ∷ bs) k = (kept_on text decoded more m b k.0, (k.1.0, kept_all text decoded more ms bs k.1.1))
-kept_all text decoded more [] (b ∷ bs) k = absurd k
-kept_all text decoded more (m ∷ ms) [] k = absurd k
+pub verbatim_all : (text decoded more : List ℕ) (ms : List Member) (bs : List MemberStart) → AreEntries text decoded ms bs → AreEntries text (decoded ++ more) ms bs
+verbatim_all text decoded more [] [] k = tt
+verbatim_all text decoded more (m ∷ ms) (b ∷ bs) k = (retained_on text decoded more m b k.0, (k.1.0, verbatim_all text decoded more ms bs k.1.1))
+verbatim_all text decoded more [] (b ∷ bs) k = absurd k
+verbatim_all text decoded more (m ∷ ms) [] k = absurd k
 
 -- ---- keys that are UTF-8
 
 -- The key at an index is, and no bytes are where there is no member.
-pub utf8_at : (text decoded : List ℕ) (ms : List Member) (bs : List MemberStart) (i : ℕ) → AreKept text decoded ms bs → IsUtf8 (spot_at text decoded ms i).key
+pub utf8_at : (text decoded : List ℕ) (ms : List Member) (bs : List MemberStart) (i : ℕ) → AreEntries text decoded ms bs → IsUtf8 (spot_at text decoded ms i).key
 utf8_at text decoded [] [] i k = ([], (refl, refl))
 utf8_at text decoded (m ∷ ms) (b ∷ bs) zero k = subst (λ (s : Spot). IsUtf8 s.key) (sym k.0.spot) k.1.0
 utf8_at text decoded (m ∷ ms) (b ∷ bs) (suc i) k = utf8_at text decoded ms bs i k.1.1

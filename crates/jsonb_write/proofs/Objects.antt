@@ -2,7 +2,7 @@
 pub mod Ascending
 pub mod Closing
 pub mod Pieces
-pub mod Places
+pub mod Slots
 pub mod Prefixes
 pub mod Ranks
 pub mod Settled

@@ -7,12 +7,12 @@ use Rattle.jsonb_spec.specs.Text.{in_quotes}
 use Rattle.jsonb_spec.specs.Tree.{Mark}
 use Rattle.jsonb_scan.specs.Open.{Open, members_so_far}
 use Rattle.jsonb_spec.specs.Source.{Found, Source, Spot, first_repeat, found_member, spot_of}
-use Rattle.jsonb_write.specs.MemberStarts.{AreKept, MemberStart, IsKept}
-use Rattle.jsonb_write.specs.Members.{AreInOrder, AreKeyed, AreWritten, Piece, SpotsAscend, StandFrom, TellsRepeat, between, bytes_of_pieces, join_pieces, pieces_of, spot_at, spot_in, spots_of_pieces}
-use Rattle.jsonb_write.specs.OpenMembers.{AreOf, AreSame, Begins, Closes, EndIn, FindsRepeat, KeysAscendFrom, Layout, PutsInOrder, TellsRepeatOf, all_starts, next_in, next_start, spot_among, starts_from, starts_in}
+use Rattle.jsonb_write.specs.MemberStarts.{AreEntries, MemberStart, IsVerbatim}
+use Rattle.jsonb_write.specs.Members.{AreInOrder, AreKeyed, AreWritten, Piece, SpotsAscend, HoldFrom, ReportsRepeat, between, bytes_of_pieces, join_pieces, pieces_of, spot_at, spot_in, spots_of_pieces}
+use Rattle.jsonb_write.specs.OpenMembers.{AreOf, AreSame, Begins, Closes, EndIn, FindsRepeat, KeysAscendFrom, Layout, PutsInOrder, ReportsRepeatOf, all_starts, next_in, next_start, spot_among, starts_from, starts_in}
 use Rattle.jsonb_write.specs.declared.members.Member.{Member}
 use Rattle.jsonb_write.specs.declared.open_members.OpenMembers.{OpenMembers}
-use Rattle.jsonb_write.proofs.MemberStarts.{kept_all, kept_apart, kept_count, kept_keys, kept_spots, one_more, utf8_at}
+use Rattle.jsonb_write.proofs.MemberStarts.{verbatim_all, verbatim_apart, verbatim_count, entry_keys, entry_spots, one_more, utf8_at}
 use Rattle.jsonb_write.proofs.Objects.Closing.{bytes_in_order, piece_bytes, piece_spots}
 
 -- ---- steps
@@ -20,8 +20,8 @@ use Rattle.jsonb_write.proofs.Objects.Closing.{bytes_in_order, piece_bytes, piec
 pub same : (ms : OpenMembers) → AreSame ms ms
 same ms = record { text = refl; entries = refl; decoded = refl }
 
-pub same_begins : {key : List ℕ} {place start : ℕ} {r s t : OpenMembers} → AreSame r s → Begins key place start s t → Begins key place start r t
-same_begins {key = key} {place = place} {start = start} {t = t} a m = record {
+pub same_begins : {key : List ℕ} {offset start : ℕ} {r s t : OpenMembers} → AreSame r s → Begins key offset start s t → Begins key offset start r t
+same_begins {key = key} {offset = offset} {start = start} {t = t} a m = record {
   member = m.member;
   keys = m.keys;
   has = record {
@@ -29,15 +29,15 @@ same_begins {key = key} {place = place} {start = start} {t = t} a m = record {
     entries = m.has.entries ∙ ap (λ (ms : List Member). ms ++ m.member ∷ []) a.entries;
     decoded = m.has.decoded ∙ ap (λ ks. ks ++ m.keys) a.decoded;
   };
-  kept = subst (λ text. IsKept text t.decoded.items m.member (record { spot = record { key = key; place = place }; start = start })) a.text m.kept;
+  retained = subst (λ text. IsVerbatim text t.decoded.items m.member (record { spot = record { key = key; offset = offset }; start = start })) a.text m.retained;
 }
 
-pub begins_same : {key : List ℕ} {place start : ℕ} {r s t : OpenMembers} → Begins key place start r s → AreSame s t → Begins key place start r t
-begins_same {key = key} {place = place} {start = start} {r = r} m a = record {
+pub begins_same : {key : List ℕ} {offset start : ℕ} {r s t : OpenMembers} → Begins key offset start r s → AreSame s t → Begins key offset start r t
+begins_same {key = key} {offset = offset} {start = start} {r = r} m a = record {
   member = m.member;
   keys = m.keys;
   has = record { text = a.text ∙ m.has.text; entries = a.entries ∙ m.has.entries; decoded = a.decoded ∙ m.has.decoded };
-  kept = subst (λ ks. IsKept r.text.now ks m.member (record { spot = record { key = key; place = place }; start = start })) (sym a.decoded) m.kept;
+  retained = subst (λ ks. IsVerbatim r.text.now ks m.member (record { spot = record { key = key; offset = offset }; start = start })) (sym a.decoded) m.retained;
 }
 
 -- ---- where members begin
@@ -55,54 +55,54 @@ start_spots : (commas : Bool) (bytes : Found → List ℕ) (start : ℕ) (fs : L
 start_spots commas bytes start [] = refl
 start_spots commas bytes start (f ∷ fs) = ap (λ spots. spot_of f ∷ spots) (start_spots commas bytes (start + length (bytes f) + length (between commas)) fs)
 
-stand_from : (text decoded : List ℕ) (commas : Bool) (bytes : Found → List ℕ) (ms : List Member) (fs : List Found) (start : ℕ) → AreKept text decoded ms (starts_from commas bytes start fs) → StandFrom commas start ms (map bytes fs)
-stand_from text decoded commas bytes [] [] start k = tt
-stand_from text decoded commas bytes (m ∷ ms) (f ∷ fs) start k =
-    (k.0.starts, stand_from text decoded commas bytes ms fs (start + length (bytes f) + length (between commas)) k.1.1)
-stand_from text decoded commas bytes [] (f ∷ fs) start k = absurd k
-stand_from text decoded commas bytes (m ∷ ms) [] start k = absurd k
+hold_from : (text decoded : List ℕ) (commas : Bool) (bytes : Found → List ℕ) (ms : List Member) (fs : List Found) (start : ℕ) → AreEntries text decoded ms (starts_from commas bytes start fs) → HoldFrom commas start ms (map bytes fs)
+hold_from text decoded commas bytes [] [] start k = tt
+hold_from text decoded commas bytes (m ∷ ms) (f ∷ fs) start k =
+    (k.0.starts, hold_from text decoded commas bytes ms fs (start + length (bytes f) + length (between commas)) k.1.1)
+hold_from text decoded commas bytes [] (f ∷ fs) start k = absurd k
+hold_from text decoded commas bytes (m ∷ ms) [] start k = absurd k
 
 -- ---- what is open
 
 pub counted : {layout : Layout} {text : List ℕ} {r : OpenMembers} {due : Bool} {cs : List Open} → AreOf layout text r due cs → length r.entries.items ≡ length (all_starts layout due cs)
-counted {layout = layout} {text = text} {r = r} {due = due} {cs = cs} of = kept_count text r.decoded.items r.entries.items (all_starts layout due cs) of.kept
+counted {layout = layout} {text = text} {r = r} {due = due} {cs = cs} of = verbatim_count text r.decoded.items r.entries.items (all_starts layout due cs) of.retained
 
 -- the same members, in containers that have the same
 pub stay : {layout : Layout} {text : List ℕ} {r s : OpenMembers} {due then : Bool} {cs ds : List Open} → AreOf layout text r due cs → AreSame r s → all_starts layout due cs ≡ all_starts layout then ds → AreOf layout text s then ds
 stay {layout = layout} {text = text} {r = r} {s = s} {then = then} {ds = ds} of a starts = record {
   text_is = a.text ∙ of.text_is;
-  kept =
-      subst (λ d. AreKept text d s.entries.items (all_starts layout then ds)) (sym a.decoded) (
-      subst (λ (ms : List Member). AreKept text r.decoded.items ms (all_starts layout then ds)) (sym a.entries) (
-      subst (λ bs. AreKept text r.decoded.items r.entries.items bs) starts of.kept
+  retained =
+      subst (λ d. AreEntries text d s.entries.items (all_starts layout then ds)) (sym a.decoded) (
+      subst (λ (ms : List Member). AreEntries text r.decoded.items ms (all_starts layout then ds)) (sym a.entries) (
+      subst (λ bs. AreEntries text r.decoded.items r.entries.items bs) starts of.retained
       )
       );
 }
 
 -- an object with no members has those around it
-pub none_in : (layout : Layout) (key : Mark × List ℕ) (place : ℕ) (cs : List Open) → all_starts layout true cs ≡ all_starts layout false (members_so_far [] key place ∷ cs)
-none_in layout key place cs = sym (append-nil (all_starts layout true cs))
+pub none_in : (layout : Layout) (key : Mark × List ℕ) (offset : ℕ) (cs : List Open) → all_starts layout true cs ≡ all_starts layout false (members_so_far [] key offset ∷ cs)
+none_in layout key offset cs = sym (append-nil (all_starts layout true cs))
 
 -- a member whose value ended has begun with its key
-pub filled_in : (layout : Layout) (fs : List Found) (key next : Mark × List ℕ) (s : Source) (place other : ℕ) (cs : List Open) → all_starts layout true (members_so_far fs key place ∷ cs) ≡ all_starts layout false (members_so_far (fs ++ found_member key s place ∷ []) next other ∷ cs)
-filled_in layout fs key next s place other cs = ap (λ bs. all_starts layout true cs ++ bs) (starts_more layout.commas layout.bytes (layout.begins cs) fs (found_member key s place))
+pub filled_in : (layout : Layout) (fs : List Found) (key next : Mark × List ℕ) (s : Source) (offset other : ℕ) (cs : List Open) → all_starts layout true (members_so_far fs key offset ∷ cs) ≡ all_starts layout false (members_so_far (fs ++ found_member key s offset ∷ []) next other ∷ cs)
+filled_in layout fs key next s offset other cs = ap (λ bs. all_starts layout true cs ++ bs) (starts_more layout.commas layout.bytes (layout.begins cs) fs (found_member key s offset))
 
 -- a key behind the members before it
-pub key_begun : {layout : Layout} {text : List ℕ} {r s : OpenMembers} {fs : List Found} {before : Mark × List ℕ} {place : ℕ} {cs : List Open} (mark : Mark) (key : List ℕ) (after start : ℕ) → AreOf layout text r false (members_so_far fs before place ∷ cs) → start ≡ next_in layout cs fs
+pub key_begun : {layout : Layout} {text : List ℕ} {r s : OpenMembers} {fs : List Found} {before : Mark × List ℕ} {offset : ℕ} {cs : List Open} (mark : Mark) (key : List ℕ) (after start : ℕ) → AreOf layout text r false (members_so_far fs before offset ∷ cs) → start ≡ next_in layout cs fs
     → Begins key after start r s → IsUtf8 key → AreOf layout text s true (members_so_far fs (mark, key) after ∷ cs)
 key_begun {layout = layout} {text = text} {r = r} {s = s} {fs = fs} {cs = cs} mark key after start of at m utf8 =
     let outer = all_starts layout true cs in
     let own = starts_in layout cs fs in
-    let here : MemberStart = record { spot = record { key = key; place = after }; start = next_in layout cs fs } in
-    let more : AreKept text s.decoded.items r.entries.items (outer ++ own) = subst (λ ks. AreKept text ks r.entries.items (outer ++ own)) (sym m.has.decoded) (kept_all text r.decoded.items m.keys r.entries.items (outer ++ own) of.kept) in
-    let last : IsKept text s.decoded.items m.member here =
-    subst (λ t. IsKept t s.decoded.items m.member here) of.text_is (subst (λ n. IsKept r.text.now s.decoded.items m.member (record { spot = record { key = key; place = after }; start = n })) at m.kept) in
-    let all : AreKept text s.decoded.items (r.entries.items ++ m.member ∷ []) ((outer ++ own) ++ here ∷ []) = one_more text s.decoded.items r.entries.items (outer ++ own) m.member here more last utf8 in
+    let here : MemberStart = record { spot = record { key = key; offset = after }; start = next_in layout cs fs } in
+    let more : AreEntries text s.decoded.items r.entries.items (outer ++ own) = subst (λ ks. AreEntries text ks r.entries.items (outer ++ own)) (sym m.has.decoded) (verbatim_all text r.decoded.items m.keys r.entries.items (outer ++ own) of.retained) in
+    let last : IsVerbatim text s.decoded.items m.member here =
+    subst (λ t. IsVerbatim t s.decoded.items m.member here) of.text_is (subst (λ n. IsVerbatim r.text.now s.decoded.items m.member (record { spot = record { key = key; offset = after }; start = n })) at m.retained) in
+    let all : AreEntries text s.decoded.items (r.entries.items ++ m.member ∷ []) ((outer ++ own) ++ here ∷ []) = one_more text s.decoded.items r.entries.items (outer ++ own) m.member here more last utf8 in
     record {
       text_is = m.has.text ∙ of.text_is;
-      kept =
-          subst (λ (ms : List Member). AreKept text s.decoded.items ms (outer ++ (own ++ here ∷ []))) (sym m.has.entries) (
-          subst (λ bs. AreKept text s.decoded.items (r.entries.items ++ m.member ∷ []) bs) (append_assoc outer own (here ∷ [])) all
+      retained =
+          subst (λ (ms : List Member). AreEntries text s.decoded.items ms (outer ++ (own ++ here ∷ []))) (sym m.has.entries) (
+          subst (λ bs. AreEntries text s.decoded.items (r.entries.items ++ m.member ∷ []) bs) (append_assoc outer own (here ∷ [])) all
           );
     }
 
@@ -110,13 +110,13 @@ key_begun {layout = layout} {text = text} {r = r} {s = s} {fs = fs} {cs = cs} ma
 
 -- a key between double quotes
 pub key_there : (text key : List ℕ) (from to : ℕ) → 0 < from → from < to → to ≤ length text → slice_range text (from - 1) to ≡ in_quotes key → slice_range text from (to - 1) ≡ key
-key_there text key from to some before inside spelled =
+key_there text key from to some before inside encoded =
     let here = drop (from - 1) text in
     let n = to - (from - 1) in
-    let room : n ≤ length here = omega (arith, length-drop (from - 1) text) in
-    let long : n ≡ length key + 2 = omega (arith, length-take-le n here room, ap length spelled, length-append key (34 ∷ [])) in
+    let sink : n ≤ length here = omega (arith, length-drop (from - 1) text) in
+    let long : n ≡ length key + 2 = omega (arith, length-take-le n here sink, ap length encoded, length-append key (34 ∷ [])) in
     let rest = drop n here in
-    let split : here ≡ in_quotes key ++ rest = sym (take-append-drop n here) ∙ ap (λ xs. xs ++ rest) spelled in
+    let split : here ≡ in_quotes key ++ rest = sym (take-append-drop n here) ∙ ap (λ xs. xs ++ rest) encoded in
     let next : from - 1 + 1 ≡ from = omega arith in
     let behind : drop from text ≡ key ++ (34 ∷ rest) =
     ap (λ m. drop m text) (sym next) ∙ sym (drop-drop 1 (from - 1) text) ∙ ap (drop 1) split ∙ append_assoc key (34 ∷ []) rest in
@@ -126,28 +126,28 @@ key_there text key from to some before inside spelled =
 -- a member begun by it
 pub begun_there : {text : List ℕ} {r s : OpenMembers} (key : List ℕ) (from after start : ℕ) → r.text.now ≡ text → 0 < from → from < after → after ≤ length text → slice_range text (from - 1) after ≡ in_quotes key
     → (from ≤ after - 1 → after - 1 ≤ length r.text.now → Begins (slice_range r.text.now from (after - 1)) after start r s) → Begins key after start r s
-begun_there {text = text} {r = r} {s = s} key from after start is some before inside spelled begins =
-    let here : slice_range r.text.now from (after - 1) ≡ key = ap (λ t. slice_range t from (after - 1)) is ∙ key_there text key from after some before inside spelled in
+begun_there {text = text} {r = r} {s = s} key from after start is some before inside encoded begins =
+    let here : slice_range r.text.now from (after - 1) ≡ key = ap (λ t. slice_range t from (after - 1)) is ∙ key_there text key from after some before inside encoded in
     subst (λ bytes. Begins bytes after start r s) here (begins (omega arith) (subst (λ t. after - 1 ≤ length t) (sym is) (omega (arith, inside))))
 
 -- ---- the end of an object
 
-pub ends_in : {layout : Layout} {text : List ℕ} {r : OpenMembers} {first : ℕ} {fs : List Found} {key : Mark × List ℕ} {place : ℕ} {cs : List Open} → AreOf layout text r false (members_so_far fs key place ∷ cs) → first ≡ length (all_starts layout true cs)
+pub ends_in : {layout : Layout} {text : List ℕ} {r : OpenMembers} {first : ℕ} {fs : List Found} {key : Mark × List ℕ} {offset : ℕ} {cs : List Open} → AreOf layout text r false (members_so_far fs key offset ∷ cs) → first ≡ length (all_starts layout true cs)
     → EndIn layout.commas layout.bytes r first (layout.begins cs) fs
 ends_in {layout = layout} {text = text} {r = r} {first = first} {fs = fs} {cs = cs} of at =
-    let apart = kept_apart text r.decoded.items r.entries.items (all_starts layout true cs) (starts_in layout cs fs) of.kept in
-    subst (λ t. AreKept t r.decoded.items (drop first r.entries.items) (starts_in layout cs fs)) (sym of.text_is) (subst (λ n. AreKept text r.decoded.items (drop n r.entries.items) (starts_in layout cs fs)) (sym at) apart.1)
+    let apart = verbatim_apart text r.decoded.items r.entries.items (all_starts layout true cs) (starts_in layout cs fs) of.retained in
+    subst (λ t. AreEntries t r.decoded.items (drop first r.entries.items) (starts_in layout cs fs)) (sym of.text_is) (subst (λ n. AreEntries text r.decoded.items (drop n r.entries.items) (starts_in layout cs fs)) (sym at) apart.1)
 
-pub closed : {layout : Layout} {text : List ℕ} {r s t : OpenMembers} {first : ℕ} {fs : List Found} {key : Mark × List ℕ} {place : ℕ} {cs : List Open} → AreOf layout text r false (members_so_far fs key place ∷ cs) → first ≡ length (all_starts layout true cs) → AreSame r s → Closes first s t
+pub closed : {layout : Layout} {text : List ℕ} {r s t : OpenMembers} {first : ℕ} {fs : List Found} {key : Mark × List ℕ} {offset : ℕ} {cs : List Open} → AreOf layout text r false (members_so_far fs key offset ∷ cs) → first ≡ length (all_starts layout true cs) → AreSame r s → Closes first s t
     → AreOf layout text t true cs
 closed {layout = layout} {text = text} {r = r} {t = t} {first = first} {fs = fs} {cs = cs} of at a closes =
-    let apart = kept_apart text r.decoded.items r.entries.items (all_starts layout true cs) (starts_in layout cs fs) of.kept in
-    let outer : AreKept text r.decoded.items (take first r.entries.items) (all_starts layout true cs) = subst (λ n. AreKept text r.decoded.items (take n r.entries.items) (all_starts layout true cs)) (sym at) apart.0 in
+    let apart = verbatim_apart text r.decoded.items r.entries.items (all_starts layout true cs) (starts_in layout cs fs) of.retained in
+    let outer : AreEntries text r.decoded.items (take first r.entries.items) (all_starts layout true cs) = subst (λ n. AreEntries text r.decoded.items (take n r.entries.items) (all_starts layout true cs)) (sym at) apart.0 in
     record {
       text_is = closes.text ∙ a.text ∙ of.text_is;
-      kept =
-          subst (λ d. AreKept text d t.entries.items (all_starts layout true cs)) (sym (closes.decoded ∙ a.decoded)) (
-          subst (λ (ms : List Member). AreKept text r.decoded.items ms (all_starts layout true cs)) (sym (closes.entries ∙ ap (take first) a.entries)) outer
+      retained =
+          subst (λ d. AreEntries text d t.entries.items (all_starts layout true cs)) (sym (closes.decoded ∙ a.decoded)) (
+          subst (λ (ms : List Member). AreEntries text r.decoded.items ms (all_starts layout true cs)) (sym (closes.entries ∙ ap (take first) a.entries)) outer
           );
     }
 
@@ -155,30 +155,30 @@ pub ascending : (commas : Bool) (bytes : Found → List ℕ) (r : OpenMembers) (
 ascending commas bytes r first start fs own up =
     let ms = drop first r.entries.items in
     let starts = starts_from commas bytes start fs in
-    subst SpotsAscend (kept_spots r.text.now r.decoded.items ms starts own ∙ start_spots commas bytes start fs) (up (kept_keys r.text.now r.decoded.items ms starts own))
+    subst SpotsAscend (entry_spots r.text.now r.decoded.items ms starts own ∙ start_spots commas bytes start fs) (up (entry_keys r.text.now r.decoded.items ms starts own))
 
 -- What is known of an object's members.
-record ObjectKept (commas : Bool) (bytes : Found → List ℕ) (text decoded : List ℕ) (ms : List Member) (start : ℕ) (fs : List Found) : Type 0 where
+record ObjectVerbatim (commas : Bool) (bytes : Found → List ℕ) (text decoded : List ℕ) (ms : List Member) (start : ℕ) (fs : List Found) : Type 0 where
   keyed : AreKeyed text decoded ms
   spots : map (spot_in text decoded) ms ≡ map spot_of fs
-  stand : StandFrom commas start ms (map bytes fs)
+  hold : HoldFrom commas start ms (map bytes fs)
   utf8 : (i : ℕ) → IsUtf8 (spot_at text decoded ms i).key
 
-object_kept : (commas : Bool) (bytes : Found → List ℕ) (r : OpenMembers) (first start : ℕ) (fs : List Found) (decoded : List ℕ) (ms : List Member) → decoded ≡ r.decoded.items → ms ≡ drop first r.entries.items → EndIn commas bytes r first start fs → ObjectKept commas bytes r.text.now decoded ms start fs
-object_kept commas bytes r first start fs decoded ms p q own =
+object_verbatim : (commas : Bool) (bytes : Found → List ℕ) (r : OpenMembers) (first start : ℕ) (fs : List Found) (decoded : List ℕ) (ms : List Member) → decoded ≡ r.decoded.items → ms ≡ drop first r.entries.items → EndIn commas bytes r first start fs → ObjectVerbatim commas bytes r.text.now decoded ms start fs
+object_verbatim commas bytes r first start fs decoded ms p q own =
     let starts = starts_from commas bytes start fs in
-    let here : AreKept r.text.now decoded ms starts =
-    subst (λ (l : List Member). AreKept r.text.now decoded l starts) (sym q) (subst (λ d. AreKept r.text.now d (drop first r.entries.items) starts) (sym p) own) in
+    let here : AreEntries r.text.now decoded ms starts =
+    subst (λ (l : List Member). AreEntries r.text.now decoded l starts) (sym q) (subst (λ d. AreEntries r.text.now d (drop first r.entries.items) starts) (sym p) own) in
     record {
-      keyed = kept_keys r.text.now decoded ms starts here;
-      spots = kept_spots r.text.now decoded ms starts here ∙ start_spots commas bytes start fs;
-      stand = stand_from r.text.now decoded commas bytes ms fs start here;
+      keyed = entry_keys r.text.now decoded ms starts here;
+      spots = entry_spots r.text.now decoded ms starts here ∙ start_spots commas bytes start fs;
+      hold = hold_from r.text.now decoded commas bytes ms fs start here;
       utf8 = λ i. utf8_at r.text.now decoded ms starts i here;
     }
 
-told : {commas : Bool} {bytes : Found → List ℕ} {start : ℕ} {fs : List Found} {decoded : List ℕ} {ms : List Member} (r s : OpenMembers) (first i : ℕ) → ObjectKept commas bytes r.text.now decoded ms start fs → decoded ≡ r.decoded.items → ms ≡ drop first r.entries.items → AreSame r s
-    → TellsRepeat r.text.now decoded ms (Some i) → TellsRepeatOf s first fs i
-told {decoded = decoded} {ms = ms} r s first i k p q a repeat =
+reported : {commas : Bool} {bytes : Found → List ℕ} {start : ℕ} {fs : List Found} {decoded : List ℕ} {ms : List Member} (r s : OpenMembers) (first i : ℕ) → ObjectVerbatim commas bytes r.text.now decoded ms start fs → decoded ≡ r.decoded.items → ms ≡ drop first r.entries.items → AreSame r s
+    → ReportsRepeat r.text.now decoded ms (Some i) → ReportsRepeatOf s first fs i
+reported {decoded = decoded} {ms = ms} r s first i k p q a repeat =
     let same : spot_at r.text.now decoded ms i ≡ spot_among s first i = λ j. spot_at (sym a.text j) ((p ∙ sym a.decoded) j) ((q ∙ ap (drop first) (sym a.entries)) j) i in
     record {
       repeat = ap first_repeat (sym k.spots) ∙ repeat ∙ ap Some same;
@@ -186,24 +186,24 @@ told {decoded = decoded} {ms = ms} r s first i k p q a repeat =
     }
 
 -- by what was searched
-pub found : {E : Type 0} (r s : OpenMembers) (first : ℕ) (decoded : List ℕ) (ms : List Member) (answer : Result (Option ℕ) E) → decoded ≡ r.decoded.items → ms ≡ drop first r.entries.items → AreSame r s → (AreKeyed r.text.now decoded ms → IfOk answer (TellsRepeat r.text.now decoded ms))
+pub found : {E : Type 0} (r s : OpenMembers) (first : ℕ) (decoded : List ℕ) (ms : List Member) (answer : Result (Option ℕ) E) → decoded ≡ r.decoded.items → ms ≡ drop first r.entries.items → AreSame r s → (AreKeyed r.text.now decoded ms → IfOk answer (ReportsRepeat r.text.now decoded ms))
     → IfOk answer (λ found. (commas : Bool) → (bytes : Found → List ℕ) → (start : ℕ) → (fs : List Found) → EndIn commas bytes r first start fs → FindsRepeat s first fs found)
 found r s first decoded ms (Err e) p q a repeat = tt
-found r s first decoded ms (Ok None) p q a repeat = λ commas bytes start fs own. let k = object_kept commas bytes r first start fs decoded ms p q own in ap first_repeat (sym k.spots) ∙ repeat k.keyed
-found r s first decoded ms (Ok (Some i)) p q a repeat = λ commas bytes start fs own. let k = object_kept commas bytes r first start fs decoded ms p q own in told r s first i k p q a (repeat k.keyed)
+found r s first decoded ms (Ok None) p q a repeat = λ commas bytes start fs own. let k = object_verbatim commas bytes r first start fs decoded ms p q own in ap first_repeat (sym k.spots) ∙ repeat k.keyed
+found r s first decoded ms (Ok (Some i)) p q a repeat = λ commas bytes start fs own. let k = object_verbatim commas bytes r first start fs decoded ms p q own in reported r s first i k p q a (repeat k.keyed)
 
 -- members put in order
 pub put : {E : Type 0} (commas : Bool) (floor : ℕ) (r s : OpenMembers) (first : ℕ) (old new : List ℕ) (decoded : List ℕ) (ms : List Member) (answer : Result (Option ℕ) E) → decoded ≡ r.decoded.items → ms ≡ drop first r.entries.items → AreSame r s
-    → (AreKeyed r.text.now decoded ms → IfOk answer (TellsRepeat r.text.now decoded ms))
-    → (AreKeyed r.text.now decoded ms → (front : List ℕ) → (pieces : List Piece) → floor ≤ length front → spots_of_pieces pieces ≡ map (spot_in r.text.now decoded) ms → AreWritten commas ms front (bytes_of_pieces pieces) old → IfOk answer (λ told. AreInOrder commas front pieces told new))
+    → (AreKeyed r.text.now decoded ms → IfOk answer (ReportsRepeat r.text.now decoded ms))
+    → (AreKeyed r.text.now decoded ms → (front : List ℕ) → (pieces : List Piece) → floor ≤ length front → spots_of_pieces pieces ≡ map (spot_in r.text.now decoded) ms → AreWritten commas ms front (bytes_of_pieces pieces) old → IfOk answer (λ reported. AreInOrder commas front pieces reported new))
     → IfOk answer (PutsInOrder commas floor r s first old new)
 put commas floor r s first old new decoded ms (Err e) p q a repeat order = tt
 put commas floor r s first old new decoded ms (Ok None) p q a repeat order = λ bytes front fs enough own whole.
-    let k = object_kept commas bytes r first (length front) fs decoded ms p q own in
-    let written : AreWritten commas ms front (bytes_of_pieces (pieces_of bytes fs)) old = subst (λ texts. AreWritten commas ms front texts old) (sym (piece_bytes bytes fs)) (record { whole = whole; starts = k.stand }) in
+    let k = object_verbatim commas bytes r first (length front) fs decoded ms p q own in
+    let written : AreWritten commas ms front (bytes_of_pieces (pieces_of bytes fs)) old = subst (λ texts. AreWritten commas ms front texts old) (sym (piece_bytes bytes fs)) (record { whole = whole; starts = k.hold }) in
     record {
       written = order k.keyed front (pieces_of bytes fs) enough (piece_spots bytes fs ∙ sym k.spots) written ∙ ap (λ texts. front ++ join_pieces commas texts) (bytes_in_order bytes fs);
       new_keys = ap first_repeat (sym k.spots) ∙ repeat k.keyed;
     }
 put commas floor r s first old new decoded ms (Ok (Some i)) p q a repeat order = λ bytes front fs enough own whole.
-    let k = object_kept commas bytes r first (length front) fs decoded ms p q own in told r s first i k p q a (repeat k.keyed)
+    let k = object_verbatim commas bytes r first (length front) fs decoded ms p q own in reported r s first i k p q a (repeat k.keyed)

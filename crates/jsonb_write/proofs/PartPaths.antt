@@ -17,9 +17,9 @@ use Rattle.jsonb_scan.specs.Open.{Open, add_part, elements_so_far, members_so_fa
 use Rattle.jsonb_spec.specs.Source.{Found, Source, array_source_of, first_repeat, insert_by, object_source_of, sort_by, sources_of, spot_cmp, spot_of, tree_of_source, trees_of_sources}
 use Rattle.jsonb_write.specs.Members.{SpotsAscend}
 use Rattle.jsonb_spec.specs.PartAt.{index_named, part_at}
-use Rattle.jsonb_write.specs.PartRoom.{first_key, follow, in_items, in_members, path_behind, other_keys, part_inside, part_of_ended, part_with_inside, part_with_value, within}
+use Rattle.jsonb_write.specs.PartSink.{first_key, follow, in_items, in_members, path_behind, other_keys, part_inside, part_of_ended, part_with_inside, part_with_value, within}
 use Rattle.jsonb_write.proofs.Objects.Closing.{listed, listed_ascend, put_listed, sort_ascends}
-use Rattle.text_common.proofs.Shuffles.{IsShuffle, distinct-shuffle, shuffle-map, same, keep, exchange, follow as in_turn}
+use Rattle.text_common.proofs.Shuffles.{IsShuffle, distinct-shuffle, shuffle-map, same, preserve, exchange, follow as in_turn}
 
 -- ---- keys
 
@@ -88,10 +88,10 @@ within-items keys ss s (Some i) =
 
 pub within-more : (c : Open) (s : Source) (keys : List (List ℕ)) → within (add_part c s) keys ≡ option_or (within c keys) (option_and_then (λ rest. part_at rest (tree_of_source s)) (follow c keys))
 within-more (elements_so_far ss) s [] = refl
-within-more (members_so_far fs k place) s [] = refl
+within-more (members_so_far fs k offset) s [] = refl
 within-more (elements_so_far ss) s (key ∷ keys) = within-items keys ss s (index_named key)
-within-more (members_so_far fs k place) s (key ∷ keys) =
-    in_members-more key keys fs (record { mark = k.0; key = k.1; source = s; place = place })
+within-more (members_so_far fs k offset) s (key ∷ keys) =
+    in_members-more key keys fs (record { mark = k.0; key = k.1; source = s; offset = offset })
     ∙ ap (option_or (in_members key keys fs)) (if_then (bytes_eq key k.1) (λ rest. part_at rest (tree_of_source s)) keys)
 
 -- what ended, with a value where one was due
@@ -159,7 +159,7 @@ in_new key keys (f ∷ fs) h = by (bytes_eq key f.key) refl (in_new key keys fs 
 
 in_shuffle : (key : List ℕ) (keys : List (List ℕ)) {fs gs : List Found} (s : IsShuffle fs gs) → AreDistinct (key_names fs) → in_members key keys fs ≡ in_members key keys gs
 in_shuffle key keys same d = refl
-in_shuffle key keys (keep {x = f} s) d = ap (option_or (if bytes_eq key f.key then part_at keys (tree_of_source f.source) else None)) (in_shuffle key keys s d.1)
+in_shuffle key keys (preserve {x = f} s) d = ap (option_or (if bytes_eq key f.key then part_at keys (tree_of_source f.source) else None)) (in_shuffle key keys s d.1)
 in_shuffle key keys (exchange {x = f} {y = g} {xs = fs}) d = by (bytes_eq key f.key) (bytes_eq key g.key) refl refl
   where
     by : (a b : Bool) → bytes_eq key f.key ≡ a → bytes_eq key g.key ≡ b
@@ -188,27 +188,27 @@ insert-shuffles f [] = same
 insert-shuffles f (g ∷ fs) = by (is_gt (spot_cmp (spot_of f) (spot_of g))) (insert-shuffles f fs)
   where
     by : (b : Bool) → IsShuffle (f ∷ fs) (insert_by spot_of f fs) → IsShuffle (f ∷ g ∷ fs) (if b then g ∷ insert_by spot_of f fs else f ∷ g ∷ fs)
-    by true further = in_turn exchange (keep further)
+    by true further = in_turn exchange (preserve further)
     by false further = same
 
 back : {fs gs : List Found} (s : IsShuffle fs gs) → IsShuffle gs fs
 back same = same
-back (keep s) = keep (back s)
+back (preserve s) = preserve (back s)
 back exchange = exchange
 back (in_turn s t) = in_turn (back t) (back s)
 
 sort-shuffles : (fs : List Found) → IsShuffle (sort_by spot_of fs) fs
 sort-shuffles [] = same
-sort-shuffles (f ∷ fs) = in_turn (back (insert-shuffles f (sort_by spot_of fs))) (keep (sort-shuffles fs))
+sort-shuffles (f ∷ fs) = in_turn (back (insert-shuffles f (sort_by spot_of fs))) (preserve (sort-shuffles fs))
 
 names_listed : (fs : List Found) → map (λ m. m.0) (pairs_of (listed fs)) ≡ key_names fs
 names_listed [] = refl
 names_listed (f ∷ fs) = ap (λ ks. f.key ∷ ks) (names_listed fs)
 
 -- an object no key of which comes twice
-pub object-ended : (fs : List Found) (k : Mark × List ℕ) (place : ℕ) (keys : List (List ℕ)) → first_repeat (map spot_of fs) ≡ None → within (members_so_far fs k place) keys ≡ part_inside (object_source_of fs) keys
-object-ended fs k place [] new = refl
-object-ended fs k place (key ∷ keys) new =
+pub object-ended : (fs : List Found) (k : Mark × List ℕ) (offset : ℕ) (keys : List (List ℕ)) → first_repeat (map spot_of fs) ≡ None → within (members_so_far fs k offset) keys ≡ part_inside (object_source_of fs) keys
+object-ended fs k offset [] new = refl
+object-ended fs k offset (key ∷ keys) new =
     let sorted = sort_by spot_of fs in
     let up : SpotsAscend (map spot_of sorted) = sort_ascends fs new in
     let distinct : AreDistinct (key_names sorted) = subst AreDistinct (names_listed sorted) (distinct_keys (listed sorted) (listed_ascend sorted up)) in

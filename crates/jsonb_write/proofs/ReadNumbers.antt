@@ -1,4 +1,4 @@
--- A number that is read of a standard text stands there as an integer text.
+-- A number that is read of a standard text is there as an integer text.
 use Rattle.std.proofs.Common.{◌≡◌, ℕ, ◌-◌, ◌≤◌, List, length, take, drop, slice_range, Ok, sym, ap, ap₂, subst, ◌∙◌, arith, length-append, length-drop}
 use Rattle.std.proofs.Math.Seq.{take-append_seam}
 use Rattle.jsonb_spec.specs.Grammar.StandardNumber.{IsStandardNumber}

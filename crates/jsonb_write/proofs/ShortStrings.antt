@@ -3,7 +3,7 @@ use Rattle.std.proofs.Common.{◌≡◌, ◌≢◌, ℕ, zero, suc, ◌+◌, ◌
 use Rattle.std.specs.List.{flat_map, AllByRecursion}
 use Rattle.std.proofs.lemmas.List.{get_or-drop, drop_more, drop-take, drop_all, length-take-le, take-append-drop, take-take}
 use Rattle.std.proofs.lemmas.List.Concat.{flat_map-append}
-use Rattle.jsonb_spec.specs.Grammar.StringBody.{Item, raw, escape, unit, spelling, standard_escape}
+use Rattle.jsonb_spec.specs.Grammar.StringBody.{Item, raw, escape, unit, encoding, standard_escape}
 use Rattle.std.specs.Bool.{if◌then◌else◌}
 use Rattle.std.proofs.Math.Seq.{take-append-add, take-append_seam}
 use Rattle.std.proofs.lemmas.Bool.{cond-false, ne_eqb}
@@ -11,9 +11,9 @@ use Rattle.jsonb_spec.specs.SortKey.{byte_key}
 use Rattle.jsonb_spec.specs.Source.{Source}
 use Rattle.jsonb_spec.specs.Text.{in_quotes}
 use Rattle.jsonb_spec.specs.Text.StringText.{ArePlain, byte_text}
-use Rattle.jsonb_write.specs.Escaped.{IsKeptLetter}
+use Rattle.jsonb_write.specs.Escaped.{IsVerbatimLetter}
 use Rattle.jsonb_write.specs.Members.{source_key}
-use Rattle.text_common.specs.KeptScalar.{IsShortAt}
+use Rattle.text_common.specs.VerbatimScalar.{IsShortAt}
 use Rattle.text_common.specs.SourceText.{source_text}
 use Rattle.text_common.specs.ShortString.{IsShort, IsShortItem, short_byte}
 use Rattle.jsonb_value.proofs.Strings.PlainTexts.{fewer_plain, no_mark, one_plain, rest_plain}
@@ -27,50 +27,50 @@ record StripsRaw (b : ℕ) (bs text : List ℕ) : Type 0 where
   is : text ≡ b ∷ left
   plain : byte_text b ≡ b ∷ []
 
-by_raw : (b : ℕ) (bs text : List ℕ) (items : List Item) → AllByRecursion IsShortItem items → b ∷ bs ≡ flat_map spelling items → text ≡ map short_byte items → b ≢ 92 → StripsRaw b bs text
-by_raw b bs text [] each spelled means other = absurd (omega (arith, ap length spelled))
-by_raw b bs text (raw c ∷ items) each spelled means other =
-    let same : b ≡ c = ap (λ xs. get_or xs 0 0) spelled in
-    record { left = map short_byte items; short = record { items = items; each = each.1; spelled = ap (drop 1) spelled; means = refl }; is = means ∙ ap (λ x. x ∷ map short_byte items) (sym same); plain = subst (λ x. byte_text x ≡ x ∷ []) (sym same) each.0 }
-by_raw b bs text (escape letter byte ∷ items) each spelled means other = absurd (other (ap (λ xs. get_or xs 0 0) spelled))
-by_raw b bs text (unit braces digits ∷ items) each spelled means other = absurd each.0
+by_raw : (b : ℕ) (bs text : List ℕ) (items : List Item) → AllByRecursion IsShortItem items → b ∷ bs ≡ flat_map encoding items → text ≡ map short_byte items → b ≢ 92 → StripsRaw b bs text
+by_raw b bs text [] each encoded means other = absurd (omega (arith, ap length encoded))
+by_raw b bs text (raw c ∷ items) each encoded means other =
+    let same : b ≡ c = ap (λ xs. get_or xs 0 0) encoded in
+    record { left = map short_byte items; short = record { items = items; each = each.1; encoded = ap (drop 1) encoded; means = refl }; is = means ∙ ap (λ x. x ∷ map short_byte items) (sym same); plain = subst (λ x. byte_text x ≡ x ∷ []) (sym same) each.0 }
+by_raw b bs text (escape letter byte ∷ items) each encoded means other = absurd (other (ap (λ xs. get_or xs 0 0) encoded))
+by_raw b bs text (unit braces digits ∷ items) each encoded means other = absurd each.0
 
 strip_raw : (b : ℕ) (bs text : List ℕ) → IsShort (b ∷ bs) text → b ≢ 92 → StripsRaw b bs text
-strip_raw b bs text short other = by_raw b bs text short.items short.each short.spelled short.means other
+strip_raw b bs text short other = by_raw b bs text short.items short.each short.encoded short.means other
 
 pub record StripsEscape (bs text : List ℕ) : Type 0 where
   pub some : 0 < length bs
   pub byte : ℕ
   pub left : List ℕ
   pub short : IsShort (drop 1 bs) left
-  pub stands : standard_escape (get_or bs 0 0) ≡ Some byte
+  pub holds : standard_escape (get_or bs 0 0) ≡ Some byte
   pub is : text ≡ byte ∷ left
 
-by_escape : (bs text : List ℕ) (items : List Item) → AllByRecursion IsShortItem items → 92 ∷ bs ≡ flat_map spelling items → text ≡ map short_byte items → StripsEscape bs text
-by_escape bs text [] each spelled means = absurd (omega (arith, ap length spelled))
-by_escape bs text (raw c ∷ items) each spelled means = absurd (no_mark 92 c (omega arith) each.0 (sym (ap (λ xs. get_or xs 0 0) spelled)))
-by_escape bs text (escape letter byte ∷ items) each spelled means =
-    let behind : bs ≡ letter ∷ flat_map spelling items = ap (drop 1) spelled in
+by_escape : (bs text : List ℕ) (items : List Item) → AllByRecursion IsShortItem items → 92 ∷ bs ≡ flat_map encoding items → text ≡ map short_byte items → StripsEscape bs text
+by_escape bs text [] each encoded means = absurd (omega (arith, ap length encoded))
+by_escape bs text (raw c ∷ items) each encoded means = absurd (no_mark 92 c (omega arith) each.0 (sym (ap (λ xs. get_or xs 0 0) encoded)))
+by_escape bs text (escape letter byte ∷ items) each encoded means =
+    let behind : bs ≡ letter ∷ flat_map encoding items = ap (drop 1) encoded in
     record {
       some = omega (arith, ap length behind);
       byte = byte;
       left = map short_byte items;
-      short = record { items = items; each = each.1; spelled = ap (drop 1) behind; means = refl };
-      stands = ap (λ xs. standard_escape (get_or xs 0 0)) behind ∙ each.0;
+      short = record { items = items; each = each.1; encoded = ap (drop 1) behind; means = refl };
+      holds = ap (λ xs. standard_escape (get_or xs 0 0)) behind ∙ each.0;
       is = means;
     }
-by_escape bs text (unit braces digits ∷ items) each spelled means = absurd each.0
+by_escape bs text (unit braces digits ∷ items) each encoded means = absurd each.0
 
 pub strip_escape : (bytes text : List ℕ) → 0 < length bytes → get_or bytes 0 0 ≡ 92 → IsShort bytes text → StripsEscape (drop 1 bytes) text
 strip_escape [] text some first short = absurd (omega (arith, some))
 strip_escape (b ∷ bs) text some first short =
-    by_escape bs text short.items short.each (ap (λ x. x ∷ bs) (sym first) ∙ short.spelled) short.means
+    by_escape bs text short.items short.each (ap (λ x. x ∷ bs) (sym first) ∙ short.encoded) short.means
 
-none_left : (text : List ℕ) (items : List Item) → AllByRecursion IsShortItem items → [] ≡ flat_map spelling items → text ≡ map short_byte items → text ≡ []
-none_left text [] each spelled means = means
-none_left text (raw c ∷ items) each spelled means = absurd (omega (arith, ap length spelled))
-none_left text (escape letter byte ∷ items) each spelled means = absurd (omega (arith, ap length spelled))
-none_left text (unit braces digits ∷ items) each spelled means = absurd each.0
+none_left : (text : List ℕ) (items : List Item) → AllByRecursion IsShortItem items → [] ≡ flat_map encoding items → text ≡ map short_byte items → text ≡ []
+none_left text [] each encoded means = means
+none_left text (raw c ∷ items) each encoded means = absurd (omega (arith, ap length encoded))
+none_left text (escape letter byte ∷ items) each encoded means = absurd (omega (arith, ap length encoded))
+none_left text (unit braces digits ∷ items) each encoded means = absurd each.0
 
 -- ---- what is written
 
@@ -104,17 +104,17 @@ writes_escape as_text [] text old new byte some first is w short = absurd (omega
 writes_escape as_text (b ∷ []) text old new byte some first is w short = absurd (omega (arith, (strip_escape (b ∷ []) text some first short).some))
 writes_escape as_text (b ∷ c ∷ bs) text old new byte some first is w short =
     let s = strip_escape (b ∷ c ∷ bs) text some first short in
-    let same : s.byte ≡ byte = some_same s.byte byte (sym s.stands ∙ is) in
+    let same : s.byte ≡ byte = some_same s.byte byte (sym s.holds ∙ is) in
     record { left = s.left; within = omega arith; short = s.short; written = one_written as_text byte old new s.left text w (s.is ∙ ap (λ x. x ∷ s.left) same) }
 
--- an escape that is written as it stands
-pub kept_text : (letter byte : ℕ) → IsKeptLetter letter → standard_escape letter ≡ Some byte → byte_text byte ≡ 92 ∷ letter ∷ []
-kept_text letter byte is stands =
+-- an escape that is written as it is
+pub verbatim_text : (letter byte : ℕ) → IsVerbatimLetter letter → standard_escape letter ≡ Some byte → byte_text byte ≡ 92 ∷ letter ∷ []
+verbatim_text letter byte is holds =
     ⊎_elim (λ e. at 34 34 e refl refl) (λ is2. ⊎_elim (λ e. at 92 92 e refl refl) (λ is3. ⊎_elim (λ e. at 110 10 e refl refl) (λ is4. ⊎_elim (λ e. at 114 13 e refl refl) (λ e. at 116 9 e refl refl) is4) is3) is2) is
   where
     at : (n m : ℕ) → letter ≡ n → standard_escape n ≡ Some m → byte_text m ≡ 92 ∷ n ∷ [] → byte_text byte ≡ 92 ∷ letter ∷ []
     at n m e one text =
-        let same : byte ≡ m = some_same byte m (sym stands ∙ ap standard_escape e ∙ one) in
+        let same : byte ≡ m = some_same byte m (sym holds ∙ ap standard_escape e ∙ one) in
         ap byte_text same ∙ text ∙ ap (λ l. 92 ∷ l ∷ []) (sym e)
 
 record StripsRun (bytes text : List ℕ) (run : ℕ) : Type 0 where
@@ -194,7 +194,7 @@ pub some_all : (as_text : Bool) (bytes : List ℕ) (count at : ℕ) (old new tex
 some_all as_text bytes count at old new text inside over f short =
     let front = f text short in
     let none : drop at (take count bytes) ≡ [] = drop_all at (take count bytes) (omega (arith, length-take-le count bytes inside, over)) in
-    let left = none_left front.left front.short.items front.short.each (sym none ∙ front.short.spelled) front.short.means in
+    let left = none_left front.left front.short.items front.short.each (sym none ∙ front.short.encoded) front.short.means in
     sym (append-nil new) ∙ ap (λ t. new ++ written_bytes as_text t) (sym left) ∙ front.written
 
 -- so many bytes of what was put into a row
@@ -211,8 +211,8 @@ put_some row put chunk end all run few within inside is =
 -- what is taken of a buffer behind whose old bytes a row was written
 pub row_taken : (old added ext row back : List ℕ) (start end len : ℕ) → ext ≡ old ++ added → start ≡ length old → take start row ≡ take start ext → start ≤ end → len ≡ length ext
     → back ≡ take end (take len (row ++ drop (length row) ext)) → (more : List ℕ) × (back ≡ old ++ more) × (end ≡ start → more ≡ [])
-row_taken old added ext row back start end len grown count kept behind size taken =
-    let same : take start row ≡ take start (old ++ added) = kept ∙ ap (take start) grown in
+row_taken old added ext row back start end len grown count verbatim behind size taken =
+    let same : take start row ≡ take start (old ++ added) = verbatim ∙ ap (take start) grown in
     let is : back ≡ take end (take len (row ++ drop (length row) (old ++ added))) = taken ∙ ap (λ xs. take end (take len (row ++ drop (length row) xs))) grown in
     let within : start ≤ len = omega (arith, count, size, ap length grown, length-append old added) in
     let front : take start row ≡ old = same ∙ ap (λ n. take n (old ++ added)) count ∙ take-append_seam old added in
@@ -239,25 +239,25 @@ never_alone bytes text one first short =
 pub never_other : (bytes text : List ℕ) → 0 < length bytes → get_or bytes 0 0 ≡ 92 → standard_escape (get_or bytes 1 0) ≡ None → IsShort bytes text → ⊥
 never_other bytes text some first other short =
     let s = strip_escape bytes text some first short in
-    let both : ◌≡◌ {A = Option ℕ} None (Some s.byte) = sym other ∙ ap standard_escape (sym (get_or-drop 1 bytes 0 0)) ∙ s.stands in
+    let both : ◌≡◌ {A = Option ℕ} None (Some s.byte) = sym other ∙ ap standard_escape (sym (get_or-drop 1 bytes 0 0)) ∙ s.holds in
     cc
 
--- ---- where such a string stands
+-- ---- where such a string is
 
 -- the bytes between the quotes
 body_there : (text body : List ℕ) (from to count : ℕ) → from + 2 + count ≡ to → to ≤ length text → slice_range text from to ≡ in_quotes body → take count (drop (from + 1) text) ≡ body
-body_there text body from to count sum inside stands =
+body_there text body from to count sum inside holds =
     let rest = drop (from + 1) text in
     let first = drop_more text from 0 (omega (arith, sum, inside)) in
     let size : to - from ≡ suc (count + 1) = omega (arith, sum) in
-    let all : get_or text from 0 ∷ take (count + 1) rest ≡ 34 ∷ (body ++ 34 ∷ []) = sym (ap₂ (λ n xs. take n xs) size first) ∙ stands in
+    let all : get_or text from 0 ∷ take (count + 1) rest ≡ 34 ∷ (body ++ 34 ∷ []) = sym (ap₂ (λ n xs. take n xs) size first) ∙ holds in
     let inner : take (count + 1) rest ≡ body ++ 34 ∷ [] = ap (drop 1) all in
     let long : length body ≡ count =
     omega (arith, ap length inner, length-append body (34 ∷ []), length-take-le (count + 1) rest (omega (arith, length-drop (from + 1) text, sum, inside))) in
     sym (take-take count (count + 1) rest (omega arith)) ∙ ap₂ (λ n xs. take n xs) (sym long) inner ∙ take-append_seam body (34 ∷ [])
 
 pub short_there : (text : List ℕ) (s : Source) (from to count : ℕ) → from + 2 + count ≡ to → to ≤ length text → (at : IsShortAt text from to s) → IsShort (take count (drop (from + 1) text)) at.meaning
-short_there text s from to count sum inside at = subst (λ xs. IsShort xs at.meaning) (sym (body_there text at.body from to count sum inside at.stands)) at.short
+short_there text s from to count sum inside at = subst (λ xs. IsShort xs at.meaning) (sym (body_there text at.body from to count sum inside at.holds)) at.short
 
 pub short_text : (text : List ℕ) (s : Source) (from to : ℕ) (at : IsShortAt text from to s) → 34 ∷ (written_bytes true at.meaning ++ 34 ∷ []) ≡ source_text s
 short_text text s from to at = ap (λ xs. 34 ∷ (xs ++ 34 ∷ [])) (with_escapes at.meaning) ∙ sym (ap source_text at.is)

@@ -17,5 +17,5 @@ text_of_contents c = decoded_text (mode_of c.mode) c.body.now
 -- Their text is read of the body, or the fault is, where the check counts from `idx`.
 abbrev pub ChecksAs : ℕ → Result Contents Error → Body (Mark × List ℕ) → Type 0
 ChecksAs idx (Ok c) read = read ≡ Ok (escaped, text_of_contents c)
-ChecksAs idx (Err (Syntax code place)) read = (count : ℕ) × (read ≡ Err (code_of code, count)) × (place ≡ idx + count)
+ChecksAs idx (Err (Syntax code offset)) read = (count : ℕ) × (read ≡ Err (code_of code, count)) × (offset ≡ idx + count)
 ChecksAs idx (Err other) read = ⊥

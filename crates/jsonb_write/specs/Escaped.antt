@@ -13,7 +13,7 @@ pub record WritesItems (mode : Mode) (bytes rest old new : List ℕ) : Type 0 wh
   pub written : new ≡ old ++ flat_map byte_text text
 
 -- the letters of the escapes that are written: `"`, `\`, n, r and t
-abbrev pub IsKeptLetter : ℕ → Type 0
-IsKeptLetter letter =
+abbrev pub IsVerbatimLetter : ℕ → Type 0
+IsVerbatimLetter letter =
     (letter ≡ ascii.quote) ⊎ ((letter ≡ ascii.backslash) ⊎ ((letter ≡ ascii.lower_n) ⊎ ((letter ≡ ascii.lower_r)
     ⊎ (letter ≡ ascii.lower_t))))

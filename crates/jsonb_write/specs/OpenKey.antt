@@ -12,12 +12,12 @@ keys_joined keys = join_pieces false keys
 -- from the first byte to the end of the last part, in the order of the source
 abbrev pub parts_key : Open → List ℕ
 parts_key (elements_so_far ss) = kind.array ∷ keys_joined (map source_key ss)
-parts_key (members_so_far fs key place) = kind.object ∷ keys_joined (map member_key fs)
+parts_key (members_so_far fs key offset) = kind.object ∷ keys_joined (map member_key fs)
 
 -- from there to where a value is due: in an object the key that waits for its value
 abbrev pub lead_key : Open → List ℕ
 lead_key (elements_so_far ss) = []
-lead_key (members_so_far fs key place) = text_key key.1
+lead_key (members_so_far fs key offset) = text_key key.1
 
 -- All that are open, the innermost first: up to where a value is due, or up to the end of the innermost's last part.
 abbrev pub open_key : Bool → List Open → List ℕ

@@ -1,9 +1,9 @@
--- The members of the objects that are open: what is kept of them, and what is known where an object ends.
+-- The members of the objects that are open: what is held of them, and what is known where an object ends.
 use Rattle.std.specs.Prelude.{◌≡◌, ℕ, ◌+◌, ◌≤◌, Bool, true, false, List, [], ◌∷◌, ◌++◌, length, map, drop, take, Option, Some, None, MatchOption}
 use Rattle.std.specs.Str.{IsUtf8}
 use Rattle.jsonb_scan.specs.Open.{Open, elements_so_far, members_so_far}
 use Rattle.jsonb_spec.specs.Source.{Found, Source, Spot, first_repeat, object_source_of, sort_by, spot_of}
-use Rattle.jsonb_write.specs.MemberStarts.{AreKept, MemberStart, IsKept}
+use Rattle.jsonb_write.specs.MemberStarts.{AreEntries, MemberStart, IsVerbatim}
 use Rattle.jsonb_write.specs.Members.{AreKeyed, SpotsAscend, between, join_pieces, spot_at, spot_in}
 use Rattle.jsonb_write.specs.declared.members.Member.{Member}
 use Rattle.jsonb_write.specs.declared.open_members.OpenMembers.{OpenMembers}
@@ -22,15 +22,15 @@ pub record HasMember (member : Member) (key : List ℕ) (old new : OpenMembers) 
   pub entries : new.entries.items ≡ old.entries.items ++ member ∷ []
   pub decoded : new.decoded.items ≡ old.decoded.items ++ key
 
--- There is a member more, with this key and place, that begins at this index.
-pub record Begins (key : List ℕ) (place start : ℕ) (old new : OpenMembers) : Type 0 where
+-- There is a member more, with this key and offset, that begins at this index.
+pub record Begins (key : List ℕ) (offset start : ℕ) (old new : OpenMembers) : Type 0 where
   pub member : Member
   pub keys : List ℕ
   pub has : HasMember member keys old new
-  pub kept : IsKept old.text.now new.decoded.items member
-      (record { spot = record { key = key; place = place }; start = start })
+  pub retained : IsVerbatim old.text.now new.decoded.items member
+      (record { spot = record { key = key; offset = offset }; start = start })
 
--- The members from an index on are kept no longer.
+-- The members from an index on are held no longer.
 pub record Closes (first : ℕ) (old new : OpenMembers) : Type 0 where
   pub text : new.text.now ≡ old.text.now
   pub entries : new.entries.items ≡ take first old.entries.items
@@ -38,8 +38,8 @@ pub record Closes (first : ℕ) (old new : OpenMembers) : Type 0 where
 
 -- ---- where members begin
 
--- How members stand in what is written: whether with commas between them, the bytes of each, and where the first one
--- begins of an object that stands in these containers.
+-- How members are in what is written: whether with commas between them, the bytes of each, and where the first one
+-- begins of an object that is in these containers.
 pub record Layout : Type 0 where
   pub commas : Bool
   pub bytes : Found → List ℕ
@@ -68,9 +68,9 @@ next_in layout cs fs = next_start layout.commas layout.bytes (layout.begins cs) 
 -- the members of one container in others: where a value is due, its key begins one
 abbrev pub own_starts : Layout → Bool → List Open → Open → List MemberStart
 own_starts layout due cs (elements_so_far ss) = []
-own_starts layout false cs (members_so_far fs key place) = starts_in layout cs fs
-own_starts layout true cs (members_so_far fs key place) =
-    let spot : Spot = record { key = key.1; place = place } in
+own_starts layout false cs (members_so_far fs key offset) = starts_in layout cs fs
+own_starts layout true cs (members_so_far fs key offset) =
+    let spot : Spot = record { key = key.1; offset = offset } in
     starts_in layout cs fs ++ record { spot = spot; start = next_in layout cs fs } ∷ []
 
 -- the members of all that are open, the outermost's first
@@ -81,14 +81,14 @@ all_starts layout due (c ∷ cs) = all_starts layout true cs ++ own_starts layou
 -- The members are those of what is open: up to where a value is due, or up to the end of the innermost's last part.
 pub record AreOf (layout : Layout) (text : List ℕ) (ms : OpenMembers) (due : Bool) (cs : List Open) : Type 0 where
   pub text_is : ms.text.now ≡ text
-  pub kept : AreKept text ms.decoded.items ms.entries.items (all_starts layout due cs)
+  pub retained : AreEntries text ms.decoded.items ms.entries.items (all_starts layout due cs)
 
 -- ---- the end of an object
 
 -- The members from an index on are these, of which the first begins at another index.
 abbrev pub EndIn : Bool → (Found → List ℕ) → OpenMembers → ℕ → ℕ → List Found → Type 0
 EndIn commas bytes ms first start fs =
-    AreKept ms.text.now ms.decoded.items (drop first ms.entries.items) (starts_from commas bytes start fs)
+    AreEntries ms.text.now ms.decoded.items (drop first ms.entries.items) (starts_from commas bytes start fs)
 
 -- The keys of the members from an index on ascend, where their prefixes are those of the keys.
 abbrev pub KeysAscendFrom : OpenMembers → ℕ → Type 0
@@ -101,30 +101,30 @@ abbrev pub spot_among : OpenMembers → ℕ → ℕ → Spot
 spot_among ms first i = spot_at ms.text.now ms.decoded.items (drop first ms.entries.items) i
 
 -- The least key that comes twice is that of this member, and is UTF-8.
-pub record TellsRepeatOf (ms : OpenMembers) (first : ℕ) (fs : List Found) (i : ℕ) : Type 0 where
+pub record ReportsRepeatOf (ms : OpenMembers) (first : ℕ) (fs : List Found) (i : ℕ) : Type 0 where
   pub repeat : first_repeat (map spot_of fs) ≡ Some (spot_among ms first i)
   pub utf8 : IsUtf8 (spot_among ms first i).key
 
--- No key comes twice, or the least one that does is told.
+-- No key comes twice, or the least one that does is reported.
 abbrev pub FindsRepeat : OpenMembers → ℕ → List Found → Option ℕ → Type 0
-FindsRepeat ms first fs found = MatchOption found (first_repeat (map spot_of fs) ≡ None) (TellsRepeatOf ms first fs)
+FindsRepeat ms first fs found = MatchOption found (first_repeat (map spot_of fs) ≡ None) (ReportsRepeatOf ms first fs)
 
--- No key comes twice, and behind what stands in front the members' bytes are written in the order of the keys.
+-- No key comes twice, and behind what is in front the members' bytes are written in the order of the keys.
 pub record AreSettled (commas : Bool) (bytes : Found → List ℕ) (front : List ℕ) (fs : List Found) (all : List ℕ)
     : Type 0 where
   pub written : all ≡ front ++ join_pieces commas (map bytes (sort_by spot_of fs))
   pub new_keys : first_repeat (map spot_of fs) ≡ None
 
--- The members from an index on were written behind what stands in front. They are so in the order of their keys, or
--- the least key that comes twice is told.
+-- The members from an index on were written behind what is in front. They are so in the order of their keys, or
+-- the least key that comes twice is reported.
 abbrev pub PutsInOrder : Bool → ℕ → OpenMembers → OpenMembers → ℕ → List ℕ → List ℕ → Option ℕ → Type 0
 PutsInOrder commas floor before after first old new found =
     (bytes : Found → List ℕ) → (front : List ℕ) → (fs : List Found) → floor ≤ length front
     → EndIn commas bytes before first (length front) fs → old ≡ front ++ join_pieces commas (map bytes fs)
-    → MatchOption found (AreSettled commas bytes front fs new) (TellsRepeatOf after first fs)
+    → MatchOption found (AreSettled commas bytes front fs new) (ReportsRepeatOf after first fs)
 
 -- No key comes twice, and the object ended, of which this holds.
-pub record EndsObject {R H : Type 0} (Filled : R → Source → List H → List Open → Type 0) (room : R)
+pub record EndsObject {R H : Type 0} (Filled : R → Source → List H → List Open → Type 0) (sink : R)
     (fs : List Found) (held : List H) (cs : List Open) : Type 0 where
-  pub filled : Filled room (object_source_of fs) held cs
+  pub filled : Filled sink (object_source_of fs) held cs
   pub new_keys : first_repeat (map spot_of fs) ≡ None

@@ -33,12 +33,12 @@ comma_after (part ∷ parts) = ascii.comma ∷ []
 -- from the opening byte to the end of the last part, in the order of the source
 abbrev pub parts_text : Open → List ℕ
 parts_text (elements_so_far ss) = ascii.open_bracket ∷ with_commas (map source_text ss)
-parts_text (members_so_far fs key place) = ascii.open_brace ∷ with_commas (map member_text fs)
+parts_text (members_so_far fs key offset) = ascii.open_brace ∷ with_commas (map member_text fs)
 
 -- from there to where a value is due: the comma, and in an object the key that waits for its value
 abbrev pub lead_text : Open → List ℕ
 lead_text (elements_so_far ss) = comma_after ss
-lead_text (members_so_far fs key place) = comma_after fs ++ key_text key.1
+lead_text (members_so_far fs key offset) = comma_after fs ++ key_text key.1
 
 -- All that are open, the innermost first: up to where a value is due, or up to the end of the innermost's last part.
 abbrev pub open_text : Bool → List Open → List ℕ

@@ -1,5 +1,5 @@
 //! The contents of a string with escapes as they are written: decoded, and with the escapes that the text needs. Most
-//! of them are written as they stand, and nothing is decoded but an escape at a time.
+//! of them are written as they are, and nothing is decoded but an escape at a time.
 ghost use Rattle.std.specs.Prelude.{◌≡◌, List, ℕ, ◌+◌, ◌-◌, ◌≤◌, ◌<◌, ◌++◌, ◌∷◌, [], drop, length, take, IfOk, IfSome, MatchBool, OnOk};
 ghost use Rattle.std.specs.List.{flat_map};
 ghost use Rattle.jsonb_spec.specs.Ascii as ascii;
@@ -10,7 +10,7 @@ ghost use Rattle.jsonb_scan.specs.Answer.{mode_of};
 ghost use Rattle.jsonb_scan.specs.Decoding.{AreContents};
 ghost use Rattle.jsonb_scan.specs.QuotedString.{decoded_text};
 ghost use Rattle.jsonb_write.specs.Contents.{text_of_contents};
-ghost use Rattle.jsonb_write.specs.Escaped.{IsKeptLetter, WritesItems};
+ghost use Rattle.jsonb_write.specs.Escaped.{IsVerbatimLetter, WritesItems};
 
 use crate::contents::Contents;
 use crate::short::append_first;
@@ -19,18 +19,18 @@ use jsonb_scan::util::decode_escape;
 use jsonb_value::plain::{append_byte, run_of_few, run_of_sixteen};
 use std::alloc::AllocError;
 
-// Whether an escape of this letter is written as it stands.
+// Whether an escape of this letter is written as it is.
 #[inline(always)]
-pub(crate) fn is_kept_letter(letter: u8) -> bool
-    ensures { MatchBool result (IsKeptLetter letter) (Unit {0}) }
+pub(crate) fn is_verbatim_letter(letter: u8) -> bool
+    ensures { MatchBool result (IsVerbatimLetter letter) (Unit {0}) }
 {
     matches!(letter, b'"' | b'\\' | b'n' | b'r' | b't')
 }
 
-// Whether the bytes begin with an escape that is written as it stands.
+// Whether the bytes begin with an escape that is written as it is.
 #[inline(always)]
-fn begins_kept(bytes: &[u8]) -> bool
-    ensures kept { MatchBool result ((mode : GrammarMode)
+fn begins_verbatim(bytes: &[u8]) -> bool
+    ensures retained { MatchBool result ((mode : GrammarMode)
         → WritesItems mode bytes.now (drop 2 bytes.now) [] (take 2 bytes.now)) (Unit {0}) }
     ensures within { MatchBool result (2 ≤ length bytes.now) (Unit {0}) }
 {
@@ -40,15 +40,15 @@ fn begins_kept(bytes: &[u8]) -> bool
     if bytes[0] != b'\\' {
         return false;
     }
-    is_kept_letter(bytes[1])
+    is_verbatim_letter(bytes[1])
 }
 
-// How many of the first bytes are written as they stand: with their escapes, up to what is written another way. Where
+// How many of the first bytes are written as they are: with their escapes, up to what is written another way. Where
 // there are 18 bytes left, the letter of an escape is among them.
 #[inline(always)]
-pub(crate) fn kept_len(bytes: &[u8]) -> usize
+pub(crate) fn entry_len(bytes: &[u8]) -> usize
     ensures within { result ≤ length bytes.now }
-    ensures kept { (mode : GrammarMode)
+    ensures retained { (mode : GrammarMode)
         → WritesItems mode bytes.now (drop result bytes.now) [] (take result bytes.now) }
 {
     let mut len = 0;
@@ -58,26 +58,26 @@ pub(crate) fn kept_len(bytes: &[u8]) -> usize
         if run == 16 {
             continue;
         }
-        if !begins_kept(&bytes[len..]) {
+        if !begins_verbatim(&bytes[len..]) {
             return len;
         }
         len += 2;
     }
-    len + kept_tail(&bytes[len..])
+    len + verbatim_tail(&bytes[len..])
 }
 
 // Does so where few bytes are left.
 #[inline(never)]
-fn kept_tail(bytes: &[u8]) -> usize
+fn verbatim_tail(bytes: &[u8]) -> usize
     ensures within { result ≤ length bytes.now }
-    ensures kept { (mode : GrammarMode)
+    ensures retained { (mode : GrammarMode)
         → WritesItems mode bytes.now (drop result bytes.now) [] (take result bytes.now) }
 {
     let mut len = 0;
     'parts: while len < bytes.len() {
         let run = run_of_few(&bytes[len..]);
         len += run;
-        if !begins_kept(&bytes[len..]) {
+        if !begins_verbatim(&bytes[len..]) {
             return len;
         }
         len += 2;
@@ -88,7 +88,7 @@ fn kept_tail(bytes: &[u8]) -> usize
 // Appends bytes of the text, with the escapes that they need.
 fn append_bytes(bytes: &[u8], out: &mut Vec<u8>) -> Result<(), AllocError>
     ensures ok { OnOk result (out.new.items ≡ out.old.items ++ flat_map byte_text bytes.now) }
-    ensures kept { Extends out.old.items out.new.items }
+    ensures retained { Extends out.old.items out.new.items }
 {
     if run_of_few(bytes) == bytes.len() {
         return out.extend_from_slice(bytes);
@@ -99,13 +99,13 @@ fn append_bytes(bytes: &[u8], out: &mut Vec<u8>) -> Result<(), AllocError>
     Ok(())
 }
 
-// Appends the first item of contents, which isn't written as it stands, and returns what follows it.
+// Appends the first item of contents, which isn't written as it is, and returns what follows it.
 #[inline(never)]
 fn append_item<'a>(bytes: &'a [u8], mode: Mode, out: &mut Vec<u8>) -> Result<&'a [u8], AllocError>
     requires { AreContents (mode_of mode) bytes.now }
     ensures ok { IfOk result (λ rest. WritesItems (mode_of mode) bytes.now rest.now out.old.items out.new.items) }
     ensures shorter { IfOk result (λ rest. length rest.now ≤ length bytes.now - 1) }
-    ensures kept { Extends out.old.items out.new.items }
+    ensures retained { Extends out.old.items out.new.items }
 {
     let Some((byte, rest)) = bytes.split_first() else {
         return Ok(bytes);
@@ -142,7 +142,7 @@ fn append_next<'a>(bytes: &'a [u8], mode: Mode, out: &mut Vec<u8>) -> Result<&'a
     requires { AreContents (mode_of mode) bytes.now }
     ensures ok { IfOk result (λ rest. WritesItems (mode_of mode) bytes.now rest.now out.old.items out.new.items) }
     ensures shorter { IfOk result (λ rest. length rest.now ≤ length bytes.now - 1) }
-    ensures kept { Extends out.old.items out.new.items }
+    ensures retained { Extends out.old.items out.new.items }
 {
     if let Some(rest) = after_slash(bytes) {
         out.extend_from_slice(b"/")?;
@@ -151,15 +151,15 @@ fn append_next<'a>(bytes: &'a [u8], mode: Mode, out: &mut Vec<u8>) -> Result<&'a
     append_item(bytes, mode, out)
 }
 
-// Appends the contents of a string. Mostly all of them are written as they stand.
+// Appends the contents of a string. Mostly all of them are written as they are.
 #[inline(always)]
 pub(crate) fn append_contents(contents: &Contents<'_>, out: &mut Vec<u8>) -> Result<(), AllocError>
     ensures ok { OnOk result (out.new.items ≡ out.old.items ++ flat_map byte_text (text_of_contents contents.now)) }
-    ensures kept { Extends out.old.items out.new.items }
+    ensures retained { Extends out.old.items out.new.items }
 {
     let body = contents.body.as_bytes();
-    append_first(body, contents.kept_len, out)?;
-    append_rest(body, contents.kept_len, contents.mode, out)
+    append_first(body, contents.entry_len, out)?;
+    append_rest(body, contents.entry_len, contents.mode, out)
 }
 
 // Appends what is left of contents, which are written up to an index.
@@ -170,12 +170,12 @@ fn append_rest(body: &[u8], from: usize, mode: Mode, out: &mut Vec<u8>) -> Resul
     ensures ok { OnOk result ((before : List ℕ)
         → WritesItems (mode_of mode) body.now (drop from body.now) before out.old.items
         → out.new.items ≡ before ++ flat_map byte_text (decoded_text (mode_of mode) body.now)) }
-    ensures kept { Extends out.old.items out.new.items }
+    ensures retained { Extends out.old.items out.new.items }
 {
     let mut rest = &body[from..];
     'parts: while !rest.is_empty() {
         let others = append_next(rest, mode, out)?;
-        let count = kept_len(others);
+        let count = entry_len(others);
         append_first(others, count, out)?;
         rest = &others[count..];
     }

@@ -20,7 +20,7 @@ use std::alloc::AllocError;
 fn append_decoded(body: &[u8], mode: Mode, out: &mut Vec<u8>) -> Result<(), AllocError>
     requires { AreContents (mode_of mode) body.now }
     ensures bytes { OnOk result (out.new.items ≡ out.old.items ++ decoded_text (mode_of mode) body.now) }
-    ensures kept { Extends out.old.items out.new.items }
+    ensures retained { Extends out.old.items out.new.items }
 {
     let len = out.len();
     out.extend_from_slice(body)?;
@@ -39,7 +39,7 @@ fn double_zeros(from: usize, out: &mut Vec<u8>, spare: &mut Vec<u8>) -> Result<(
     requires inside { from ≤ length out.old.items }
     requires utf8 { IsUtf8 (drop from out.old.items) }
     ensures bytes { OnOk result (out.new.items ≡ take from out.old.items ++ text_key (drop from out.old.items)) }
-    ensures kept { Extends (take from out.old.items) out.new.items }
+    ensures retained { Extends (take from out.old.items) out.new.items }
     ensures spare { OnOk result (spare.new.items ≡ spare.old.items) }
 {
     let start = spare.len();
@@ -57,18 +57,18 @@ fn double_zeros(from: usize, out: &mut Vec<u8>, spare: &mut Vec<u8>) -> Result<(
 #[inline(always)]
 fn append_end(out: &mut Vec<u8>) -> Result<(), AllocError>
     ensures bytes { OnOk result (out.new.items ≡ out.old.items ++ kind.terminator ∷ kind.text_end ∷ []) }
-    ensures kept { Extends out.old.items out.new.items }
+    ensures retained { Extends out.old.items out.new.items }
 {
     out.extend_from_slice(&[kind::TERMINATOR, kind::TEXT_END])
 }
 
-// Ends a text that stands in the buffer from an index on. Hardly any has a zero.
+// Ends a text that is in the buffer from an index on. Hardly any has a zero.
 #[inline(always)]
 fn close_text(from: usize, out: &mut Vec<u8>, spare: &mut Vec<u8>) -> Result<(), AllocError>
     requires inside { from ≤ length out.old.items }
     requires utf8 { IsUtf8 (drop from out.old.items) }
     ensures bytes { OnOk result (out.new.items ≡ take from out.old.items ++ text_key (drop from out.old.items)) }
-    ensures kept { Extends (take from out.old.items) out.new.items }
+    ensures retained { Extends (take from out.old.items) out.new.items }
     ensures spare { OnOk result (spare.new.items ≡ spare.old.items) }
 {
     let None = memchr(0, &out[from..]) else {
@@ -88,7 +88,7 @@ pub(crate) fn append_escaped_key(
     requires { AreContents (mode_of mode) body.now }
     ensures bytes { OnOk result (out.new.items
         ≡ out.old.items ++ (kind.string ∷ text_key (decoded_text (mode_of mode) body.now))) }
-    ensures kept { Extends out.old.items out.new.items }
+    ensures retained { Extends out.old.items out.new.items }
     ensures spare { OnOk result (spare.new.items ≡ spare.old.items) }
 {
     out.extend_from_slice(&[kind::STRING])?;

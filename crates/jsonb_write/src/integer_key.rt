@@ -8,12 +8,12 @@ ghost use Rattle.jsonb_spec.specs.Text.Appending.{Extends};
 ghost use Rattle.jsonb_spec.specs.Tree.{Num};
 ghost use Rattle.jsonb_write.specs.IntegerKey.{digit_bytes, last_byte, more_byte, more_bytes};
 
-use crate::key::KeyRoom;
+use crate::key::KeySink;
 use jsonb_scan::parser::number::byte_at;
 use jsonb_value::sort_key::kind;
 use std::alloc::AllocError;
 
-// The byte of two digits behind which others stand that aren't all zeros.
+// The byte of two digits behind which others are that aren't all zeros.
 #[inline(always)]
 fn more_byte(first: u8, second: u8) -> u8
     ensures { result ≡ more_byte first second }
@@ -80,7 +80,7 @@ fn inverted_if(negative: bool, row: [u8; 8]) -> [u8; 8]
     ]
 }
 
-// How many of the digits are left without the zeros at their end. The first is kept.
+// How many of the digits are left without the zeros at their end. The first is held.
 #[inline(always)]
 fn significant_len(digits: &[u8]) -> usize
     requires { 0 < length digits.now }
@@ -100,7 +100,7 @@ fn significant_len(digits: &[u8]) -> usize
 #[inline(always)]
 fn append_each(bytes: &[u8], out: &mut Vec<u8>) -> Result<(), AllocError>
     ensures bytes { OnOk result (out.new.items ≡ out.old.items ++ bytes.now) }
-    ensures kept { Extends out.old.items out.new.items }
+    ensures retained { Extends out.old.items out.new.items }
 {
     out.try_reserve(bytes.len())?;
     'bytes: for byte in bytes {
@@ -120,7 +120,7 @@ fn append_short(
     requires { (0 < len) × (len ≤ 16) }
     ensures bytes { OnOk result (out.new.items
         ≡ out.old.items ++ map (invert_if negative) (digit_bytes (take len digits.now))) }
-    ensures kept { Extends out.old.items out.new.items }
+    ensures retained { Extends out.old.items out.new.items }
 {
     let mut row = more_bytes(digits);
     let last = (len - 1) / 2;
@@ -134,7 +134,7 @@ fn append_short(
 fn append_long(negative: bool, digits: &[u8], out: &mut Vec<u8>) -> Result<(), AllocError>
     ensures bytes { OnOk result (out.new.items
         ≡ out.old.items ++ map (invert_if negative) (digit_bytes digits.now)) }
-    ensures kept { Extends out.old.items out.new.items }
+    ensures retained { Extends out.old.items out.new.items }
 {
     out.try_reserve(digits.len())?;
     let mut rest = digits;
@@ -164,7 +164,7 @@ fn append_pairs(
     requires inside { len ≤ length digits.now }
     ensures bytes { OnOk result (out.new.items
         ≡ out.old.items ++ map (invert_if negative) (digit_bytes (take len digits.now))) }
-    ensures kept { Extends out.old.items out.new.items }
+    ensures retained { Extends out.old.items out.new.items }
 {
     if len <= 16 {
         if let Some(chunk) = digits.first_chunk::<16>() {
@@ -187,18 +187,18 @@ fn append_few(
     requires leads { slice_index digits.now 0 ≢ ascii.digit_zero }
     ensures bytes { OnOk result (AllDigits 10 (take count digits.now) → out.new.items ≡ out.old.items
         ++ map (invert_if negative) (magnitude_key 0 (digits_value 10 (take count digits.now)))) }
-    ensures kept { Extends out.old.items out.new.items }
+    ensures retained { Extends out.old.items out.new.items }
 {
     let second = if count == 2 { digits[1] } else { b'0' };
-    let place = invert_if(negative, 0xA0 + count as u8);
+    let offset = invert_if(negative, 0xA0 + count as u8);
     let byte = invert_if(negative, last_byte(digits[0], second));
     out.try_reserve(2)?;
-    out.push_reserved(place);
+    out.push_reserved(offset);
     out.push_reserved(byte);
     Ok(())
 }
 
-// Appends the key of an integer above or below 0, given its digits, and what stands behind them.
+// Appends the key of an integer above or below 0, given its digits, and what is behind them.
 #[inline(always)]
 fn append_digits(
     negative: bool,
@@ -211,7 +211,7 @@ fn append_digits(
     requires leads { slice_index digits.now 0 ≢ ascii.digit_zero }
     ensures bytes { OnOk result (AllDigits 10 (take count digits.now) → out.new.items ≡ out.old.items
         ++ map (invert_if negative) (magnitude_key 0 (digits_value 10 (take count digits.now)))) }
-    ensures kept { Extends out.old.items out.new.items }
+    ensures retained { Extends out.old.items out.new.items }
 {
     if count <= 2 {
         return append_few(negative, digits, count, out);
@@ -232,7 +232,7 @@ pub(crate) fn append_integer_key(
     requires { len ≤ length bytes.now }
     ensures bytes { OnOk result ((n : Num) → IsStandardNumber (take len bytes.now) n
         → out.new.items ≡ out.old.items ++ number_key n) }
-    ensures kept { Extends out.old.items out.new.items }
+    ensures retained { Extends out.old.items out.new.items }
 {
     let negative = byte_at(bytes, 0) == b'-';
     let start = usize::from(negative);
@@ -251,10 +251,10 @@ pub(crate) fn append_integer_key(
     append_digits(negative, digits, count, out)
 }
 
-impl<'a> KeyRoom<'a> {
-    ghost use Rattle.jsonb_write.specs.KeyRoom.{Writes, base_of};
+impl<'a> KeySink<'a> {
+    ghost use Rattle.jsonb_write.specs.KeySink.{Writes, base_of};
 
-    // Writes an integer that stands there in the text.
+    // Writes an integer that is there in the text.
     #[inline(always)]
     pub(crate) fn integer(&mut self, from: usize, to: usize) -> Result<(), AllocError>
         ensures bytes { OnOk result ((n : Num) → to ≤ length self.old.members.text.now

@@ -16,21 +16,21 @@ use jsonb_value::parts::{append_number_key, append_text_key};
 use jsonb_value::sort_key::kind;
 use std::alloc::{AllocError, Global};
 use std::borrow::CowStr;
-use text_common::kept::Kept;
+use text_common::verbatim::Verbatim;
 
 // How many times the bytes of the text may be moved.
 const MOST_MOVED: usize = 8;
 
 /// What is written of a sort key, behind the bytes that a buffer held before.
 #[derive(Drop)]
-pub struct KeyRoom<'a> {
+pub struct KeySink<'a> {
     pub out: Vec<u8>,
     pub base: usize,
     pub members: OpenMembers<'a>,
     pub ghost based: { base ≤ length out.items },
 }
 
-impl<'a> KeyRoom<'a> {
+impl<'a> KeySink<'a> {
     ghost use Rattle.jsonb_scan.specs.Open.{Open};
     ghost use Rattle.jsonb_scan.specs.Open.Open.{members_so_far};
     ghost use Rattle.jsonb_spec.specs.Source.{Found, Source};
@@ -41,20 +41,20 @@ impl<'a> KeyRoom<'a> {
     ghost use Rattle.jsonb_spec.specs.Tree.Mark.{plain};
     ghost use Rattle.jsonb_value.specs.View.{number_view};
     ghost use Rattle.jsonb_write.specs.Contents.{text_of_contents};
-    ghost use Rattle.jsonb_write.specs.KeyRoom.{Closes, Held, IsSettled, KeepsMembers, KeyFilled, KeyStands, Writes, base_of, part_key};
-    ghost use Rattle.jsonb_write.specs.KeyRoom.Held.{items, members};
+    ghost use Rattle.jsonb_write.specs.KeySink.{Closes, Held, IsSettled, PreservesMembers, KeyFilled, KeyHolds, Writes, base_of, part_key};
+    ghost use Rattle.jsonb_write.specs.KeySink.Held.{items, members};
     ghost use Rattle.jsonb_write.specs.Members.{source_key};
-    ghost use Rattle.jsonb_write.specs.OpenMembers.{TellsRepeatOf};
+    ghost use Rattle.jsonb_write.specs.OpenMembers.{ReportsRepeatOf};
     ghost use Rattle.jsonb_spec.specs.Text.StringText.{ArePlain};
-    ghost use Rattle.jsonb_write.specs.TextRoom.{IsSpelled};
+    ghost use Rattle.jsonb_write.specs.TextSink.{IsEncoded};
 
     /// A buffer to whose end a value's sort key is written.
-    pub fn new(alloc: Global, text: &'a [u8], out: Vec<u8>) -> KeyRoom<'a>
+    pub fn new(alloc: Global, text: &'a [u8], out: Vec<u8>) -> KeySink<'a>
         ensures base { base_of result ≡ out.items }
-        ensures stands { KeyStands text.entry.now result true [] [] }
+        ensures holds { KeyHolds text.entry.now result true [] [] }
     {
         let base = out.len();
-        KeyRoom {
+        KeySink {
             out,
             base,
             members: OpenMembers::new(alloc, text),
@@ -120,9 +120,9 @@ impl<'a> KeyRoom<'a> {
         from < to && to <= self.members.text.len()
     }
 
-    // Writes a member's key from where it stands in the text.
+    // Writes a member's key from where it is in the text.
     #[inline(always)]
-    fn keep_text(&mut self, from: usize, to: usize) -> Result<(), AllocError>
+    fn preserve_text(&mut self, from: usize, to: usize) -> Result<(), AllocError>
         requires ordered { from ≤ to }
         requires inside { to ≤ length self.old.members.text.now }
         ensures bytes { OnOk result (ArePlain (slice_range self.old.members.text.now from to)
@@ -132,7 +132,7 @@ impl<'a> KeyRoom<'a> {
         append_key_text(&self.members.text[from..], to - from, &mut self.out)
     }
 
-    // Writes a string that stands there in the text in double quotes, and none of whose bytes has an escape.
+    // Writes a string that is there in the text in double quotes, and none of whose bytes has an escape.
     #[inline(always)]
     fn plain(&mut self, string: &str, from: usize, to: usize) -> Result<(), AllocError>
         ensures bytes { OnOk result ((from < to → (slice_range self.old.members.text.now from to ≡ in_quotes string.now)
@@ -153,7 +153,7 @@ impl<'a> KeyRoom<'a> {
     // Writes a value that holds no others.
     #[inline(always)]
     fn part(&mut self, part: &Part<'a>, from: usize, to: usize) -> Result<(), AllocError>
-        ensures bytes { OnOk result (IsSpelled self.old.members.text.now from to part.now
+        ensures bytes { OnOk result (IsEncoded self.old.members.text.now from to part.now
             → Writes (part_key part.now) self.old self.new) }
         ensures base { base_of self.new ≡ base_of self.old }
     {
@@ -170,13 +170,13 @@ impl<'a> KeyRoom<'a> {
         }
     }
 
-    // A key that is kept among the decoded ones.
+    // A key that is held among the decoded ones.
     #[inline(never)]
     fn decoded_key(&mut self, first: usize, key: &str, after: usize) -> Result<(), AllocError>
-        ensures stands { OnOk result ((text : List ℕ) → (held : List Held) → (fs : List Found) → (k : Mark × List ℕ)
-            → (place : ℕ) → (cs : List Open) → (mark : Mark)
-            → KeyStands text self.old false (members first ∷ held) (members_so_far fs k place ∷ cs)
-            → KeyStands text self.new true (members first ∷ held) (members_so_far fs (mark, key.now) after ∷ cs)) }
+        ensures holds { OnOk result ((text : List ℕ) → (held : List Held) → (fs : List Found) → (k : Mark × List ℕ)
+            → (offset : ℕ) → (cs : List Open) → (mark : Mark)
+            → KeyHolds text self.old false (members first ∷ held) (members_so_far fs k offset ∷ cs)
+            → KeyHolds text self.new true (members first ∷ held) (members_so_far fs (mark, key.now) after ∷ cs)) }
         ensures base { base_of self.new ≡ base_of self.old }
     {
         let start = self.out.len();
@@ -188,11 +188,11 @@ impl<'a> KeyRoom<'a> {
     // them of the one where the least such key comes the second time.
     #[inline(always)]
     fn settle(&mut self, first: usize) -> Result<Option<usize>, AllocError>
-        ensures same { OnOk result (KeepsMembers self.old self.new) }
+        ensures same { OnOk result (PreservesMembers self.old self.new) }
         ensures repeat { IfOk result (λ repeat. (text : List ℕ) → (held : List Held) → (fs : List Found)
-            → (key : Mark × List ℕ) → (place : ℕ) → (cs : List Open)
-            → KeyStands text self.old false (members first ∷ held) (members_so_far fs key place ∷ cs)
-            → MatchOption repeat (IsSettled self.old self.new fs cs) (TellsRepeatOf self.new.members first fs)) }
+            → (key : Mark × List ℕ) → (offset : ℕ) → (cs : List Open)
+            → KeyHolds text self.old false (members first ∷ held) (members_so_far fs key offset ∷ cs)
+            → MatchOption repeat (IsSettled self.old self.new fs cs) (ReportsRepeatOf self.new.members first fs)) }
         ensures base { base_of self.new ≡ base_of self.old }
     {
         if self.members.ascend(first) {
@@ -207,7 +207,7 @@ impl<'a> KeyRoom<'a> {
         self.members.put_in_order(first, &mut self.out, &site)
     }
 
-    // Writes the end of an object, whose members are kept no longer.
+    // Writes the end of an object, whose members are held no longer.
     #[inline(always)]
     fn close(&mut self, first: usize) -> Result<(), AllocError>
         ensures end { OnOk result (Closes first self.old self.new) }
@@ -231,7 +231,7 @@ impl<'a> KeyRoom<'a> {
     pub fn into_buffer(self) -> Vec<u8>
         ensures { result.items ≡ self.entry.out.items }
     {
-        let KeyRoom { out, .. } = self;
+        let KeySink { out, .. } = self;
         out
     }
 
@@ -246,9 +246,9 @@ impl<'a> KeyRoom<'a> {
     }
 }
 
-impl<'a> Sink<'a> for KeyRoom<'a> {
-    ghost use Rattle.jsonb_write.specs.KeyRoom.{Held, KeyFilled, KeyStands, base_of};
-    ghost use Rattle.jsonb_write.specs.KeyRoom.Held.{items, members};
+impl<'a> Sink<'a> for KeySink<'a> {
+    ghost use Rattle.jsonb_write.specs.KeySink.{Held, KeyFilled, KeyHolds, base_of};
+    ghost use Rattle.jsonb_write.specs.KeySink.Held.{items, members};
 
     // Nothing.
     type Items = ();
@@ -262,13 +262,13 @@ impl<'a> Sink<'a> for KeyRoom<'a> {
 
     ghost object = { members };
 
-    ghost stands = { KeyStands };
+    ghost holds = { KeyHolds };
 
     ghost filled = { KeyFilled };
 
-    ghost base = { λ room. base_of room ∷ [] };
+    ghost base = { λ sink. base_of sink ∷ [] };
 
-    ghost opened = { λ room. room.members };
+    ghost opened = { λ sink. sink.members };
 
     ghost first = { λ first. first };
 
@@ -287,8 +287,13 @@ impl<'a> Sink<'a> for KeyRoom<'a> {
     }
 
     #[inline(always)]
-    fn fill_kept(&mut self, kept: Kept, from: usize, to: usize) -> Result<(), AllocError> {
-        self.kept(kept, from, to)
+    fn fill_verbatim(
+        &mut self,
+        verbatim: Verbatim,
+        from: usize,
+        to: usize,
+    ) -> Result<(), AllocError> {
+        self.verbatim(verbatim, from, to)
     }
 
     #[inline(always)]
@@ -342,7 +347,7 @@ impl<'a> Sink<'a> for KeyRoom<'a> {
         if 0 < from && self.is_range(from, after) {
             let start = self.out.len();
             self.members.begin_within(from, after - 1, after, start)?;
-            return self.keep_text(from, after - 1);
+            return self.preserve_text(from, after - 1);
         }
         self.decoded_key(*first, key, after)
     }

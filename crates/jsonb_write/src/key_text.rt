@@ -13,7 +13,7 @@ fn append_row(row: [u8; 32], count: usize, out: &mut Vec<u8>) -> Result<(), Allo
     requires { count ≤ 30 }
     ensures bytes { OnOk result (out.new.items
         ≡ out.old.items ++ (take count row ++ kind.terminator ∷ kind.text_end ∷ [])) }
-    ensures kept { Extends out.old.items out.new.items }
+    ensures retained { Extends out.old.items out.new.items }
 {
     let mut whole = row;
     whole[count] = kind::TERMINATOR;
@@ -27,7 +27,7 @@ fn append_long(bytes: &[u8], count: usize, out: &mut Vec<u8>) -> Result<(), Allo
     requires { count ≤ length bytes.now }
     ensures bytes { OnOk result (out.new.items
         ≡ out.old.items ++ (take count bytes.now ++ kind.terminator ∷ kind.text_end ∷ [])) }
-    ensures kept { Extends out.old.items out.new.items }
+    ensures retained { Extends out.old.items out.new.items }
 {
     append_first(bytes, count, out)?;
     out.extend_from_slice(&[kind::TERMINATOR, kind::TEXT_END])
@@ -44,7 +44,7 @@ pub(crate) fn append_key_text(
     requires { count ≤ length bytes.now }
     ensures bytes { OnOk result (out.new.items
         ≡ out.old.items ++ (take count bytes.now ++ kind.terminator ∷ kind.text_end ∷ [])) }
-    ensures kept { Extends out.old.items out.new.items }
+    ensures retained { Extends out.old.items out.new.items }
 {
     if count <= 30 {
         if let Some(chunk) = bytes.first_chunk::<32>() {
@@ -54,7 +54,7 @@ pub(crate) fn append_key_text(
     append_long(bytes, count, out)
 }
 
-// Appends the first bytes so, with another in the place of the first one.
+// Appends the first bytes so, with another instead of the first one.
 #[inline(always)]
 pub(crate) fn append_with_kind(
     first: u8,
@@ -66,7 +66,7 @@ pub(crate) fn append_with_kind(
     requires inside { count ≤ length bytes.now }
     ensures bytes { OnOk result (out.new.items
         ≡ out.old.items ++ (first ∷ drop 1 (take count bytes.now) ++ kind.terminator ∷ kind.text_end ∷ [])) }
-    ensures kept { Extends out.old.items out.new.items }
+    ensures retained { Extends out.old.items out.new.items }
 {
     if count <= 30 {
         if let Some(chunk) = bytes.first_chunk::<32>() {

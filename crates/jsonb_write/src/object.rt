@@ -1,10 +1,10 @@
-//! The members of one object: their keys, and where their bytes stand.
+//! The members of one object: their keys, and where their bytes are.
 ghost use Rattle.std.specs.Prelude.{◌≡◌, ◌≤◌, length};
 ghost use Rattle.jsonb_write.specs.Bytes.{AreBytes};
 
 use crate::members::Member;
 
-/// The members of an object, and what their keys stand in: the text, and the keys that were decoded.
+/// The members of an object, and what their keys are in: the text, and the keys that were decoded.
 #[derive(Clone, Copy)]
 pub struct Keys<'m> {
     pub text: &'m [u8],
@@ -30,7 +30,7 @@ impl<'m> Keys<'m> {
     }
 }
 
-/// Where members are put in order: the first `floor` bytes that are written stay, and commas stand between members or
+/// Where members are put in order: the first `floor` bytes that are written stay, and commas are between members or
 /// not. What is written from the index `copied` on was copied from `source`.
 #[derive(Clone, Copy)]
 pub struct Site<'m> {
@@ -40,8 +40,8 @@ pub struct Site<'m> {
     pub source: &'m [u8],
 }
 
-/// The bytes of an object's members in the order of the text: the first `count` of these, of which the first one stands
-/// at the index `first` of what is written. Commas stand between them or not.
+/// The bytes of an object's members in the order of the text: the first `count` of these, of which the first one is
+/// at the index `first` of what is written. Commas are between them or not.
 #[derive(Clone, Copy)]
 pub struct Pieces<'m> {
     pub members: &'m [Member],

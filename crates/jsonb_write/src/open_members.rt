@@ -7,7 +7,7 @@ use crate::members::{Member, Spare, ascend, key_at, prefix_within, put_in_order,
 use crate::object::{Keys, Site};
 use std::alloc::{AllocError, Global};
 
-/// The members of the objects that are open, those of the outermost first. A key that doesn't stand in the text is
+/// The members of the objects that are open, those of the outermost first. A key that isn't in the text is
 /// among the decoded ones.
 #[derive(Drop)]
 pub struct OpenMembers<'a> {
@@ -52,9 +52,9 @@ impl<'a> OpenMembers<'a> {
         self.entries.len()
     }
 
-    // Keeps what is known of a member.
+    // Stores what is known of a member.
     #[inline(always)]
-    fn keep(&mut self, member: Member) -> Result<(), AllocError>
+    fn preserve(&mut self, member: Member) -> Result<(), AllocError>
         ensures { OnOk result (HasMember member [] self.old self.new) }
     {
         self.entries.try_reserve(1)?;
@@ -62,7 +62,7 @@ impl<'a> OpenMembers<'a> {
         Ok(())
     }
 
-    /// Begins a member whose key stands there in the text, given the index after the key, and where the member begins
+    /// Begins a member whose key is there in the text, given the index after the key, and where the member begins
     /// in what is written.
     #[inline(always)]
     pub(crate) fn begin_within(
@@ -83,10 +83,10 @@ impl<'a> OpenMembers<'a> {
             after,
             decoded: false,
         };
-        self.keep(member)
+        self.preserve(member)
     }
 
-    /// Begins a member whose key doesn't stand in the text, or isn't known to.
+    /// Begins a member whose key isn't in the text, or isn't known to.
     #[inline(never)]
     pub(crate) fn begin_decoded(
         &mut self,
@@ -107,7 +107,7 @@ impl<'a> OpenMembers<'a> {
             after,
             decoded: true,
         };
-        self.keep(member)
+        self.preserve(member)
     }
 
     // The members from an index on, with their keys.
@@ -128,7 +128,7 @@ impl<'a> OpenMembers<'a> {
         ascend(&self.keys(first))
     }
 
-    /// Puts the bytes of the members from an index on, which end what is written, in the order of their keys. Tells a
+    /// Puts the bytes of the members from an index on, which end what is written, in the order of their keys. Reports a
     /// key that comes twice by the index, among them, of the one where the least such key comes the second time. The
     /// first `floor` bytes stay.
     #[cold]
@@ -141,7 +141,7 @@ impl<'a> OpenMembers<'a> {
     ) -> Result<Option<usize>, AllocError>
         requires { WasCopied site.now out.old.items }
         ensures same { AreSame self.old self.new }
-        ensures kept { Extends (take site.now.floor out.old.items) out.new.items }
+        ensures retained { Extends (take site.now.floor out.old.items) out.new.items }
         ensures order { IfOk result (PutsInOrder site.now.commas site.now.floor self.old self.new first
             out.old.items out.new.items) }
     {
@@ -150,7 +150,7 @@ impl<'a> OpenMembers<'a> {
         put_in_order(out, &keys, &mut self.spare, site)
     }
 
-    /// Finds a key that comes twice among the members from an index on, and tells it by the index, among them, of the
+    /// Finds a key that comes twice among the members from an index on, and reports it by the index, among them, of the
     /// one where the least such key comes the second time.
     #[inline(always)]
     pub(crate) fn find_repeat(&mut self, first: usize) -> Result<Option<usize>, AllocError>
@@ -179,22 +179,22 @@ impl<'a> OpenMembers<'a> {
 
     /// The key of a member, by its index among those from another index on, and the index after it in the text.
     pub fn repeated(&self, first: usize, index: usize) -> Option<(&str, usize)>
-        ensures key { IfSome result (λ told. told.0.now ≡ (spot_among self.now first index).key) }
-        ensures place { IfSome result (λ told. told.1 ≡ (spot_among self.now first index).place) }
+        ensures key { IfSome result (λ reported. reported.0.now ≡ (spot_among self.now first index).key) }
+        ensures offset { IfSome result (λ reported. reported.1 ≡ (spot_among self.now first index).offset) }
         ensures some { IsUtf8 (spot_among self.now first index).key → IsTrue (is_some result) }
     {
         let keys = self.keys(first);
-        let place = match keys.members.get(index) {
+        let offset = match keys.members.get(index) {
             Some(member) => member.after,
             None => 0,
         };
         match std::str::from_utf8(key_at(&keys, index)) {
-            Ok(key) => Some((key, place)),
+            Ok(key) => Some((key, offset)),
             Err(_) => None,
         }
     }
 
-    /// The members from an index on are kept no longer.
+    /// The members from an index on are held no longer.
     #[inline(always)]
     pub fn close(&mut self, first: usize)
         ensures { Closes first self.old self.new }

@@ -1,21 +1,21 @@
 //! The text of one part of a document. The part is written, and all around it is only checked.
 ghost use Rattle.std.specs.Prelude.{◌≡◌, ◌+◌, ◌-◌, ◌<◌, ◌∷◌, [], ℕ, List, Some, true, false, length, map, string_bytes, IfOk, MatchBool, OnOk};
 ghost use Rattle.std.specs.Option.{option_and_then, option_map};
-ghost use Rattle.jsonb_write.specs.PartRoom.{less};
+ghost use Rattle.jsonb_write.specs.PartSink.{less};
 
-use crate::check::CheckRoom;
+use crate::check::CheckSink;
 use crate::contents::Contents;
 use crate::open_members::OpenMembers;
 use crate::sink::Sink;
-use crate::text::{Part, TextRoom};
+use crate::text::{Part, TextSink};
 use jsonb_path::index_of;
 use jsonb_scan::parser::Mode;
 use jsonb_value::error::Error;
 use std::alloc::{AllocError, Global};
 use std::borrow::CowStr;
-use text_common::kept::Kept;
+use text_common::verbatim::Verbatim;
 
-/// What is kept of an array: whether it has no items yet, how many of its items come before the one on the path, if
+/// What is held of an array: whether it has no items yet, how many of its items come before the one on the path, if
 /// that is still to come, and how many keys of the path lead to the array, if it is on the path. Of an array that is
 /// written only the first counts.
 #[derive(Clone, Copy)]
@@ -25,7 +25,7 @@ pub struct PartItems {
     pub level: Option<usize>,
 }
 
-/// What is kept of an object: the index of its first member, among those that are written or among those around the
+/// What is held of an object: the index of its first member, among those that are written or among those around the
 /// part, and how many keys of the path lead to the object, if it is on the path.
 #[derive(Clone, Copy)]
 pub struct PartMembers {
@@ -35,9 +35,9 @@ pub struct PartMembers {
 
 /// The keys of the objects that are open around the part at a path, and the text of the part.
 #[derive(Drop)]
-pub struct PartRoom<'a> {
-    pub check: CheckRoom<'a>,
-    pub text: TextRoom<'a>,
+pub struct PartSink<'a> {
+    pub check: CheckSink<'a>,
+    pub text: TextSink<'a>,
     pub path: &'a [String],
     /// How many keys of the path lead to the value that is due, if it is on the path. In the part this stays as it is.
     pub due: Option<usize>,
@@ -47,21 +47,21 @@ pub struct PartRoom<'a> {
     pub found: bool,
 }
 
-impl<'a> PartRoom<'a> {
+impl<'a> PartSink<'a> {
     ghost use Rattle.jsonb_scan.specs.Open.{Open};
     ghost use Rattle.jsonb_scan.specs.Open.Open.{elements_so_far};
     ghost use Rattle.jsonb_spec.specs.Source.{Source};
-    ghost use Rattle.jsonb_write.specs.PartRoom.{InnerEnds, IsAhead, IsAround, IsWritten, Leads, PartFilled, PartHeld, PartStands, first_index, first_key, follow_key, keys_of, members_of, path_behind, other_keys, part_of, rest_at};
-    ghost use Rattle.jsonb_write.specs.PartRoom.PartHeld.{array_held, object_held};
+    ghost use Rattle.jsonb_write.specs.PartSink.{InnerEnds, IsAhead, IsAround, IsWritten, Leads, PartFilled, PartHeld, PartHolds, first_index, first_key, follow_key, keys_of, members_of, path_behind, other_keys, part_of, rest_at};
+    ghost use Rattle.jsonb_write.specs.PartSink.PartHeld.{array_held, object_held};
 
     /// No part yet, of a document of which nothing was parsed.
-    pub fn new(alloc: Global, text: &'a [u8], path: &'a [String]) -> PartRoom<'a>
-        ensures stands { PartStands text.entry.now result true [] [] }
+    pub fn new(alloc: Global, text: &'a [u8], path: &'a [String]) -> PartSink<'a>
+        ensures holds { PartHolds text.entry.now result true [] [] }
         ensures keys { keys_of result ≡ map string_bytes path.entry.now }
     {
-        PartRoom {
-            check: CheckRoom::new(alloc, text),
-            text: TextRoom::new(alloc, text, Vec::new(alloc)),
+        PartSink {
+            check: CheckSink::new(alloc, text),
+            text: TextSink::new(alloc, text, Vec::new(alloc)),
             path,
             due: Some(0),
             inside: 0,
@@ -80,7 +80,7 @@ impl<'a> PartRoom<'a> {
         }
     }
 
-    // How many keys of the path lead to what stands at one key more.
+    // How many keys of the path lead to what is at one key more.
     fn deeper(&self, level: Option<usize>) -> Option<usize>
         ensures { rest_at (keys_of self.now) result
             ≡ option_and_then other_keys (rest_at (keys_of self.now) level) }
@@ -125,7 +125,7 @@ impl<'a> PartRoom<'a> {
         }
     }
 
-    // Whether the value that is due is written: it is the part, or stands in it.
+    // Whether the value that is due is written: it is the part, or is in it.
     #[inline(always)]
     pub(crate) fn is_written(&self) -> bool
         ensures { MatchBool result (IsWritten self.now) (IsAround self.now) }
@@ -152,7 +152,7 @@ impl<'a> PartRoom<'a> {
 
     // The part is written.
     fn finish(&mut self) -> Result<(), AllocError>
-        ensures stands { OnOk result ((text : List ℕ) → (s : Source) → (held : List PartHeld) → (cs : List Open)
+        ensures holds { OnOk result ((text : List ℕ) → (s : Source) → (held : List PartHeld) → (cs : List Open)
             → InnerEnds text self.old s held cs → self.old.inside ≡ 1 → PartFilled text self.new s held cs) }
         ensures keys { keys_of self.new ≡ keys_of self.old }
     {
@@ -165,7 +165,7 @@ impl<'a> PartRoom<'a> {
     // A container that is written ended.
     pub(crate) fn end_inner(&mut self) -> Result<(), AllocError>
         requires { 0 < self.old.inside }
-        ensures stands { OnOk result ((text : List ℕ) → (s : Source) → (held : List PartHeld) → (cs : List Open)
+        ensures holds { OnOk result ((text : List ℕ) → (s : Source) → (held : List PartHeld) → (cs : List Open)
             → InnerEnds text self.old s held cs → PartFilled text self.new s held cs) }
         ensures keys { keys_of self.new ≡ keys_of self.old }
     {
@@ -193,7 +193,7 @@ impl<'a> PartRoom<'a> {
     pub fn into_part(self) -> Option<Vec<u8>>
         ensures { option_map (λ part. part.items) result ≡ part_of self.entry }
     {
-        let PartRoom { text, found, .. } = self;
+        let PartSink { text, found, .. } = self;
         if found {
             Some(text.into_buffer())
         } else {
@@ -202,9 +202,9 @@ impl<'a> PartRoom<'a> {
     }
 }
 
-impl<'a> Sink<'a> for PartRoom<'a> {
-    ghost use Rattle.jsonb_write.specs.PartRoom.{PartFilled, PartHeld, PartStands, keys_of, members_of};
-    ghost use Rattle.jsonb_write.specs.PartRoom.PartHeld.{array_held, object_held};
+impl<'a> Sink<'a> for PartSink<'a> {
+    ghost use Rattle.jsonb_write.specs.PartSink.{PartFilled, PartHeld, PartHolds, keys_of, members_of};
+    ghost use Rattle.jsonb_write.specs.PartSink.PartHeld.{array_held, object_held};
 
     type Items = PartItems;
 
@@ -216,7 +216,7 @@ impl<'a> Sink<'a> for PartRoom<'a> {
 
     ghost object = { object_held };
 
-    ghost stands = { PartStands };
+    ghost holds = { PartHolds };
 
     ghost filled = { PartFilled };
 
@@ -246,11 +246,16 @@ impl<'a> Sink<'a> for PartRoom<'a> {
     }
 
     #[inline(always)]
-    fn fill_kept(&mut self, kept: Kept, from: usize, to: usize) -> Result<(), AllocError> {
+    fn fill_verbatim(
+        &mut self,
+        verbatim: Verbatim,
+        from: usize,
+        to: usize,
+    ) -> Result<(), AllocError> {
         if !self.is_written() {
             return Ok(());
         }
-        self.text.fill_kept(kept, from, to)?;
+        self.text.fill_verbatim(verbatim, from, to)?;
         self.inside = self.one_more()?;
         self.end_inner()
     }

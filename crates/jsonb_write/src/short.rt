@@ -4,13 +4,13 @@ ghost use Rattle.jsonb_spec.specs.Text.Appending.{Extends};
 
 use std::alloc::AllocError;
 
-// Appends the first bytes. More are copied where there are so many and there is room, since a copy of a fixed length
+// Appends the first bytes. More are copied where there are so many and there is space, since a copy of a fixed length
 // takes no call.
 #[inline(always)]
 pub(crate) fn append_first(bytes: &[u8], count: usize, out: &mut Vec<u8>) -> Result<(), AllocError>
     requires { count ≤ length bytes.now }
     ensures bytes { OnOk result (out.new.items ≡ out.old.items ++ take count bytes.now) }
-    ensures kept { Extends out.old.items out.new.items }
+    ensures retained { Extends out.old.items out.new.items }
 {
     if count <= 32 && out.capacity() - out.len() >= 32 {
         if let Some(chunk) = bytes.first_chunk::<32>() {
@@ -25,7 +25,7 @@ pub(crate) fn append_first(bytes: &[u8], count: usize, out: &mut Vec<u8>) -> Res
 pub(crate) fn append_part(bytes: &[u8], count: usize, out: &mut Vec<u8>) -> Result<(), AllocError>
     requires { count ≤ length bytes.now }
     ensures bytes { OnOk result (out.new.items ≡ out.old.items ++ take count bytes.now) }
-    ensures kept { Extends out.old.items out.new.items }
+    ensures retained { Extends out.old.items out.new.items }
 {
     let len = out.len();
     out.extend_from_slice(bytes)?;
@@ -38,7 +38,7 @@ pub(crate) fn append_part(bytes: &[u8], count: usize, out: &mut Vec<u8>) -> Resu
 fn append_more(bytes: &[u8], count: usize, out: &mut Vec<u8>) -> Result<(), AllocError>
     requires { count ≤ length bytes.now }
     ensures bytes { OnOk result (out.new.items ≡ out.old.items ++ take count bytes.now) }
-    ensures kept { Extends out.old.items out.new.items }
+    ensures retained { Extends out.old.items out.new.items }
 {
     if count <= 64 {
         if let Some(chunk) = bytes.first_chunk::<64>() {

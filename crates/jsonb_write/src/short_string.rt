@@ -1,26 +1,26 @@
-//! Strings whose escapes are of one letter, written from where they stand in the text: each run is looked at and
+//! Strings whose escapes are of one letter, written from where they are in the text: each run is looked at and
 //! copied at once.
 ghost use Rattle.std.specs.Prelude.{◌≡◌, ◌+◌, ◌-◌, ◌≤◌, ◌<◌, ◌++◌, ◌∷◌, [], ℕ, List, true, false, length, take, slice_range, IfNone, IfOk, IfSome, MatchBool, OnOk};
 ghost use Rattle.jsonb_spec.specs.Source.{Source};
 ghost use Rattle.jsonb_spec.specs.Text.Appending.{Extends};
 ghost use Rattle.jsonb_write.specs.Members.{source_key};
 ghost use Rattle.jsonb_write.specs.ShortString.{WritesFront, written_byte, written_bytes};
-ghost use Rattle.text_common.specs.KeptScalar.{IsShortAt};
+ghost use Rattle.text_common.specs.VerbatimScalar.{IsShortAt};
 ghost use Rattle.jsonb_spec.specs.Text.StringText.{ArePlain};
 ghost use Rattle.text_common.specs.ShortString.{IsShort};
 ghost use Rattle.text_common.specs.SourceText.{source_text};
 
-use crate::escaped::is_kept_letter;
-use crate::key::KeyRoom;
+use crate::escaped::is_verbatim_letter;
+use crate::key::KeySink;
 use crate::members::put_at;
 use crate::short::append_first;
-use crate::text::TextRoom;
+use crate::text::TextSink;
 use crate::written::Written;
 use jsonb_value::plain::{append_byte, run_of_few, run_of_sixteen};
 use jsonb_value::sort_key::kind;
 use std::alloc::AllocError;
 use std::simd::prelude::*;
-use text_common::kept::short_byte;
+use text_common::verbatim::short_byte;
 
 // How many of the first bytes are written as they are, or as many of them as are looked at.
 #[inline(always)]
@@ -38,7 +38,7 @@ fn near_run(bytes: &[u8]) -> usize
 #[inline(always)]
 fn append_one(byte: u8, as_text: bool, out: &mut Vec<u8>) -> Result<(), AllocError>
     ensures bytes { OnOk result (out.new.items ≡ out.old.items ++ written_byte as_text byte) }
-    ensures kept { Extends out.old.items out.new.items }
+    ensures retained { Extends out.old.items out.new.items }
 {
     if as_text {
         return append_byte(byte, out);
@@ -53,7 +53,7 @@ fn append_item(bytes: &[u8], as_text: bool, out: &mut Vec<u8>) -> Result<usize, 
     ensures item { IfOk result (λ count. (text : List ℕ) → IsShort bytes.now text
         → WritesFront as_text bytes.now text out.old.items out.new.items count) }
     ensures onward { IfOk result (λ count. (0 < count) × (count ≤ length bytes.now)) }
-    ensures kept { Extends out.old.items out.new.items }
+    ensures retained { Extends out.old.items out.new.items }
 {
     if bytes[0] != b'\\' {
         append_one(bytes[0], as_text, out)?;
@@ -80,7 +80,7 @@ fn append_short(
     requires { count ≤ length bytes.now }
     ensures bytes { OnOk result ((text : List ℕ) → IsShort (take count bytes.now) text
         → out.new.items ≡ out.old.items ++ written_bytes as_text text) }
-    ensures kept { Extends out.old.items out.new.items }
+    ensures retained { Extends out.old.items out.new.items }
 {
     let mut at = 0;
     'items: while at < count {
@@ -121,14 +121,14 @@ fn put_item(bytes: &[u8], as_text: bool, row: &mut [u8], at: usize) -> Option<(u
         let end = put_at(row, at, b"/")?;
         return Some((end, 2));
     }
-    if !is_kept_letter(bytes[1]) {
+    if !is_verbatim_letter(bytes[1]) {
         return None;
     }
     let end = put_at(row, at, &[b'\\', bytes[1]])?;
     Some((end, 2))
 }
 
-// Puts 16 bytes into a row by one store, where there is room for them.
+// Puts 16 bytes into a row by one store, where there is space for them.
 #[inline(always)]
 fn put_sixteen(row: &mut [u8], at: usize, chunk: &[u8; 16]) -> bool
     ensures within { MatchBool result (at + 16 ≤ length row.new) (Unit {0}) }
@@ -153,7 +153,7 @@ fn put_short(
     start: usize,
 ) -> Option<usize>
     requires inside { count ≤ length bytes.now }
-    requires room { start ≤ length row.old }
+    requires space { start ≤ length row.old }
     ensures put { IfSome result (λ end. (text : List ℕ) → IsShort (take count bytes.now) text
         → take end row.new ≡ take start row.old ++ written_bytes as_text text) }
     ensures within { IfSome result (λ end. (start ≤ end) × (end ≤ length row.new)) }
@@ -179,7 +179,7 @@ fn put_short(
 }
 
 // Appends contents, which are the first bytes. A row of their length is there before, so that they are put into it with
-// no test of its room.
+// no test of its sink.
 #[inline(always)]
 fn append_row(
     bytes: &[u8],
@@ -190,7 +190,7 @@ fn append_row(
     requires { count ≤ length bytes.now }
     ensures bytes { OnOk result ((text : List ℕ) → IsShort (take count bytes.now) text
         → out.new.items ≡ out.old.items ++ written_bytes as_text text) }
-    ensures kept { Extends out.old.items out.new.items }
+    ensures retained { Extends out.old.items out.new.items }
 {
     if bytes.len() - count < 16 {
         return append_short(bytes, count, as_text, out);
@@ -205,7 +205,7 @@ fn append_row(
     Ok(())
 }
 
-// How many bytes such a string has between its quotes, where it stands there in the text.
+// How many bytes such a string has between its quotes, where it is there in the text.
 #[inline(always)]
 fn body_len(text: &[u8], from: usize, to: usize) -> Option<usize>
     ensures some { IfSome result (λ count. (from + 2 + count ≡ to) × (to ≤ length text.now)) }
@@ -220,20 +220,20 @@ fn body_len(text: &[u8], from: usize, to: usize) -> Option<usize>
 impl<'a> Written<'a> {
     ghost use Rattle.jsonb_write.specs.Written.{bytes_of};
 
-    // Writes a string whose escapes are of one letter, which stands there in the text.
+    // Writes a string whose escapes are of one letter, which is there in the text.
     #[inline(never)]
     fn append_short(&mut self, from: usize, to: usize) -> Result<(), AllocError>
         ensures bytes { OnOk result ((s : Source) → IsShortAt self.old.text.now from to s
             → bytes_of self.new ≡ bytes_of self.old ++ source_text s) }
         ensures text { self.new.text ≡ self.old.text }
-        ensures kept { Extends self.old.out.items self.new.out.items }
+        ensures retained { Extends self.old.out.items self.new.out.items }
     {
         let Some(count) = body_len(self.text, from, to) else {
             return Ok(());
         };
         self.put_at(b'"', from)?;
         self.flush()?;
-        // With room for what is copied behind it too, a long string lets the buffer grow once.
+        // With space for what is copied behind it too, a long string lets the buffer grow once.
         self.out.try_reserve(count + 32)?;
         append_row(&self.text[from + 1..], count, true, &mut self.out)?;
         self.go_on(to - 1);
@@ -241,10 +241,10 @@ impl<'a> Written<'a> {
     }
 }
 
-impl<'a> TextRoom<'a> {
-    ghost use Rattle.jsonb_write.specs.TextRoom.{Writes, base_of};
+impl<'a> TextSink<'a> {
+    ghost use Rattle.jsonb_write.specs.TextSink.{Writes, base_of};
 
-    // Writes a string whose escapes are of one letter, which stands there in the text.
+    // Writes a string whose escapes are of one letter, which is there in the text.
     #[inline(always)]
     pub(crate) fn short_string(&mut self, from: usize, to: usize) -> Result<(), AllocError>
         ensures bytes { OnOk result ((s : Source) → IsShortAt self.old.written.text.now from to s
@@ -255,10 +255,10 @@ impl<'a> TextRoom<'a> {
     }
 }
 
-impl<'a> KeyRoom<'a> {
-    ghost use Rattle.jsonb_write.specs.KeyRoom.{Writes, base_of};
+impl<'a> KeySink<'a> {
+    ghost use Rattle.jsonb_write.specs.KeySink.{Writes, base_of};
 
-    // Writes a string whose escapes are of one letter, which stands there in the text.
+    // Writes a string whose escapes are of one letter, which is there in the text.
     #[inline(never)]
     pub(crate) fn short_string(&mut self, from: usize, to: usize) -> Result<(), AllocError>
         ensures bytes { OnOk result ((s : Source) → IsShortAt self.old.members.text.now from to s

@@ -1,7 +1,7 @@
 //! Serialized text, written while another text is parsed: no whitespace, and members in the order of their keys.
 ghost use Rattle.std.specs.Prelude.{◌≡◌, ◌+◌, ◌-◌, ◌<◌, ◌≤◌, ◌++◌, ◌∷◌, [], ℕ, List, Bool, true, false, length, slice_range, IfOk, MatchBool, MatchOption, OnOk};
 ghost use Rattle.std.specs.Option.{is_some};
-ghost use Rattle.text_common.specs.SpelledNumber.{StaysSpelled};
+ghost use Rattle.text_common.specs.EncodedNumber.{StaysEncoded};
 
 use crate::contents::Contents;
 use crate::open_members::OpenMembers;
@@ -13,7 +13,7 @@ use jsonb_value::number::Number;
 use jsonb_value::plain::is_plain;
 use std::alloc::{AllocError, Global};
 use std::borrow::CowStr;
-use text_common::kept::Kept;
+use text_common::verbatim::Verbatim;
 
 /// A value that holds no others and is to be written, or one that is written.
 #[derive(Drop)]
@@ -34,7 +34,7 @@ const MOST_MOVED: usize = 8;
 
 /// What is written of a text, behind the bytes that a buffer held before.
 #[derive(Drop)]
-pub struct TextRoom<'a> {
+pub struct TextSink<'a> {
     pub written: Written<'a>,
     pub base: usize,
     pub members: OpenMembers<'a>,
@@ -43,8 +43,8 @@ pub struct TextRoom<'a> {
 
 // Whether a number is written by its digits in the text: an integer, but for a zero that may have a minus.
 #[inline(always)]
-fn is_kept(number: &Number) -> bool
-    ensures { MatchBool result (StaysSpelled number.now) (Unit {0}) }
+fn is_verbatim(number: &Number) -> bool
+    ensures { MatchBool result (StaysEncoded number.now) (Unit {0}) }
 {
     match number {
         Number::UInt64(_) => true,
@@ -53,7 +53,7 @@ fn is_kept(number: &Number) -> bool
     }
 }
 
-impl<'a> TextRoom<'a> {
+impl<'a> TextSink<'a> {
     ghost use Rattle.jsonb_scan.specs.Open.{Open};
     ghost use Rattle.jsonb_scan.specs.Open.Open.{members_so_far};
     ghost use Rattle.jsonb_spec.specs.Source.{Found, Source};
@@ -66,17 +66,17 @@ impl<'a> TextRoom<'a> {
     ghost use Rattle.jsonb_value.specs.View.{number_view};
     ghost use Rattle.jsonb_write.specs.OpenText.{comma_unless};
     ghost use Rattle.text_common.specs.SourceText.{source_text};
-    ghost use Rattle.jsonb_write.specs.OpenMembers.{TellsRepeatOf};
-    ghost use Rattle.jsonb_write.specs.TextRoom.{Closes, Held, IsSettled, KeepsMembers, IsSpelled, TextFilled, TextStands, Writes, base_of, part_text};
-    ghost use Rattle.jsonb_write.specs.TextRoom.Held.{items, members};
+    ghost use Rattle.jsonb_write.specs.OpenMembers.{ReportsRepeatOf};
+    ghost use Rattle.jsonb_write.specs.TextSink.{Closes, Held, IsSettled, PreservesMembers, IsEncoded, TextFilled, TextHolds, Writes, base_of, part_text};
+    ghost use Rattle.jsonb_write.specs.TextSink.Held.{items, members};
 
     /// A buffer to whose end a value is written.
-    pub fn new(alloc: Global, text: &'a [u8], out: Vec<u8>) -> TextRoom<'a>
+    pub fn new(alloc: Global, text: &'a [u8], out: Vec<u8>) -> TextSink<'a>
         ensures base { base_of result ≡ out.items }
-        ensures stands { TextStands text.entry.now result true [] [] }
+        ensures holds { TextHolds text.entry.now result true [] [] }
     {
         let base = out.len();
-        TextRoom {
+        TextSink {
             written: Written::new(text, out),
             base,
             members: OpenMembers::new(alloc, text),
@@ -92,7 +92,7 @@ impl<'a> TextRoom<'a> {
         self.written.put(byte)
     }
 
-    // Writes a byte that may stand in the text at an index.
+    // Writes a byte that may be in the text at an index.
     #[inline(always)]
     fn put_at(&mut self, byte: u8, at: usize) -> Result<(), AllocError>
         ensures bytes { OnOk result (Writes (byte ∷ []) self.old self.new) }
@@ -101,7 +101,7 @@ impl<'a> TextRoom<'a> {
         self.written.put_at(byte, at)
     }
 
-    // Whether these bytes of the text may be kept as they are.
+    // Whether these bytes of the text may be held as they are.
     #[inline(always)]
     fn is_range(&self, from: usize, to: usize) -> bool
         ensures { MatchBool result ((from < to) × (to ≤ length self.now.written.text.now)) (Unit {0}) }
@@ -109,28 +109,28 @@ impl<'a> TextRoom<'a> {
         from < to && to <= self.written.text.len()
     }
 
-    // Keeps bytes of the text.
+    // Stores bytes of the text.
     #[inline(always)]
-    fn keep(&mut self, from: usize, to: usize) -> Result<(), AllocError>
+    fn preserve(&mut self, from: usize, to: usize) -> Result<(), AllocError>
         requires ordered { from ≤ to }
         requires inside { to ≤ length self.old.written.text.now }
         ensures bytes { OnOk result (Writes (slice_range self.old.written.text.now from to) self.old self.new) }
         ensures base { base_of self.new ≡ base_of self.old }
     {
-        self.written.keep(from, to)
+        self.written.preserve(from, to)
     }
 
-    // Keeps bytes of the text, as far as there are any.
+    // Stores bytes of the text, as far as there are any.
     #[inline(always)]
-    pub(crate) fn keep_range(&mut self, from: usize, to: usize) -> Result<(), AllocError>
+    pub(crate) fn preserve_range(&mut self, from: usize, to: usize) -> Result<(), AllocError>
         ensures bytes { OnOk result (Writes (slice_range self.old.written.text.now from to) self.old self.new) }
         ensures base { base_of self.new ≡ base_of self.old }
     {
         let end = to.min(self.written.text.len());
-        self.keep(from.min(end), end)
+        self.preserve(from.min(end), end)
     }
 
-    // Writes a word that stands there in the text.
+    // Writes a word that is there in the text.
     #[inline(always)]
     fn word(&mut self, word: &[u8], from: usize, to: usize) -> Result<(), AllocError>
         ensures bytes { OnOk result ((from < to → slice_range self.old.written.text.now from to ≡ word.now)
@@ -138,12 +138,12 @@ impl<'a> TextRoom<'a> {
         ensures base { base_of self.new ≡ base_of self.old }
     {
         if self.is_range(from, to) {
-            return self.keep(from, to);
+            return self.preserve(from, to);
         }
         self.written.append(word)
     }
 
-    // Writes a number that stands there in the text.
+    // Writes a number that is there in the text.
     #[inline(always)]
     fn number(&mut self, number: &Number, from: usize, to: usize) -> Result<(), AllocError>
         ensures bytes { OnOk result ((from < to
@@ -151,13 +151,13 @@ impl<'a> TextRoom<'a> {
             → Writes (number_text (number_view number.now)) self.old self.new) }
         ensures base { base_of self.new ≡ base_of self.old }
     {
-        if self.is_range(from, to) && is_kept(number) {
-            return self.keep(from, to);
+        if self.is_range(from, to) && is_verbatim(number) {
+            return self.preserve(from, to);
         }
         self.written.append_number(number)
     }
 
-    // Writes a string that stands there in the text, between double quotes and without escapes.
+    // Writes a string that is there in the text, between double quotes and without escapes.
     #[inline(always)]
     fn string(&mut self, string: &str, from: usize, to: usize) -> Result<(), AllocError>
         ensures bytes { OnOk result ((from < to → slice_range self.old.written.text.now from to ≡ in_quotes string.now)
@@ -165,12 +165,12 @@ impl<'a> TextRoom<'a> {
         ensures base { base_of self.new ≡ base_of self.old }
     {
         if self.is_range(from, to) && is_plain(&self.written.text[from + 1..], string.len()) {
-            return self.keep(from, to);
+            return self.preserve(from, to);
         }
         self.written.append_string(string)
     }
 
-    // Writes a string that stands there in the text, between double quotes, and none of whose bytes has an escape.
+    // Writes a string that is there in the text, between double quotes, and none of whose bytes has an escape.
     #[inline(always)]
     fn plain(&mut self, string: &str, from: usize, to: usize) -> Result<(), AllocError>
         ensures bytes { OnOk result ((from < to → (slice_range self.old.written.text.now from to ≡ in_quotes string.now)
@@ -178,15 +178,15 @@ impl<'a> TextRoom<'a> {
         ensures base { base_of self.new ≡ base_of self.old }
     {
         if self.is_range(from, to) {
-            return self.keep(from, to);
+            return self.preserve(from, to);
         }
         self.written.append_string(string)
     }
 
-    // Writes a value that stands there in the text.
+    // Writes a value that is there in the text.
     #[inline(always)]
     fn part(&mut self, part: &Part<'a>, from: usize, to: usize) -> Result<(), AllocError>
-        ensures bytes { OnOk result (IsSpelled self.old.written.text.now from to part.now
+        ensures bytes { OnOk result (IsEncoded self.old.written.text.now from to part.now
             → Writes (part_text part.now) self.old self.new) }
         ensures base { base_of self.new ≡ base_of self.old }
     {
@@ -219,13 +219,13 @@ impl<'a> TextRoom<'a> {
         Ok(())
     }
 
-    // A key that is kept among the decoded ones.
+    // A key that is held among the decoded ones.
     #[inline(never)]
     fn decoded_key(&mut self, first: usize, key: &str, after: usize) -> Result<(), AllocError>
-        ensures stands { OnOk result ((text : List ℕ) → (held : List Held) → (fs : List Found) → (k : Mark × List ℕ)
-            → (place : ℕ) → (cs : List Open) → (mark : Mark)
-            → TextStands text self.old false (members first ∷ held) (members_so_far fs k place ∷ cs)
-            → TextStands text self.new true (members first ∷ held) (members_so_far fs (mark, key.now) after ∷ cs)) }
+        ensures holds { OnOk result ((text : List ℕ) → (held : List Held) → (fs : List Found) → (k : Mark × List ℕ)
+            → (offset : ℕ) → (cs : List Open) → (mark : Mark)
+            → TextHolds text self.old false (members first ∷ held) (members_so_far fs k offset ∷ cs)
+            → TextHolds text self.new true (members first ∷ held) (members_so_far fs (mark, key.now) after ∷ cs)) }
         ensures base { base_of self.new ≡ base_of self.old }
     {
         self.next_member(first)?;
@@ -239,11 +239,11 @@ impl<'a> TextRoom<'a> {
     // them of the one where the least such key comes the second time.
     #[inline(always)]
     fn settle(&mut self, first: usize) -> Result<Option<usize>, AllocError>
-        ensures same { OnOk result (KeepsMembers self.old self.new) }
+        ensures same { OnOk result (PreservesMembers self.old self.new) }
         ensures repeat { IfOk result (λ repeat. (text : List ℕ) → (held : List Held) → (fs : List Found)
-            → (key : Mark × List ℕ) → (place : ℕ) → (cs : List Open)
-            → TextStands text self.old false (members first ∷ held) (members_so_far fs key place ∷ cs)
-            → MatchOption repeat (IsSettled self.old self.new fs cs) (TellsRepeatOf self.new.members first fs)) }
+            → (key : Mark × List ℕ) → (offset : ℕ) → (cs : List Open)
+            → TextHolds text self.old false (members first ∷ held) (members_so_far fs key offset ∷ cs)
+            → MatchOption repeat (IsSettled self.old self.new fs cs) (ReportsRepeatOf self.new.members first fs)) }
         ensures base { base_of self.new ≡ base_of self.old }
     {
         if self.members.ascend(first) {
@@ -252,7 +252,7 @@ impl<'a> TextRoom<'a> {
         self.written.settle(&mut self.members, first, self.base)
     }
 
-    // Writes the end of an object, whose members are kept no longer.
+    // Writes the end of an object, whose members are held no longer.
     #[inline(always)]
     fn close(&mut self, first: usize, at: usize) -> Result<(), AllocError>
         ensures end { OnOk result (Closes first self.old self.new) }
@@ -275,7 +275,7 @@ impl<'a> TextRoom<'a> {
     pub fn into_buffer(self) -> Vec<u8>
         ensures { result.items ≡ self.entry.written.out.items }
     {
-        let TextRoom { written, .. } = self;
+        let TextSink { written, .. } = self;
         let Written { out, .. } = written;
         out
     }
@@ -291,9 +291,9 @@ impl<'a> TextRoom<'a> {
     }
 }
 
-impl<'a> Sink<'a> for TextRoom<'a> {
-    ghost use Rattle.jsonb_write.specs.TextRoom.{Held, TextFilled, TextStands, base_of};
-    ghost use Rattle.jsonb_write.specs.TextRoom.Held.{items, members};
+impl<'a> Sink<'a> for TextSink<'a> {
+    ghost use Rattle.jsonb_write.specs.TextSink.{Held, TextFilled, TextHolds, base_of};
+    ghost use Rattle.jsonb_write.specs.TextSink.Held.{items, members};
 
     // Whether there is no item yet.
     type Items = bool;
@@ -307,13 +307,13 @@ impl<'a> Sink<'a> for TextRoom<'a> {
 
     ghost object = { members };
 
-    ghost stands = { TextStands };
+    ghost holds = { TextHolds };
 
     ghost filled = { TextFilled };
 
-    ghost base = { λ room. base_of room ∷ [] };
+    ghost base = { λ sink. base_of sink ∷ [] };
 
-    ghost opened = { λ room. room.members };
+    ghost opened = { λ sink. sink.members };
 
     ghost first = { λ first. first };
 
@@ -332,8 +332,13 @@ impl<'a> Sink<'a> for TextRoom<'a> {
     }
 
     #[inline(always)]
-    fn fill_kept(&mut self, kept: Kept, from: usize, to: usize) -> Result<(), AllocError> {
-        self.kept(kept, from, to)
+    fn fill_verbatim(
+        &mut self,
+        verbatim: Verbatim,
+        from: usize,
+        to: usize,
+    ) -> Result<(), AllocError> {
+        self.verbatim(verbatim, from, to)
     }
 
     #[inline(always)]
@@ -395,7 +400,7 @@ impl<'a> Sink<'a> for TextRoom<'a> {
             self.next_member(*first)?;
             let start = self.written.len();
             self.members.begin_within(from, after - 1, after, start)?;
-            self.keep(from - 1, after)?;
+            self.preserve(from - 1, after)?;
             return self.put(b':');
         }
         self.decoded_key(*first, key, after)

@@ -1,5 +1,5 @@
 //! Bytes that are written while a text is parsed: a buffer, and behind it a part of the text that is written as it
-//! stands, and copied when the part ends.
+//! is, and copied when the part ends.
 ghost use Rattle.std.specs.Prelude.{◌≡◌, ◌+◌, ◌<◌, ◌≤◌, ◌++◌, ◌∷◌, [], ℕ, List, true, length, map, take, slice_range, IfOk, OnOk};
 
 use crate::contents::Contents;
@@ -51,7 +51,7 @@ impl<'a> Written<'a> {
         ensures bytes { OnOk result (bytes_of self.new ≡ bytes_of self.old) }
         ensures copied { OnOk result (bytes_of self.new ≡ self.new.out.items) }
         ensures text { self.new.text ≡ self.old.text }
-        ensures kept { Extends self.old.out.items self.new.out.items }
+        ensures retained { Extends self.old.out.items self.new.out.items }
         ensures end { self.new.end ≡ self.old.end }
         ensures empty { OnOk result (slice_range self.new.text.now self.new.from self.new.end ≡ []) }
     {
@@ -65,17 +65,17 @@ impl<'a> Written<'a> {
     pub fn put(&mut self, byte: u8) -> Result<(), AllocError>
         ensures bytes { OnOk result (bytes_of self.new ≡ bytes_of self.old ++ byte ∷ []) }
         ensures text { self.new.text ≡ self.old.text }
-        ensures kept { Extends self.old.out.items self.new.out.items }
+        ensures retained { Extends self.old.out.items self.new.out.items }
     {
         self.put_at(byte, self.end)
     }
 
-    /// Writes a byte that may stand in the text at an index, where it isn't the next one.
+    /// Writes a byte that may be in the text at an index, where it isn't the next one.
     #[inline(always)]
     pub(crate) fn put_at(&mut self, byte: u8, at: usize) -> Result<(), AllocError>
         ensures bytes { OnOk result (bytes_of self.new ≡ bytes_of self.old ++ byte ∷ []) }
         ensures text { self.new.text ≡ self.old.text }
-        ensures kept { Extends self.old.out.items self.new.out.items }
+        ensures retained { Extends self.old.out.items self.new.out.items }
     {
         if self.end < self.text.len() && self.text[self.end] == byte {
             self.end += 1;
@@ -84,12 +84,12 @@ impl<'a> Written<'a> {
         self.begin_at(byte, at)
     }
 
-    // Copies the part of the text, and begins another with the byte at an index, where it stands there.
+    // Copies the part of the text, and begins another with the byte at an index, where it is there.
     #[inline(never)]
     fn begin_at(&mut self, byte: u8, at: usize) -> Result<(), AllocError>
         ensures bytes { OnOk result (bytes_of self.new ≡ bytes_of self.old ++ byte ∷ []) }
         ensures text { self.new.text ≡ self.old.text }
-        ensures kept { Extends self.old.out.items self.new.out.items }
+        ensures retained { Extends self.old.out.items self.new.out.items }
     {
         if at < self.text.len() && self.text[at] == byte {
             return self.begin_part(at, at + 1);
@@ -102,7 +102,7 @@ impl<'a> Written<'a> {
     pub fn append(&mut self, bytes: &[u8]) -> Result<(), AllocError>
         ensures bytes { OnOk result (bytes_of self.new ≡ bytes_of self.old ++ bytes.now) }
         ensures text { self.new.text ≡ self.old.text }
-        ensures kept { Extends self.old.out.items self.new.out.items }
+        ensures retained { Extends self.old.out.items self.new.out.items }
     {
         self.flush()?;
         self.out.extend_from_slice(bytes)
@@ -113,7 +113,7 @@ impl<'a> Written<'a> {
     pub fn append_number(&mut self, number: &Number) -> Result<(), AllocError>
         ensures bytes { OnOk result (bytes_of self.new ≡ bytes_of self.old ++ number_text (number_view number.now)) }
         ensures text { self.new.text ≡ self.old.text }
-        ensures kept { Extends self.old.out.items self.new.out.items }
+        ensures retained { Extends self.old.out.items self.new.out.items }
     {
         self.flush()?;
         append_number(number, &mut self.out)
@@ -124,13 +124,13 @@ impl<'a> Written<'a> {
     pub fn append_string(&mut self, string: &str) -> Result<(), AllocError>
         ensures bytes { OnOk result (bytes_of self.new ≡ bytes_of self.old ++ quoted_text string.now) }
         ensures text { self.new.text ≡ self.old.text }
-        ensures kept { Extends self.old.out.items self.new.out.items }
+        ensures retained { Extends self.old.out.items self.new.out.items }
     {
         self.flush()?;
         append_string(string, &mut self.out)
     }
 
-    /// Writes a string so, given its contents. Where it stands in the text, this is the index after it, so that what
+    /// Writes a string so, given its contents. Where it is in the text, this is the index after it, so that what
     /// follows it may be written with it; the bytes don't depend on it.
     #[inline(never)]
     pub fn append_escaped(
@@ -140,11 +140,11 @@ impl<'a> Written<'a> {
     ) -> Result<(), AllocError>
         ensures bytes { OnOk result (bytes_of self.new ≡ bytes_of self.old ++ quoted_text (text_of_contents contents.now)) }
         ensures text { self.new.text ≡ self.old.text }
-        ensures kept { Extends self.old.out.items self.new.out.items }
+        ensures retained { Extends self.old.out.items self.new.out.items }
     {
         self.put(b'"')?;
         self.flush()?;
-        // With room for the closing quote too, which is copied as the first of 32 bytes, a long string lets the buffer
+        // With space for the closing quote too, which is copied as the first of 32 bytes, a long string lets the buffer
         // grow once.
         self.out.try_reserve(contents.body.len() + 32)?;
         append_contents(contents, &mut self.out)?;
@@ -165,14 +165,14 @@ impl<'a> Written<'a> {
         self.end = at;
     }
 
-    /// Writes what stands in the text from one index to another.
+    /// Writes what is in the text from one index to another.
     #[inline(always)]
-    pub(crate) fn keep(&mut self, from: usize, to: usize) -> Result<(), AllocError>
+    pub(crate) fn preserve(&mut self, from: usize, to: usize) -> Result<(), AllocError>
         requires ordered { from ≤ to }
         requires inside { to ≤ length self.old.text.now }
         ensures bytes { OnOk result (bytes_of self.new ≡ bytes_of self.old ++ slice_range self.old.text.now from to) }
         ensures text { self.new.text ≡ self.old.text }
-        ensures kept { Extends self.old.out.items self.new.out.items }
+        ensures retained { Extends self.old.out.items self.new.out.items }
     {
         if from == self.end {
             self.end = to;
@@ -188,7 +188,7 @@ impl<'a> Written<'a> {
         requires inside { to ≤ length self.old.text.now }
         ensures bytes { OnOk result (bytes_of self.new ≡ bytes_of self.old ++ slice_range self.old.text.now from to) }
         ensures text { self.new.text ≡ self.old.text }
-        ensures kept { Extends self.old.out.items self.new.out.items }
+        ensures retained { Extends self.old.out.items self.new.out.items }
     {
         let (first, count) = (self.from, self.end - self.from);
         self.from = from;
@@ -197,7 +197,7 @@ impl<'a> Written<'a> {
     }
 
     /// Puts the members from an index on, which end what is written, in the order of their keys, with commas between
-    /// them, and tells a key that comes twice by the index, among them, of the one where the least such key comes the
+    /// them, and reports a key that comes twice by the index, among them, of the one where the least such key comes the
     /// second time. The first `floor` bytes stay.
     #[cold]
     #[inline(never)]
@@ -211,7 +211,7 @@ impl<'a> Written<'a> {
         ensures order { IfOk result (PutsInOrder true floor members.old members.new first (bytes_of self.old)
             (bytes_of self.new)) }
         ensures text { self.new.text ≡ self.old.text }
-        ensures kept { Extends (take floor self.old.out.items) self.new.out.items }
+        ensures retained { Extends (take floor self.old.out.items) self.new.out.items }
     {
         let (from, copied) = (self.from, self.out.len());
         self.flush()?;

@@ -1,4 +1,4 @@
--- The place that is found in a key is that of the splice.
+-- The slot that is found in a key is that of the splice.
 use Rattle.std.proofs.Common.{◌≡◌, ℕ, Bool, true, List, [], ◌∷◌, ◌++◌, Option, Some, None, length, refl, sym, ap, ◌∙◌, arith, append_assoc, length-append}
 use Rattle.jsonb_key.specs.Readable.{IsAnyNumber}
 use Rattle.jsonb_spec.specs.Grammar.{max_depth}
@@ -9,8 +9,8 @@ use Rattle.jsonb_stored.specs.Open.{name_key}
 use Rattle.key_document.specs.Document.{counts_at}
 use Rattle.key_document.specs.Splices.{Cut, IsSplice, AreSplices, Agrees}
 use Rattle.stored_edit.specs.Edit.{Outcome, goes, becomes}
-use Rattle.stored_edit.specs.Spots.{Answers, PlaceIn}
-use Rattle.stored_edit.specs.declared.place.Place.{Place}
+use Rattle.stored_edit.specs.Spots.{Answers, SlotIn}
+use Rattle.stored_edit.specs.declared.slot.Slot.{Slot}
 
 abbrev tail_of : List ℕ → List ℕ
 tail_of [] = []
@@ -40,29 +40,29 @@ pub same_back : (a b c : List ℕ) → a ++ b ≡ a ++ c → b ≡ c
 same_back [] b c e = e
 same_back (x ∷ a) b c e = same_back a b c (ap tail_of e)
 
-both_become : (Fits : Tree → Type 0) (object : Bool) (name front behind : List ℕ) (room : ℕ) (cut : Cut) (u : Tree) (o : Option Tree)
-    → Answers key_of Fits object name front behind room (becomes u) o → IsSplice key_of counts_at cut (becomes u) o
+both_become : (Fits : Tree → Type 0) (object : Bool) (name front behind : List ℕ) (depth_left : ℕ) (cut : Cut) (u : Tree) (o : Option Tree)
+    → Answers key_of Fits object name front behind depth_left (becomes u) o → IsSplice key_of counts_at cut (becomes u) o
     → front ++ (name_key object name ++ (key_of u ++ behind)) ≡ cut.front ++ (cut.name ++ (key_of u ++ cut.behind))
-both_become Fits object name front behind room cut u None a s = absurd s
-both_become Fits object name front behind room cut u (Some v) a s = sym a.0 ∙ s.0
+both_become Fits object name front behind depth_left cut u None a s = absurd s
+both_become Fits object name front behind depth_left cut u (Some v) a s = sym a.0 ∙ s.0
 
-both_go : (Fits : Tree → Type 0) (object : Bool) (name front behind : List ℕ) (room : ℕ) (cut : Cut) (o : Option Tree)
-    → Answers key_of Fits object name front behind room goes o → IsSplice key_of counts_at cut goes o → front ++ behind ≡ cut.front ++ cut.behind
-both_go Fits object name front behind room cut None a s = absurd s
-both_go Fits object name front behind room cut (Some v) a s = sym a.0 ∙ s.0
+both_go : (Fits : Tree → Type 0) (object : Bool) (name front behind : List ℕ) (depth_left : ℕ) (cut : Cut) (o : Option Tree)
+    → Answers key_of Fits object name front behind depth_left goes o → IsSplice key_of counts_at cut goes o → front ++ behind ≡ cut.front ++ cut.behind
+both_go Fits object name front behind depth_left cut None a s = absurd s
+both_go Fits object name front behind depth_left cut (Some v) a s = sym a.0 ∙ s.0
 
 regroup : (a b c : List ℕ) → a ++ (b ++ c) ≡ (a ++ b) ++ c
 regroup a b c = sym (append_assoc a b c)
 
-pub agree : (t : Tree) (changed : (Option Tree → Outcome) → Option Tree) (bytes : List ℕ) (place : Place) (s : PlaceIn changed bytes place) (x : AreSplices key_of counts_at t changed) → Agrees s.0.front (name_key place.object s.0.name) place.behind.now x.cut
-agree t changed bytes place s x =
+pub agree : (t : Tree) (changed : (Option Tree → Outcome) → Option Tree) (bytes : List ℕ) (slot : Slot) (s : SlotIn changed bytes slot) (x : AreSplices key_of counts_at t changed) → Agrees s.0.front (name_key slot.object s.0.name) slot.behind.now x.cut
+agree t changed bytes slot s x =
     let Fits : Tree → Type 0 = λ u. IsWithin IsAnyNumber u max_depth in
     let spot = s.0 in
-    let n = name_key place.object spot.name in
+    let n = name_key slot.object spot.name in
     let behind = spot.behind in
-    let one = both_become Fits place.object spot.name spot.front behind place.room x.cut null (changed (λ h. becomes null)) (spot.answers (λ h. becomes null)) (x.answers (λ h. becomes null)) in
-    let other = both_become Fits place.object spot.name spot.front behind place.room x.cut (boolean true) (changed (λ h. becomes (boolean true))) (spot.answers (λ h. becomes (boolean true))) (x.answers (λ h. becomes (boolean true))) in
-    let none = both_go Fits place.object spot.name spot.front behind place.room x.cut (changed (λ h. goes)) (spot.answers (λ h. goes)) (x.answers (λ h. goes)) in
+    let one = both_become Fits slot.object spot.name spot.front behind slot.depth_left x.cut null (changed (λ h. becomes null)) (spot.answers (λ h. becomes null)) (x.answers (λ h. becomes null)) in
+    let other = both_become Fits slot.object spot.name spot.front behind slot.depth_left x.cut (boolean true) (changed (λ h. becomes (boolean true))) (spot.answers (λ h. becomes (boolean true))) (x.answers (λ h. becomes (boolean true))) in
+    let none = both_go Fits slot.object spot.name spot.front behind slot.depth_left x.cut (changed (λ h. goes)) (spot.answers (λ h. goes)) (x.answers (λ h. goes)) in
     let both = same_cut (spot.front ++ n) behind (x.cut.front ++ x.cut.name) x.cut.behind
     (sym (regroup spot.front n (211 ∷ behind)) ∙ one ∙ regroup x.cut.front x.cut.name (211 ∷ x.cut.behind))
     (sym (regroup spot.front n (22 ∷ behind)) ∙ other ∙ regroup x.cut.front x.cut.name (22 ∷ x.cut.behind)) in

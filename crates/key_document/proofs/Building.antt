@@ -10,7 +10,7 @@ use Rattle.jsonb_spec.specs.Text.Range.{IsWithin}
 use Rattle.jsonb_spec.specs.Tree.{Tree, array, no_trees, more_trees}
 use Rattle.key_document.specs.Document.{counts_at}
 use Rattle.key_document.specs.Merging.{counts_of_items}
-use Rattle.key_document.proofs.Changing.{ChangedAt, Told}
+use Rattle.key_document.proofs.Changing.{ChangedAt, Reported}
 use Rattle.key_document.proofs.Counts.{one_each}
 use Rattle.key_document.proofs.Merging.{items_counts_end, joined_counts}
 use Rattle.stored_edit.specs.Edit.{Edits, with_item}
@@ -45,7 +45,7 @@ item_changes (array ts) v u p q is =
 item_changes t v u p q is = absurd (none_some is)
 
 -- the key of the array is appended
-pub key_appended : (answer : Option Tree) (b : Bool) (old mid : Vec ℕ Global) → b ≡ true → Edits answer (Ok b) old mid → Told answer (λ v. (mid.items ≡ old.items ++ key_of v) × IsWithin IsAnyNumber v max_depth)
+pub key_appended : (answer : Option Tree) (b : Bool) (old mid : Vec ℕ Global) → b ≡ true → Edits answer (Ok b) old mid → Reported answer (λ v. (mid.items ≡ old.items ++ key_of v) × IsWithin IsAnyNumber v max_depth)
 key_appended None b old mid is h = absurd (true_false (ap Ok (sym is) ∙ h.0))
   where
     true_false : ◌≡◌ {A = Result Bool EditError} (Ok true) (Ok false) → ⊥

@@ -10,7 +10,7 @@ use Rattle.jsonb_spec.specs.SortKey.{key_of}
 use Rattle.jsonb_spec.specs.Text.Appending.{Extends}
 use Rattle.jsonb_spec.specs.Text.Range.{IsWithin}
 use Rattle.jsonb_spec.specs.Tree.{Tree}
-use Rattle.key_document.specs.Changes.{Answers, AppendsDocument, IsLacking, KeepsOnError, as_document_error}
+use Rattle.key_document.specs.Changes.{Answers, AppendsDocument, IsLacking, PreservesOnError, as_document_error}
 use Rattle.key_document.specs.Document.{behind_key, counts_at, document_of, zeros_at}
 use Rattle.key_document.specs.Splices.{AppendsZeros, Cut, CutsOnError, IsSplice, AreSpliced, Spliced, entry_counts, spliced_counts}
 use Rattle.key_document.specs.declared.error.DocumentError.{DocumentError}
@@ -20,10 +20,10 @@ use Rattle.key_document.proofs.Agreeing.{agree}
 use Rattle.key_document.proofs.Counts.{one_each}
 use Rattle.stored_edit.specs.Edit.{Outcome, goes, becomes, changed_at, remove, set_to, without_part}
 use Rattle.stored_edit.specs.Edit.{IsLacking as KeyLacks}
-use Rattle.stored_edit.specs.Spots.{Answers as SpotAnswers, PlaceIn, Stands}
+use Rattle.stored_edit.specs.Spots.{Answers as SpotAnswers, SlotIn, Occurs}
 use Rattle.stored_edit.specs.declared.error.EditError.{EditError}
 use Rattle.stored_edit.specs.declared.error.EditError.TheVariants as edits
-use Rattle.stored_edit.specs.declared.place.Place.{Place}
+use Rattle.stored_edit.specs.declared.slot.Slot.{Slot}
 use Rattle.stored_zeros.specs.Zeros.{zeros_of}
 
 false_true : false ≡ true → ⊥
@@ -34,8 +34,8 @@ none_some e = cc
 
 -- ---- the counts of a changed value
 
--- A value was changed at a place: the counts of its key's bytes before the place and behind it stay, and those of the
--- part stand between them, behind the name, which has none.
+-- A value was changed at a slot: the counts of its key's bytes before the slot and behind it stay, and those of the
+-- part are between them, behind the name, which has none.
 pub record ChangedAt (t v : Tree) (part : List ℕ) (front behind : ℕ) : Type 0 where
   pub first : List ℕ
   pub entry : List ℕ
@@ -56,12 +56,12 @@ remove_splice : (cut : Cut) (v : Tree) (there : Option Tree) → IsSplice key_of
 remove_splice cut v (Some w) h = h
 remove_splice cut v None h = absurd h
 
-module _ (t v : Tree) (changed : (Option Tree → Outcome) → Option Tree) (key : List ℕ) (place : Place) (splices : Spliced key_of counts_at t changed) (s : PlaceIn changed key place) where
-  pub set_changes : (u : Tree) (create : Bool) → IsProper u → changed (set_to u create) ≡ Some v → ChangedAt t v (counts_at u) (length s.0.front) (length place.behind.now)
+module _ (t v : Tree) (changed : (Option Tree → Outcome) → Option Tree) (key : List ℕ) (slot : Slot) (splices : Spliced key_of counts_at t changed) (s : SlotIn changed key slot) where
+  pub set_changes : (u : Tree) (create : Bool) → IsProper u → changed (set_to u create) ≡ Some v → ChangedAt t v (counts_at u) (length s.0.front) (length slot.behind.now)
   set_changes u create q is = elim splices [
     | inl none ↦ absurd (none_some (sym (none (set_to u create)) ∙ is))
     | inr x ↦
-        let a = agree t changed key place s x in
+        let a = agree t changed key slot s x in
         let h = set_splice x.cut u v create x.there (subst (λ o. IsSplice key_of counts_at x.cut (set_to u create x.there) o) is (x.answers (set_to u create))) in
         record {
           first = x.cut.counts_front;
@@ -76,11 +76,11 @@ module _ (t v : Tree) (changed : (Option Tree → Outcome) → Option Tree) (key
         }
   ]
 
-  pub remove_changes : changed remove ≡ Some v → ChangedAt t v [] (length s.0.front) (length place.behind.now)
+  pub remove_changes : changed remove ≡ Some v → ChangedAt t v [] (length s.0.front) (length slot.behind.now)
   remove_changes is = elim splices [
     | inl none ↦ absurd (none_some (sym (none remove) ∙ is))
     | inr x ↦
-        let a = agree t changed key place s x in
+        let a = agree t changed key slot s x in
         let h = remove_splice x.cut v x.there (subst (λ o. IsSplice key_of counts_at x.cut (remove x.there) o) is (x.answers remove)) in
         record {
           first = x.cut.counts_front;
@@ -113,46 +113,46 @@ module _ {t v : Tree} {part : List ℕ} {front behind : ℕ} (x : ChangedAt t v 
   pub as_tail : (name : ℕ) → name ≡ x.name → behind_key (zeros_of 0 (spliced_counts x.first name part x.last)) ≡ behind_key (zeros_at v)
   as_tail name e = ap (λ n. behind_key (zeros_of 0 (spliced_counts x.first n part x.last))) e ∙ ap (λ counts. behind_key (zeros_of 0 counts)) (sym x.changed_are)
 
--- ---- what is told
+-- ---- what is reported
 
 -- There is an answer, of which this is so.
-pub record Told (answer : Option Tree) (P : Tree → Type 0) : Type 0 where
+pub record Reported (answer : Option Tree) (P : Tree → Type 0) : Type 0 where
   pub tree : Tree
   pub is : answer ≡ Some tree
   pub holds : P tree
 
-pub told : (answer : Option Tree) (P : Tree → Type 0) → MatchOption answer ⊥ P → Told answer P
-told None P h = absurd h
-told (Some v) P h = record { tree = v; is = refl; holds = h }
+pub reported : (answer : Option Tree) (P : Tree → Type 0) → MatchOption answer ⊥ P → Reported answer P
+reported None P h = absurd h
+reported (Some v) P h = record { tree = v; is = refl; holds = h }
 
-pub removed : (names : List (List ℕ)) (t : Tree) (key : List ℕ) (place : Place) (s : PlaceIn (λ change. changed_at change names t) key place) → place.spot.found ≡ true
-    → Told (without_part names t) (λ v. (key_of v ≡ s.0.front ++ place.behind.now) × IsWithin IsAnyNumber v max_depth)
-removed names t key place s found = go s.0.there s.0.stands (without_part names t) refl (s.0.answers remove)
+pub removed : (names : List (List ℕ)) (t : Tree) (key : List ℕ) (slot : Slot) (s : SlotIn (λ change. changed_at change names t) key slot) → slot.spot.found ≡ true
+    → Reported (without_part names t) (λ v. (key_of v ≡ s.0.front ++ slot.behind.now) × IsWithin IsAnyNumber v max_depth)
+removed names t key slot s found = go s.0.there s.0.occurs (without_part names t) refl (s.0.answers remove)
   where
-    go : (there : Option Tree) → Stands place.object s.0.name place.spot s.0.behind there → (o : Option Tree) → without_part names t ≡ o
-        → SpotAnswers key_of (λ u. IsWithin IsAnyNumber u max_depth) place.object s.0.name s.0.front s.0.behind place.room (remove there) o
-        → Told (without_part names t) (λ v. (key_of v ≡ s.0.front ++ place.behind.now) × IsWithin IsAnyNumber v max_depth)
+    go : (there : Option Tree) → Occurs slot.object s.0.name slot.spot s.0.behind there → (o : Option Tree) → without_part names t ≡ o
+        → SpotAnswers key_of (λ u. IsWithin IsAnyNumber u max_depth) slot.object s.0.name s.0.front s.0.behind slot.depth_left (remove there) o
+        → Reported (without_part names t) (λ v. (key_of v ≡ s.0.front ++ slot.behind.now) × IsWithin IsAnyNumber v max_depth)
     go None st o e a = absurd (false_true (sym st.0 ∙ found))
     go (Some w) st None e a = absurd a
     go (Some w) st (Some v) e a = record { tree = v; is = e; holds = (a.0 ∙ ap (λ b. s.0.front ++ b) s.1, a.1) }
 
--- the document is appended, and that is told
-answered : (answer : Option Tree) (v : Tree) (told : Bool) (old mid new : Vec ℕ Global) (tail : List ℕ) → answer ≡ Some v → IsWithin IsAnyNumber v max_depth → mid.items ≡ old.items ++ key_of v → tail ≡ behind_key (zeros_at v) → new.items ≡ mid.items ++ tail → told ≡ true → Answers answer (Ok told) old new
-answered answer v told old mid new tail is fits appended e more so = subst (λ o. Answers o (Ok told) old new) (sym is)
+-- the document is appended, and that is reported
+answered : (answer : Option Tree) (v : Tree) (reported : Bool) (old mid new : Vec ℕ Global) (tail : List ℕ) → answer ≡ Some v → IsWithin IsAnyNumber v max_depth → mid.items ≡ old.items ++ key_of v → tail ≡ behind_key (zeros_at v) → new.items ≡ mid.items ++ tail → reported ≡ true → Answers answer (Ok reported) old new
+answered answer v reported old mid new tail is fits appended e more so = subst (λ o. Answers o (Ok reported) old new) (sym is)
     (record { ok = more ∙ ap (λ t. mid.items ++ t) e ∙ ap (λ m. m ++ behind_key (zeros_at v)) appended ∙ append_assoc old.items (key_of v) (behind_key (zeros_at v)); fits = fits; errors = tt }, so)
 
 -- the capacity for the zeros is missing
 lacking : (answer : Option Tree) (v : Tree) (error : DocumentError) (old mid new : Vec ℕ Global) (tail : List ℕ) → answer ≡ Some v → mid.items ≡ old.items ++ key_of v → vec_capacity old ≤ vec_capacity mid → tail ≡ behind_key (zeros_at v)
     → (error ≡ OutOfMemory) × (vec_capacity mid < vec_len mid + length tail) → Answers answer (Err error) old new
-lacking answer v error old mid new tail is appended room e full =
-    let short : vec_capacity old < vec_len old + length (document_of v) = omega (arith, full.1, room, ap length e, old.ok.0, mid.ok.0, ap length appended, length-append old.items (key_of v), length-append (key_of v) (behind_key (zeros_at v))) in
+lacking answer v error old mid new tail is appended depth_left e full =
+    let short : vec_capacity old < vec_len old + length (document_of v) = omega (arith, full.1, depth_left, ap length e, old.ok.0, mid.ok.0, ap length appended, length-append old.items (key_of v), length-append (key_of v) (behind_key (zeros_at v))) in
     subst (λ o. Answers o (Err error) old new) (sym is) (record { ok = tt; fits = tt; errors = subst (λ error. IsLacking v old error) (sym full.0) short }, tt)
 
 -- the zeros follow the key that was appended, or the capacity for them is missing
 pub finished : (answer : Option Tree) (v : Tree) (r : Result Bool DocumentError) (old mid new : Vec ℕ Global) (tail : List ℕ) → answer ≡ Some v → IsWithin IsAnyNumber v max_depth → mid.items ≡ old.items ++ key_of v → vec_capacity old ≤ vec_capacity mid → tail ≡ behind_key (zeros_at v)
-    → AppendsZeros r mid new tail → IfOk r (λ told. told ≡ true) → Answers answer r old new
-finished answer v (Ok told) old mid new tail is fits appended room e more so = answered answer v told old mid new tail is fits appended e more so
-finished answer v (Err error) old mid new tail is fits appended room e full so = lacking answer v error old mid new tail is appended room e full
+    → AppendsZeros r mid new tail → IfOk r (λ reported. reported ≡ true) → Answers answer r old new
+finished answer v (Ok reported) old mid new tail is fits appended depth_left e more so = answered answer v reported old mid new tail is fits appended e more so
+finished answer v (Err error) old mid new tail is fits appended depth_left e full so = lacking answer v error old mid new tail is appended depth_left e full
 
 -- the key isn't appended
 key_lacks : (v : Tree) (old : Vec ℕ Global) (error : EditError) → KeyLacks v old error → IsLacking v old (as_document_error error)
@@ -170,14 +170,14 @@ cut_back before mid new first second n is =
     ap (take n) (second.extended ∙ ap (λ m. m ++ second.more) first.extended ∙ append_assoc before first.more second.more)
     ∙ ap (λ k. take k (before ++ (first.more ++ second.more))) (sym is) ∙ take-append_seam before (first.more ++ second.more)
 
-pub cuts : (start : ℕ) (r : Result Bool DocumentError) (old mid new : Vec ℕ Global) → CutsOnError start r mid new → start ≡ vec_len old → Extends old.items mid.items → vec_capacity old ≤ vec_capacity mid → KeepsOnError r old new
-cuts start (Ok told) old mid new c is more room = record { err = tt; capacity = omega (arith, c.capacity, room) }
-cuts start (Err error) old mid new c is more room = record { err = c.err old.items (omega (arith, is, old.ok.0)) more; capacity = omega (arith, c.capacity, room) }
+pub cuts : (start : ℕ) (r : Result Bool DocumentError) (old mid new : Vec ℕ Global) → CutsOnError start r mid new → start ≡ vec_len old → Extends old.items mid.items → vec_capacity old ≤ vec_capacity mid → PreservesOnError r old new
+cuts start (Ok reported) old mid new c is more depth_left = record { err = tt; capacity = omega (arith, c.capacity, depth_left) }
+cuts start (Err error) old mid new c is more depth_left = record { err = c.err old.items (omega (arith, is, old.ok.0)) more; capacity = omega (arith, c.capacity, depth_left) }
 
--- what is told of a place
-abbrev pub ToldPlace : Tree → List (List ℕ) → List ℕ → Option Place → Type 0
-ToldPlace t names key told = MatchOption told ((change : Option Tree → Outcome) → changed_at change names t ≡ None)
-    (PlaceIn (λ change. changed_at change names t) key)
+-- what is reported of a slot
+abbrev pub ReportedSlot : Tree → List (List ℕ) → List ℕ → Option Slot → Type 0
+ReportedSlot t names key reported = MatchOption reported ((change : Option Tree → Outcome) → changed_at change names t ≡ None)
+    (SlotIn (λ change. changed_at change names t) key)
 
 -- there is no answer
 pub nothing_appended : (answer : Option Tree) (old : Vec ℕ Global) → answer ≡ None → Answers answer (Ok false) old old

@@ -9,7 +9,7 @@ use Rattle.jsonb_value.proofs.SortKeys.Kinds.{is_small, number_begins}
 use Rattle.key_document.specs.Changes.{IsBehind, IsPartBehind}
 use Rattle.key_document.specs.Document.{counts_at, counts_at_items, counts_at_members}
 use Rattle.stored_zeros.specs.Numbers.{counts_taken}
-use Rattle.stored_zeros.specs.PartsOf.{IsWhole, StandsIn, StandsInItems, StandsInMembers}
+use Rattle.stored_zeros.specs.PartsOf.{IsWhole, OccursIn, OccursInItems, OccursInMembers}
 
 mutual
   pub one_each : (t : Tree) → IsProper t → length (counts_at t) ≡ length (key_of t)
@@ -78,7 +78,7 @@ more_before key counts before first inner firsts part each is x = record {
 }
 
 mutual
-  pub part_behind : (t : Tree) → IsProper t → (before : List ℕ) (numbers : ℕ) (part : Tree) → StandsIn t before numbers part → IsPartBehind t before part
+  pub part_behind : (t : Tree) → IsProper t → (before : List ℕ) (numbers : ℕ) (part : Tree) → OccursIn t before numbers part → IsPartBehind t before part
   part_behind (array ts) p before numbers part (inl w) = whole_behind (array ts) before numbers part w
   part_behind (array ts) p before numbers part (inr x) =
       more_before (items_key ts) (counts_at_items ts) before (210 ∷ []) x.0 (0 ∷ []) part refl x.1 (items_behind ts p x.0 numbers part x.2)
@@ -95,14 +95,14 @@ mutual
   part_behind (timestamp_tz offset micros) p before numbers part w = whole_behind (timestamp_tz offset micros) before numbers part w
   part_behind (interval months days micros) p before numbers part w = whole_behind (interval months days micros) before numbers part w
 
-  items_behind : (ts : Trees) → AreProper ts → (before : List ℕ) (numbers : ℕ) (part : Tree) → StandsInItems ts before numbers part → IsBehind (items_key ts) (counts_at_items ts) before part
+  items_behind : (ts : Trees) → AreProper ts → (before : List ℕ) (numbers : ℕ) (part : Tree) → OccursInItems ts before numbers part → IsBehind (items_key ts) (counts_at_items ts) before part
   items_behind no_trees p before numbers part s = absurd s
   items_behind (more_trees t ts) p before numbers part (inl s) =
       more_behind (key_of t) (counts_at t) before (items_key ts) (counts_at_items ts) part (part_behind t p.0 before numbers part s)
   items_behind (more_trees t ts) p before numbers part (inr x) =
       more_before (items_key ts) (counts_at_items ts) before (key_of t) x.0 (counts_at t) part (one_each t p.0) x.2 (items_behind ts p.1 x.0 x.1 part x.4)
 
-  members_behind : (ms : Members) → HaveProperParts ms → (before : List ℕ) (numbers : ℕ) (part : Tree) → StandsInMembers ms before numbers part → IsBehind (members_key ms) (counts_at_members ms) before part
+  members_behind : (ms : Members) → HaveProperParts ms → (before : List ℕ) (numbers : ℕ) (part : Tree) → OccursInMembers ms before numbers part → IsBehind (members_key ms) (counts_at_members ms) before part
   members_behind no_members p before numbers part s = absurd s
   members_behind (more_members k t ms) p before numbers part (inl x) =
       more_before (key_of t ++ members_key ms) (counts_at t ++ counts_at_members ms) before (text_key k) x.0 (replicate (length (text_key k)) 0) part

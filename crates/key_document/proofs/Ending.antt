@@ -17,15 +17,15 @@ end_some (suc size) some = reverse-append (255 ∷ []) (in_sevens 8 (suc size))
 regroup : (a b c d : List ℕ) → (a ++ (b ++ c)) ++ d ≡ (a ++ b) ++ (c ++ d)
 regroup a b c d = simp append_assoc
 
--- what stands in a buffer of which the last bytes were turned around
+-- what is in a buffer of which the last bytes were turned around
 pub turned_end : (len start : ℕ) (all turned behind more old last : List ℕ) → all ≡ old ++ last → start ≡ length old → len ≡ length all → turned ≡ reverse (take (length all - start) (drop start all))
     → take len ((take start all ++ (turned ++ behind)) ++ more) ≡ old ++ reverse last
-turned_end len start all turned behind more old last is place size after =
+turned_end len start all turned behind more old last is slot size after =
     let long = ap length is in
     let joined = length-append old last in
-    let rest : length all - start ≡ length last = omega (arith, long, joined, place) in
-    let first : take start all ≡ old = ap (take start) is ∙ ap (λ n. take n (old ++ last)) place ∙ take-append_seam old last in
-    let second : drop start all ≡ last = ap (drop start) is ∙ ap (λ n. drop n (old ++ last)) place ∙ drop-append_seam old last in
+    let rest : length all - start ≡ length last = omega (arith, long, joined, slot) in
+    let first : take start all ≡ old = ap (take start) is ∙ ap (λ n. take n (old ++ last)) slot ∙ take-append_seam old last in
+    let second : drop start all ≡ last = ap (drop start) is ∙ ap (λ n. drop n (old ++ last)) slot ∙ drop-append_seam old last in
     let back : turned ≡ reverse last = after ∙ ap reverse (ap (take (length all - start)) second ∙ ap (λ n. take n last) rest ∙ take-length last) in
     let whole : len ≡ length (old ++ reverse last) = omega (arith, size, long, joined, length-append old (reverse last), length-reverse last) in
     ap₂ (λ a b. take len ((a ++ (b ++ behind)) ++ more)) first back ∙ ap (take len) (regroup old (reverse last) behind more)
@@ -36,6 +36,6 @@ pub ends_with : (r : Result (Unit {0}) AllocError) (old new : Vec ℕ Global) (m
     → vec_capacity old ≤ cap → cap ≤ vec_capacity new → new.items ≡ (if is_ok r then mid ++ 255 ∷ [] else mid) → OnErr r (cap < len + 1) → Appends r old new text
 ends_with (Ok x) old new mid bytes text cap len e t long a b items full =
     let is = items ∙ ap (λ m. m ++ 255 ∷ []) e ∙ append_assoc old.items bytes (255 ∷ []) ∙ ap (λ l. old.items ++ l) (sym t) in
-    record { ok = is; kept = record { more = text; extended = is }; full = tt; capacity = omega (arith, a, b) }
+    record { ok = is; retained = record { more = text; extended = is }; full = tt; capacity = omega (arith, a, b) }
 ends_with (Err x) old new mid bytes text cap len e t long a b items full =
-    record { ok = tt; kept = record { more = bytes; extended = items ∙ e }; full = omega (arith, full, long, a, ap length t, length-append bytes (255 ∷ [])); capacity = omega (arith, a, b) }
+    record { ok = tt; retained = record { more = bytes; extended = items ∙ e }; full = omega (arith, full, long, a, ap length t, length-append bytes (255 ∷ [])); capacity = omega (arith, a, b) }

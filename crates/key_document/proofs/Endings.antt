@@ -7,7 +7,7 @@ use Rattle.std.proofs.lemmas.List.{map-append}
 use Rattle.std.proofs.Math.Nat.{mod-lt, div-add-mod}
 use Rattle.jsonb_key.specs.Readable.{IsAnyNumber}
 use Rattle.jsonb_spec.specs.Proper.{IsProper, AreProper, HaveProperParts}
-use Rattle.jsonb_spec.specs.SortKey.{key_of, items_key, members_key, text_key, byte_key, number_key, magnitude_key, place_key, digits_key, digit_count, invert_if}
+use Rattle.jsonb_spec.specs.SortKey.{key_of, items_key, members_key, text_key, byte_key, number_key, magnitude_key, exponent_key, digits_key, digit_count, invert_if}
 use Rattle.jsonb_spec.specs.Text.Range.{IsWithin, AreWithin, HaveWithin}
 use Rattle.jsonb_spec.specs.Tree.{Num, Tree, null, boolean, string, number, array, object, binary, date, timestamp, timestamp_tz, interval, Trees, no_trees, more_trees, Members, no_members, more_members}
 use Rattle.jsonb_value.proofs.SortKeys.Counts.{digits_counted}
@@ -58,7 +58,7 @@ magnitude_ends turned scale m some small =
     let count = digit_count m in
     let e = digits_end count m some (digits_counted m some small).below in
     subst (EndsUnlike 255) (sym (magnitude_split turned scale m count (count + 255 - scale) refl refl))
-    (behind_more (map (invert_if turned) (place_key (count + 255 - scale))) (map (invert_if turned) (digits_key count m))
+    (behind_more (map (invert_if turned) (exponent_key (count + 255 - scale))) (map (invert_if turned) (digits_key count m))
     (record {
       front = map (invert_if turned) e.front;
       last = invert_if turned (2 * e.pair);

@@ -11,7 +11,7 @@ use Rattle.key_document.specs.declared.splice.Lengths.{Lengths}
 use Rattle.stored_zeros.specs.Zeros.{zeros_of, plain_at_end, plain_behind}
 use Rattle.stored_zeros.proofs.Joining.{zeros_joined}
 
--- no more bytes without zeros stand at the end than there are
+-- no more bytes without zeros are at the end than there are
 pub plain_bound : (plain : ℕ) (counts : List ℕ) → plain_at_end plain counts ≤ plain + length counts
 plain_bound plain [] = omega arith
 plain_bound plain (zero ∷ counts) = omega (arith, plain_bound (suc plain) counts)
@@ -58,7 +58,7 @@ module _ {key_len : ℕ} {zeros part_zeros : List ℕ} {lengths : Lengths} (fron
   pub entry_passed : (passed : ℕ) → passed ≡ length entry → drop passed (entry ++ behind) ≡ behind
   entry_passed passed e = ap (λ n. drop n (entry ++ behind)) e ∙ drop-append_seam entry behind
 
--- ---- what is told
+-- ---- what is reported
 
 pub lacks_zeros : {X : Type 0} (r : Result X DocumentError) (error : DocumentError) (old new : Vec ℕ Global) (bytes all : List ℕ) → IsErrAnd r (λ e. e ≡ error) → error ≡ OutOfMemory
     → vec_capacity old < vec_len old + length bytes → length bytes ≤ length all → AppendsZeros r old new all

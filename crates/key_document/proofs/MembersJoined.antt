@@ -128,7 +128,7 @@ pub record NextTaken (ms ns : Members) (old now : List ℕ) (plain : ℕ) (side 
   pub xs_short : length xs < 2 ^ 63
   pub ys_short : length ys < 2 ^ 63
   pub fit : plain + size < 2 ^ 63
-  pub room : length now + length (zeros_of plain (taken_from side size xs ys)) ≤ length old + length (zeros_of 1 (counts_at_members (merged_members ms ns)))
+  pub depth_left : length now + length (zeros_of plain (taken_from side size xs ys)) ≤ length old + length (zeros_of 1 (counts_at_members (merged_members ms ns)))
 
 -- no more is left than there was
 no_longer : (side : Side) (ms ns : Members) (k : List ℕ) (t : Tree) (us vs : Members) → IsFrom side ms ns k t us vs → length (counts_at_members us) ≤ length (counts_at_members ms)
@@ -168,8 +168,8 @@ module _ (ms ns : Members) (old now : List ℕ) (plain : ℕ) (ours theirs : Opt
       ap (zeros_of 1) (l.counts_are ∙ ap (λ c. l.front ++ c) e) ∙ zeros_joined 1 l.front (one ++ rest)
       ∙ ap (λ z. zeros_of 1 l.front ++ z) (ap (λ n. zeros_of n (one ++ rest)) (sym l.plain_is) ∙ zeros_joined plain one rest)
 
-  room_for : (one rest : List ℕ) → counts_at_members (merged_members l.members l.others) ≡ one ++ rest → length now + length (zeros_of plain one) ≤ length old + length (zeros_of 1 (counts_at_members (merged_members ms ns)))
-  room_for one rest e =
+  capacity_for : (one rest : List ℕ) → counts_at_members (merged_members l.members l.others) ≡ one ++ rest → length now + length (zeros_of plain one) ≤ length old + length (zeros_of 1 (counts_at_members (merged_members ms ns)))
+  capacity_for one rest e =
       omega (arith, ap length l.appended, length-append old (zeros_of 1 l.front), ap length (zeros_split one rest e), length-append (zeros_of 1 l.front) (zeros_of plain one ++ zeros_of (plain_at_end plain one) rest), length-append (zeros_of plain one) (zeros_of (plain_at_end plain one) rest))
 
   taken_with : (size : ℕ) (one rest : List ℕ) → taken_from step.side size (counts_at_members l.members) (counts_at_members l.others) ≡ one → HasEnough step.side size passed (counts_at_members l.members) (counts_at_members l.others) → size ≡ length one
@@ -180,7 +180,7 @@ module _ (ms ns : Members) (old now : List ℕ) (plain : ℕ) (ours theirs : Opt
     xs_short = l.left_short;
     ys_short = l.right_short;
     fit = omega (arith, fit, long, l.plain_is, plain_bound 1 l.front, ap length l.counts_are, length-append l.front (counts_at_members (merged_members l.members l.others)), ap length e, length-append one rest);
-    room = subst (λ o. length now + length (zeros_of plain o) ≤ length old + length (zeros_of 1 (counts_at_members (merged_members ms ns)))) (sym taken) (room_for one rest e);
+    depth_left = subst (λ o. length now + length (zeros_of plain o) ≤ length old + length (zeros_of 1 (counts_at_members (merged_members ms ns)))) (sym taken) (capacity_for one rest e);
   }
 
   pub next : 1 + length (counts_at_members (merged_members ms ns)) < 2 ^ 63 → NextTaken ms ns old now plain step.side (length step.part.now) passed (counts_at_members l.members) (counts_at_members l.others)

@@ -16,7 +16,7 @@ pub record PassLeft (counts : List ℕ) (bytes left : ℕ) (next : Option (ℕ �
   pub pends : Pends skip.others next
 
 pub passes : (counts : List ℕ) (bytes : ℕ) (next : Option (ℕ × ℕ × Bor (List ℕ))) → Pends counts next → bytes ≤ length counts → PassLeft counts bytes bytes next
-passes counts bytes next p enough = record { rest = zeros_of 0 counts; skip = record { others = counts; stands = refl; same = refl; enough = enough; fewer = omega arith }; pends = p }
+passes counts bytes next p enough = record { rest = zeros_of 0 counts; skip = record { others = counts; occurs = refl; same = refl; enough = enough; fewer = omega arith }; pends = p }
 
 -- ---- and copied
 
@@ -37,7 +37,7 @@ pub copies_on : (counts : List ℕ) (plain bytes : ℕ) (old : List ℕ) (next :
 copies_on counts plain bytes old next p enough short fit = record { others = counts; pends = p; copy = copies_some plain bytes counts old enough short fit; same = refl; fewer = omega arith }
 
 abbrev as_skip : (counts : List ℕ) (plain bytes : ℕ) (old now : List ℕ) (left more : ℕ) (next : Option (ℕ × ℕ × Bor (List ℕ))) (x : CopyOn counts plain bytes old now left more next) → SkipLeft counts bytes left (zeros_of 0 x.others)
-as_skip counts plain bytes old now left more next x = record { others = x.others; stands = refl; same = x.same; enough = x.copy.enough; fewer = x.fewer }
+as_skip counts plain bytes old now left more next x = record { others = x.others; occurs = refl; same = x.same; enough = x.copy.enough; fewer = x.fewer }
 
 pub none_left : (counts : List ℕ) (plain bytes : ℕ) (old now : List ℕ) (left more : ℕ) (next : Option (ℕ × ℕ × Bor (List ℕ))) (x : CopyOn counts plain bytes old now left more next) → x.others ≡ replicate (length x.others) 0 → drop bytes counts ≡ replicate (length (drop bytes counts)) 0
 none_left counts plain bytes old now left more next x all = none_skipped counts bytes left (zeros_of 0 x.others) (as_skip counts plain bytes old now left more next x) all
@@ -48,6 +48,6 @@ one_left counts plain bytes old now left more next x before count behind p rest 
 pub still_same : (counts others later : List ℕ) (bytes left before count : ℕ) → drop left others ≡ drop bytes counts → others ≡ replicate before 0 ++ count ∷ later → before < left → drop (left - (before + 1)) later ≡ drop bytes counts
 still_same counts others later bytes left before count same is less = sym (drop_entry left before count later less) ∙ ap (drop left) (sym is) ∙ same
 
-pub no_room_on : (plain : ℕ) (taken left : List ℕ) (r : Result (ℕ × Option (ℕ × ℕ × Bor (List ℕ))) DocumentError) (old new : Vec ℕ Global) → IsErrAnd r (λ e. e ≡ OutOfMemory) → vec_capacity old < vec_len old + length (zeros_of plain taken) → CopiesOn plain taken left r old new
-no_room_on plain taken left (Ok s) old new is full = absurd is
-no_room_on plain taken left (Err e) old new is full = (is, full)
+pub no_capacity_on : (plain : ℕ) (taken left : List ℕ) (r : Result (ℕ × Option (ℕ × ℕ × Bor (List ℕ))) DocumentError) (old new : Vec ℕ Global) → IsErrAnd r (λ e. e ≡ OutOfMemory) → vec_capacity old < vec_len old + length (zeros_of plain taken) → CopiesOn plain taken left r old new
+no_capacity_on plain taken left (Ok s) old new is full = absurd is
+no_capacity_on plain taken left (Err e) old new is full = (is, full)

@@ -18,8 +18,8 @@ use Rattle.key_document.proofs.Agreeing.{agree, same_back, same_front}
 use Rattle.key_document.proofs.Reaching.{ChangesPart, at_part, part_changes, same_some}
 use Rattle.key_document.proofs.Splicing.{at_splice}
 use Rattle.stored_edit.specs.Edit.{Outcome, stays, goes, becomes, changed_at, remove}
-use Rattle.stored_edit.specs.Spots.{Answers, PlaceIn, Stands}
-use Rattle.stored_edit.specs.declared.place.Place.{Place}
+use Rattle.stored_edit.specs.Spots.{Answers, SlotIn, Occurs}
+use Rattle.stored_edit.specs.declared.slot.Slot.{Slot}
 
 goes_stays : goes ≡ stays → ⊥
 goes_stays e = cc
@@ -28,7 +28,7 @@ abbrev renewed : Option Tree → Outcome
 renewed None = stays
 renewed (Some u) = becomes u
 
--- what stands at the place of the splice has the key of the part, and the counts of its bytes
+-- what is at the slot of the splice has the key of the part, and the counts of its bytes
 pub record Same (part : Tree) (there : Option Tree) : Type 0 where
   pub tree : Tree
   pub is : there ≡ Some tree
@@ -63,24 +63,24 @@ module _ (t part : Tree) (changed : (Option Tree → Outcome) → Option Tree) (
     counts_are = x.counts_are ∙ ap (λ h. x.cut.counts_front ++ (entry_counts x.cut.name h ++ x.cut.counts_behind)) same_there.is ∙ ap (λ k. x.cut.counts_front ++ ((replicate (length x.cut.name) 0 ++ k) ++ x.cut.counts_behind)) same_there.counts ∙ regroup x.cut.counts_front (replicate (length x.cut.name) 0) (counts_at part) x.cut.counts_behind;
   }
 
-  module _ (key : List ℕ) (place : Place) (s : PlaceIn changed key place) (is_key : key ≡ key_of t) where
-    -- a part stands at the place that is found
+  module _ (key : List ℕ) (slot : Slot) (s : SlotIn changed key slot) (is_key : key ≡ key_of t) where
+    -- a part is at the slot that is found
     found_there : (w : Tree) × (s.0.there ≡ Some w)
     found_there = go s.0.there refl (changed remove) refl (s.0.answers remove)
       where
-        go : (there : Option Tree) → s.0.there ≡ there → (o : Option Tree) → changed remove ≡ o → Answers key_of (λ u. IsWithin IsAnyNumber u max_depth) place.object s.0.name s.0.front s.0.behind place.room (remove there) o → (w : Tree) × (s.0.there ≡ Some w)
+        go : (there : Option Tree) → s.0.there ≡ there → (o : Option Tree) → changed remove ≡ o → Answers key_of (λ u. IsWithin IsAnyNumber u max_depth) slot.object s.0.name s.0.front s.0.behind slot.depth_left (remove there) o → (w : Tree) × (s.0.there ≡ Some w)
         go (Some w) e o is a = (w, e)
         go None e None is a = absurd (c.some remove goes_stays is)
         go None e (Some v) is a = absurd a
 
-    stands : Stands place.object s.0.name place.spot s.0.behind (Some found_there.0)
-    stands = subst (Stands place.object s.0.name place.spot s.0.behind) found_there.1 s.0.stands
+    occurs : Occurs slot.object s.0.name slot.spot s.0.behind (Some found_there.0)
+    occurs = subst (Occurs slot.object s.0.name slot.spot s.0.behind) found_there.1 s.0.occurs
 
     -- where its key begins
-    pub offset_is : length key - length place.spot.value.now ≡ length (x.cut.front ++ x.cut.name)
+    pub offset_is : length key - length slot.spot.value.now ≡ length (x.cut.front ++ x.cut.name)
     offset_is =
-        let a = agree t changed key place s x in
-        omega (arith, ap length s.0.inside, length-append s.0.front place.spot.entry.now, ap length stands.1, length-append (name_key place.object s.0.name) place.spot.value.now, ap length a.front_is, ap length a.name_is, length-append x.cut.front x.cut.name)
+        let a = agree t changed key slot s x in
+        omega (arith, ap length s.0.inside, length-append s.0.front slot.spot.entry.now, ap length occurs.1, length-append (name_key slot.object s.0.name) slot.spot.value.now, ap length a.front_is, ap length a.name_is, length-append x.cut.front x.cut.name)
 
     all_are : (a b c d e f g h : List ℕ) → a ≡ b → c ≡ d → e ≡ f → a ++ (c ++ (g ++ e)) ≡ b ++ ((d ++ h) ++ f) → g ≡ h
     all_are a b c d e f g h p q r is =
@@ -88,14 +88,14 @@ module _ (t part : Tree) (changed : (Option Tree → Outcome) → Option Tree) (
         ((λ i. sym p i ++ (sym q i ++ (g ++ sym r i))) ∙ is ∙ ap (λ l. b ++ l) (append_assoc d h f))))
 
     -- and its key
-    pub value_is : place.spot.value.now ≡ key_of part ++ place.behind.now
+    pub value_is : slot.spot.value.now ≡ key_of part ++ slot.behind.now
     value_is =
-        let a = agree t changed key place s x in
+        let a = agree t changed key slot s x in
         let w = found_there.0 in
-        let near : key ≡ s.0.front ++ (name_key place.object s.0.name ++ (key_of w ++ place.behind.now)) = s.0.inside ∙ ap (λ l. s.0.front ++ l) (stands.1 ∙ ap (λ l. name_key place.object s.0.name ++ l) (stands.2 ∙ ap (λ l. key_of w ++ l) s.1)) in
+        let near : key ≡ s.0.front ++ (name_key slot.object s.0.name ++ (key_of w ++ slot.behind.now)) = s.0.inside ∙ ap (λ l. s.0.front ++ l) (occurs.1 ∙ ap (λ l. name_key slot.object s.0.name ++ l) (occurs.2 ∙ ap (λ l. key_of w ++ l) s.1)) in
         let far = x.key_is ∙ ap (λ h. x.cut.front ++ (entry_key x.cut.name h ++ x.cut.behind)) same_there.is in
-        let same : key_of w ≡ key_of same_there.tree = all_are s.0.front x.cut.front (name_key place.object s.0.name) x.cut.name place.behind.now x.cut.behind (key_of w) (key_of same_there.tree) a.front_is a.name_is a.behind_is (sym near ∙ is_key ∙ far) in
-        stands.2 ∙ (λ i. same i ++ s.1 i) ∙ ap (λ k. k ++ place.behind.now) same_there.key
+        let same : key_of w ≡ key_of same_there.tree = all_are s.0.front x.cut.front (name_key slot.object s.0.name) x.cut.name slot.behind.now x.cut.behind (key_of w) (key_of same_there.tree) a.front_is a.name_is a.behind_is (sym near ∙ is_key ∙ far) in
+        occurs.2 ∙ (λ i. same i ++ s.1 i) ∙ ap (λ k. k ++ slot.behind.now) same_there.key
 
 -- ---- what is found
 
@@ -127,7 +127,7 @@ whole_found t [] key r e none = (
   e,
 )
 
--- a part stands in the key
+-- a part is in the key
 pub part_inside : (t : Tree) (names : List (List ℕ)) (part : Tree) → IsReadable t → part_at names t ≡ Some part → (before : List ℕ) × IsPartBehind t before part
 part_inside t [] part r e =
     subst (λ p. (before : List ℕ) × IsPartBehind t before p) (same_some e)
@@ -139,20 +139,20 @@ part_inside t (name ∷ names) part r e =
       | inr x ↦ (x.cut.front ++ x.cut.name, part_behind t part (λ change. changed_at change (name ∷ names) t) x c)
     ]
 
--- or it stands at the place that is found
-pub slot_found : (t : Tree) (names : List (List ℕ)) (o : PartThere (part_at names t)) (key : List ℕ) (place : Place) (offset : ℕ) (bytes : Bor (List ℕ)) → (length names ≡ 0 → ⊥) → IsReadable t → key ≡ key_of t → PlaceIn (λ change. changed_at change names t) key place
-    → offset ≡ length key - length place.spot.value.now → ((before : List ℕ) → place.spot.value.now ≡ before ++ place.behind.now → bytes.now ≡ before) → FindsRange t (part_at names t) (Ok (Some (offset, bytes)))
-slot_found t names o key place offset bytes some r e s at is = elim (at_splice names t r.proper) [
+-- or it is at the slot that is found
+pub slot_found : (t : Tree) (names : List (List ℕ)) (o : PartThere (part_at names t)) (key : List ℕ) (slot : Slot) (offset : ℕ) (bytes : Bor (List ℕ)) → (length names ≡ 0 → ⊥) → IsReadable t → key ≡ key_of t → SlotIn (λ change. changed_at change names t) key slot
+    → offset ≡ length key - length slot.spot.value.now → ((before : List ℕ) → slot.spot.value.now ≡ before ++ slot.behind.now → bytes.now ≡ before) → FindsRange t (part_at names t) (Ok (Some (offset, bytes)))
+slot_found t names o key slot offset bytes some r e s at is = elim (at_splice names t r.proper) [
   | inl none ↦ absurd ((part_changes names t o.part some r.proper o.is).some (λ there. goes) goes_stays (none (λ there. goes)))
   | inr x ↦
       let c = part_changes names t o.part some r.proper o.is in
       let changed : (Option Tree → Outcome) → Option Tree = λ change. changed_at change names t in
       subst (λ p. FindsRange t p (Ok (Some (offset, bytes)))) (sym o.is)
-      (o.readable, (x.cut.front ++ x.cut.name, sym (at ∙ offset_is t o.part changed x c key place s e), part_behind t o.part changed x c), is (key_of o.part) (value_is t o.part changed x c key place s e))
+      (o.readable, (x.cut.front ++ x.cut.name, sym (at ∙ offset_is t o.part changed x c key slot s e), part_behind t o.part changed x c), is (key_of o.part) (value_is t o.part changed x c key slot s e))
 ]
 
-pub no_place : (t : Tree) (names : List (List ℕ)) (o : PartThere (part_at names t)) → (length names ≡ 0 → ⊥) → IsReadable t → ((change : Option Tree → Outcome) → changed_at change names t ≡ None) → ⊥
-no_place t names o some r none = (part_changes names t o.part some r.proper o.is).some (λ there. goes) goes_stays (none (λ there. goes))
+pub no_slot : (t : Tree) (names : List (List ℕ)) (o : PartThere (part_at names t)) → (length names ≡ 0 → ⊥) → IsReadable t → ((change : Option Tree → Outcome) → changed_at change names t ≡ None) → ⊥
+no_slot t names o some r none = (part_changes names t o.part some r.proper o.is).some (λ there. goes) goes_stays (none (λ there. goes))
 
 -- a part's key, by its offset and its size
 pub range_is : (key before part behind : List ℕ) (offset size : ℕ) → key ≡ before ++ (part ++ behind) → length before ≡ offset → size ≡ length part → take ((offset + size) - offset) (drop offset key) ≡ part
@@ -173,11 +173,11 @@ pub record PartFound (o : Option Tree) (rest : List ℕ) : Type 0 where
   pub is : o ≡ Some part
   pub readable : IsReadable part
   pub behind : List ℕ
-  pub stands : rest ≡ key_of part ++ behind
+  pub occurs : rest ≡ key_of part ++ behind
 
 pub part_found : (bytes : List ℕ) (o : Option Tree) (rest : Bor (List ℕ)) → Finds bytes o (Ok (Some rest)) → PartFound o rest.now
 part_found bytes None rest f = absurd f
-part_found bytes (Some part) rest f = record { part = part; is = refl; readable = f.readable; behind = f.behind; stands = f.stands }
+part_found bytes (Some part) rest f = record { part = part; is = refl; readable = f.readable; behind = f.behind; occurs = f.occurs }
 
 pub no_rest : (more : List ℕ) → None ≡ Some more → ⊥
 no_rest more e = cc

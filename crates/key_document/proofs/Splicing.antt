@@ -21,7 +21,7 @@ use Rattle.key_document.proofs.Counts.{one_each, items_each, members_each}
 regroup : (a b c : List ℕ) → a ++ (b ++ c) ≡ (a ++ b) ++ c
 regroup a b c = sym (append_assoc a b c)
 
--- a place with more before it
+-- a slot with more before it
 abbrev moved : Cut → List ℕ → List ℕ → Cut
 moved cut first firsts = record { front = first ++ cut.front; counts_front = firsts ++ cut.counts_front; name = cut.name; behind = cut.behind; counts_behind = cut.counts_behind }
 
@@ -186,7 +186,7 @@ stays_none : {A : Type 0} (key counts : A → List ℕ) (cut : Cut) (x : Option 
 stays_none key counts cut None s = refl
 stays_none key counts cut (Some a) s = absurd s
 
--- the place in a part that stands at a place
+-- the slot in a part that is at a slot
 abbrev inside : Cut → Cut → Cut
 inside outer inner = record {
   front = outer.front ++ (outer.name ++ inner.front);

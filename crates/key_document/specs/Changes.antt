@@ -30,9 +30,9 @@ pub record AppendsDocument {X : Type 0} (t : Tree) (result : Result X DocumentEr
   pub fits : OnOk result (IsWithin IsAnyNumber t max_depth)
   pub errors : IfErr result (IsLacking t old)
 
--- Where there is an answer, its document is appended, and that is told. Else nothing is appended.
+-- Where there is an answer, its document is appended, and that is reported. Else nothing is appended.
 abbrev pub Answers : Option Tree → Result Bool DocumentError → Vec ℕ Global → Vec ℕ Global → Type 0
-Answers (Some t) result old new = AppendsDocument t result old new × IfOk result (λ told. told ≡ true)
+Answers (Some t) result old new = AppendsDocument t result old new × IfOk result (λ reported. reported ≡ true)
 Answers None result old new = (result ≡ Ok false) × (new.items ≡ old.items)
 
 -- Whichever value the document is of, what is answered of it is so.
@@ -52,7 +52,7 @@ AppendsBoth both left right result old new =
     OfDocument left (λ t. OfDocument right (λ u. AppendsDocument (both t u) result old new))
 
 -- After an error the buffer has its old bytes, and its capacity doesn't shrink.
-pub record KeepsOnError {X E : Type 0} (result : Result X E) (old new : Vec ℕ Global) : Type 0 where
+pub record PreservesOnError {X E : Type 0} (result : Result X E) (old new : Vec ℕ Global) : Type 0 where
   pub err : OnErr result (new.items ≡ old.items)
   pub capacity : vec_capacity old ≤ vec_capacity new
 
@@ -85,8 +85,8 @@ FindsRange t (Some part) (Ok (Some slot)) =
 FindsRange t None (Ok None) = ⊤
 FindsRange t part found = ⊥
 
--- The zeros of these bytes are appended, it is told how many without any stand at the end, and what pends of those that
--- are left. Else memory ran out, as the capacity for all of the zeros is missing.
+-- The zeros of these bytes are appended, it is reported how many without any are at the end, and what pends of those
+-- that are left. Else memory ran out, as the capacity for all of the zeros is missing.
 abbrev pub CopiesOn : ℕ → List ℕ → List ℕ → Result (ℕ × Option (ℕ × ℕ × Bor (List ℕ))) DocumentError → Vec ℕ Global
     → Vec ℕ Global → Type 0
 CopiesOn plain taken left result old new = MatchResult result

@@ -1,4 +1,4 @@
--- A change of a value as a splice: of its key, and in the same places of the counts of its bytes.
+-- A change of a value as a splice: of its key, and in the same slots of the counts of its bytes.
 use Rattle.std.specs.Prelude.{◌≡◌, ⊤, ℕ, ◌+◌, ◌<◌, ◌≤◌, ◌^◌, OnErr, List, [], ◌++◌, length, replicate, Option, Some, None, IfSome, ◌⊎◌, MatchResult, Result, Vec, vec_len}
 use Rattle.std.specs.Vec.{vec_capacity}
 use Rattle.std.specs.declared.alloc.Global.{Global}
@@ -13,8 +13,8 @@ use Rattle.key_document.specs.declared.splice.Lengths.{Lengths}
 use Rattle.stored_zeros.specs.Zeros.{zeros_of}
 use Rattle.stored_edit.specs.Edit.{Outcome, stays, goes, becomes}
 
--- The place of a change: what stands before it and behind it in a key, with the counts of these bytes, and the name of
--- a member that would stand there.
+-- The slot of a change: what is before it and behind it in a key, with the counts of these bytes, and the name of
+-- a member that would be there.
 pub record Cut : Type 0 where
   pub front : List ℕ
   pub counts_front : List ℕ
@@ -22,8 +22,8 @@ pub record Cut : Type 0 where
   pub behind : List ℕ
   pub counts_behind : List ℕ
 
--- The answer by what becomes of the part at the place: in its key what stands before the place, what stands there then,
--- and what stands behind it; and the same of the counts of its bytes, of which a name has none.
+-- The answer by what becomes of the part at the slot: in its key what is before the slot, what is there then,
+-- and what is behind it; and the same of the counts of its bytes, of which a name has none.
 abbrev pub IsSplice : {A : Type 0} → (A → List ℕ) → (A → List ℕ) → Cut → Outcome → Option A → Type 0
 IsSplice key counts cut stays None = ⊤
 IsSplice key counts cut stays (Some a) = ⊥
@@ -35,7 +35,7 @@ IsSplice key counts cut (becomes t) (Some a) =
     (key a ≡ cut.front ++ (cut.name ++ (key_of t ++ cut.behind)))
     × (counts a ≡ cut.counts_front ++ (replicate (length cut.name) 0 ++ (counts_at t ++ cut.counts_behind)))
 
--- what stands at the place, with its name: nothing where no part is
+-- what is at the slot, with its name: nothing where no part is
 abbrev pub entry_key : List ℕ → Option Tree → List ℕ
 entry_key name None = []
 entry_key name (Some t) = name ++ key_of t
@@ -45,7 +45,7 @@ abbrev pub entry_counts : List ℕ → Option Tree → List ℕ
 entry_counts name None = []
 entry_counts name (Some t) = replicate (length name) 0 ++ counts_at t
 
--- There is a place in the value, so that whatever becomes of the part there, the answer is such a splice.
+-- There is a slot in the value, so that whatever becomes of the part there, the answer is such a splice.
 pub record AreSplices {A : Type 0} (key counts : A → List ℕ) (whole : A) (changed : (Option Tree → Outcome) → Option A)
     : Type 0 where
   pub there : Option Tree
@@ -62,7 +62,7 @@ abbrev pub Spliced : {A : Type 0} → (A → List ℕ) → (A → List ℕ) → 
 Spliced key counts whole changed =
     ((change : Option Tree → Outcome) → changed change ≡ None) ⊎ AreSplices key counts whole changed
 
--- The place is this one.
+-- The slot is this one.
 pub record Agrees (front name behind : List ℕ) (cut : Cut) : Type 0 where
   pub front_is : front ≡ cut.front
   pub name_is : name ≡ cut.name
@@ -70,11 +70,11 @@ pub record Agrees (front name behind : List ℕ) (cut : Cut) : Type 0 where
 
 -- ---- the zeros of a splice
 
--- the counts of a key with the part at the place, behind its name
+-- the counts of a key with the part at the slot, behind its name
 abbrev pub spliced_counts : List ℕ → ℕ → List ℕ → List ℕ → List ℕ
 spliced_counts front name part behind = front ++ (replicate name 0 ++ (part ++ behind))
 
--- The zeros are of these counts: those before the place, of what stands there, and behind it; and of those of the part.
+-- The zeros are of these counts: those before the slot, of what is there, and behind it; and of those of the part.
 -- The lengths are theirs, and the new key has fewer than 2^63 bytes.
 pub record AreSpliced (key_len : ℕ) (zeros part_zeros : List ℕ) (lengths : Lengths) (front entry part behind : List ℕ)
     : Type 0 where
@@ -92,8 +92,8 @@ abbrev pub AppendsZeros : {X : Type 0} → Result X DocumentError → Vec ℕ Gl
 AppendsZeros result old new bytes = MatchResult result (λ x. new.items ≡ old.items ++ bytes)
     (λ e. (e ≡ OutOfMemory) × (vec_capacity old < vec_len old + length bytes))
 
--- Bytes are appended. After an error those are left that stood before the start of what was appended before, where they
--- stood there. The capacity doesn't shrink.
+-- Bytes are appended. After an error those are left that was before the start of what was appended before, where they
+-- was there. The capacity doesn't shrink.
 pub record CutsOnError {X : Type 0} (start : ℕ) (result : Result X DocumentError) (old new : Vec ℕ Global)
     : Type 0 where
   pub err : OnErr result ((before : List ℕ) → length before ≡ start → Extends before old.items → new.items ≡ before)

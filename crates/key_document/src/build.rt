@@ -1,13 +1,13 @@
 //! Objects and arrays with a part more, as documents.
 
-ghost use Rattle.key_document.specs.Changes.{AnswersOfBoth, KeepsOnError};
+ghost use Rattle.key_document.specs.Changes.{AnswersOfBoth, PreservesOnError};
 ghost use Rattle.stored_edit.specs.Edit.{with_item, with_member};
 
 use crate::document::split_document;
 use crate::edit::put_document;
 use crate::error::DocumentError;
 use crate::splice::{Lengths, splice_tail};
-use stored_edit::place::member_slot;
+use stored_edit::slot::member_slot;
 
 /// Appends the document of the object with this member, of whose value the document is passed, and returns true. A
 /// member of that name is replaced. For a value that is no object nothing is appended, and it returns false.
@@ -22,13 +22,13 @@ pub fn append_with_member(
     value: &[u8],
 ) -> Result<bool, DocumentError>
     ensures answers { AnswersOfBoth (with_member name.now) document.now value.now result out.old out.new }
-    ensures keeps { KeepsOnError result out.old out.new }
+    ensures preserves { PreservesOnError result out.old out.new }
 {
     let (key, zeros) = split_document(document);
-    let Some(place) = member_slot(key, name)? else {
+    let Some(slot) = member_slot(key, name)? else {
         return Ok(false);
     };
-    put_document(out, key, zeros, &place, value)
+    put_document(out, key, zeros, &slot, value)
 }
 
 /// Appends the document of the array with this item at its end, of which the document is passed, and returns true. For
@@ -43,7 +43,7 @@ pub fn append_with_item(
     item: &[u8],
 ) -> Result<bool, DocumentError>
     ensures answers { AnswersOfBoth with_item document.now item.now result out.old out.new }
-    ensures keeps { KeepsOnError result out.old out.new }
+    ensures preserves { PreservesOnError result out.old out.new }
 {
     let (key, zeros) = split_document(document);
     let (item_key, item_zeros) = split_document(item);
@@ -51,7 +51,7 @@ pub fn append_with_item(
     if !stored_edit::append_with_item(out, key, item_key)? {
         return Ok(false);
     }
-    // The item stands before the last byte, which ends the array.
+    // The item is before the last byte, which ends the array.
     let lengths = Lengths {
         front: key.len().saturating_sub(1),
         name: 0,

@@ -4,7 +4,7 @@ ghost use Rattle.std.specs.Prelude.{◌≡◌, ◌<◌, ◌≤◌, ◌+◌, ◌^
 ghost use Rattle.jsonb_spec.specs.SortKey.{key_of};
 ghost use Rattle.jsonb_spec.specs.Text.Appending.{Appends};
 ghost use Rattle.key_document.specs.Document.{end_of, zeros_at, OfDocument};
-ghost use Rattle.stored_text.specs.Writes.{Keeps};
+ghost use Rattle.stored_text.specs.Writes.{Preserves};
 ghost use Rattle.stored_zeros.specs.Zeros.{in_sevens};
 
 use std::alloc::AllocError;
@@ -43,7 +43,7 @@ fn size_at_end(bytes: &[u8]) -> Option<(usize, &[u8])>
     ensures within { IfSome result (λ r. length r.1.now ≤ length bytes.now) }
 {
     let mut size: usize = 0;
-    // What one in the next byte stands for.
+    // What one in the next byte means.
     let mut unit: usize = 1;
     let mut rest = bytes;
     'sevens: while let Some((byte, others)) = rest.split_last() {
@@ -67,7 +67,7 @@ fn size_at_end(bytes: &[u8]) -> Option<(usize, &[u8])>
 /// Where the buffer lacks the capacity.
 pub(crate) fn end_zeros(size: usize, out: &mut Vec<u8>) -> Result<(), AllocError>
     ensures ended { size < 2 ^ 63 → Appends result out.old out.new (end_of size) }
-    ensures keeps { Keeps out.old out.new }
+    ensures preserves { Preserves out.old out.new }
 {
     if size == 0 {
         return Ok(());

@@ -4,23 +4,23 @@ ghost use Rattle.std.specs.Prelude.{◌≡◌, ◌≤◌, Bool, Option, map, str
 ghost use Rattle.jsonb_key.specs.Readable.{IsReadable};
 ghost use Rattle.jsonb_spec.specs.SortKey.{key_of};
 ghost use Rattle.jsonb_spec.specs.Tree.{Tree};
-ghost use Rattle.key_document.specs.Changes.{Answers, AnswersOf, AnswersOfBoth, KeepsOnError};
+ghost use Rattle.key_document.specs.Changes.{Answers, AnswersOf, AnswersOfBoth, PreservesOnError};
 ghost use Rattle.key_document.specs.Document.{counts_at, zeros_at, OfDocument};
 ghost use Rattle.key_document.specs.Splices.{Spliced};
 ghost use Rattle.stored_edit.specs.Edit.{Outcome, becomes, set_to, with_part, without_part};
-ghost use Rattle.stored_edit.specs.Spots.{PlaceIn};
+ghost use Rattle.stored_edit.specs.Spots.{SlotIn};
 
 use crate::document::split_document;
 use crate::error::DocumentError;
 use crate::splice::{Lengths, splice_tail};
 use jsonb_stored::walk::front;
 use stored_edit::edit::put_part;
-use stored_edit::place::{Place, find_place};
+use stored_edit::slot::{Slot, find_slot};
 use stored_edit::splice::splice;
 
-/// Appends the document of the value without its part at the path of these names, and tells whether there is one. Where
-/// there is none, nothing is appended. The names are as in `append_without_part` of the crate `stored_edit`, and each
-/// number that stays keeps all its digits.
+/// Appends the document of the value without its part at the path of these names, and returns whether there is one.
+/// Where there is none, nothing is appended. The names are as in `append_without_part` of the crate `stored_edit`, and
+/// each number that stays holds all its digits.
 ///
 /// # Errors
 ///
@@ -32,32 +32,32 @@ pub fn append_without_part(
     names: &[String],
 ) -> Result<bool, DocumentError>
     ensures answers { AnswersOf (without_part (map string_bytes names.now)) document.now result out.old out.new }
-    ensures keeps { KeepsOnError result out.old out.new }
+    ensures preserves { PreservesOnError result out.old out.new }
 {
     let (key, zeros) = split_document(document);
-    let Some(place) = find_place(key, names)? else {
+    let Some(slot) = find_slot(key, names)? else {
         return Ok(false);
     };
-    if !place.spot.found {
+    if !slot.spot.found {
         return Ok(false);
     }
     let start = out.len();
-    let before = front(key, place.spot.entry);
-    if splice(out, before, &[], &[], place.behind).is_err() {
+    let before = front(key, slot.spot.entry);
+    if splice(out, before, &[], &[], slot.behind).is_err() {
         return Err(DocumentError::OutOfMemory);
     }
     let lengths = Lengths {
         front: before.len(),
         name: 0,
         part: 0,
-        behind: place.behind.len(),
+        behind: slot.behind.len(),
     };
     splice_tail(out, start, key.len(), zeros, &[], &lengths)
 }
 
 /// Appends the document of the value with this part, of which the document is passed, at the path of these names, and
-/// tells whether there is such a place. Where there is none, nothing is appended. The names and `create` are as in
-/// `append_with_part` of the crate `stored_edit`, and each number keeps all its digits.
+/// says whether there is such a slot. Where there is none, nothing is appended. The names and `create` are as in
+/// `append_with_part` of the crate `stored_edit`, and each number holds all its digits.
 ///
 /// # Errors
 ///
@@ -73,45 +73,45 @@ pub fn append_with_part(
 ) -> Result<bool, DocumentError>
     ensures answers { AnswersOfBoth (λ u. with_part (map string_bytes names.now) u create) document.now part.now result
         out.old out.new }
-    ensures keeps { KeepsOnError result out.old out.new }
+    ensures preserves { PreservesOnError result out.old out.new }
 {
     let (key, zeros) = split_document(document);
-    let Some(place) = find_place(key, names)? else {
+    let Some(slot) = find_slot(key, names)? else {
         return Ok(false);
     };
-    if !place.spot.found && !create {
+    if !slot.spot.found && !create {
         return Ok(false);
     }
-    put_document(out, key, zeros, &place, part)
+    put_document(out, key, zeros, &slot, part)
 }
 
-/// Appends the document with this part, of which the document is passed, at the place in the key, and returns true.
+/// Appends the document with this part, of which the document is passed, at the slot in the key, and returns true.
 pub(crate) fn put_document(
     out: &mut Vec<u8>,
     key: &[u8],
     zeros: &[u8],
-    place: &Place,
+    slot: &Slot,
     part: &[u8],
 ) -> Result<bool, DocumentError>
-    requires { place.now.room ≤ 511 }
+    requires { slot.now.depth_left ≤ 511 }
     ensures put { (t : Tree) → IsReadable t → key.now ≡ key_of t → zeros.now ≡ zeros_at t
         → (changed : (Option Tree → Outcome) → Option Tree) → Spliced key_of counts_at t changed
-        → (s : PlaceIn changed key.now place.now) → OfDocument part.now (λ u. (create : Bool)
+        → (s : SlotIn changed key.now slot.now) → OfDocument part.now (λ u. (create : Bool)
         → set_to u create s.0.there ≡ becomes u → Answers (changed (set_to u create)) result out.old out.new) }
-    ensures keeps { KeepsOnError result out.old out.new }
+    ensures preserves { PreservesOnError result out.old out.new }
 {
     let (part_key, part_zeros) = split_document(part);
     let start = out.len();
-    put_part(out, key, place, part_key)?;
-    let before = front(key, place.spot.entry).len();
+    put_part(out, key, slot, part_key)?;
+    let before = front(key, slot.spot.entry).len();
     let others = before
         .saturating_add(part_key.len())
-        .saturating_add(place.behind.len());
+        .saturating_add(slot.behind.len());
     let lengths = Lengths {
         front: before,
         name: out.len().saturating_sub(start).saturating_sub(others),
         part: part_key.len(),
-        behind: place.behind.len(),
+        behind: slot.behind.len(),
     };
     splice_tail(out, start, key.len(), zeros, part_zeros, &lengths)
 }

@@ -15,12 +15,12 @@ ghost use Rattle.key_document.specs.Document.{behind_key, counts_at, counts_at_i
 ghost use Rattle.key_document.specs.Merging.{counts_of_items};
 ghost use Rattle.key_document.specs.Splices.{Agrees, AreSplices, Spliced};
 ghost use Rattle.stored_edit.specs.Edit.{Outcome, changed_at, joined_items, merged_members};
-ghost use Rattle.stored_edit.specs.Spots.{PlaceIn};
-ghost use Rattle.stored_edit.specs.declared.place.Place.{Place};
+ghost use Rattle.stored_edit.specs.Spots.{SlotIn};
+ghost use Rattle.stored_edit.specs.declared.slot.Slot.{Slot};
 ghost use Rattle.stored_zeros.specs.Numbers.{counts_taken};
-ghost use Rattle.stored_zeros.specs.PartsOf.{StandsIn};
+ghost use Rattle.stored_zeros.specs.PartsOf.{OccursIn};
 
-/// Documents compare as the values do; where these are equal, what stands behind their keys decides. A key alone bounds
+/// Documents compare as the values do; where these are equal, what is behind their keys decides. A key alone bounds
 /// the documents of its value and of those above it from below.
 pub fn documents_order()
     ensures order { (t u : Tree) → IsProper t → IsProper u → bytes_cmp (document_of t) (document_of u)
@@ -34,27 +34,27 @@ pub fn each_byte_has_a_count()
     ensures { (t : Tree) → IsProper t → length (counts_at t) ≡ length (key_of t) }
 {}
 
-/// Where the key of a part stands in that of a value, the counts of its bytes stand in the same place. So the zeros of
+/// Where the key of a part is in that of a value, the counts of its bytes are in the same slot. So the zeros of
 /// a part are had by `write_zeros_of_numbers`, with the offset and the size of its key.
 pub fn parts_have_their_zeros()
-    ensures stand { (t part : Tree) → IsProper t → (before : List ℕ) → (numbers : ℕ)
-        → StandsIn t before numbers part → IsPartBehind t before part }
+    ensures occur { (t part : Tree) → IsProper t → (before : List ℕ) → (numbers : ℕ)
+        → OccursIn t before numbers part → IsPartBehind t before part }
     ensures taken { (t part : Tree) → IsProper part → (before : List ℕ) → IsPartBehind t before part
         → counts_taken (length before) (length (key_of part)) (counts_at t) ≡ counts_at part }
 {}
 
 /// A value changed at a path has the key of the value with a splice in it, and the counts of its bytes have the splice
-/// in the same places. So a document is changed by splicing its key, and its zeros at the same offsets.
+/// in the same slots. So a document is changed by splicing its key, and its zeros at the same offsets.
 pub fn changes_are_splices()
     ensures { (names : List (List ℕ)) → (t : Tree) → IsProper t
         → Spliced key_of counts_at t (λ change. changed_at change names t) }
 {}
 
-/// The place that a path leads to in a key is that of the splice.
-pub fn places_are_cuts()
-    ensures { (t : Tree) → (changed : (Option Tree → Outcome) → Option Tree) → (bytes : List ℕ) → (place : Place)
-        → (s : PlaceIn changed bytes place) → (x : AreSplices key_of counts_at t changed)
-        → Agrees s.0.front (name_key place.object s.0.name) place.behind.now x.cut }
+/// The slot that a path leads to in a key is that of the splice.
+pub fn slots_are_cuts()
+    ensures { (t : Tree) → (changed : (Option Tree → Outcome) → Option Tree) → (bytes : List ℕ) → (slot : Slot)
+        → (s : SlotIn changed bytes slot) → (x : AreSplices key_of counts_at t changed)
+        → Agrees s.0.front (name_key slot.object s.0.name) slot.behind.now x.cut }
 {}
 
 /// The members of two objects are merged from the first ones on: the one with the lower name comes next, and of two
@@ -71,12 +71,12 @@ pub fn merges_take_members()
     ensures joined { (ts us : Trees) → counts_at_items (joined_items ts us) ≡ counts_of_items ts ++ counts_at_items us }
 {}
 
-/// No key ends with the byte with which zeros behind a key do. So the last byte tells whether there are any.
+/// No key ends with the byte with which zeros behind a key do. So the last byte says whether there are any.
 pub fn keys_end_unlike_zeros()
     ensures { (t : Tree) → IsReadable t → EndsUnlike zeros_mark (key_of t) }
 {}
 
-/// What stands behind a key is short: at most two bytes for each byte of the key, and ten.
+/// What is behind a key is short: at most two bytes for each byte of the key, and ten.
 pub fn tails_are_short()
     ensures { (t : Tree) → IsProper t → length (behind_key (zeros_at t)) ≤ 2 * length (key_of t) + 10 }
 {}

@@ -1,4 +1,4 @@
-//! Values that are kept as their sort keys and the zeros that end their decimals, as one thing: a document.
+//! Values that are held as their sort keys and the zeros that end their decimals, as one thing: a document.
 #![tactic(auto)]
 
 pub mod build;

@@ -5,12 +5,12 @@ ghost use Rattle.jsonb_spec.specs.SortKey.{key_of, members_key};
 ghost use Rattle.jsonb_spec.specs.Tree.{Members, array, object};
 ghost use Rattle.jsonb_stored.specs.AtKeys.{OfKey};
 ghost use Rattle.jsonb_stored.specs.Checked.{HaveReadable};
-ghost use Rattle.key_document.specs.Changes.{AppendsBoth, KeepsOnError};
+ghost use Rattle.key_document.specs.Changes.{AppendsBoth, PreservesOnError};
 ghost use Rattle.key_document.specs.Document.{behind_key, counts_at_members, zeros_at};
 ghost use Rattle.key_document.specs.Merging.{CopiesStep, HasEnough, ItemsLeft, OfBoth, item_edge};
 ghost use Rattle.key_document.specs.Splices.{AppendsZeros};
 ghost use Rattle.stored_edit.specs.Edit.{as_items, joined_items, merge, merged_members};
-ghost use Rattle.stored_text.specs.Writes.{Keeps};
+ghost use Rattle.stored_text.specs.Writes.{Preserves};
 ghost use Rattle.stored_zeros.specs.Numbers.{Pends};
 
 use crate::document::{end_zeros, split_document};
@@ -20,7 +20,7 @@ use jsonb_stored::walk::items_of;
 use stored_edit::merge::{Side, Step, both_members, merge_step};
 
 /// Appends the document of both values in one, as `append_merged` of the crate `stored_edit` does with keys. Each
-/// number keeps all its digits.
+/// number holds all its digits.
 ///
 /// Nothing is allocated but for `out`. Where both values are objects, and one of them has zeros, their members are
 /// walked a second time.
@@ -32,7 +32,7 @@ use stored_edit::merge::{Side, Step, both_members, merge_step};
 /// document. After an error the buffer is as before.
 pub fn append_merged(out: &mut Vec<u8>, left: &[u8], right: &[u8]) -> Result<(), DocumentError>
     ensures merges { AppendsBoth merge left.now right.now result out.old out.new }
-    ensures keeps { KeepsOnError result out.old out.new }
+    ensures preserves { PreservesOnError result out.old out.new }
 {
     let (key, zeros) = split_document(left);
     let (other, other_zeros) = split_document(right);
@@ -57,7 +57,7 @@ fn merge_tail(
 ) -> Result<(), DocumentError>
     ensures merged { OfBoth key.now zeros.now other.now other_zeros.now merge (λ v.
         AppendsZeros result out.old out.new (behind_key (zeros_at v))) }
-    ensures keeps { Keeps out.old out.new }
+    ensures preserves { Preserves out.old out.new }
 {
     if zeros.is_empty() && other_zeros.is_empty() {
         return Ok(());
@@ -79,7 +79,7 @@ fn merge_zeros(
 ) -> Result<(), DocumentError>
     ensures merged { OfBoth key.now zeros.now other.now other_zeros.now merge (λ v.
         AppendsZeros result out.old out.new (zeros_at v)) }
-    ensures keeps { Keeps out.old out.new }
+    ensures preserves { Preserves out.old out.new }
 {
     match both_members(key, other) {
         Some((members, others)) => join_members(out, members, zeros, others, other_zeros),
@@ -98,7 +98,7 @@ fn join_items(
     ensures joined { OfBoth key.now zeros.now other.now other_zeros.now
         (λ t u. array (joined_items (as_items t) (as_items u))) (λ v.
         AppendsZeros result out.old out.new (zeros_at v)) }
-    ensures keeps { Keeps out.old out.new }
+    ensures preserves { Preserves out.old out.new }
 {
     let (size, ours) = items_left(key, zeros)?;
     let (other_size, theirs) = items_left(other, other_zeros)?;
@@ -146,7 +146,7 @@ fn join_members(
         → 1 + length left.now < 2 ^ 63 → 1 + length right.now < 2 ^ 63
         → 1 + length (counts_at_members (merged_members ms ns)) < 2 ^ 63
         → AppendsZeros result out.old out.new (zeros_at (object (merged_members ms ns))) }
-    ensures keeps { Keeps out.old out.new }
+    ensures preserves { Preserves out.old out.new }
 {
     let all = all_left(zeros)?;
     let ours = pass(all, 1)?;
@@ -194,7 +194,7 @@ fn copy_step<'z>(
         → HasEnough step.now.side (length step.now.part.now) passed xs ys → length xs < 2 ^ 63 → length ys < 2 ^ 63
         → merging.now.plain + length step.now.part.now < 2 ^ 63
         → CopiesStep step.now.side (length step.now.part.now) passed merging.now.plain xs ys result out.old out.new }
-    ensures keeps { Keeps out.old out.new }
+    ensures preserves { Preserves out.old out.new }
 {
     let size = step.part.len();
     match step.side {

@@ -7,7 +7,7 @@ ghost use Rattle.jsonb_spec.specs.Proper.{IsProper};
 ghost use Rattle.jsonb_spec.specs.SortKey.{key_of};
 ghost use Rattle.jsonb_spec.specs.Tree.{Tree};
 ghost use Rattle.jsonb_stored.specs.AtKeys.{OfKey};
-ghost use Rattle.key_document.specs.Changes.{Answers, AnswersOf, AppendsDocument, FindsRange, IsPartAt, KeepsOnError, OfPartAt};
+ghost use Rattle.key_document.specs.Changes.{Answers, AnswersOf, AppendsDocument, FindsRange, IsPartAt, PreservesOnError, OfPartAt};
 ghost use Rattle.key_document.specs.Document.{zeros_at, OfDocument};
 
 use crate::document::split_document;
@@ -16,7 +16,7 @@ use crate::splice::cut_zeros;
 use jsonb_stored::find::find_part;
 use jsonb_stored::skip::after_key;
 use jsonb_stored::walk::front;
-use stored_edit::place::find_place;
+use stored_edit::slot::find_slot;
 
 /// Appends the document of the value's part at the path of these names, and returns true. Where there is no part,
 /// nothing is appended, and it returns false. A name is that of a member, or in an array an index in decimal digits.
@@ -31,7 +31,7 @@ pub fn append_part(
     names: &[String],
 ) -> Result<bool, DocumentError>
     ensures answers { AnswersOf (part_at (map string_bytes names.now)) document.now result out.old out.new }
-    ensures keeps { KeepsOnError result out.old out.new }
+    ensures preserves { PreservesOnError result out.old out.new }
 {
     let (key, zeros) = split_document(document);
     if zeros.is_empty() {
@@ -59,7 +59,7 @@ pub fn append_range(
 ) -> Result<(), DocumentError>
     ensures part { OfDocument document.now (λ t. OfPartAt t offset size (λ part.
         AppendsDocument part result out.old out.new)) }
-    ensures keeps { KeepsOnError result out.old out.new }
+    ensures preserves { PreservesOnError result out.old out.new }
 {
     let (key, zeros) = split_document(document);
     if offset > key.len() || size > key.len() - offset {
@@ -72,7 +72,7 @@ pub fn append_range(
 fn append_plain_part(out: &mut Vec<u8>, key: &[u8], names: &[String]) -> Result<bool, DocumentError>
     ensures answers { OfKey key.now (λ t. length (zeros_at t) ≡ 0
         → Answers (part_at (map string_bytes names.now) t) result out.old out.new) }
-    ensures keeps { KeepsOnError result out.old out.new }
+    ensures preserves { PreservesOnError result out.old out.new }
 {
     let Some(rest) = find_part(key, names)? else {
         return Ok(false);
@@ -97,12 +97,12 @@ fn find_range<'k>(
     if names.is_empty() {
         return Ok(Some((0, key)));
     }
-    let Some(place) = find_place(key, names)? else {
+    let Some(slot) = find_slot(key, names)? else {
         return Ok(None);
     };
-    let value = place.spot.value;
+    let value = slot.spot.value;
     let offset = key.len().saturating_sub(value.len());
-    Ok(Some((offset, front(value, place.behind))))
+    Ok(Some((offset, front(value, slot.behind))))
 }
 
 // Appends the document of the part whose key this is, which is at this offset in that of the value with these zeros.
@@ -114,7 +114,7 @@ fn append_slot(
 ) -> Result<(), DocumentError>
     ensures appended { (t u : Tree) → IsProper t → length (key_of t) < 2 ^ 63 → zeros.now ≡ zeros_at t → IsReadable u
         → IsPartAt t offset u → part.now ≡ key_of u → AppendsDocument u result out.old out.new }
-    ensures keeps { KeepsOnError result out.old out.new }
+    ensures preserves { PreservesOnError result out.old out.new }
 {
     let start = out.len();
     out.extend_from_slice(part)?;

@@ -3,14 +3,14 @@
 ghost use Rattle.std.specs.Prelude.{◌≡◌, ◌<◌, ◌^◌, ◌++◌, List, ℕ, IfOk, length, true};
 ghost use Rattle.key_document.specs.Splices.{AppendsZeros, AreSpliced, CutsOnError, spliced_counts};
 ghost use Rattle.key_document.specs.Document.{behind_key};
-ghost use Rattle.stored_text.specs.Writes.{Keeps};
+ghost use Rattle.stored_text.specs.Writes.{Preserves};
 ghost use Rattle.stored_zeros.specs.Zeros.{zeros_of};
 
 use crate::document::end_zeros;
 use crate::error::DocumentError;
 use crate::zeros::{all_left, copy, more_plain, pass};
 
-/// How many bytes of the new key stand before the place of a change, are the name and the part there, and stand behind
+/// How many bytes of the new key are before the slot of a change, are the name and the part there, and are behind
 /// it.
 #[derive(Clone, Copy)]
 pub(crate) struct Lengths {
@@ -20,9 +20,9 @@ pub(crate) struct Lengths {
     pub(crate) behind: usize,
 }
 
-/// Appends what follows the new key, which begins at `start`, and returns true: its zeros, and their end. They are those of
-/// the old key, which has so many bytes, before the place and behind it, and between them those of the part. After an
-/// error the new key is gone too.
+/// Appends what follows the new key, which begins at `start`, and returns true: its zeros, and their end. They are
+/// those of the old key, which has so many bytes, before the slot and behind it, and between them those of the part.
+/// After an error the new key is gone too.
 pub(crate) fn splice_tail(
     out: &mut Vec<u8>,
     start: usize,
@@ -36,7 +36,7 @@ pub(crate) fn splice_tail(
         → AppendsZeros result out.old out.new
         (behind_key (zeros_of 0 (spliced_counts front lengths.now.name part behind))) }
     ensures answer { IfOk result (λ answer. answer ≡ true) }
-    ensures keeps { CutsOnError start result out.old out.new }
+    ensures preserves { CutsOnError start result out.old out.new }
 {
     match splice_zeros(out, key_len, zeros, part_zeros, lengths) {
         Ok(()) => Ok(true),
@@ -59,7 +59,7 @@ fn splice_zeros(
         → AreSpliced key_len zeros.now part_zeros.now lengths.now front entry part behind
         → AppendsZeros result out.old out.new
         (behind_key (zeros_of 0 (spliced_counts front lengths.now.name part behind))) }
-    ensures keeps { Keeps out.old out.new }
+    ensures preserves { Preserves out.old out.new }
 {
     let start = out.len();
     join_zeros(out, key_len, zeros, part_zeros, lengths)?;
@@ -79,7 +79,7 @@ fn join_zeros(
     ensures joined { (front entry part behind : List ℕ)
         → AreSpliced key_len zeros.now part_zeros.now lengths.now front entry part behind
         → AppendsZeros result out.old out.new (zeros_of 0 (spliced_counts front lengths.now.name part behind)) }
-    ensures keeps { Keeps out.old out.new }
+    ensures preserves { Preserves out.old out.new }
 {
     let all = all_left(zeros)?;
     let part_all = all_left(part_zeros)?;
@@ -105,7 +105,7 @@ pub(crate) fn cut_zeros(
     ensures cut { (before part behind : List ℕ) → zeros.now ≡ zeros_of 0 (before ++ (part ++ behind))
         → length before ≡ offset → length part ≡ size → length (before ++ (part ++ behind)) < 2 ^ 63
         → AppendsZeros result out.old out.new (behind_key (zeros_of 0 part)) }
-    ensures keeps { Keeps out.old out.new }
+    ensures preserves { Preserves out.old out.new }
 {
     let start = out.len();
     let all = all_left(zeros)?;

@@ -13,7 +13,7 @@ use Rattle.std.proofs.Math.Seq.{take-append_seam, drop-append_seam}
 use Rattle.jsonb_spec.specs.Grammar.Quoted.{Quoted}
 use Rattle.jsonb_spec.specs.Grammar.Scalar.{IsLiteral, null_word, true_word, false_word, IsScalar, literal_value, string_value, number_value, IsKey, quoted_key}
 use Rattle.jsonb_spec.specs.Grammar.StandardNumber.{IsExponentMark}
-use Rattle.jsonb_spec.specs.Grammar.StringBody.{Item, raw, escape, unit, spelling, after_u, IsItem, IsHexDigit}
+use Rattle.jsonb_spec.specs.Grammar.StringBody.{Item, raw, escape, unit, encoding, after_u, IsItem, IsHexDigit}
 use Rattle.jsonb_spec.specs.Grammar.Whitespace.{IsWhitespacePiece, space, tab, line_feed, form_feed, carriage_return, written_line_feed, written_carriage_return, written_tab, written_form_feed, block_comment, line_comment, IsWhitespace, no_whitespace, more_whitespace, whitespace_to_end}
 use Rattle.jsonb_spec.specs.Grammar.{IsPadded, padded, IsJoined, one_part, more_parts, IsElement, whole_element, IsMember, key_and_value, IsValue, scalar, empty_array, full_array, empty_object, full_object, Derives, max_depth, IsDocument, value_alone}
 use Rattle.jsonb_spec.specs.Mode.{standard, extended}
@@ -37,12 +37,12 @@ use Rattle.plain_numbers.specs.Pieces.{Piece, other, word, pieces, in_string, is
 use Rattle.plain_numbers.proofs.Exact.{few}
 use Rattle.plain_numbers.proofs.Found.{read}
 use Rattle.plain_numbers.proofs.Passing.{one_byte, escape_same}
-use Rattle.plain_numbers.proofs.Words.{word_stands}
+use Rattle.plain_numbers.proofs.Words.{word_holds}
 use Rattle.plain_numbers.proofs.Writing.{before_before, nothing_before, plain_none, plain_short}
 
 -- ---- bytes that are written out as others
 
--- no byte of a word stands first
+-- no byte of a word is first
 abbrev EndsWord : List ℕ → Type 0
 EndsWord [] = Unit {0}
 EndsWord (b ∷ bytes) = is_word_byte b ≡ false
@@ -210,21 +210,21 @@ by_recursion : (ds : List ℕ) → All IsHexDigit ds → AllByRecursion IsHexDig
 by_recursion [] h = tt
 by_recursion (d ∷ ds) h = (h 0 0 (omega arith), by_recursion ds (λ k x low. h (suc k) x (omega (arith, low))))
 
-inside_item : (item : Item) → IsItem extended item → item ≢ raw 34 → Inside (spelling item)
+inside_item : (item : Item) → IsItem extended item → item ≢ raw 34 → Inside (encoding item)
 inside_item (raw b) is no_quote = inside_byte b (λ e. no_quote (ap raw e)) is
 inside_item (escape letter byte) is no_quote = inside_escape letter
 inside_item (unit braces digits) is no_quote = inside_then (92 ∷ 117 ∷ []) (after_u braces digits) (inside_escape 117) (inside_bytes (after_u braces digits) (inner_unit braces digits (by_recursion digits is.1)))
 
-inside_items : (items : List Item) → AllByRecursion (IsItem extended) items → AllByRecursion (λ item. item ≢ raw 34) items → Inside (flat_map spelling items)
+inside_items : (items : List Item) → AllByRecursion (IsItem extended) items → AllByRecursion (λ item. item ≢ raw 34) items → Inside (flat_map encoding items)
 inside_items [] each none = inside_none
-inside_items (item ∷ items) each none = inside_then (spelling item) (flat_map spelling items) (inside_item item each.0 none.0) (inside_items items each.1 none.1)
+inside_items (item ∷ items) each none = inside_then (encoding item) (flat_map encoding items) (inside_item item each.0 none.0) (inside_items items each.1 none.1)
 
 quoted_always : (bytes text : List ℕ) (mark : Mark) → Quoted extended 34 bytes text mark → Always bytes bytes
 unfolding Inside
-quoted_always bytes text mark q = subst (λ bs. Always bs bs) (sym q.spelled) (always_others (34 ∷ (q.body ++ 34 ∷ [])) whole)
+quoted_always bytes text mark q = subst (λ bs. Always bs bs) (sym q.encoded) (always_others (34 ∷ (q.body ++ 34 ∷ [])) whole)
   where
     body_inside : (more : List ℕ) → in_string (q.body ++ more) ≡ map other q.body ++ in_string more
-    body_inside = subst (λ bs. (more : List ℕ) → in_string (bs ++ more) ≡ map other bs ++ in_string more) (sym q.decodes.body.spelled) (inside_items q.decodes.items q.decodes.body.each q.inside)
+    body_inside = subst (λ bs. (more : List ℕ) → in_string (bs ++ more) ≡ map other bs ++ in_string more) (sym q.decodes.body.encoded) (inside_items q.decodes.items q.decodes.body.each q.inside)
 
     whole : (more : List ℕ) → pieces ((34 ∷ (q.body ++ 34 ∷ [])) ++ more) ≡ map other (34 ∷ (q.body ++ 34 ∷ [])) ++ pieces more
     whole more = ap (λ bs. other 34 ∷ in_string bs) (append_assoc q.body (34 ∷ []) more) ∙ ap (λ ps. other 34 ∷ ps) (body_inside (34 ∷ more) ∙ sym (ap (λ ps. ps ++ pieces more) (map-append other q.body (34 ∷ [])) ∙ append_assoc (map other q.body) (other 34 ∷ []) (pieces more)))
@@ -251,7 +251,7 @@ whole_word (b ∷ bytes) more h e =
 word_pieces : (bytes more : List ℕ) → AreWordBytes bytes → 0 < length bytes → EndsWord more → pieces (bytes ++ more) ≡ word bytes ∷ pieces more
 unfolding word_length
 word_pieces bytes more h some e =
-    word_stands (bytes ++ more) (length bytes) (sym (whole_word bytes more h e)) some
+    word_holds (bytes ++ more) (length bytes) (sym (whole_word bytes more h e)) some
     ∙ (let front = take-append_seam bytes more in let back = drop-append_seam bytes more in (λ i. word (front i) ∷ pieces (back i)))
 
 word_runs : (bytes out : List ℕ) → AreWordBytes bytes → 0 < length bytes → plain bytes ≡ Some out → Runs bytes out
@@ -335,17 +335,17 @@ number_some bytes p h =
 number_byte : (b : ℕ) → IsNumberByte b → IsTextByte b
 number_byte b h = (omega (arith, h), omega (arith, h), omega (arith, h), omega (arith, h), omega (arith, h), omega (arith, h))
 
--- what is written of bytes that spell something
-record Out {A : Type 0} (Spells : List ℕ → A → Type 0) (bytes : List ℕ) (a : A) : Type 0 where
+-- what is written of bytes that encode something
+record Out {A : Type 0} (Encodes : List ℕ → A → Type 0) (bytes : List ℕ) (a : A) : Type 0 where
   out : List ℕ
   runs : Runs bytes out
-  is : Spells out a
+  is : Encodes out a
 
 -- the same of a value, which begins as one
-record ValueOut (Spells : List ℕ → Tree → Type 0) (bytes : List ℕ) (t : Tree) : Type 0 where
+record ValueOut (Encodes : List ℕ → Tree → Type 0) (bytes : List ℕ) (t : Tree) : Type 0 where
   out : List ℕ
   runs : Runs bytes out
-  is : Spells out t
+  is : Encodes out t
   first : Begins IsTextByte out
 
 begins_more : (bytes more : List ℕ) → Begins IsTextByte bytes → Begins IsTextByte (bytes ++ more)
@@ -373,7 +373,7 @@ string_out bytes text mark q = record {
   out = bytes;
   runs = runs_always bytes bytes (quoted_always bytes text mark q);
   is = string_value {quote = 34} (inl refl) q;
-  first = subst (Begins IsTextByte) (sym q.spelled) (one_first 34 (q.body ++ 34 ∷ []) quote_text);
+  first = subst (Begins IsTextByte) (sym q.encoded) (one_first 34 (q.body ++ 34 ∷ []) quote_text);
 }
 
 word_begins : (bytes : List ℕ) → 0 < length bytes → AreWordBytes bytes → Begins IsTextByte bytes

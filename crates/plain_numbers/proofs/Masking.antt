@@ -16,11 +16,11 @@ use Rattle.plain_numbers.specs.Passing.{LacksExponent, Passes, word_length}
 use Rattle.plain_numbers.specs.Pieces.{Piece, other, word, piece_bytes, pieces}
 use Rattle.plain_numbers.proofs.Joined.{joined}
 use Rattle.plain_numbers.proofs.Runs.{no_parts}
-use Rattle.plain_numbers.proofs.Words.{word_stands}
+use Rattle.plain_numbers.proofs.Words.{word_holds}
 
-pub word_kept : (bytes : List ℕ) → parts_of bytes ≡ None → masked_word bytes ≡ bytes
+pub word_retained : (bytes : List ℕ) → parts_of bytes ≡ None → masked_word bytes ≡ bytes
 unfolding masked_word
-word_kept bytes e = ap (λ p. masked_of p bytes) e
+word_retained bytes e = ap (λ p. masked_of p bytes) e
 
 pub word_long : (bytes : List ℕ) (p : Parts) → Some p ≡ parts_of bytes → fits (exact_value p) ≡ false → masked_word bytes ≡ bytes
 unfolding masked_word
@@ -41,9 +41,9 @@ none_of_nothing p e = none_is p (sym (no_parts [] tt) ∙ e)
 mask_length : (bytes : List ℕ) → 0 < length bytes → length (mask bytes) ≡ length bytes
 mask_length bytes some = omega (arith, some, length-replicate {A = ℕ} (length bytes - 1) 32)
 
-word_length_kept : (bytes : List ℕ) → length (masked_word bytes) ≡ length bytes
+word_length_retained : (bytes : List ℕ) → length (masked_word bytes) ≡ length bytes
 unfolding masked_word
-word_length_kept bytes = by (parts_of bytes) refl
+word_length_retained bytes = by (parts_of bytes) refl
   where
     some : (bytes : List ℕ) (p : Parts) → parts_of bytes ≡ Some p → 0 < length bytes
     some [] p e = absurd (none_of_nothing p e)
@@ -60,18 +60,18 @@ word_length_kept bytes = by (parts_of bytes) refl
 pieces_length : (ps : List Piece) → length (masked_pieces ps) ≡ length (flat_map piece_bytes ps)
 pieces_length [] = refl
 pieces_length (other b ∷ ps) = omega (arith, pieces_length ps)
-pieces_length (word w ∷ ps) = omega (arith, pieces_length ps, word_length_kept w, length-append (masked_word w) (masked_pieces ps), length-append w (flat_map piece_bytes ps))
+pieces_length (word w ∷ ps) = omega (arith, pieces_length ps, word_length_retained w, length-append (masked_word w) (masked_pieces ps), length-append w (flat_map piece_bytes ps))
 
 pub masked_length : (text : List ℕ) → length (masked text) ≡ length text
 masked_length text = pieces_length (pieces text) ∙ ap length (joined text).outside
 
 -- ---- what is written so far
 
-lacking_kept : (front more : List Piece) → AllByRecursion LacksExponent front → masked_pieces (front ++ more) ≡ flat_map piece_bytes front ++ masked_pieces more
-lacking_kept [] more h = refl
-lacking_kept (other b ∷ front) more h = ap (λ bs. b ∷ bs) (lacking_kept front more h.1)
-lacking_kept (word w ∷ front) more h =
-    ap (λ bs. bs ++ masked_pieces (front ++ more)) (word_kept w h.0) ∙ ap (λ bs. w ++ bs) (lacking_kept front more h.1)
+lacking_retained : (front more : List Piece) → AllByRecursion LacksExponent front → masked_pieces (front ++ more) ≡ flat_map piece_bytes front ++ masked_pieces more
+lacking_retained [] more h = refl
+lacking_retained (other b ∷ front) more h = ap (λ bs. b ∷ bs) (lacking_retained front more h.1)
+lacking_retained (word w ∷ front) more h =
+    ap (λ bs. bs ++ masked_pieces (front ++ more)) (word_retained w h.0) ∙ ap (λ bs. w ++ bs) (lacking_retained front more h.1)
     ∙ sym (append_assoc w (flat_map piece_bytes front) (masked_pieces more))
 
 -- So much is written of the text, and the rest is left.
@@ -90,7 +90,7 @@ gap_masked text rest from old now new gap w p is items =
     record {
       written = w.written ++ bytes;
       items = items ∙ ap (λ g. now ++ g) is ∙ ap (λ n. n ++ bytes) w.items ∙ append_assoc old w.written bytes;
-      same = w.same ∙ ap (λ ps. w.written ++ masked_pieces ps) p.same ∙ ap (λ bs. w.written ++ bs) (lacking_kept p.front (pieces from) p.lack) ∙ sym (append_assoc w.written bytes (masked from));
+      same = w.same ∙ ap (λ ps. w.written ++ masked_pieces ps) p.same ∙ ap (λ bs. w.written ++ bs) (lacking_retained p.front (pieces from) p.lack) ∙ sym (append_assoc w.written bytes (masked from));
       sum = omega (arith, w.sum, ap length p.split, length-append bytes from, length-append w.written bytes);
     }
 
@@ -100,14 +100,14 @@ number_masked text from behind old now new len bytes w e some front back items =
     record {
       written = w.written ++ masked_word bytes;
       items = items ∙ ap (λ n. n ++ masked_word bytes) w.items ∙ append_assoc old w.written (masked_word bytes);
-      same = w.same ∙ ap (λ ps. w.written ++ masked_pieces ps) (word_stands from len e some ∙ (let f = sym front in let k = sym back in (λ i. word (f i) ∷ pieces (k i)))) ∙ sym (append_assoc w.written (masked_word bytes) (masked behind));
-      sum = omega (arith, w.sum, ap length whole, length-append bytes behind, word_length_kept bytes, length-append w.written (masked_word bytes));
+      same = w.same ∙ ap (λ ps. w.written ++ masked_pieces ps) (word_holds from len e some ∙ (let f = sym front in let k = sym back in (λ i. word (f i) ∷ pieces (k i)))) ∙ sym (append_assoc w.written (masked_word bytes) (masked behind));
+      sum = omega (arith, w.sum, ap length whole, length-append bytes behind, word_length_retained bytes, length-append w.written (masked_word bytes));
     }
 
 pub all_masked : (text old now : List ℕ) → MaskedTo text [] old now → now ≡ old ++ masked text
 all_masked text old now w = w.items ∙ ap (λ bs. old ++ bs) (sym (append-nil w.written) ∙ sym w.same)
 
--- ---- what the code tells
+-- ---- what the code says
 
 pub when_ok : (new all none : List ℕ) (t : Bool) → new ≡ (if t then all else none) → t ≡ true → new ≡ all
 when_ok new all none t e h = e ∙ cond-true t all none h
@@ -126,6 +126,6 @@ pub made_some : (r : Option Number) (n : Num) (t : Bool) → Makes r n → is_so
 made_some None n t made is some = absurd (true≢false (sym (is ∙ ap not some)))
 made_some (Some x) n t made is some = made.0
 
-pub no_room : {E : Type 0} (r : Result (Unit {0}) E) (old new : Vec ℕ Global) (text : List ℕ) → IsErr r → new.items ≡ old.items → vec_capacity old < vec_len old + length text → vec_capacity old ≤ vec_capacity new → AppendsAllOrNothing r old new (masked text)
-no_room (Ok x) old new text is same full c = absurd (true≢false (sym is))
-no_room (Err e) old new text is same full c = record { ok = tt; err = same; full = omega (arith, full, masked_length text); capacity = c }
+pub no_capacity : {E : Type 0} (r : Result (Unit {0}) E) (old new : Vec ℕ Global) (text : List ℕ) → IsErr r → new.items ≡ old.items → vec_capacity old < vec_len old + length text → vec_capacity old ≤ vec_capacity new → AppendsAllOrNothing r old new (masked text)
+no_capacity (Ok x) old new text is same full c = absurd (true≢false (sym is))
+no_capacity (Err e) old new text is same full c = record { ok = tt; err = same; full = omega (arith, full, masked_length text); capacity = c }

@@ -56,7 +56,7 @@ run_same (suc count) (b ∷ bytes) within plain =
     let p = plain_byte b (take count bytes) plain in
     one_byte b bytes p.0 p.1 ∙ ap (λ ps. other b ∷ ps) (run_same count bytes (omega (arith, within)) p.2)
 
--- a run of bytes without quotes and backslashes, and what stands behind it
+-- a run of bytes without quotes and backslashes, and what is behind it
 pub stays_run : (all rest behind : List ℕ) (run : ℕ) → Stays all rest → run ≤ length rest → ArePlain (take run rest) → behind ≡ drop run rest → Stays all behind
 stays_run all rest behind run s within plain is =
     goes_on all rest (take run rest) behind s (sym (take-append-drop run rest) ∙ ap (λ r. take run rest ++ r) (sym is)) (run_same run rest within plain ∙ ap (λ r. map other (take run rest) ++ in_string r) (sym is))

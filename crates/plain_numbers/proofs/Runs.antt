@@ -9,7 +9,7 @@ use Rattle.std.proofs.lemmas.List.Concat.{flat_map-append}
 use Rattle.plain_numbers.specs.Exponent.{Parts, is_mark, parts_of, with_whole, with_fraction, with_mark, behind_digits}
 use Rattle.plain_numbers.specs.Passing.{HasNoStop, LacksExponent, LeavesWord, Passes, PassesString, is_stop, is_word_byte, word_length}
 use Rattle.plain_numbers.specs.Pieces.{Piece, other, word, piece_bytes, pieces, in_string, onto, is_separator, is_foreign}
-use Rattle.plain_numbers.proofs.Words.{ends_here, goes_on, word_stands}
+use Rattle.plain_numbers.proofs.Words.{ends_here, goes_on, word_holds}
 
 -- ---- lists of which each part is so
 
@@ -71,7 +71,7 @@ calm_lacks [] h = tt
 calm_lacks (other b ∷ ps) h = (tt, calm_lacks ps h.1)
 calm_lacks (word w ∷ ps) h = (no_parts w h.0, calm_lacks ps h.1)
 
--- no byte of a word stands first
+-- no byte of a word is first
 abbrev pub BeginsNoWord : List ℕ → Type 0
 BeginsNoWord [] = ⊤
 BeginsNoWord (byte ∷ bytes) = is_word_byte byte ≡ false
@@ -266,7 +266,7 @@ pub passes_word : (all from behind : List ℕ) (len : ℕ) (bytes : List ℕ) �
 passes_word all from behind len bytes s e some front back none =
     passes_on all from (word bytes ∷ []) behind s
     (sym (take-append-drop len from) ∙ ap (λ bs. bs ++ drop len from) (sym front) ∙ ap (λ bs. bytes ++ bs) (sym back) ∙ ap (λ bs. bs ++ behind) (sym (append-nil bytes)))
-    (word_stands from len e some ∙ (let f = sym front in let k = sym back in (λ i. word (f i) ∷ pieces (k i))))
+    (word_holds from len e some ∙ (let f = sym front in let k = sym back in (λ i. word (f i) ∷ pieces (k i))))
     (none, tt)
 
 -- a run after a run

@@ -24,7 +24,7 @@ ends_here x xs h = other_first (x == 34) (is_separator x) (is_foreign x) x (in_s
 pub goes_on : (x : ℕ) (xs : List ℕ) → is_word_byte x ≡ true → pieces (x ∷ xs) ≡ onto x (pieces xs)
 goes_on x xs h = word_first (x == 34) (is_separator x) (is_foreign x) x (in_string xs) (pieces xs) (map other xs) (onto x (pieces xs)) h
 
--- a word, and what stands behind it
+-- a word, and what is behind it
 abbrev parted : ℕ → List ℕ → List Piece
 parted n bytes = word (take n bytes) ∷ pieces (drop n bytes)
 
@@ -38,10 +38,10 @@ run_from b (x ∷ xs) h = goes_on b (x ∷ xs) h ∙ next (λ e. run_from x xs e
         ap (onto b) (more e) ∙ ap (λ (n : ℕ). parted (suc n) (b ∷ x ∷ xs)) one
     next more false e = let o = ends_here x xs e in ap (onto b) o.1 ∙ ap (λ ps. word (b ∷ []) ∷ ps) (sym o.1)
 
-pub word_stands : (bytes : List ℕ) (len : ℕ) → len ≡ word_length bytes → 0 < len → pieces bytes ≡ parted len bytes
+pub word_holds : (bytes : List ℕ) (len : ℕ) → len ≡ word_length bytes → 0 < len → pieces bytes ≡ parted len bytes
 unfolding word_length
-word_stands [] len e some = absurd (omega (arith, e, some))
-word_stands (b ∷ bytes) len e some = by (is_word_byte b) refl
+word_holds [] len e some = absurd (omega (arith, e, some))
+word_holds (b ∷ bytes) len e some = by (is_word_byte b) refl
   where
     by : (t : Bool) → is_word_byte b ≡ t → pieces (b ∷ bytes) ≡ parted len (b ∷ bytes)
     by true h =

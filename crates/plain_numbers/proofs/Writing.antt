@@ -14,21 +14,21 @@ use Rattle.plain_numbers.specs.Expansion.{plain_of, plain, before, plain_before,
 use Rattle.plain_numbers.specs.Passing.{LacksExponent, Passes, word_length}
 use Rattle.plain_numbers.specs.Pieces.{Piece, other, word, piece_bytes, pieces}
 use Rattle.plain_numbers.specs.View.{parts_view, FindsNumber}
-use Rattle.plain_numbers.specs.Writing.{Keeps, WritesPlain, WritesWord, WritesDirectly}
+use Rattle.plain_numbers.specs.Writing.{Preserves, WritesPlain, WritesWord, WritesDirectly}
 use Rattle.plain_numbers.specs.declared.scan.Found.{Found}
-use Rattle.plain_numbers.proofs.Words.{word_stands}
+use Rattle.plain_numbers.proofs.Words.{word_holds}
 
--- ---- what is kept
+-- ---- what is held
 
-pub kept_same : (old new : Vec ℕ Global) → new.items ≡ old.items → vec_capacity old ≤ vec_capacity new → Keeps old new
-kept_same old new e c = record { kept = record { more = []; extended = e ∙ sym (append-nil old.items) }; capacity = c }
+pub retained_same : (old new : Vec ℕ Global) → new.items ≡ old.items → vec_capacity old ≤ vec_capacity new → Preserves old new
+retained_same old new e c = record { retained = record { more = []; extended = e ∙ sym (append-nil old.items) }; capacity = c }
 
-pub kept_more : (old new : Vec ℕ Global) (bytes : List ℕ) → new.items ≡ old.items ++ bytes → vec_capacity old ≤ vec_capacity new → Keeps old new
-kept_more old new bytes e c = record { kept = record { more = bytes; extended = e }; capacity = c }
+pub retained_more : (old new : Vec ℕ Global) (bytes : List ℕ) → new.items ≡ old.items ++ bytes → vec_capacity old ≤ vec_capacity new → Preserves old new
+retained_more old new bytes e c = record { retained = record { more = bytes; extended = e }; capacity = c }
 
-pub keeps_on : (old now new : Vec ℕ Global) → Keeps old now → Keeps now new → Keeps old new
-keeps_on old now new p q = record {
-  kept = record { more = p.kept.more ++ q.kept.more; extended = q.kept.extended ∙ ap (λ xs. xs ++ q.kept.more) p.kept.extended ∙ append_assoc old.items p.kept.more q.kept.more };
+pub preserves_on : (old now new : Vec ℕ Global) → Preserves old now → Preserves now new → Preserves old new
+preserves_on old now new p q = record {
+  retained = record { more = p.retained.more ++ q.retained.more; extended = q.retained.extended ∙ ap (λ xs. xs ++ q.retained.more) p.retained.extended ∙ append_assoc old.items p.retained.more q.retained.more };
   capacity = omega (arith, p.capacity, q.capacity);
 }
 
@@ -46,21 +46,21 @@ plain_none bytes e = ap (λ p. plain_of p bytes) (sym e)
 pub plain_short : (bytes : List ℕ) (p : Parts) → Some p ≡ parts_of bytes → fits (exact_value p) ≡ true → plain bytes ≡ Some (number_text (exact_value p))
 plain_short bytes p e h = plain_known bytes p e ∙ cond-true (fits (exact_value p)) _ _ h
 
-as_plain : (q p : Option (List ℕ)) (offset : ℕ) (r : Result (Unit {0}) PlainError) (old new : Vec ℕ Global) → q ≡ p → WritesPlain p offset r old new → Keeps old new → WritesWord q offset r old new
-as_plain q p offset r old new e w k = subst (λ q. WritesWord q offset r old new) (sym e) (record { writes = w; keeps = k })
+as_plain : (q p : Option (List ℕ)) (offset : ℕ) (r : Result (Unit {0}) PlainError) (old new : Vec ℕ Global) → q ≡ p → WritesPlain p offset r old new → Preserves old new → WritesWord q offset r old new
+as_plain q p offset r old new e w k = subst (λ q. WritesWord q offset r old new) (sym e) (record { writes = w; preserves = k })
 
 full_writes : (text : List ℕ) (offset : ℕ) (r : Result (Unit {0}) PlainError) (old new : Vec ℕ Global) → IsErrAnd r (λ e. e ≡ OutOfMemory) → vec_capacity old < vec_len old + length text → WritesPlain (Some text) offset r old new
 full_writes text offset (Ok x) old new h full = absurd h
 full_writes text offset (Err e) old new h full = (h, full)
 
 pub number_long : (p : Parts) (offset : ℕ) (old : Vec ℕ Global) → fits (exact_value p) ≡ false → WritesWord (plain_of (Some p) []) offset (Err (DoesNotFit offset)) old old
-number_long p offset old h = as_plain _ None offset (Err (DoesNotFit offset)) old old (cond-false (fits (exact_value p)) _ _ h) refl (kept_same old old refl (omega arith))
+number_long p offset old h = as_plain _ None offset (Err (DoesNotFit offset)) old old (cond-false (fits (exact_value p)) _ _ h) refl (retained_same old old refl (omega arith))
 
 pub number_full : (p : Parts) (offset : ℕ) (r : Result (Unit {0}) PlainError) (old new : Vec ℕ Global) (text : List ℕ) → fits (exact_value p) ≡ true → text ≡ number_text (exact_value p) → IsErrAnd r (λ e. e ≡ OutOfMemory) → vec_capacity old < vec_len old + length text → new.items ≡ old.items → vec_capacity old ≤ vec_capacity new → WritesWord (plain_of (Some p) []) offset r old new
-number_full p offset r old new text fit is h full same c = as_plain _ (Some text) offset r old new (cond-true (fits (exact_value p)) _ _ fit ∙ ap Some (sym is)) (full_writes text offset r old new h full) (kept_same old new same c)
+number_full p offset r old new text fit is h full same c = as_plain _ (Some text) offset r old new (cond-true (fits (exact_value p)) _ _ fit ∙ ap Some (sym is)) (full_writes text offset r old new h full) (retained_same old new same c)
 
 pub number_written : (p : Parts) (offset : ℕ) (old new : Vec ℕ Global) (text : List ℕ) → fits (exact_value p) ≡ true → text ≡ number_text (exact_value p) → new.items ≡ old.items ++ text → vec_capacity old ≤ vec_capacity new → WritesWord (plain_of (Some p) []) offset (Ok tt) old new
-number_written p offset old new text fit is items c = as_plain _ (Some text) offset (Ok tt) old new (cond-true (fits (exact_value p)) _ _ fit ∙ ap Some (sym is)) items (kept_more old new text items c)
+number_written p offset old new text fit is items c = as_plain _ (Some text) offset (Ok tt) old new (cond-true (fits (exact_value p)) _ _ fit ∙ ap Some (sym is)) items (retained_more old new text items c)
 
 pub directly_written : (b : Bool) (p : Parts) (offset : ℕ) (old new : Vec ℕ Global) → b ≡ true → WritesDirectly b p old new → WritesWord (plain_of (Some p) []) offset (Ok tt) old new
 directly_written true p offset old new e h = number_written p offset old new (number_text (exact_value p)) h.0 refl h.1.0 h.1.1
@@ -76,7 +76,7 @@ pub not_directly : (b : Bool) (p : Parts) (q : Option (List ℕ)) (offset : ℕ)
 not_directly true p q offset r old now new e h w = absurd (cc)
 not_directly false p q offset r old now new e h w = record {
   writes = moved_on q offset r old now new h.0 h.1 w.writes;
-  keeps = keeps_on old now new (kept_same old now h.0 (omega (arith, h.1))) w.keeps;
+  preserves = preserves_on old now new (retained_same old now h.0 (omega (arith, h.1))) w.preserves;
 }
 
 -- ---- a text
@@ -136,7 +136,7 @@ unfolding size
 ok_front front (Ok text) answer e = omega (arith, ap size e, length-append front text)
 ok_front front (Err at) answer e = absurd (cc)
 
--- no room for the bytes before the next number
+-- no space for the bytes before the next number
 pub gap_full : (text rest words : List ℕ) (old now : Vec ℕ Global) (gap : List ℕ) → WrittenTo text rest old.items now.items → (p : Passes rest words) → gap ≡ flat_map piece_bytes p.front → vec_capacity old ≤ vec_capacity now → vec_capacity now < vec_len now + length gap → Explains text old OutOfMemory
 gap_full text rest words old now gap w p is c full = λ answer e.
     let bytes = flat_map piece_bytes p.front in
@@ -145,7 +145,7 @@ gap_full text rest words old now gap w p is c full = λ answer e.
 
 word_same : (text words behind old now : List ℕ) (len : ℕ) (bytes : List ℕ) (w : WrittenTo text words old now) → len ≡ word_length words → 0 < len → bytes ≡ take len words → behind ≡ drop len words → expanded text ≡ before w.written (plain_before (length text - length words + length bytes) (plain bytes) (expanded_at (length text - length words + length bytes) (pieces behind)))
 word_same text words behind old now len bytes w e some front back =
-    w.same ∙ ap (λ ps. before w.written (expanded_at (length text - length words) ps)) (word_stands words len e some ∙ (let f = sym front in let k = sym back in (λ i. word (f i) ∷ pieces (k i))))
+    w.same ∙ ap (λ ps. before w.written (expanded_at (length text - length words) ps)) (word_holds words len e some ∙ (let f = sym front in let k = sym back in (λ i. word (f i) ∷ pieces (k i))))
 
 -- the word's own failure
 pub word_failed : (text words behind : List ℕ) (old now new : Vec ℕ Global) (len offset : ℕ) (bytes : List ℕ) (error : PlainError) → WrittenTo text words old.items now.items → len ≡ word_length words → 0 < len → bytes ≡ take len words → behind ≡ drop len words → offset ≡ length text - length words + length bytes → vec_capacity old ≤ vec_capacity now → WritesPlain (plain bytes) offset (Err error) now new → Explains text old error
@@ -210,7 +210,7 @@ has_none text p = ap have_exponent p.same ∙ lacking_none p.front [] p.lack
 has_some : (text : List ℕ) (found : Found) → FindsNumber text found → have_exponent (pieces text) ≡ true
 has_some text found f =
     ap have_exponent f.passes.same ∙ lacking_none f.passes.front (pieces found.from.now) f.passes.lack
-    ∙ ap have_exponent (word_stands found.from.now found.len f.word f.some)
+    ∙ ap have_exponent (word_holds found.from.now found.len f.word f.some)
     ∙ ap (λ p. if is_some p then true else have_exponent (pieces (drop found.len found.from.now))) (sym f.parts)
 
 pub has_either : (text : List ℕ) (r : Option Found) (t : Bool) → IfSome r (λ found. FindsNumber text found) → IfNone r (Passes text []) → t ≡ is_some r → t ≡ have_exponent (pieces text)

@@ -40,9 +40,9 @@ pub data IsScalarOf : List ℕ → Tree → Type 0 where
   number_of : {bytes : List ℕ} {n : Num} → IsNumberOf bytes n → IsScalarOf bytes (number n)
 
 -- with whitespace before and after it
-pub data IsPaddedOf {A : Type 0} (Spells : List ℕ → A → Type 0) : List ℕ → A → Type 0 where
-  padded_of : (front core back : List ℕ) {a : A} → AreBlanks front → Spells core a → AreBlanks back
-      → IsPaddedOf Spells (front ++ (core ++ back)) a
+pub data IsPaddedOf {A : Type 0} (Encodes : List ℕ → A → Type 0) : List ℕ → A → Type 0 where
+  padded_of : (front core back : List ℕ) {a : A} → AreBlanks front → Encodes core a → AreBlanks back
+      → IsPaddedOf Encodes (front ++ (core ++ back)) a
 
 -- a key: a string in double quotes
 abbrev pub IsKeyOf : List ℕ → Mark × List ℕ → Type 0
@@ -53,7 +53,7 @@ pub data IsMemberOf (Value : List ℕ → Tree → Type 0) : List ℕ → Member
   member_of : {left right : List ℕ} {key : Mark × List ℕ} {t : Tree} → IsPaddedOf IsKeyOf left key
       → IsPaddedOf Value right t → IsMemberOf Value (left ++ ascii.colon ∷ right) (key.1, t)
 
--- a value, where Value says which values may stand inside of it
+-- a value, where Value says which values may be inside of it
 pub data IsValueOf (Value : List ℕ → Tree → Type 0) : List ℕ → Tree → Type 0 where
   scalar_of : {bytes : List ℕ} {t : Tree} → IsScalarOf bytes t → IsValueOf Value bytes t
   empty_array_of : (blanks : List ℕ) → AreBlanks blanks
@@ -66,7 +66,7 @@ pub data IsValueOf (Value : List ℕ → Tree → Type 0) : List ℕ → Tree �
       → AreDistinct (map (λ m. m.0) ms)
       → IsValueOf Value (ascii.open_brace ∷ (body ++ ascii.close_brace ∷ [])) (object (put_all ms no_members))
 
--- the bytes spell the tree, with arrays and objects nested no deeper than the number
+-- the bytes encode the tree, with arrays and objects nested no deeper than the number
 abbrev pub DerivesOf : ℕ → List ℕ → Tree → Type 0
 DerivesOf zero bytes t = IsScalarOf bytes t
 DerivesOf (suc depth) bytes t = IsValueOf (DerivesOf depth) bytes t

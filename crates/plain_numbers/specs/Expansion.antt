@@ -28,7 +28,7 @@ abbrev pub plain_before : ℕ → Option (List ℕ) → Result (List ℕ) ℕ �
 plain_before after None rest = Err after
 plain_before after (Some bytes) rest = before bytes rest
 
--- The pieces, the first of which stands at the offset, with each word written out; or the offset after the first word
+-- The pieces, the first of which is at the offset, with each word written out; or the offset after the first word
 -- that doesn't fit.
 abbrev pub expanded_at : ℕ → List Piece → Result (List ℕ) ℕ
 expanded_at offset [] = Ok []

@@ -88,10 +88,10 @@ steps_down true n = n
 -- The number `whole / 10^scale` of so many digits behind the point, of an exponent, and of a magnitude without either:
 -- no digit is dropped, and none is added behind the point.
 unfoldable pub moved : Bool → ℕ → ℕ → Bool → ℕ → Num
-moved negative magnitude places down n = record {
+moved negative magnitude decimals down n = record {
   form = decimal128;
-  scale = (places + steps_down down n) - steps_up down n;
-  whole = signed_by negative (magnitude * 10 ^ (steps_up down n - places));
+  scale = (decimals + steps_down down n) - steps_up down n;
+  whole = signed_by negative (magnitude * 10 ^ (steps_up down n - decimals));
 }
 
 -- the exact value

@@ -30,7 +30,7 @@ pub record HasParts (bytes : List ℕ) (p : Parts) : Type 0 where
   pub is_sign : IsSignOf p.down sign
   pub are_digits : IsNumeral 10 p.exponent
 
--- The number `whole / 10^scale` is that of the parts: their sign, and their digits / 10^(how many stand behind the
+-- The number `whole / 10^scale` is that of the parts: their sign, and their digits / 10^(how many are behind the
 -- point), times 10^exponent, or divided by it where it is down.
 pub record IsExactly (p : Parts) (n : Num) : Type 0 where
   pub magnitude : ℕ

@@ -1,4 +1,4 @@
--- A text in which numbers with an exponent are masked, so that all else keeps its place.
+-- A text in which numbers with an exponent are masked, so that all else stays at its offset.
 use Rattle.std.specs.Prelude.{ℕ, ◌-◌, if◌then◌else◌, List, [], ◌∷◌, ◌++◌, length, replicate, Option, Some, None}
 use Rattle.jsonb_spec.specs.Ascii as ascii
 use Rattle.plain_numbers.specs.Exponent.{Parts, parts_of, exact_value, fits}

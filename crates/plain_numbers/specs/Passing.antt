@@ -9,7 +9,7 @@ use Rattle.plain_numbers.specs.Pieces.{Piece, other, word, piece_bytes, pieces, 
 abbrev pub is_word_byte : ℕ → Bool
 is_word_byte byte = not (byte == ascii.quote || (is_separator byte || is_foreign byte))
 
--- A byte at which the search stops: a quote, the letter of an exponent, or a byte that stands in no text of RFC 8259 but
+-- A byte at which the search stops: a quote, the letter of an exponent, or a byte that is in no text of RFC 8259 but
 -- in strings.
 abbrev pub is_stop : ℕ → Bool
 is_stop byte = byte == ascii.quote || (is_mark byte || is_foreign byte)
@@ -36,7 +36,7 @@ pub record PassesString (text rest : List ℕ) : Type 0 where
   pub split : text ≡ front ++ rest
   pub same : in_string text ≡ map other front ++ pieces rest
 
--- No byte of a word stands before the index, or none at all.
+-- No byte of a word is before the index, or none at all.
 abbrev pub LeavesWord : List ℕ → ℕ → Type 0
 LeavesWord bytes zero = ⊤
 LeavesWord bytes (suc before) = is_word_byte (slice_index bytes before) ≡ false

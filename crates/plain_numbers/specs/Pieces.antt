@@ -2,7 +2,7 @@
 use Rattle.std.specs.Prelude.{ℕ, ◌==◌, ◌||◌, nat_lt, Bool, if◌then◌else◌, List, [], ◌∷◌, map}
 use Rattle.jsonb_spec.specs.Ascii as ascii
 
--- A word is a run of bytes that stand in no string and end none of RFC 8259's tokens. Any other byte is one piece, each
+-- A word is a run of bytes that are in no string and end none of RFC 8259's tokens. Any other byte is one piece, each
 -- byte of a string among them.
 pub data Piece : Type 0 where
   other : ℕ → Piece
@@ -18,7 +18,7 @@ abbrev pub is_separator : ℕ → Bool
 is_separator byte = nat_lt byte 33 || (byte == ascii.comma || (byte == ascii.colon || (byte == ascii.open_bracket
     || (byte == ascii.close_bracket || (byte == ascii.open_brace || byte == ascii.close_brace)))))
 
--- A byte that stands in no text of RFC 8259 but in strings: a single quote, a slash or a backslash. What follows may be
+-- A byte that is in no text of RFC 8259 but in strings: a single quote, a slash or a backslash. What follows may be
 -- a string in single quotes or a comment, so nothing from there on is a word.
 abbrev pub is_foreign : ℕ → Bool
 is_foreign byte = byte == ascii.single_quote || (byte == ascii.slash || byte == ascii.backslash)

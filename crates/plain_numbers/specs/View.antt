@@ -26,7 +26,7 @@ pub record AreNumerals (p : Parts) : Type 0 where
   pub behind : AllDigits 10 p.behind.now
   pub exponent : AllDigits 10 p.exponent.now
 
--- The first number stands for the second: they are the same, or both are too great to tell apart.
+-- The first number means the second: they are the same, or both are too great to distinguish.
 abbrev pub IsClamped : ℕ → ℕ → Type 0
 IsClamped clamped n = (clamped ≡ n) ⊎ ((2 ^ 100 ≤ clamped) × (2 ^ 100 ≤ n))
 
@@ -35,7 +35,7 @@ abbrev pub Makes : Option Number → Num → Type 0
 Makes result n = MatchOption result (exponent.fits n ≡ false)
     (λ made. (exponent.fits n ≡ true) × (number_view made ≡ n))
 
--- The number is the first of the text with an exponent: what stands before it are others, the bytes from it on begin
+-- The number is the first of the text with an exponent: what is before it are others, the bytes from it on begin
 -- with it as a word, and these are its parts.
 pub record FindsNumber (text : List ℕ) (found : Found) : Type 0 where
   pub passes : Passes text found.from.now

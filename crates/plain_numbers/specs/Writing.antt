@@ -10,8 +10,8 @@ use Rattle.plain_numbers.specs.declared.error.PlainError.{PlainError}
 use Rattle.plain_numbers.specs.declared.error.PlainError.TheVariants.{DoesNotFit, OutOfMemory}
 
 -- Nothing that was there is lost.
-pub record Keeps (old new : Vec ℕ Global) : Type 0 where
-  pub kept : Extends old.items new.items
+pub record Preserves (old new : Vec ℕ Global) : Type 0 where
+  pub retained : Extends old.items new.items
   pub capacity : vec_capacity old ≤ vec_capacity new
 
 -- The word, written out, is appended, or memory ran out, as the capacity for it is missing; or it doesn't fit.
@@ -24,7 +24,7 @@ WritesPlain (Some bytes) offset result old new = MatchResult result
 pub record WritesWord (plain : Option (List ℕ)) (offset : ℕ) (result : Result (Unit {0}) PlainError)
     (old new : Vec ℕ Global) : Type 0 where
   pub writes : WritesPlain plain offset result old new
-  pub keeps : Keeps old new
+  pub preserves : Preserves old new
 
 -- A number with these parts, written out, is appended, and it is in range; or nothing is.
 abbrev pub WritesDirectly : Bool → Parts → Vec ℕ Global → Vec ℕ Global → Type 0

@@ -11,15 +11,15 @@ use jsonb_scan::parser::number::byte_at;
 use std::alloc::AllocError;
 
 // So many bytes hold each number that is written out here.
-const ROOM: usize = 64;
+const CAPACITY: usize = 64;
 
-// What stands before the digits of a number below 1.
+// What is before the digits of a number below 1.
 const LEADING: &[u8] = b"0.00000000000000000000000000000000000000";
 
 // Zeros behind the digits of a whole number.
 const ZEROS: &[u8] = b"0000000000000000000";
 
-// Appends a minus, where the number is negative and there is room.
+// Appends a minus, where the number is negative and there is space.
 #[inline(always)]
 fn append_sign(negative: bool, buf: &mut Vec<u8>) -> Result<(), AllocError>
     requires { vec_len buf.old + 1 ≤ vec_capacity buf.old }
@@ -33,7 +33,7 @@ fn append_sign(negative: bool, buf: &mut Vec<u8>) -> Result<(), AllocError>
     Ok(())
 }
 
-// Appends bytes, where there is room.
+// Appends bytes, where there is space.
 #[inline(always)]
 fn append_piece(bytes: &[u8], buf: &mut Vec<u8>) -> Result<(), AllocError>
     requires { vec_len buf.old + length bytes.now ≤ vec_capacity buf.old }
@@ -47,7 +47,7 @@ fn append_piece(bytes: &[u8], buf: &mut Vec<u8>) -> Result<(), AllocError>
     buf.extend_from_slice(bytes)
 }
 
-// Appends a sign and four pieces, where there is room.
+// Appends a sign and four pieces, where there is space.
 #[inline(always)]
 fn append_pieces(
     negative: bool,
@@ -71,13 +71,13 @@ fn append_pieces(
     append_piece(fourth, buf)
 }
 
-// Appends a number below 1, where no more than 38 digits stand behind its point.
+// Appends a number below 1, where no more than 38 digits are behind its point.
 #[inline(always)]
 fn append_below_one(parts: &Parts<'_>, exponent: usize, buf: &mut Vec<u8>) -> bool
     requires numerals { AreNumerals parts.now }
     requires few { HasFewDigits (parts_view parts.now) exponent }
     requires down { parts.now.down ≡ true }
-    requires room { vec_len buf.old + 64 ≤ vec_capacity buf.old }
+    requires space { vec_len buf.old + 64 ≤ vec_capacity buf.old }
     ensures { WritesDirectly result (parts_view parts.now) buf.old buf.new }
 {
     if exponent < parts.whole.len() {
@@ -90,14 +90,14 @@ fn append_below_one(parts: &Parts<'_>, exponent: usize, buf: &mut Vec<u8>) -> bo
     append_pieces(parts.negative, leading, parts.whole, b"", parts.behind, buf).is_ok()
 }
 
-// Appends a number whose point stands further behind.
+// Appends a number whose point is further behind.
 #[inline(always)]
 fn append_pointed(parts: &Parts<'_>, exponent: usize, buf: &mut Vec<u8>) -> bool
     requires numerals { AreNumerals parts.now }
     requires few { HasFewDigits (parts_view parts.now) exponent }
     requires up { parts.now.down ≡ false }
     requires inside { exponent < length parts.now.behind.now }
-    requires room { vec_len buf.old + 64 ≤ vec_capacity buf.old }
+    requires space { vec_len buf.old + 64 ≤ vec_capacity buf.old }
     ensures { WritesDirectly result (parts_view parts.now) buf.old buf.new }
 {
     let (front, back) = parts.behind.split_at(exponent);
@@ -111,7 +111,7 @@ fn append_whole(parts: &Parts<'_>, exponent: usize, buf: &mut Vec<u8>) -> bool
     requires few { HasFewDigits (parts_view parts.now) exponent }
     requires up { parts.now.down ≡ false }
     requires beyond { length parts.now.behind.now ≤ exponent }
-    requires room { vec_len buf.old + 64 ≤ vec_capacity buf.old }
+    requires space { vec_len buf.old + 64 ≤ vec_capacity buf.old }
     ensures { WritesDirectly result (parts_view parts.now) buf.old buf.new }
 {
     if parts.whole.len() + exponent > 19 {
@@ -121,13 +121,13 @@ fn append_whole(parts: &Parts<'_>, exponent: usize, buf: &mut Vec<u8>) -> bool
     append_pieces(parts.negative, parts.whole, parts.behind, b"", zeros, buf).is_ok()
 }
 
-/// Appends a number with an exponent, written out, where there is room, its first digit is no zero, and there are few
+/// Appends a number with an exponent, written out, where there is space, its first digit is no zero, and there are few
 /// of them; else nothing.
 pub(crate) fn append_directly(parts: &Parts<'_>, buf: &mut Vec<u8>) -> bool
     requires { AreNumerals parts.now }
     ensures { WritesDirectly result (parts_view parts.now) buf.old buf.new }
 {
-    if buf.capacity() - buf.len() < ROOM {
+    if buf.capacity() - buf.len() < CAPACITY {
         return false;
     }
     if parts.whole.len() > 19 || parts.behind.len() > 19 - parts.whole.len() {

@@ -41,7 +41,7 @@ fn digits_len(bytes: &[u8]) -> usize
     len
 }
 
-// How many digits stand behind a point. Apart, so that its loop keeps no other count.
+// How many digits are behind a point. Apart, so that its loop holds no other count.
 #[inline(never)]
 fn fraction_len(bytes: &[u8]) -> usize
     ensures len { result ≡ digits_length bytes.now }
@@ -50,7 +50,7 @@ fn fraction_len(bytes: &[u8]) -> usize
     digits_len(bytes)
 }
 
-// No digits, or a zero and more of them, where so many stand first.
+// No digits, or a zero and more of them, where so many are first.
 fn lacks_whole(bytes: &[u8], len: usize) -> bool
     requires { len ≡ digits_length bytes.now }
     ensures { result ≡ lacks_whole bytes.now }
@@ -244,24 +244,24 @@ pub(crate) fn exact_number(parts: &Parts<'_>) -> Option<Number>
 fn moved(
     negative: bool,
     magnitude: u128,
-    places: usize,
+    decimals: usize,
     down: bool,
     exponent: u128,
 ) -> Option<Number>
-    requires { places < 2 ^ 63 }
-    ensures { (n : ℕ) → IsClamped exponent n → Makes result (moved negative magnitude places down n) }
+    requires { decimals < 2 ^ 63 }
+    ensures { (n : ℕ) → IsClamped exponent n → Makes result (moved negative magnitude decimals down n) }
 {
-    let places = places as u128;
+    let decimals = decimals as u128;
     if down {
         if exponent > MOST_DIGITS {
             return None;
         }
-        return in_range(negative, magnitude, places + exponent);
+        return in_range(negative, magnitude, decimals + exponent);
     }
-    if exponent <= places {
-        return in_range(negative, magnitude, places - exponent);
+    if exponent <= decimals {
+        return in_range(negative, magnitude, decimals - exponent);
     }
-    let whole = scaled(magnitude, exponent - places)?;
+    let whole = scaled(magnitude, exponent - decimals)?;
     in_range(negative, whole, 0)
 }
 

@@ -1,4 +1,4 @@
-//! Where words and numbers stand in the bytes of a text.
+//! Where words and numbers are in the bytes of a text.
 ghost use Rattle.std.specs.Prelude.{◌≡◌, [], ◌≤◌, ◌<◌, ◌+◌, ◌-◌, length, take, drop, IfNone, IfSome};
 ghost use Rattle.plain_numbers.specs.Passing.{HasNoStop, LeavesWord, Passes, PassesString, is_stop, is_word_byte, word_length};
 ghost use Rattle.plain_numbers.specs.Pieces.{is_foreign};
@@ -8,7 +8,7 @@ use crate::number::{Parts, is_mark, parts_of};
 use jsonb_value::plain::{first_set, plain_len};
 use std::simd::prelude::*;
 
-// A byte that stands in no text of RFC 8259 but in strings.
+// A byte that is in no text of RFC 8259 but in strings.
 #[inline(always)]
 fn is_foreign(byte: u8) -> bool
     ensures { result ≡ is_foreign byte }
@@ -31,7 +31,7 @@ fn is_word_byte(byte: u8) -> bool
 }
 
 // A byte at which the search for a number with an exponent stops: a quote, the letter of an exponent, or a byte that
-// stands in no text of RFC 8259 but in strings.
+// is in no text of RFC 8259 but in strings.
 #[inline(always)]
 fn is_stop(byte: u8) -> bool
     ensures { result ≡ is_stop byte }
@@ -39,7 +39,7 @@ fn is_stop(byte: u8) -> bool
     byte == b'"' || (is_mark(byte) || is_foreign(byte))
 }
 
-// How many of the first 16 bytes stand before the first at which the search stops.
+// How many of the first 16 bytes are before the first at which the search stops.
 #[inline(always)]
 fn near_stop(bytes: &[u8]) -> usize
     requires { 16 ≤ length bytes.now }
@@ -53,7 +53,7 @@ fn near_stop(bytes: &[u8]) -> usize
     first_set((quotes | marks | slashes).to_bitmask(), 16)
 }
 
-// How many bytes stand before the first at which the search stops, byte by byte.
+// How many bytes are before the first at which the search stops, byte by byte.
 #[inline(never)]
 fn stop_by_bytes(bytes: &[u8]) -> usize
     ensures within { result ≤ length bytes.now }
@@ -67,7 +67,7 @@ fn stop_by_bytes(bytes: &[u8]) -> usize
     bytes.len()
 }
 
-// How many bytes stand before the first at which the search stops, in a long text.
+// How many bytes are before the first at which the search stops, in a long text.
 #[inline(never)]
 fn far_stop(bytes: &[u8]) -> usize
     ensures within { result ≤ length bytes.now }
@@ -84,7 +84,7 @@ fn far_stop(bytes: &[u8]) -> usize
     len + stop_by_bytes(&bytes[len..])
 }
 
-// How many bytes stand before the first at which the search stops.
+// How many bytes are before the first at which the search stops.
 #[inline(always)]
 fn stop_len(bytes: &[u8]) -> usize
     ensures within { result ≤ length bytes.now }

@@ -10,7 +10,7 @@ ghost use Rattle.plain_numbers.specs.Exponent.{parts_of};
 ghost use Rattle.plain_numbers.specs.Masked.{masked, masked_word};
 ghost use Rattle.plain_numbers.specs.Pieces.{pieces};
 ghost use Rattle.plain_numbers.specs.View.{parts_view, AreNumerals};
-ghost use Rattle.plain_numbers.specs.Writing.{Keeps, WritesWord};
+ghost use Rattle.plain_numbers.specs.Writing.{Preserves, WritesWord};
 
 use crate::direct::append_directly;
 use crate::error::PlainError;
@@ -30,10 +30,10 @@ pub fn has_exponent(text: &[u8]) -> bool
 }
 
 /// Appends a text with each number that has an exponent written out: the decimal of exactly its value, with as many
-/// digits behind the point as its own digits and the exponent tell, so `1e-7` is `0.0000001` and `1.50e1` is `15.0`.
+/// digits behind the point as its own digits and the exponent say, so `1e-7` is `0.0000001` and `1.50e1` is `15.0`.
 /// All other bytes are the same. After an error `buf` has the same bytes as before.
 ///
-/// This is meant for texts of RFC 8259. From the first single quote, slash or backslash on that stands outside of
+/// This is meant for texts of RFC 8259. From the first single quote, slash or backslash on that is outside of
 /// strings in double quotes, all bytes are the same.
 ///
 /// The time is linear in the text. The only allocations are those of `buf`, and no function calls itself.
@@ -69,7 +69,7 @@ pub fn write_plain_numbers(text: &[u8], buf: &mut Vec<u8>) -> Result<(), PlainEr
 fn append_plain(text: &[u8], buf: &mut Vec<u8>) -> Result<(), PlainError>
     ensures ok { IfOk result (λ _. AppendsExpanded text.now buf.old.items buf.new.items) }
     ensures explains { IfErr result (Explains text.now buf.old) }
-    ensures keeps { Keeps buf.old buf.new }
+    ensures preserves { Preserves buf.old buf.new }
 {
     let mut rest = text;
     'numbers: loop {
@@ -108,9 +108,9 @@ fn append_value(parts: &Parts<'_>, end: usize, buf: &mut Vec<u8>) -> Result<(), 
     Ok(())
 }
 
-/// Appends a text with each number masked that has an exponent and is in range: a zero stands in its place, and as many
+/// Appends a text with each number masked that has an exponent and is in range: a zero replaces it, and as many
 /// spaces as it has bytes more. All other bytes are the same, and each has its offset. So what extended mode rejects in
-/// the text with its numbers written out is rejected in this one at its place in the text.
+/// the text with its numbers written out is rejected in this one at its offset in the text.
 ///
 /// The time is linear in the text. The only allocations are those of `buf`, and no function calls itself.
 ///
@@ -124,9 +124,9 @@ pub fn write_masked_numbers(text: &[u8], buf: &mut Vec<u8>) -> Result<(), AllocE
     append_masked(text, buf)
 }
 
-// Appends the text with its numbers masked, where there is room for it.
+// Appends the text with its numbers masked, where there is space for it.
 fn append_masked(text: &[u8], buf: &mut Vec<u8>) -> Result<(), AllocError>
-    requires room { vec_len buf.old + length text.now ≤ vec_capacity buf.old }
+    requires space { vec_len buf.old + length text.now ≤ vec_capacity buf.old }
     ensures succeeds { IsOk result }
     ensures items { buf.new.items ≡ buf.old.items ++ masked text.now }
     ensures capacity { vec_capacity buf.old ≤ vec_capacity buf.new }
@@ -143,12 +143,12 @@ fn append_masked(text: &[u8], buf: &mut Vec<u8>) -> Result<(), AllocError>
     }
 }
 
-// Appends what stands for a number with an exponent, where there is room for it.
+// Appends what means a number with an exponent, where there is space for it.
 fn append_mask(word: &[u8], parts: &Parts<'_>, buf: &mut Vec<u8>) -> Result<(), AllocError>
     requires numerals { AreNumerals parts.now }
     requires parts { Some (parts_view parts.now) ≡ parts_of word.now }
     requires some { 0 < length word.now }
-    requires room { vec_len buf.old + length word.now ≤ vec_capacity buf.old }
+    requires space { vec_len buf.old + length word.now ≤ vec_capacity buf.old }
     ensures succeeds { IsOk result }
     ensures items { buf.new.items ≡ buf.old.items ++ masked_word word.now }
     ensures capacity { vec_capacity buf.old ≤ vec_capacity buf.new }

@@ -8,13 +8,13 @@ use Rattle.jsonb_spec.specs.Order.{bytes_cmp}
 use Rattle.jsonb_spec.specs.SortKey.{key_of, items_key, members_key}
 use Rattle.jsonb_spec.specs.Tree.{Tree, null, boolean, string, number, array, object, binary, date, timestamp, timestamp_tz, interval, Trees, no_trees, more_trees, Members, no_members, more_members, put}
 use Rattle.stored_edit.specs.Edit.{Outcome, becomes, changed_at_member, changed_member, joined_items, set_to, with_item, with_member, AppendsKey, Edits}
-use Rattle.stored_edit.specs.Spots.{PlaceIn, SpotIn}
+use Rattle.stored_edit.specs.Spots.{SlotIn, SpotIn}
 use Rattle.stored_edit.specs.declared.error.EditError.{EditError}
-use Rattle.stored_edit.specs.declared.place.Place.{Place}
+use Rattle.stored_edit.specs.declared.slot.Slot.{Slot}
 use Rattle.stored_edit.specs.declared.spot.Spot.{Spot}
 use Rattle.jsonb_value.proofs.Trees.Runs.{heads}
 use Rattle.stored_edit.proofs.Lifting.{Lifts, lifted}
-use Rattle.stored_edit.proofs.Placed.{tree_fits}
+use Rattle.stored_edit.proofs.Located.{tree_fits}
 use Rattle.stored_edit.proofs.Spotted.{fits_in, key_before}
 
 -- ---- objects
@@ -39,7 +39,7 @@ object_spot name key rest ms spot begins s = record {
   front = 0xD1 ∷ s.front;
   behind = s.behind;
   inside = begins ∙ ap (λ l. 0xD1 ∷ l) s.inside;
-  stands = s.stands;
+  occurs = s.occurs;
   named = s.named;
   readable = s.readable;
   fits = s.fits;
@@ -50,8 +50,8 @@ object_spot name key rest ms spot begins s = record {
     bare None = tt
     bare (Some ns) = (ap (λ l. 0xD1 ∷ l) (sym (append-nil (members_key ns))), (λ h. h, λ h. h))
 
-abbrev pub ToldKey : (old new : Vec ℕ Global) → Result (Unit {0}) EditError → Option Tree → Type 0
-ToldKey old new told x = MatchOption x ⊥ (λ v. AppendsKey v told old new)
+abbrev pub ReportedKey : (old new : Vec ℕ Global) → Result (Unit {0}) EditError → Option Tree → Type 0
+ReportedKey old new reported x = MatchOption x ⊥ (λ v. AppendsKey v reported old new)
 
 -- the object with the member is the one changed at its name
 pub member_set : (name : List ℕ) (u t : Tree) → changed_at_member (set_to u true) name t ≡ with_member name u t
@@ -68,23 +68,23 @@ member_set name u (timestamp_tz offset micros) = refl
 member_set name u (interval months days micros) = refl
 
 -- no member is in another value
-pub scalar_place : (name : List ℕ) (t : Tree) → IsScalar t → (change : Option Tree → Outcome) → changed_at_member change name t ≡ None
-scalar_place name (array ts) s change = refl
-scalar_place name (object ms) s change = absurd s
-scalar_place name t s change = refl
+pub scalar_slot : (name : List ℕ) (t : Tree) → IsScalar t → (change : Option Tree → Outcome) → changed_at_member change name t ≡ None
+scalar_slot name (array ts) s change = refl
+scalar_slot name (object ms) s change = absurd s
+scalar_slot name t s change = refl
 
-pub array_place : (name key rest : List ℕ) (t : Tree) → key ≡ key_of t → key ≡ 0xD2 ∷ rest → (change : Option Tree → Outcome) → changed_at_member change name t ≡ None
-array_place name key rest (object ms) e begins change = absurd (let h : 0xD1 ≡ 0xD2 = heads 0xD1 0xD2 (members_key ms) rest (sym e ∙ begins) in omega (arith, h))
-array_place name key rest t e begins change = refl
+pub array_slot : (name key rest : List ℕ) (t : Tree) → key ≡ key_of t → key ≡ 0xD2 ∷ rest → (change : Option Tree → Outcome) → changed_at_member change name t ≡ None
+array_slot name key rest (object ms) e begins change = absurd (let h : 0xD1 ≡ 0xD2 = heads 0xD1 0xD2 (members_key ms) rest (sym e ∙ begins) in omega (arith, h))
+array_slot name key rest t e begins change = refl
 
 -- the spot of a member in the key of a value, and what is behind it
 abbrev pub MemberSpot : Tree → List ℕ → List ℕ → Spot → List ℕ → Type 0
 MemberSpot t name key spot behind = (s : SpotIn key_of (tree_fits max_depth) (λ change. changed_at_member change name t) true name key 511 spot) × (s.behind ≡ behind)
 
 -- the member's slot is found, or there is none
-abbrev pub FindsMember : Tree → List ℕ → List ℕ → Option Place → Type 0
-FindsMember t name key told = MatchOption told ((change : Option Tree → Outcome) → changed_at_member change name t ≡ None)
-    (PlaceIn (λ change. changed_at_member change name t) key)
+abbrev pub FindsMember : Tree → List ℕ → List ℕ → Option Slot → Type 0
+FindsMember t name key reported = MatchOption reported ((change : Option Tree → Outcome) → changed_at_member change name t ≡ None)
+    (SlotIn (λ change. changed_at_member change name t) key)
 
 pub set_always : (u : Tree) (there : Option Tree) → set_to u true there ≡ becomes u
 set_always u None = refl
@@ -96,12 +96,12 @@ pub no_array : (t : Tree) (u : Tree) (key : List ℕ) → key ≡ key_of t → (
 no_array (array ts) u key e none = absurd (none_some _ (none ts [] (e ∙ sym (append-nil (key_of (array ts))))))
 no_array t u key e none = refl
 
-pub nothing_told : (old : Vec ℕ Global) (told : Result Bool EditError) (x : Option Tree) → told ≡ Ok false → x ≡ None → Edits x told old old
-nothing_told old told None is e = (is, refl)
-nothing_told old told (Some t) is e = absurd (some_none t e)
+pub nothing_reported : (old : Vec ℕ Global) (reported : Result Bool EditError) (x : Option Tree) → reported ≡ Ok false → x ≡ None → Edits x reported old old
+nothing_reported old reported None is e = (is, refl)
+nothing_reported old reported (Some t) is e = absurd (some_none t e)
   where
     some_none : (t : Tree) → Some t ≡ None → ⊥
     some_none t e = cc
 
-pub item_told : (t u : Tree) (ts : Trees) (old new : Vec ℕ Global) (told : Result (Unit {0}) EditError) → t ≡ array ts → AppendsKey (array (joined_items ts (more_trees u no_trees))) told old new → ToldKey old new told (with_item u t)
-item_told t u ts old new told is a = subst (λ v. ToldKey old new told (with_item u v)) (sym is) a
+pub item_reported : (t u : Tree) (ts : Trees) (old new : Vec ℕ Global) (reported : Result (Unit {0}) EditError) → t ≡ array ts → AppendsKey (array (joined_items ts (more_trees u no_trees))) reported old new → ReportedKey old new reported (with_item u t)
+item_reported t u ts old new reported is a = subst (λ v. ReportedKey old new reported (with_item u v)) (sym is) a

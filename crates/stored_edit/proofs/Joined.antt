@@ -6,7 +6,7 @@ use Rattle.jsonb_stored.specs.Checked.{HaveReadable}
 use Rattle.jsonb_stored.specs.Open.{Open, items, members, is_object, open_key, IsOpen}
 use Rattle.jsonb_stored.specs.Parts.{opened_tree}
 use Rattle.jsonb_stored.proofs.Finds.{parent_of}
-use Rattle.jsonb_stored.proofs.Standing.{left_of, object_left}
+use Rattle.jsonb_stored.proofs.Occurrence.{left_of, object_left}
 use Rattle.jsonb_spec.specs.SortKey.{key_of, items_key, members_key}
 use Rattle.jsonb_spec.specs.Text.Range.{IsWithin, AreWithin}
 use Rattle.jsonb_spec.specs.Tree.{Tree, array, object, Trees, no_trees, more_trees, Members}
@@ -45,36 +45,36 @@ pub record ItemsThere (t : Tree) (rest : List ℕ) : Type 0 where
   pub whole : t ≡ array ts
   pub is : as_items t ≡ ts
   pub within : AreWithin IsAnyNumber ts 511
-  pub stands : rest ≡ items_key ts
+  pub occurs : rest ≡ items_key ts
 
 pub items_there : (t : Tree) → IsReadable t → (key rest : List ℕ) → key ≡ key_of t → key ≡ 0xD2 ∷ rest → ItemsThere t rest
 items_there t r key rest e begins =
     let x = parent_of t r 0xD2 rest key [] begins (e ∙ sym (append-nil (key_of t))) false refl in
-    go x.open_there x.is x.fits x.stands x.whole
+    go x.open_there x.is x.fits x.occurs x.whole
   where
     true_false : true ≡ false → ⊥
     true_false x = cc
 
     go : (o : Open) → is_object o ≡ false → IsOpen o 511 → rest ≡ open_key o ++ [] → opened_tree o ≡ t → ItemsThere t rest
-    go (members ms) is h stands whole = absurd (true_false is)
-    go (items ts) is h stands whole = record { ts = ts; whole = sym whole; is = ap as_items (sym whole); within = h.1; stands = stands ∙ append-nil (items_key ts) }
+    go (members ms) is h occurs whole = absurd (true_false is)
+    go (items ts) is h occurs whole = record { ts = ts; whole = sym whole; is = ap as_items (sym whole); within = h.1; occurs = occurs ∙ append-nil (items_key ts) }
 
-abbrev pub ToldItems : Tree → Result (Bor (List ℕ)) EditError → Type 0
-ToldItems t told = MatchResult told (λ l. (l.now ≡ keys_of_items (as_items t)) × AreWithin IsAnyNumber (as_items t) 511) (λ e. (e ≡ TooDeep) × (AreWithin IsAnyNumber (as_items t) 511 → ⊥))
+abbrev pub ReportedItems : Tree → Result (Bor (List ℕ)) EditError → Type 0
+ReportedItems t reported = MatchResult reported (λ l. (l.now ≡ keys_of_items (as_items t)) × AreWithin IsAnyNumber (as_items t) 511) (λ e. (e ≡ TooDeep) × (AreWithin IsAnyNumber (as_items t) 511 → ⊥))
 
-pub array_items : (t : Tree) → IsReadable t → (key rest : List ℕ) → key ≡ key_of t → key ≡ 0xD2 ∷ rest → (told : Result (Bor (List ℕ)) EditError)
-    → ((last : ℕ) → (keys : List ℕ) → rest ≡ keys ++ last ∷ [] → MatchResult told (λ front. front.now ≡ keys) (λ e. ⊥)) → ToldItems t told
-array_items t r key rest e begins told without =
+pub array_items : (t : Tree) → IsReadable t → (key rest : List ℕ) → key ≡ key_of t → key ≡ 0xD2 ∷ rest → (reported : Result (Bor (List ℕ)) EditError)
+    → ((last : ℕ) → (keys : List ℕ) → rest ≡ keys ++ last ∷ [] → MatchResult reported (λ front. front.now ≡ keys) (λ e. ⊥)) → ReportedItems t reported
+array_items t r key rest e begins reported without =
     let x = items_there t r key rest e begins in
-    go told x (without 0 (keys_of_items x.ts) (x.stands ∙ items_end x.ts))
+    go reported x (without 0 (keys_of_items x.ts) (x.occurs ∙ items_end x.ts))
   where
-    go : (told : Result (Bor (List ℕ)) EditError) → (x : ItemsThere t rest) → MatchResult told (λ front. front.now ≡ keys_of_items x.ts) (λ e. ⊥) → ToldItems t told
+    go : (reported : Result (Bor (List ℕ)) EditError) → (x : ItemsThere t rest) → MatchResult reported (λ front. front.now ≡ keys_of_items x.ts) (λ e. ⊥) → ReportedItems t reported
     go (Ok l) x h = (h ∙ ap keys_of_items (sym x.is), subst (λ ts. AreWithin IsAnyNumber ts 511) (sym x.is) x.within)
     go (Err e) x h = absurd h
 
-pub one_item : (t : Tree) (key : List ℕ) → key ≡ key_of t → ((ts : Trees) → (more : List ℕ) → key ≡ key_of (array ts) ++ more → None ≡ Some (items_key ts ++ more)) → (told : Result (Bor (List ℕ)) EditError)
-    → MatchResult told (λ l. (l.now ≡ key) × IsWithin IsAnyNumber t 511) (λ e. (e ≡ TooDeep) × (IsWithin IsAnyNumber t 511 → ⊥)) → ToldItems t told
-one_item (array ts) key e none told h = absurd (none_some _ (none ts [] (e ∙ sym (append-nil (key_of (array ts))))))
+pub one_item : (t : Tree) (key : List ℕ) → key ≡ key_of t → ((ts : Trees) → (more : List ℕ) → key ≡ key_of (array ts) ++ more → None ≡ Some (items_key ts ++ more)) → (reported : Result (Bor (List ℕ)) EditError)
+    → MatchResult reported (λ l. (l.now ≡ key) × IsWithin IsAnyNumber t 511) (λ e. (e ≡ TooDeep) × (IsWithin IsAnyNumber t 511 → ⊥)) → ReportedItems t reported
+one_item (array ts) key e none reported h = absurd (none_some _ (none ts [] (e ∙ sym (append-nil (key_of (array ts))))))
 one_item t key e none (Ok l) h = (h.0 ∙ e ∙ sym (append-nil (key_of t)), (h.1, tt))
 one_item t key e none (Err x) h = (h.0, λ w. h.1 w.0)
 
@@ -85,12 +85,12 @@ pub record MembersThere (t : Tree) (rest : List ℕ) : Type 0 where
   pub ms : Members
   pub is : t ≡ object ms
   pub readable : HaveReadable ms
-  pub stands : rest ≡ members_key ms
+  pub occurs : rest ≡ members_key ms
 
 pub members_there : (t : Tree) → IsReadable t → (key rest : List ℕ) → key ≡ key_of t → key ≡ 0xD1 ∷ rest → MembersThere t rest
 members_there t r key rest e begins =
     let o = object_left t r true rest [] (left_of t true rest [] (parent_of t r 0xD1 rest key [] begins (e ∙ sym (append-nil (key_of t))) true refl)) refl in
-    record { ms = o.ms; is = sym o.is; readable = record { ascend = o.ascend; proper = o.proper; within = o.within }; stands = o.stands ∙ append-nil (members_key o.ms) }
+    record { ms = o.ms; is = sym o.is; readable = record { ascend = o.ascend; proper = o.proper; within = o.within }; occurs = o.occurs ∙ append-nil (members_key o.ms) }
 
 pub merged_objects : (t u : Tree) (ms ns : Members) → t ≡ object ms → u ≡ object ns → object (merged_members ms ns) ≡ merge t u
 merged_objects t u ms ns e f = ap (λ v. merge (object ms) v) (sym f) ∙ ap (λ v. merge v u) (sym e)

@@ -1,6 +1,6 @@
 pub mod Lifting
 pub mod Spotted
-pub mod Placed
+pub mod Located
 pub mod Depths
 pub mod Putting
 pub mod Merged

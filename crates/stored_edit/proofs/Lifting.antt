@@ -1,4 +1,4 @@
--- An answer that stands behind more bytes.
+-- An answer that is behind more bytes.
 use Rattle.std.proofs.Common.{◌≡◌, ℕ, ◌↔◌, Bool, List, [], ◌++◌, Option, Some, None, refl, sym, ap, ◌∙◌, append_assoc}
 use Rattle.std.specs.Bool.{⊤}
 use Rattle.stored_edit.specs.Edit.{Outcome, stays, goes, becomes}
@@ -27,14 +27,14 @@ lifts_through a Fa b Fb c Fc near far (Some x) (Some y) None l m = absurd m
 lifts_through a Fa b Fb c Fc near far (Some x) (Some y) (Some z) l m = (m.0 ∙ ap (λ key. far ++ key) l.0 ∙ sym (append_assoc far near (a x)), both_ways m.1 l.1)
 
 -- what is answered of the first, is answered of the second
-pub lifted : {A B : Type 0} (a : A → List ℕ) (Fa : A → Type 0) (b : B → List ℕ) (Fb : B → Type 0) (object : Bool) (name before front behind : List ℕ) (room : ℕ) (outcome : Outcome) (x : Option A) (y : Option B) → Lifts a Fa b Fb before x y
-    → Answers a Fa object name front behind room outcome x → Answers b Fb object name (before ++ front) behind room outcome y
-lifted a Fa b Fb object name before front behind room stays None None l h = tt
-lifted a Fa b Fb object name before front behind room stays None (Some y) l h = absurd l
-lifted a Fa b Fb object name before front behind room stays (Some x) y l h = absurd h
-lifted a Fa b Fb object name before front behind room goes None y l h = absurd h
-lifted a Fa b Fb object name before front behind room goes (Some x) None l h = absurd l
-lifted a Fa b Fb object name before front behind room goes (Some x) (Some y) l h = (l.0 ∙ ap (λ key. before ++ key) h.0 ∙ sym (append_assoc before front behind), l.1.1 h.1)
-lifted a Fa b Fb object name before front behind room (becomes t) None y l h = absurd h
-lifted a Fa b Fb object name before front behind room (becomes t) (Some x) None l h = absurd l
-lifted a Fa b Fb object name before front behind room (becomes t) (Some x) (Some y) l h = (l.0 ∙ ap (λ key. before ++ key) h.0 ∙ sym (append_assoc before front _), both_ways l.1 h.1)
+pub lifted : {A B : Type 0} (a : A → List ℕ) (Fa : A → Type 0) (b : B → List ℕ) (Fb : B → Type 0) (object : Bool) (name before front behind : List ℕ) (depth_left : ℕ) (outcome : Outcome) (x : Option A) (y : Option B) → Lifts a Fa b Fb before x y
+    → Answers a Fa object name front behind depth_left outcome x → Answers b Fb object name (before ++ front) behind depth_left outcome y
+lifted a Fa b Fb object name before front behind depth_left stays None None l h = tt
+lifted a Fa b Fb object name before front behind depth_left stays None (Some y) l h = absurd l
+lifted a Fa b Fb object name before front behind depth_left stays (Some x) y l h = absurd h
+lifted a Fa b Fb object name before front behind depth_left goes None y l h = absurd h
+lifted a Fa b Fb object name before front behind depth_left goes (Some x) None l h = absurd l
+lifted a Fa b Fb object name before front behind depth_left goes (Some x) (Some y) l h = (l.0 ∙ ap (λ key. before ++ key) h.0 ∙ sym (append_assoc before front behind), l.1.1 h.1)
+lifted a Fa b Fb object name before front behind depth_left (becomes t) None y l h = absurd h
+lifted a Fa b Fb object name before front behind depth_left (becomes t) (Some x) None l h = absurd l
+lifted a Fa b Fb object name before front behind depth_left (becomes t) (Some x) (Some y) l h = (l.0 ∙ ap (λ key. before ++ key) h.0 ∙ sym (append_assoc before front _), both_ways l.1 h.1)

@@ -63,7 +63,7 @@ pub record MemberFirst (ms : Members) (left : List ℕ) : Type 0 where
   pub readable : IsReadable value
   pub below : IsBelowKeys key others
   pub others_readable : HaveReadable others
-  pub stands : left ≡ text_key key ++ (key_of value ++ members_key others)
+  pub occurs : left ≡ text_key key ++ (key_of value ++ members_key others)
 
 pub member_first : (ms : Members) (left : List ℕ) → HaveReadable ms → left ≡ members_key ms → (ms ≡ no_members → ⊥) → MemberFirst ms left
 member_first no_members left h e some = absurd (some refl)
@@ -75,7 +75,7 @@ member_first (more_members k t ms) left h e some = record {
   readable = readable_inside t (record { proper = h.proper.1; within = h.within.0 });
   below = h.ascend.0;
   others_readable = record { ascend = h.ascend.1; proper = h.proper.2; within = h.within.1 };
-  stands = e;
+  occurs = e;
 }
 
 abbrev StepOf : (ms ns : Members) (step : Step) → Side → Bool → Type 0
@@ -125,8 +125,8 @@ greater_step ms ns left right part rest h e a b greater first others = record {
   from = (refl, b.is);
   merged_is =
       let less : bytes_cmp b.key a.key ≡ Less = nat_list_cmp_total.antisymm b.key a.key ∙ ap ordering_reverse greater in
-      let placed : put b.key b.value ms ≡ more_members b.key b.value ms = ap (put b.key b.value) a.is ∙ ap (λ o. match_ordering o (more_members b.key b.value (more_members a.key a.value a.others)) (more_members a.key b.value a.others) (more_members a.key a.value (put b.key b.value a.others))) less ∙ ap (more_members b.key b.value) (sym a.is) in
-      ap (λ n. merged_members ms n) b.is ∙ ap (λ m. merged_members m b.others) placed ∙ stays_first b.key b.value b.others ms b.below;
+      let located : put b.key b.value ms ≡ more_members b.key b.value ms = ap (put b.key b.value) a.is ∙ ap (λ o. match_ordering o (more_members b.key b.value (more_members a.key a.value a.others)) (more_members a.key b.value a.others) (more_members a.key a.value (put b.key b.value a.others))) less ∙ ap (more_members b.key b.value) (sym a.is) in
+      ap (λ n. merged_members ms n) b.is ∙ ap (λ m. merged_members m b.others) located ∙ stays_first b.key b.value b.others ms b.below;
 }
 
 pub equal_step : (ms ns : Members) (left right part rest members : List ℕ) → (a : MemberFirst ms left) (b : MemberFirst ns right) → bytes_cmp a.key b.key ≡ Equal → part ≡ text_key b.key ++ key_of b.value → rest ≡ members_key b.others → members ≡ members_key a.others → StepsOn ms ns Both part members rest
@@ -145,9 +145,9 @@ equal_step ms ns left right part rest members a b equal first others more =
       from = (a.value, a.is ∙ ap (λ k. more_members k a.value a.others) same, b.is);
       merged_is =
           let turned_equal : bytes_cmp b.key a.key ≡ Equal = nat_list_cmp_total.antisymm b.key a.key ∙ ap ordering_reverse equal in
-          let placed : put b.key b.value ms ≡ more_members a.key b.value a.others = ap (put b.key b.value) a.is ∙ ap (λ o. match_ordering o (more_members b.key b.value (more_members a.key a.value a.others)) (more_members a.key b.value a.others) (more_members a.key a.value (put b.key b.value a.others))) turned_equal in
+          let located : put b.key b.value ms ≡ more_members a.key b.value a.others = ap (put b.key b.value) a.is ∙ ap (λ o. match_ordering o (more_members b.key b.value (more_members a.key a.value a.others)) (more_members a.key b.value a.others) (more_members a.key a.value (put b.key b.value a.others))) turned_equal in
           let below : IsBelowKeys a.key b.others = subst (λ k. IsBelowKeys k b.others) (sym same) b.below in
-          ap (λ n. merged_members ms n) b.is ∙ ap (λ m. merged_members m b.others) placed ∙ stays_first a.key b.value b.others a.others below
+          ap (λ n. merged_members ms n) b.is ∙ ap (λ m. merged_members m b.others) located ∙ stays_first a.key b.value b.others a.others below
           ∙ ap (λ k. more_members k b.value (merged_members a.others b.others)) same;
     }
 
@@ -156,7 +156,7 @@ ended_none no_members bytes rest h e over = refl
 ended_none (more_members k t ms) bytes rest h e over = absurd (no_end true k t 511 (record { proper = h.proper.1; within = h.within.0 }) bytes rest (members_key ms) over e)
 
 pub first_bytes : (ms : Members) (left rest : List ℕ) (a : MemberFirst ms left) → rest ≡ members_key a.others → left ≡ (text_key a.key ++ key_of a.value) ++ rest
-first_bytes ms left rest a e = a.stands ∙ ap (λ m. text_key a.key ++ (key_of a.value ++ m)) (sym e) ∙ sym (append_assoc (text_key a.key) (key_of a.value) rest)
+first_bytes ms left rest a e = a.occurs ∙ ap (λ m. text_key a.key ++ (key_of a.value ++ m)) (sym e) ∙ sym (append_assoc (text_key a.key) (key_of a.value) rest)
 
 pub no_order : (e : NoKey) (o : Ordering) → ◌≡◌ {A = Result Ordering NoKey} (Err e) (Ok o) → ⊥
 no_order e o x = cc

@@ -19,8 +19,8 @@ IsGood stays = ⊤
 IsGood goes = ⊤
 IsGood (becomes t) = IsProper t
 
-abbrev KeepsProper : (Option Tree → Outcome) → Type 0
-KeepsProper change = (there : Option Tree) → IfSome there IsProper → IsGood (change there)
+abbrev PreservesProper : (Option Tree → Outcome) → Type 0
+PreservesProper change = (there : Option Tree) → IfSome there IsProper → IsGood (change there)
 
 -- ---- members
 
@@ -62,7 +62,7 @@ behind_good l t (Some ms) u p b h = ((b, h.0), (u, p, h.1))
 other_way : (k l : List ℕ) → bytes_cmp k l ≡ Greater → bytes_cmp l k ≡ Less
 other_way k l e = nat_list_cmp_total.antisymm l k ∙ ap ordering_reverse e
 
-members_good : (name : List ℕ) (change : Option Tree → Outcome) (ms : Members) → IsUtf8 name → KeepsProper change → AreGood ms → IfSome (changed_member change name ms) AreGood
+members_good : (name : List ℕ) (change : Option Tree → Outcome) (ms : Members) → IsUtf8 name → PreservesProper change → AreGood ms → IfSome (changed_member change name ms) AreGood
 members_good name change no_members n g h = member_good name (change None) no_members n (g None tt) tt h
 members_good name change (more_members l t ms) n g h = go (bytes_cmp name l) refl (members_good name change ms n g (h.0.1, h.1.2))
   where
@@ -82,12 +82,12 @@ further_good : (t : Tree) (x : Option Trees) → IsProper t → IfSome x AreProp
 further_good t None p h = tt
 further_good t (Some ts) p h = (p, h)
 
-items_good : (change : Option Tree → Outcome) (index : ℕ) (ts : Trees) → KeepsProper change → AreProper ts → IfSome (changed_item change index ts) AreProper
+items_good : (change : Option Tree → Outcome) (index : ℕ) (ts : Trees) → PreservesProper change → AreProper ts → IfSome (changed_item change index ts) AreProper
 items_good change index no_trees g h = item_good (change None) no_trees (g None tt) h
 items_good change zero (more_trees t ts) g h = item_good (change (Some t)) ts (g (Some t) h.0) h.1
 items_good change (suc index) (more_trees t ts) g h = further_good t (changed_item change index ts) h.0 (items_good change index ts g h.1)
 
-step_good : (change : Option Tree → Outcome) (ts : Trees) (step : Bool × ℕ) → KeepsProper change → AreProper ts → IfSome (changed_at_step change ts step) AreProper
+step_good : (change : Option Tree → Outcome) (ts : Trees) (step : Bool × ℕ) → PreservesProper change → AreProper ts → IfSome (changed_at_step change ts step) AreProper
 step_good change ts (false, index) g h = items_good change index ts g h
 step_good change ts (true, back) g h = go (nat_lt (trees_len ts) back)
   where
@@ -103,11 +103,11 @@ object_good : (x : Option Members) → IfSome x AreGood → IfSome (option_map o
 object_good None h = tt
 object_good (Some ms) h = h
 
-by_step_good : (change : Option Tree → Outcome) (ts : Trees) (x : Option (Bool × ℕ)) → KeepsProper change → AreProper ts → IfSome (option_map array (option_and_then (changed_at_step change ts) x)) IsProper
+by_step_good : (change : Option Tree → Outcome) (ts : Trees) (x : Option (Bool × ℕ)) → PreservesProper change → AreProper ts → IfSome (option_map array (option_and_then (changed_at_step change ts) x)) IsProper
 by_step_good change ts None g h = tt
 by_step_good change ts (Some step) g h = array_good (changed_at_step change ts step) (step_good change ts step g h)
 
-part_good : (change : Option Tree → Outcome) (name : List ℕ) (t : Tree) → IsUtf8 name → KeepsProper change → IsProper t → IfSome (changed_part change name t) IsProper
+part_good : (change : Option Tree → Outcome) (name : List ℕ) (t : Tree) → IsUtf8 name → PreservesProper change → IsProper t → IfSome (changed_part change name t) IsProper
 part_good change name (object ms) n g h = object_good (changed_member change name ms) (members_good name change ms n g h)
 part_good change name (array ts) n g h = by_step_good change ts (step_named name) g h
 part_good change name t n g h = tt
@@ -118,11 +118,11 @@ with_good : (x : Option Tree) → IfSome x IsProper → IsGood (part_with x)
 with_good None h = tt
 with_good (Some t) h = h
 
-within_good : (change : Tree → Option Tree) → ((t : Tree) → IsProper t → IfSome (change t) IsProper) → KeepsProper (within change)
+within_good : (change : Tree → Option Tree) → ((t : Tree) → IsProper t → IfSome (change t) IsProper) → PreservesProper (within change)
 within_good change g None h = tt
 within_good change g (Some t) h = with_good (change t) (g t h)
 
-path_good : (change : Option Tree → Outcome) (names : List (List ℕ)) → AllByRecursion IsUtf8 names → KeepsProper change → (t : Tree) → IsProper t → IfSome (changed_at change names t) IsProper
+path_good : (change : Option Tree → Outcome) (names : List (List ℕ)) → AllByRecursion IsUtf8 names → PreservesProper change → (t : Tree) → IsProper t → IfSome (changed_at change names t) IsProper
 path_good change [] n g t h = tt
 path_good change (name ∷ []) n g t h = part_good change name t n.0 g h
 path_good change (name ∷ next ∷ names) n g t h = part_good (within (changed_at change (next ∷ names))) name t n.0 (within_good (changed_at change (next ∷ names)) (path_good change (next ∷ names) n.1 g)) h
@@ -137,7 +137,7 @@ of_some (Some t) u h e = subst IsProper (same t u e) h
     same : (t u : Tree) → Some t ≡ Some u → t ≡ u
     same t u e = cc
 
-set_good : (part : Tree) (create : Bool) → IsProper part → KeepsProper (set_to part create)
+set_good : (part : Tree) (create : Bool) → IsProper part → PreservesProper (set_to part create)
 set_good part true p None h = p
 set_good part false p None h = tt
 set_good part create p (Some t) h = p
@@ -145,7 +145,7 @@ set_good part create p (Some t) h = p
 pub set_proper : (names : List (List ℕ)) → AllByRecursion IsUtf8 names → (t part u : Tree) (create : Bool) → IsProper t → IsProper part → with_part names part create t ≡ Some u → IsProper u
 set_proper names n t part u create h p e = of_some (with_part names part create t) u (path_good (set_to part create) names n (set_good part create p) t h) e
 
-remove_good : KeepsProper remove
+remove_good : PreservesProper remove
 remove_good None h = tt
 remove_good (Some t) h = tt
 

@@ -22,7 +22,7 @@ use Rattle.stored_edit.specs.declared.error.EditError.TheVariants.{NoKey, TooDee
 
 -- ---- one part changed
 
--- what becomes of a part, or of a place where none is: it stays as it is, it goes, or this stands there
+-- what becomes of a part, or of a slot where none is: it stays as it is, it goes, or this is there
 pub data Outcome : Type 0 where
   stays : Outcome
   goes : Outcome
@@ -59,11 +59,11 @@ abbrev pub changed_item_back : (Option Tree → Outcome) → ℕ → Trees → O
 changed_item_back change back ts = if nat_lt (trees_len ts) back then item_before (change None) ts
     else changed_item change (trees_len ts - back) ts
 
--- how many from the end, as the bytes behind the minus sign spell it; there is no minus 0
+-- how many from the end, as the bytes behind the minus sign encode it; there is no minus 0
 abbrev pub back_named : List ℕ → Option ℕ
 back_named digits = option_and_then (λ back. if back == 0 then None else Some back) (index_named digits)
 
--- an index as the step of a path spells it: whether it counts from the end, and the number
+-- an index as the step of a path encodes it: whether it counts from the end, and the number
 abbrev pub step_named : List ℕ → Option (Bool × ℕ)
 step_named [] = None
 step_named (c ∷ cs) = if c == ascii.minus then option_map (λ back. (true, back)) (back_named cs)
@@ -74,7 +74,7 @@ abbrev pub changed_at_step : (Option Tree → Outcome) → Trees → Bool × ℕ
 changed_at_step change ts (false, index) = changed_item change index ts
 changed_at_step change ts (true, back) = changed_item_back change back ts
 
--- the items, changed at the index that the step of a path spells
+-- the items, changed at the index that the step of a path encodes
 abbrev pub changed_items : (Option Tree → Outcome) → List ℕ → Trees → Option Trees
 changed_items change name ts = option_and_then (changed_at_step change ts) (step_named name)
 
@@ -116,12 +116,12 @@ remove (Some t) = goes
 abbrev pub without_part : List (List ℕ) → Tree → Option Tree
 without_part names t = changed_at remove names t
 
--- the new part stands where one is, or where none is if it may be made
+-- the new part is where one is, or where none is if it may be made
 abbrev pub set_to : Tree → Bool → Option Tree → Outcome
 set_to part create None = if create then becomes part else stays
 set_to part create (Some t) = becomes part
 
--- the value with this part at the path, as `jsonb_set` has it; None where there is no such place
+-- the value with this part at the path, as `jsonb_set` has it; None where there is no such slot
 abbrev pub with_part : List (List ℕ) → Tree → Bool → Tree → Option Tree
 with_part names part create t = changed_at (set_to part create) names t
 
@@ -172,7 +172,7 @@ pub record AppendsKey {X : Type 0} (t : Tree) (result : Result X EditError) (old
   pub fits : OnOk result (IsWithin IsAnyNumber t max_depth)
   pub errors : IfErr result (IsLacking t old)
 
--- Where something changes, the key of the answer is appended, and that is told. Else nothing is appended.
+-- Where something changes, the key of the answer is appended, and that is reported. Else nothing is appended.
 abbrev pub Edits : Option Tree → Result Bool EditError → Vec ℕ Global → Vec ℕ Global → Type 0
 Edits (Some t) result old new = AppendsKey t result old new × IfOk result (λ changed. changed ≡ true)
 Edits None result old new = (result ≡ Ok false) × (new.items ≡ old.items)
@@ -196,17 +196,17 @@ AppendsMembersOfBoth left right result old new =
     (ms ns : Members) → HaveReadable ms → HaveReadable ns → left ≡ members_key ms → right ≡ members_key ns
     → AppendsKey (object (merged_members ms ns)) result old new
 
--- These bytes are what may stand in an array; or there are too many arrays and objects in one another.
+-- These bytes are what may be in an array; or there are too many arrays and objects in one another.
 abbrev pub FitsInside : List ℕ → Type 0 → Result (Bor (List ℕ)) EditError → Type 0
 FitsInside bytes Fits result =
     MatchResult result (λ items. (items.now ≡ bytes) × Fits) (λ e. (e ≡ TooDeep) × (Fits → ⊥))
 
--- It is told whether this is so.
-abbrev pub TellsWhether : Type 0 → Result Bool FindsNoKey → Type 0
-TellsWhether Holds result = MatchResult result (λ told. MatchBool told Holds (Holds → ⊥)) (λ e. ⊥)
+-- It is reported whether this is so.
+abbrev pub ReportsWhether : Type 0 → Result Bool FindsNoKey → Type 0
+ReportsWhether Holds result = MatchResult result (λ reported. MatchBool reported Holds (Holds → ⊥)) (λ e. ⊥)
 
 -- After an error the buffer has its old bytes, and its capacity doesn't shrink.
-pub record KeepsOnError {X E : Type 0} (result : Result X E) (old new : Vec ℕ Global) : Type 0 where
+pub record PreservesOnError {X E : Type 0} (result : Result X E) (old new : Vec ℕ Global) : Type 0 where
   pub err : OnErr result (new.items ≡ old.items)
   pub capacity : vec_capacity old ≤ vec_capacity new
 

@@ -4,22 +4,22 @@ ghost use Rattle.std.specs.Prelude.{◌<◌, ◌≤◌};
 ghost use Rattle.jsonb_key.specs.Readable.{IsAnyNumber};
 ghost use Rattle.jsonb_stored.specs.AtKeys.{AtKey, AtParts};
 ghost use Rattle.jsonb_spec.specs.Text.Range.{IsWithin};
-ghost use Rattle.stored_edit.specs.Edit.{TellsWhether};
+ghost use Rattle.stored_edit.specs.Edit.{ReportsWhether};
 ghost use Rattle.stored_edit.specs.Spots.{OpenWithin};
 
 use jsonb_stored::find::NoKey;
 use jsonb_stored::skip::{after_end, after_name, after_scalar, kind_at, opening, outermost};
 
 /// Whether the value whose key this is has at most so many arrays and objects in one another.
-pub(crate) fn fits(key: &[u8], room: usize) -> Result<bool, NoKey>
-    requires { room ≤ 511 }
-    ensures { AtKey key.now (λ t more. TellsWhether (IsWithin IsAnyNumber t room) result) }
+pub(crate) fn fits(key: &[u8], depth_left: usize) -> Result<bool, NoKey>
+    requires { depth_left ≤ 511 }
+    ensures { AtKey key.now (λ t more. ReportsWhether (IsWithin IsAnyNumber t depth_left) result) }
 {
     let Some((first, parts)) = key.split_first() else {
         return Err(NoKey);
     };
     match opening(*first) {
-        Some(object) => match room.checked_sub(1) {
+        Some(object) => match depth_left.checked_sub(1) {
             Some(inner) => parts_fit(object, parts, inner),
             None => Ok(false),
         },
@@ -28,10 +28,10 @@ pub(crate) fn fits(key: &[u8], room: usize) -> Result<bool, NoKey>
 }
 
 // Whether the parts of an object or an array have at most so many arrays and objects in one another. Which of the open
-// ones are objects stands in an array, outermost first.
+// ones are objects is in an array, outermost first.
 fn parts_fit(object: bool, bytes: &[u8], inner: usize) -> Result<bool, NoKey>
     requires { inner < 511 }
-    ensures { AtParts object bytes.now (λ o more. TellsWhether (OpenWithin o inner) result) }
+    ensures { AtParts object bytes.now (λ o more. ReportsWhether (OpenWithin o inner) result) }
 {
     let mut objects = outermost(object);
     let mut depth: usize = 1;

@@ -1,4 +1,4 @@
-//! Values that are kept as their sort keys, changed by splicing: parts set and removed, values merged.
+//! Values that are held as their sort keys, changed by splicing: parts set and removed, values merged.
 #![tactic(auto)]
 
 pub mod build;
@@ -7,7 +7,7 @@ pub mod error;
 mod fit;
 pub mod laws;
 pub mod merge;
-pub mod place;
+pub mod slot;
 pub mod splice;
 pub mod spot;
 mod step;

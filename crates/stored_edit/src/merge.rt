@@ -10,7 +10,7 @@ ghost use Rattle.jsonb_spec.specs.SortKey.Kind as kind;
 ghost use Rattle.jsonb_spec.specs.Text.Appending.{Extends};
 ghost use Rattle.jsonb_spec.specs.Text.Range.{IsWithin, AreWithin};
 ghost use Rattle.jsonb_spec.specs.Tree.{Tree, Members, array, no_members, object};
-ghost use Rattle.stored_edit.specs.Edit.{as_items, joined_items, merge, AppendsBoth, AppendsMembersOfBoth, FitsInside, KeepsOnError};
+ghost use Rattle.stored_edit.specs.Edit.{as_items, joined_items, merge, AppendsBoth, AppendsMembersOfBoth, FitsInside, PreservesOnError};
 ghost use Rattle.jsonb_stored.specs.AtKeys.{OfKey};
 ghost use Rattle.stored_edit.specs.Merging.{keys_of_items, IsStep};
 
@@ -34,8 +34,8 @@ use std::cmp::Ordering;
 /// After an error the buffer is as before.
 pub fn append_merged(out: &mut Vec<u8>, left: &[u8], right: &[u8]) -> Result<(), EditError>
     ensures merges { AppendsBoth merge left.now right.now result out.old out.new }
-    ensures keeps { KeepsOnError result out.old out.new }
-    ensures kept { Extends out.old.items out.new.items }
+    ensures preserves { PreservesOnError result out.old out.new }
+    ensures retained { Extends out.old.items out.new.items }
 {
     match both_members(left, right) {
         Some((members, others)) => merge_objects(out, members, others),
@@ -43,7 +43,7 @@ pub fn append_merged(out: &mut Vec<u8>, left: &[u8], right: &[u8]) -> Result<(),
     }
 }
 
-/// What stands behind the first bytes of the keys, where both are of objects.
+/// What is behind the first bytes of the keys, where both are of objects.
 pub fn both_members<'k, 'l>(left: &'k [u8], right: &'l [u8]) -> Option<(&'k [u8], &'l [u8])>
     ensures { MatchOption result
         ((ms ns : Members) → left.now ≡ key_of (object ms) → right.now ≡ key_of (object ns) → ⊥)
@@ -61,12 +61,12 @@ pub fn both_members<'k, 'l>(left: &'k [u8], right: &'l [u8]) -> Option<(&'k [u8]
 // Appends the key of an object with the members of both.
 fn merge_objects(out: &mut Vec<u8>, left: &[u8], right: &[u8]) -> Result<(), EditError>
     ensures merges { AppendsMembersOfBoth left.now right.now result out.old out.new }
-    ensures keeps { KeepsOnError result out.old out.new }
-    ensures kept { Extends out.old.items out.new.items }
+    ensures preserves { PreservesOnError result out.old out.new }
+    ensures retained { Extends out.old.items out.new.items }
 {
     let old_len = out.len();
-    let room = left.len().saturating_add(right.len());
-    let _reserved = out.try_reserve(room.saturating_add(1));
+    let depth_left = left.len().saturating_add(right.len());
+    let _reserved = out.try_reserve(depth_left.saturating_add(1));
     match append_members(out, left, right) {
         Ok(()) => Ok(()),
         Err(error) => {
@@ -79,7 +79,7 @@ fn merge_objects(out: &mut Vec<u8>, left: &[u8], right: &[u8]) -> Result<(), Edi
 // Appends the first byte of an object's key, and the members of both.
 fn append_members(out: &mut Vec<u8>, left: &[u8], right: &[u8]) -> Result<(), EditError>
     ensures merges { AppendsMembersOfBoth left.now right.now result out.old out.new }
-    ensures kept { Extends out.old.items out.new.items }
+    ensures retained { Extends out.old.items out.new.items }
     ensures capacity { vec_capacity out.old ≤ vec_capacity out.new }
 {
     if append(out, &[kind::OBJECT]).is_err() {
@@ -102,7 +102,7 @@ fn append_members(out: &mut Vec<u8>, left: &[u8], right: &[u8]) -> Result<(), Ed
     }
 }
 
-/// Where the bytes of a step come from: from the left side, from the right one, or from the right one in the place of
+/// Where the bytes of a step come from: from the left side, from the right one, or from the right one instead of
 /// the left one's first member.
 #[derive(Clone, Copy)]
 pub enum Side {
@@ -226,8 +226,8 @@ fn after_member(members: &[u8]) -> Result<&[u8], NoKey>
 fn join_items(out: &mut Vec<u8>, left: &[u8], right: &[u8]) -> Result<(), EditError>
     ensures joins { AppendsBoth (λ t u. array (joined_items (as_items t) (as_items u))) left.now right.now result
         out.old out.new }
-    ensures keeps { KeepsOnError result out.old out.new }
-    ensures kept { Extends out.old.items out.new.items }
+    ensures preserves { PreservesOnError result out.old out.new }
+    ensures retained { Extends out.old.items out.new.items }
 {
     let items = match item_keys(left) {
         Ok(items) => items,

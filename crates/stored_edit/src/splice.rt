@@ -26,11 +26,11 @@ pub fn splice(
 {
     let old_len = out.len();
     let parts = first.len().saturating_add(second.len());
-    let room = front
+    let depth_left = front
         .len()
         .saturating_add(parts)
         .saturating_add(behind.len());
-    let _reserved = out.try_reserve(room);
+    let _reserved = out.try_reserve(depth_left);
     if append_four(out, front, first, second, behind).is_err() {
         out.truncate(old_len);
         return Err(AllocError);
@@ -53,7 +53,7 @@ fn append_four(
     out.extend_from_slice(behind)
 }
 
-/// Appends a part with its name, and with what stands in front of them and behind them.
+/// Appends a part with its name, and with what is in front of them and behind them.
 pub(crate) fn splice_named(
     out: &mut Vec<u8>,
     front: &[u8],
@@ -65,11 +65,11 @@ pub(crate) fn splice_named(
         ++ (text_key name.now ++ (part.now ++ behind.now))) }
 {
     let old_len = out.len();
-    let room = front
+    let depth_left = front
         .len()
         .saturating_add(part.len())
         .saturating_add(behind.len());
-    let _reserved = out.try_reserve(room.saturating_add(name.len()).saturating_add(2));
+    let _reserved = out.try_reserve(depth_left.saturating_add(name.len()).saturating_add(2));
     if append_named(out, front, name, part, behind).is_err() {
         out.truncate(old_len);
         return Err(AllocError);

@@ -1,4 +1,4 @@
-//! Where a part stands among the parts of an array or an object, or would stand.
+//! Where a part is among the parts of an array or an object, or would be.
 
 ghost use Rattle.std.specs.Prelude.{◌≡◌, ◌<◌, ◌≤◌, ◌++◌, Bool, IsTrue, List, ℕ, length, option_map, true, false, None, Option, IfOk, IfSome, MatchResult, MatchOption};
 ghost use Rattle.jsonb_key.specs.Readable.{IsAnyNumber, IsReadable};
@@ -7,15 +7,15 @@ ghost use Rattle.jsonb_stored.specs.Open.{Open, members};
 ghost use Rattle.jsonb_spec.specs.Text.Range.{HaveWithin};
 ghost use Rattle.jsonb_spec.specs.Tree.{Tree};
 ghost use Rattle.stored_edit.specs.Edit.{Outcome, changed_at_step, changed_item, changed_item_back, changed_member};
-ghost use Rattle.stored_edit.specs.Spots.{changed_open, FindsItemSpot, OpenSpotIn, OpenWithin, Stands, StandsFirst, TellsBehind};
+ghost use Rattle.stored_edit.specs.Spots.{changed_open, FindsItemSpot, OpenSpotIn, OpenWithin, Occurs, OccursFirst, ReportsBehind};
 
 use crate::step::step_of;
 use jsonb_stored::find::{NoKey, compare_name};
 use jsonb_stored::skip::{after_end, after_key, after_name};
 use std::cmp::Ordering;
 
-/// Where a part stands in the bytes, or would stand: all that is left of them from its name on, which an item has none
-/// of, and from its value on. Where no part is there, both are what follows the place.
+/// Where a part is in the bytes, or would be: all that is left of them from its name on, which an item has none
+/// of, and from its value on. Where no part is there, both are what follows the slot.
 #[derive(Clone, Copy)]
 pub struct Spot<'k> {
     pub found: bool,
@@ -23,7 +23,7 @@ pub struct Spot<'k> {
     pub value: &'k [u8],
 }
 
-// A place where no part is, before what is left.
+// A slot where no part is, before what is left.
 fn no_part(rest: &[u8]) -> Spot<'_>
     ensures { (result.found ≡ false) × (result.entry.now ≡ rest.now) }
 {
@@ -34,10 +34,10 @@ fn no_part(rest: &[u8]) -> Spot<'_>
     }
 }
 
-/// The bytes behind the part at the spot, which is walked to its end, or behind the place where no part is.
+/// The bytes behind the part at the spot, which is walked to its end, or behind the slot where no part is.
 pub(crate) fn behind_part<'k>(spot: &Spot<'k>) -> Result<&'k [u8], NoKey>
     ensures behind { (object : Bool) → (name more : List ℕ) → (there : Option Tree) → IfSome there IsReadable
-        → Stands object name spot.now more there → TellsBehind more result }
+        → Occurs object name spot.now more there → ReportsBehind more result }
 {
     if spot.found {
         behind_key(spot.value)
@@ -48,7 +48,7 @@ pub(crate) fn behind_part<'k>(spot: &Spot<'k>) -> Result<&'k [u8], NoKey>
 
 // The bytes behind the key that they begin with.
 fn behind_key(bytes: &[u8]) -> Result<&[u8], NoKey>
-    ensures behind { AtKey bytes.now (λ t more. TellsBehind more result) }
+    ensures behind { AtKey bytes.now (λ t more. ReportsBehind more result) }
     ensures shorter { IfOk result (λ rest. length rest.now < length bytes.now) }
 {
     match after_key(bytes) {
@@ -59,7 +59,7 @@ fn behind_key(bytes: &[u8]) -> Result<&[u8], NoKey>
 
 // The bytes from the value of the first part on that is left of an object or an array; `None` where no part is left.
 fn first_value(object: bool, left: &[u8]) -> Result<Option<&[u8]>, NoKey>
-    ensures first { AtParts object left.now (λ o more. StandsFirst o more result) }
+    ensures first { AtParts object left.now (λ o more. OccursFirst o more result) }
     ensures within { IfOk result (λ answer. IfSome answer (λ value. length value.now ≤ length left.now)) }
 {
     match after_end(object, left) {
@@ -71,11 +71,11 @@ fn first_value(object: bool, left: &[u8]) -> Result<Option<&[u8]>, NoKey>
     }
 }
 
-// Where the member of that name stands among the members, or would stand.
+// Where the member of that name is among the members, or would be.
 pub(crate) fn member_spot<'k>(members: &'k [u8], name: &[u8]) -> Result<Spot<'k>, NoKey>
-    ensures spot { AtMembers members.now (λ ms more. (room : ℕ) → HaveWithin IsAnyNumber ms room → MatchResult result
+    ensures spot { AtMembers members.now (λ ms more. (depth_left : ℕ) → HaveWithin IsAnyNumber ms depth_left → MatchResult result
         (OpenSpotIn (λ change. option_map Open.members (changed_member change name.now ms)) true name.now members.now
-        more room) (λ e. ⊥)) }
+        more depth_left) (λ e. ⊥)) }
 {
     let mut rest = members;
     'members: loop {
@@ -98,7 +98,7 @@ pub(crate) fn member_spot<'k>(members: &'k [u8], name: &[u8]) -> Result<Spot<'k>
     }
 }
 
-// Where the item of that index stands, or the end.
+// Where the item of that index is, or the end.
 fn item_spot(items: &[u8], index: usize) -> Result<Spot<'_>, NoKey>
     ensures spot { FindsItemSpot (λ change. changed_item change index) items.now result }
 {
@@ -120,8 +120,8 @@ fn item_spot(items: &[u8], index: usize) -> Result<Spot<'_>, NoKey>
     }
 }
 
-// Where the item stands that is so many from the end, where 1 is the last, or the front. All items are walked once:
-// what is left after each `back` of them is kept, and what was kept before; the item is fewer than `back` behind that.
+// Where the item is that is so many from the end, where 1 is the last, or the front. All items are walked once:
+// what is left after each `back` of them is held, and what was held before; the item is fewer than `back` behind that.
 fn item_spot_back(items: &[u8], back: usize) -> Result<Spot<'_>, NoKey>
     requires { 0 < back }
     ensures spot { FindsItemSpot (λ change. changed_item_back change back) items.now result }
@@ -147,7 +147,7 @@ fn item_spot_back(items: &[u8], back: usize) -> Result<Spot<'_>, NoKey>
     }
 }
 
-// Where the item of that index stands, which counts from the end or not.
+// Where the item of that index is, which counts from the end or not.
 fn item_spot_by(items: &[u8], from_end: bool, number: usize) -> Result<Spot<'_>, NoKey>
     requires { IsTrue from_end → 0 < number }
     ensures spot { FindsItemSpot (λ change ts. changed_at_step change ts (from_end, number)) items.now result }
@@ -159,15 +159,15 @@ fn item_spot_by(items: &[u8], from_end: bool, number: usize) -> Result<Spot<'_>,
     }
 }
 
-/// Where the member of that name stands, or the item of that index; `None` where the name spells no index.
+/// Where the member of that name is, or the item of that index; `None` where the name encodes no index.
 pub(crate) fn part_spot<'k>(
     object: bool,
     parts: &'k [u8],
     name: &str,
 ) -> Result<Option<Spot<'k>>, NoKey>
-    ensures spot { AtParts object parts.now (λ o more. (room : ℕ) → OpenWithin o room → MatchResult result
+    ensures spot { AtParts object parts.now (λ o more. (depth_left : ℕ) → OpenWithin o depth_left → MatchResult result
         (λ answer. MatchOption answer ((change : Option Tree → Outcome) → changed_open change name.now o ≡ None)
-        (OpenSpotIn (λ change. changed_open change name.now o) object name.now parts.now more room)) (λ e. ⊥)) }
+        (OpenSpotIn (λ change. changed_open change name.now o) object name.now parts.now more depth_left)) (λ e. ⊥)) }
 {
     if object {
         let spot = member_spot(parts, name.as_bytes())?;

@@ -1,4 +1,4 @@
-//! Indices of items, as steps of paths spell them.
+//! Indices of items, as steps of paths encode them.
 
 ghost use Rattle.std.specs.Prelude.{◌≡◌, ◌<◌, option_map, true, IfSome, IsTrue};
 ghost use Rattle.stored_edit.specs.Edit.{back_named, step_named};

@@ -5,15 +5,15 @@ use Rattle.std.specs.declared.alloc.Global.{Global}
 use Rattle.jsonb_key.specs.declared.key.KeyError.{KeyError}
 use Rattle.jsonb_key.specs.declared.key.KeyError.TheVariants.{OutOfMemory}
 use Rattle.jsonb_spec.specs.Text.Appending.{Appends}
-use Rattle.stored_text.specs.Writes.{Keeps, Writes}
+use Rattle.stored_text.specs.Writes.{Preserves, Writes}
 
 -- ---- two pieces
 
-pub no_room_first : (old : Vec ℕ Global) (front back : List ℕ) → vec_capacity old < vec_len old + length front → vec_capacity old < vec_len old + length (front ++ back)
-no_room_first old front back h = omega (arith, h, length-append front back)
+pub no_capacity_first : (old : Vec ℕ Global) (front back : List ℕ) → vec_capacity old < vec_len old + length front → vec_capacity old < vec_len old + length (front ++ back)
+no_capacity_first old front back h = omega (arith, h, length-append front back)
 
-pub no_room_second : (old now : Vec ℕ Global) (front back : List ℕ) → now.items ≡ old.items ++ front → vec_capacity old ≤ vec_capacity now → vec_capacity now < vec_len now + length back → vec_capacity old < vec_len old + length (front ++ back)
-no_room_second old now front back is most h = omega (arith, h, most, ap length is, length-append old.items front, length-append front back)
+pub no_capacity_second : (old now : Vec ℕ Global) (front back : List ℕ) → now.items ≡ old.items ++ front → vec_capacity old ≤ vec_capacity now → vec_capacity now < vec_len now + length back → vec_capacity old < vec_len old + length (front ++ back)
+no_capacity_second old now front back is most h = omega (arith, h, most, ap length is, length-append old.items front, length-append front back)
 
 pub both : (old now new front back : List ℕ) → now ≡ old ++ front → new ≡ now ++ back → new ≡ old ++ (front ++ back)
 both old now new front back is more = more ∙ ap (λ t. t ++ back) is ∙ append_assoc old front back
@@ -30,25 +30,25 @@ pub passed_on : {X : Type 0} (left : X → List ℕ) (r : Result X KeyError) (ol
 passed_on left (Ok x) old new more text error h is full = absurd h
 passed_on left (Err e) old new more text error h is full = (h ∙ is, full)
 
--- ---- what is kept
+-- ---- what is held
 
-pub kept : (v : Vec ℕ Global) → Keeps v v
-kept v = record { kept = record { more = []; extended = sym (append-nil v.items) }; capacity = omega arith }
+pub retained : (v : Vec ℕ Global) → Preserves v v
+retained v = record { retained = record { more = []; extended = sym (append-nil v.items) }; capacity = omega arith }
 
-pub keeps_on : (u v w : Vec ℕ Global) → Keeps u v → Keeps v w → Keeps u w
-keeps_on u v w p q = record {
-  kept = record { more = p.kept.more ++ q.kept.more; extended = q.kept.extended ∙ ap (λ t. t ++ q.kept.more) p.kept.extended ∙ append_assoc u.items p.kept.more q.kept.more };
+pub preserves_on : (u v w : Vec ℕ Global) → Preserves u v → Preserves v w → Preserves u w
+preserves_on u v w p q = record {
+  retained = record { more = p.retained.more ++ q.retained.more; extended = q.retained.extended ∙ ap (λ t. t ++ q.retained.more) p.retained.extended ∙ append_assoc u.items p.retained.more q.retained.more };
   capacity = omega (arith, p.capacity, q.capacity);
 }
 
-pub kept_by : {X E : Type 0} {r : Result X E} {bytes : List ℕ} (v w : Vec ℕ Global) → Appends r v w bytes → Keeps v w
-kept_by v w p = record { kept = p.kept; capacity = p.capacity }
+pub retained_by : {X E : Type 0} {r : Result X E} {bytes : List ℕ} (v w : Vec ℕ Global) → Appends r v w bytes → Preserves v w
+retained_by v w p = record { retained = p.retained; capacity = p.capacity }
 
 -- ---- what follows what was appended
 
 pub behind : {X : Type 0} (left : X → List ℕ) (r : Result X KeyError) (old mid new : Vec ℕ Global) (more front back text : List ℕ) → mid.items ≡ old.items ++ front → vec_capacity old ≤ vec_capacity mid → text ≡ front ++ back → Writes left r mid new more back → Writes left r old new more text
 behind left (Ok x) old mid new more front back text is most split h = (h.0, both old.items mid.items new.items front back is h.1 ∙ ap (λ t. old.items ++ t) (sym split))
-behind left (Err e) old mid new more front back text is most split h = (h.0, omega (arith, no_room_second old mid front back is most h.1, ap length split))
+behind left (Err e) old mid new more front back text is most split h = (h.0, omega (arith, no_capacity_second old mid front back is most h.1, ap length split))
 
 -- the text by another name
 pub as_text : {X : Type 0} (left : X → List ℕ) (r : Result X KeyError) (old new : Vec ℕ Global) (more back text : List ℕ) → text ≡ back → Writes left r old new more back → Writes left r old new more text

@@ -14,67 +14,67 @@ use Rattle.jsonb_value.proofs.Trees.RangeTexts.{text_in_range, range_reads_back,
 use Rattle.stored_text.specs.FewestDigits.{spare_zeros, fewest_digits, with_fewest_digits, items_with_fewest_digits, members_with_fewest_digits, AppendsDocumentWithKey}
 use Rattle.stored_text.specs.Writes.{value_text}
 use Rattle.stored_text.proofs.Spares.{divided_less, fewest_proper}
-use Rattle.stored_text.proofs.Whole.{key_kept}
+use Rattle.stored_text.proofs.Whole.{key_retained}
 
-few_kept : (n : Num) → HasFewDigits n → HasFewDigits (fewest_digits n)
-few_kept n few =
+few_retained : (n : Num) → HasFewDigits n → HasFewDigits (fewest_digits n)
+few_retained n few =
     let z = spare_zeros n.scale (unsigned_abs n.whole) in
     let q = unsigned_abs n.whole / 10 ^ z in
     (omega (arith, few.0), omega (arith, few.1, divided_less (unsigned_abs n.whole) (10 ^ z), unsigned_abs-signed (is_negative n.whole) q))
 
-below_kept : (k : List ℕ) (ms : Members) → IsBelowKeys k ms → IsBelowKeys k (members_with_fewest_digits ms)
-below_kept k no_members b = tt
-below_kept k (more_members l t ms) b = (b.0, below_kept k ms b.1)
+below_retained : (k : List ℕ) (ms : Members) → IsBelowKeys k ms → IsBelowKeys k (members_with_fewest_digits ms)
+below_retained k no_members b = tt
+below_retained k (more_members l t ms) b = (b.0, below_retained k ms b.1)
 
-ascend_kept : (ms : Members) → KeysAscend ms → KeysAscend (members_with_fewest_digits ms)
-ascend_kept no_members a = tt
-ascend_kept (more_members k t ms) a = (below_kept k ms a.0, ascend_kept ms a.1)
+ascend_retained : (ms : Members) → KeysAscend ms → KeysAscend (members_with_fewest_digits ms)
+ascend_retained no_members a = tt
+ascend_retained (more_members k t ms) a = (below_retained k ms a.0, ascend_retained ms a.1)
 
 mutual
-  proper_kept : (t : Tree) (depth : ℕ) → IsProper t → IsWithin HasFewDigits t depth → IsProper (with_fewest_digits t)
-  proper_kept null depth p w = tt
-  proper_kept (boolean b) depth p w = tt
-  proper_kept (string mark bytes) depth p w = p
-  proper_kept (number n) depth p w = fewest_proper n p
-  proper_kept (array ts) zero p w = absurd w
-  proper_kept (array ts) (suc depth) p w = items_proper ts depth p w
-  proper_kept (object ms) zero p w = absurd w
-  proper_kept (object ms) (suc depth) p w = (ascend_kept ms p.0, members_proper ms depth p.1 w)
-  proper_kept t depth p w = absurd w
+  proper_retained : (t : Tree) (depth : ℕ) → IsProper t → IsWithin HasFewDigits t depth → IsProper (with_fewest_digits t)
+  proper_retained null depth p w = tt
+  proper_retained (boolean b) depth p w = tt
+  proper_retained (string mark bytes) depth p w = p
+  proper_retained (number n) depth p w = fewest_proper n p
+  proper_retained (array ts) zero p w = absurd w
+  proper_retained (array ts) (suc depth) p w = items_proper ts depth p w
+  proper_retained (object ms) zero p w = absurd w
+  proper_retained (object ms) (suc depth) p w = (ascend_retained ms p.0, members_proper ms depth p.1 w)
+  proper_retained t depth p w = absurd w
 
   items_proper : (ts : Trees) (depth : ℕ) → AreProper ts → AreWithin HasFewDigits ts depth → AreProper (items_with_fewest_digits ts)
   items_proper no_trees depth p w = tt
-  items_proper (more_trees t ts) depth p w = (proper_kept t depth p.0 w.0, items_proper ts depth p.1 w.1)
+  items_proper (more_trees t ts) depth p w = (proper_retained t depth p.0 w.0, items_proper ts depth p.1 w.1)
 
   members_proper : (ms : Members) (depth : ℕ) → HaveProperParts ms → HaveWithin HasFewDigits ms depth → HaveProperParts (members_with_fewest_digits ms)
   members_proper no_members depth p w = tt
-  members_proper (more_members k t ms) depth p w = (p.0, proper_kept t depth p.1 w.0, members_proper ms depth p.2 w.1)
+  members_proper (more_members k t ms) depth p w = (p.0, proper_retained t depth p.1 w.0, members_proper ms depth p.2 w.1)
 
 mutual
-  range_kept : (t : Tree) (depth : ℕ) → IsWithin HasFewDigits t depth → IsWithin HasFewDigits (with_fewest_digits t) depth
-  range_kept null depth w = tt
-  range_kept (boolean b) depth w = tt
-  range_kept (string mark bytes) depth w = tt
-  range_kept (number n) depth w = few_kept n w
-  range_kept (array ts) zero w = absurd w
-  range_kept (array ts) (suc depth) w = items_range ts depth w
-  range_kept (object ms) zero w = absurd w
-  range_kept (object ms) (suc depth) w = members_range ms depth w
-  range_kept t depth w = absurd w
+  range_retained : (t : Tree) (depth : ℕ) → IsWithin HasFewDigits t depth → IsWithin HasFewDigits (with_fewest_digits t) depth
+  range_retained null depth w = tt
+  range_retained (boolean b) depth w = tt
+  range_retained (string mark bytes) depth w = tt
+  range_retained (number n) depth w = few_retained n w
+  range_retained (array ts) zero w = absurd w
+  range_retained (array ts) (suc depth) w = items_range ts depth w
+  range_retained (object ms) zero w = absurd w
+  range_retained (object ms) (suc depth) w = members_range ms depth w
+  range_retained t depth w = absurd w
 
   items_range : (ts : Trees) (depth : ℕ) → AreWithin HasFewDigits ts depth → AreWithin HasFewDigits (items_with_fewest_digits ts) depth
   items_range no_trees depth w = tt
-  items_range (more_trees t ts) depth w = (range_kept t depth w.0, items_range ts depth w.1)
+  items_range (more_trees t ts) depth w = (range_retained t depth w.0, items_range ts depth w.1)
 
   members_range : (ms : Members) (depth : ℕ) → HaveWithin HasFewDigits ms depth → HaveWithin HasFewDigits (members_with_fewest_digits ms) depth
   members_range no_members depth w = tt
-  members_range (more_members k t ms) depth w = (range_kept t depth w.0, members_range ms depth w.1)
+  members_range (more_members k t ms) depth w = (range_retained t depth w.0, members_range ms depth w.1)
 
 pub document_appended : (key old new : List ℕ) (k : IsSortKey key) → new ≡ old ++ value_text k.value → AppendsDocumentWithKey key old new
 document_appended key old new k e =
     let t = with_fewest_digits k.value in
-    let proper : IsProper t = proper_kept k.value max_depth k.proper k.in_range in
-    let within : IsWithin HasFewDigits t max_depth = range_kept k.value max_depth k.in_range in
+    let proper : IsProper t = proper_retained k.value max_depth k.proper k.in_range in
+    let within : IsWithin HasFewDigits t max_depth = range_retained k.value max_depth k.in_range in
     let back = range_reads_back extended t proper within (value_text k.value) (text_in_range HasFewDigits t within) in
     record {
       text = value_text k.value;
@@ -82,6 +82,6 @@ document_appended key old new k e =
       document = record {
         value = back.tree;
         document = back.document;
-        is_key = (keys_same back.tree t (document_in_range extended (value_text k.value) back.tree back.document).1 proper).1 back.same ∙ key_kept k.value k.proper ∙ sym k.is_key;
+        is_key = (keys_same back.tree t (document_in_range extended (value_text k.value) back.tree back.document).1 proper).1 back.same ∙ key_retained k.value k.proper ∙ sym k.is_key;
       };
     }

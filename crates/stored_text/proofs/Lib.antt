@@ -3,7 +3,7 @@ pub mod LastDigits
 pub mod Spares
 pub mod NumberTexts
 pub mod Pairs
-pub mod Spelling
+pub mod Encoding
 pub mod KeyNumbers
 pub mod Strings
 pub mod Whole

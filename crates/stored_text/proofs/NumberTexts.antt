@@ -20,19 +20,19 @@ use Rattle.std.proofs.lemmas.Fmt.{decimal_digit}
 use Rattle.jsonb_key.proofs.Numbers.{cancel}
 use Rattle.jsonb_key.proofs.Signs.{IsSigned}
 use Rattle.stored_text.specs.FewestDigits.{spare_zeros, fewest_digits}
-use Rattle.stored_text.specs.Writes.{IsSpelled, last_digits, placed_text}
+use Rattle.stored_text.specs.Writes.{IsEncoded, last_digits, scaled_text}
 use Rattle.stored_text.proofs.LastDigits.{all_digits, digits_long, zeros_behind}
 use Rattle.stored_text.proofs.Spares.{all_spare, some_spare}
 
-sign_kept : (b : Bool) (q : ℕ) → 0 < q → is_negative (signed_by b q) ≡ b
-sign_kept false q some = is_negative-pos q
-sign_kept true zero some = absurd (omega (arith, some))
-sign_kept true (suc q) some = refl
+sign_retained : (b : Bool) (q : ℕ) → 0 < q → is_negative (signed_by b q) ≡ b
+sign_retained false q some = is_negative-pos q
+sign_retained true zero some = absurd (omega (arith, some))
+sign_retained true (suc q) some = refl
 
 -- the text of the parts, where some digit isn't 0
 parts_text : (scale : ℕ) (b : Bool) (q : ℕ) → 0 < q → text_of_parts scale (signed_by b q) ≡ sign_text b ++ with_point scale (zero_padded (scale + 1) (decimal q))
 unfolding text_of_parts
-parts_text scale b q some = ap₂ (λ s m. sign_text s ++ with_point scale (zero_padded (scale + 1) (decimal m))) (sign_kept b q some) (unsigned_abs-signed b q)
+parts_text scale b q some = ap₂ (λ s m. sign_text s ++ with_point scale (zero_padded (scale + 1) (decimal m))) (sign_retained b q some) (unsigned_abs-signed b q)
 
 -- the text without this many digits
 without : (n : Num) (less q : ℕ) → spare_zeros n.scale (unsigned_abs n.whole) ≡ less → unsigned_abs n.whole / 10 ^ less ≡ q → 0 < q → number_text (fewest_digits n) ≡ sign_text (is_negative n.whole) ++ with_point (n.scale - less) (zero_padded (n.scale - less + 1) (decimal q))
@@ -41,19 +41,19 @@ without n less q spare divided some =
     ∙ ap (λ m. text_of_parts (n.scale - less) (signed_by (is_negative n.whole) m)) divided
     ∙ parts_text (n.scale - less) (is_negative n.whole) q some
 
--- ---- the three kinds of places
+-- ---- the three kinds of exponents
 
-pub no_point : (place count : ℕ) (row : List ℕ) → 255 < place → count ≤ place - 255 → placed_text place count row ≡ take (place - 255) row
-unfolding placed_text
-no_point place count row h k = cond-true (nat_lt 255 place) _ _ (lt-ltb 255 place h) ∙ cond-false (nat_lt (place - 255) count) _ _ (le-ltb (place - 255) count k)
+pub no_point : (exponent count : ℕ) (row : List ℕ) → 255 < exponent → count ≤ exponent - 255 → scaled_text exponent count row ≡ take (exponent - 255) row
+unfolding scaled_text
+no_point exponent count row h k = cond-true (nat_lt 255 exponent) _ _ (lt-ltb 255 exponent h) ∙ cond-false (nat_lt (exponent - 255) count) _ _ (le-ltb (exponent - 255) count k)
 
-pub point_inside : (place count : ℕ) (row : List ℕ) → 255 < place → place - 255 < count → placed_text place count row ≡ take (place - 255) row ++ 46 ∷ slice_range row (place - 255) count
-unfolding placed_text
-point_inside place count row h k = cond-true (nat_lt 255 place) _ _ (lt-ltb 255 place h) ∙ cond-true (nat_lt (place - 255) count) _ _ (lt-ltb (place - 255) count k)
+pub point_inside : (exponent count : ℕ) (row : List ℕ) → 255 < exponent → exponent - 255 < count → scaled_text exponent count row ≡ take (exponent - 255) row ++ 46 ∷ slice_range row (exponent - 255) count
+unfolding scaled_text
+point_inside exponent count row h k = cond-true (nat_lt 255 exponent) _ _ (lt-ltb 255 exponent h) ∙ cond-true (nat_lt (exponent - 255) count) _ _ (lt-ltb (exponent - 255) count k)
 
-pub point_before : (place count : ℕ) (row : List ℕ) → place ≤ 255 → placed_text place count row ≡ 48 ∷ 46 ∷ (replicate (255 - place) 48 ++ take count row)
-unfolding placed_text
-point_before place count row h = cond-false (nat_lt 255 place) _ _ (le-ltb 255 place h)
+pub point_before : (exponent count : ℕ) (row : List ℕ) → exponent ≤ 255 → scaled_text exponent count row ≡ 48 ∷ 46 ∷ (replicate (255 - exponent) 48 ++ take count row)
+unfolding scaled_text
+point_before exponent count row h = cond-false (nat_lt 255 exponent) _ _ (le-ltb 255 exponent h)
 
 -- ---- the digits in the row
 
@@ -109,7 +109,7 @@ record AreDigits (n : Num) (count read D : ℕ) : Type 0 where
   long : length (decimal D) ≡ read
   are : decimal D ≡ last_digits read D
 
-are_digits : (n : Num) (sign : Bool) (bytes more : List ℕ) (s : IsSigned n sign bytes more) (read : ℕ) (row : List ℕ) (p : IsSpelled s.count (unsigned_abs n.whole) read row) → AreDigits n s.count read p.digits
+are_digits : (n : Num) (sign : Bool) (bytes more : List ℕ) (s : IsSigned n sign bytes more) (read : ℕ) (row : List ℕ) (p : IsEncoded s.count (unsigned_abs n.whole) read row) → AreDigits n s.count read p.digits
 are_digits n sign bytes more s read row p =
     let M = unsigned_abs n.whole in
     let D = p.digits in
@@ -135,16 +135,16 @@ are_digits n sign bytes more s read row p =
       are = are;
     }
 
-module _ (n : Num) (place count read D : ℕ) (a : AreDigits n count read D) (is_place : place + n.scale ≡ count + 255) (few : count ≤ 39) (last : D % 10 ≢ 0) where
+module _ (n : Num) (exponent count read D : ℕ) (a : AreDigits n count read D) (is_exponent_key : exponent + n.scale ≡ count + 255) (few : count ≤ 39) (last : D % 10 ≢ 0) where
   abbrev sign : List ℕ
   sign = sign_text (is_negative n.whole)
 
   abbrev row : List ℕ
   row = decimal D ++ replicate (48 - read) 48
 
-  whole_text : 255 < place → read ≤ place - 255 → number_text (fewest_digits n) ≡ sign ++ placed_text place read row
+  whole_text : 255 < exponent → read ≤ exponent - 255 → number_text (fewest_digits n) ≡ sign ++ scaled_text exponent read row
   whole_text h k =
-      let fewer : n.scale ≤ a.run = omega (arith, is_place, a.counted, h, k) in
+      let fewer : n.scale ≤ a.run = omega (arith, is_exponent_key, a.counted, h, k) in
       let left = a.run - n.scale in
       let q = D * 10 ^ left in
       let power : 10 ^ a.run ≡ 10 ^ left * 10 ^ n.scale = ap (λ e. 10 ^ e) {x = a.run} (omega (arith, fewer)) ∙ pow-add 10 left n.scale in
@@ -156,39 +156,39 @@ module _ (n : Num) (place count read D : ℕ) (a : AreDigits n count read D) (is
       let digits : decimal q ≡ decimal D ++ replicate left 48 = zeros_behind left D a.some (omega (arith, most, a.small)) in
       let some : 0 < length (decimal q) = omega (arith, ap length digits, length-append (decimal D) (replicate left 48), a.long, a.any) in
       let none : n.scale - n.scale ≡ 0 = omega arith in
-      let written = row_zeros (decimal D) (place - 255) read (48 - read) a.long k (omega (arith, is_place, few, a.counted)) in
-      let over : place - 255 - read ≡ left = omega (arith, is_place, a.counted, h, k) in
+      let written = row_zeros (decimal D) (exponent - 255) read (48 - read) a.long k (omega (arith, is_exponent_key, few, a.counted)) in
+      let over : exponent - 255 - read ≡ left = omega (arith, is_exponent_key, a.counted, h, k) in
       without n n.scale q spare divided positive
       ∙ ap (λ x. sign ++ with_point x (zero_padded (x + 1) (decimal q))) none
-      ∙ ap (λ ds. sign ++ ds) (pointed_whole (decimal q) some ∙ digits ∙ ap (λ x. decimal D ++ replicate x 48) (sym over) ∙ sym written ∙ sym (no_point place read row h k))
+      ∙ ap (λ ds. sign ++ ds) (pointed_whole (decimal q) some ∙ digits ∙ ap (λ x. decimal D ++ replicate x 48) (sym over) ∙ sym written ∙ sym (no_point exponent read row h k))
 
-  inside_text : 255 < place → place - 255 < read → number_text (fewest_digits n) ≡ sign ++ placed_text place read row
+  inside_text : 255 < exponent → exponent - 255 < read → number_text (fewest_digits n) ≡ sign ++ scaled_text exponent read row
   inside_text h k =
-      let more : a.run < n.scale = omega (arith, is_place, a.counted, h, k) in
+      let more : a.run < n.scale = omega (arith, is_exponent_key, a.counted, h, k) in
       let spare = ap (spare_zeros n.scale) a.whole ∙ some_spare n.scale a.run D last (omega (arith, more)) in
       let divided : unsigned_abs n.whole / 10 ^ a.run ≡ D = ap (λ m. m / 10 ^ a.run) a.whole ∙ mul-div_cancel D (ten a.run) in
-      let front : length (decimal D) - (n.scale - a.run) ≡ place - 255 = omega (arith, is_place, a.counted, a.long, h, k) in
-      let inside = pointed_inside (n.scale - a.run) (decimal D) (omega (arith, more)) (omega (arith, is_place, a.counted, a.long, h, more)) in
+      let front : length (decimal D) - (n.scale - a.run) ≡ exponent - 255 = omega (arith, is_exponent_key, a.counted, a.long, h, k) in
+      let inside = pointed_inside (n.scale - a.run) (decimal D) (omega (arith, more)) (omega (arith, is_exponent_key, a.counted, a.long, h, more)) in
       without n a.run D spare divided a.some
       ∙ ap (λ ds. sign ++ ds) (inside ∙ ap (λ x. take x (decimal D) ++ 46 ∷ drop x (decimal D)) front
-      ∙ ap₂ (λ xs ys. xs ++ 46 ∷ ys) (sym (row_front (decimal D) (replicate (48 - read) 48) (place - 255) (omega (arith, a.long, k)))) (sym (row_back (decimal D) (replicate (48 - read) 48) (place - 255) read a.long (omega (arith, k))))
-      ∙ sym (point_inside place read row h k))
+      ∙ ap₂ (λ xs ys. xs ++ 46 ∷ ys) (sym (row_front (decimal D) (replicate (48 - read) 48) (exponent - 255) (omega (arith, a.long, k)))) (sym (row_back (decimal D) (replicate (48 - read) 48) (exponent - 255) read a.long (omega (arith, k))))
+      ∙ sym (point_inside exponent read row h k))
 
-  before_text : place ≤ 255 → number_text (fewest_digits n) ≡ sign ++ placed_text place read row
+  before_text : exponent ≤ 255 → number_text (fewest_digits n) ≡ sign ++ scaled_text exponent read row
   before_text h =
-      let more : a.run < n.scale = omega (arith, is_place, a.counted, h, a.any) in
+      let more : a.run < n.scale = omega (arith, is_exponent_key, a.counted, h, a.any) in
       let spare = ap (spare_zeros n.scale) a.whole ∙ some_spare n.scale a.run D last (omega (arith, more)) in
       let divided : unsigned_abs n.whole / 10 ^ a.run ≡ D = ap (λ m. m / 10 ^ a.run) a.whole ∙ mul-div_cancel D (ten a.run) in
-      let zeros_left : n.scale - a.run - length (decimal D) ≡ 255 - place = omega (arith, is_place, a.counted, a.long, h) in
-      let before = pointed_before (n.scale - a.run) (decimal D) (omega (arith, more)) (omega (arith, is_place, a.counted, a.long, h)) in
+      let zeros_left : n.scale - a.run - length (decimal D) ≡ 255 - exponent = omega (arith, is_exponent_key, a.counted, a.long, h) in
+      let before = pointed_before (n.scale - a.run) (decimal D) (omega (arith, more)) (omega (arith, is_exponent_key, a.counted, a.long, h)) in
       without n a.run D spare divided a.some
       ∙ ap (λ ds. sign ++ ds) (before ∙ ap (λ x. 48 ∷ 46 ∷ (replicate x 48 ++ decimal D)) zeros_left
-      ∙ ap (λ ds. 48 ∷ 46 ∷ (replicate (255 - place) 48 ++ ds)) (sym (row_digits (decimal D) (replicate (48 - read) 48) read a.long))
-      ∙ sym (point_before place read row h))
+      ∙ ap (λ ds. 48 ∷ 46 ∷ (replicate (255 - exponent) 48 ++ ds)) (sym (row_digits (decimal D) (replicate (48 - read) 48) read a.long))
+      ∙ sym (point_before exponent read row h))
 
-  any_text : number_text (fewest_digits n) ≡ sign ++ placed_text place read row
-  any_text = elim (cases_lt 255 place) [
-    | inl h ↦ elim (cases_lt (place - 255) read) [
+  any_text : number_text (fewest_digits n) ≡ sign ++ scaled_text exponent read row
+  any_text = elim (cases_lt 255 exponent) [
+    | inl h ↦ elim (cases_lt (exponent - 255) read) [
       | inl k ↦ inside_text h k
       | inr k ↦ whole_text h k
     ]
@@ -196,11 +196,11 @@ module _ (n : Num) (place count read D : ℕ) (a : AreDigits n count read D) (is
   ]
 
 -- the text of a number that isn't 0
-pub number_is : (n : Num) (sign : Bool) (bytes more : List ℕ) (s : IsSigned n sign bytes more) (read : ℕ) (row : List ℕ) (p : IsSpelled s.count (unsigned_abs n.whole) read row) → number_text (fewest_digits n) ≡ sign_text sign ++ placed_text s.place read row
+pub number_is : (n : Num) (sign : Bool) (bytes more : List ℕ) (s : IsSigned n sign bytes more) (read : ℕ) (row : List ℕ) (p : IsEncoded s.count (unsigned_abs n.whole) read row) → number_text (fewest_digits n) ≡ sign_text sign ++ scaled_text s.exponent read row
 number_is n sign bytes more s read row p =
     let a = are_digits n sign bytes more s read row p in
-    any_text n s.place s.count read p.digits a s.is_place s.few p.not_zero
-    ∙ ap₂ (λ b ds. sign_text b ++ placed_text s.place read ds) s.is_sign (ap (λ ds. ds ++ replicate (48 - read) 48) a.are ∙ sym p.spelled)
+    any_text n s.exponent s.count read p.digits a s.is_exponent_key s.few p.not_zero
+    ∙ ap₂ (λ b ds. sign_text b ++ scaled_text s.exponent read ds) s.is_sign (ap (λ ds. ds ++ replicate (48 - read) 48) a.are ∙ sym p.encoded)
 
 -- the text of 0
 pub zero_is : (n : Num) → n.whole ≡ pos 0 → number_text (fewest_digits n) ≡ 48 ∷ []

@@ -2,7 +2,7 @@
 use Rattle.std.proofs.Common.{◌≡◌, ℕ, zero, suc, ◌+◌, ◌<◌, ◌≤◌, ◌⊎◌, inl, inr, Bool, true, false, List, [], ◌∷◌, ◌++◌, Some, None, get_or, set, length, refl, sym, ap, subst, ◌∙◌, arith, append_assoc, append-nil}
 use Rattle.jsonb_stored.specs.Open.{Open, items, members, is_object, open_key, IsOpen, end_key}
 use Rattle.std.proofs.lemmas.List.{get_or-set_same}
-use Rattle.jsonb_stored.proofs.Opens.{opens_key, AreOpen, Stacks, Next, no_end, stack_kept}
+use Rattle.jsonb_stored.proofs.Opens.{opens_key, AreOpen, Stacks, Next, no_end, stack_retained}
 use Rattle.jsonb_spec.specs.SortKey.{key_of, items_key, members_key, text_key}
 use Rattle.jsonb_spec.specs.Text.Appending.{comma_before}
 use Rattle.jsonb_spec.specs.Tree.{no_trees, more_trees, no_members, more_members}
@@ -20,7 +20,7 @@ pub record TextLeft (objects : List Bool) (depth : ℕ) (rest more : List ℕ) (
   pub levels : left + depth ≡ 512
   pub are_open : AreOpen opens left
   pub stacked : Stacks opens objects depth
-  pub stands : rest ≡ opens_key opens ++ more
+  pub occurs : rest ≡ opens_key opens ++ more
   pub underway : IsUnderway start now (open_text true o) (opens_text first opens)
 
 abbrev pub WritesParts : Bool → List ℕ → List Bool → ℕ → List ℕ → Bool → List ℕ → List ℕ → Type 0
@@ -33,25 +33,25 @@ text_begun objects object bytes start top = λ o is h more e. record {
   levels = omega arith;
   are_open = (h, tt);
   stacked = (top ∙ sym is, tt);
-  stands = e ∙ ap (λ key. key ++ more) (sym (append-nil (open_key o)));
+  occurs = e ∙ ap (λ key. key ++ more) (sym (append-nil (open_key o)));
   underway = record { front = []; appended = sym (append-nil start); whole = sym (append-nil (open_text true o)) };
 }
 
--- the end of the innermost stands first
+-- the end of the innermost is first
 pub record EndsText (objects : List Bool) (top : ℕ) (rest more : List ℕ) (object : Bool) (o : Open) (start now : List ℕ) : Type 0 where
   pub under : List Open
   pub left : ℕ
   pub levels : left + top ≡ 512
   pub are_open : AreOpen under left
   pub stacked : Stacks under objects top
-  pub stands : rest ≡ end_key object ++ (opens_key under ++ more)
+  pub occurs : rest ≡ end_key object ++ (opens_key under ++ more)
   pub underway : IsUnderway start now (open_text true o) ((closing_text object ∷ []) ++ opens_text false under)
 
 -- what is written before a part
 abbrev pub before_part : Bool → Bool → List ℕ → List ℕ
 before_part first object name = comma_before first ++ name_text object name
 
--- a part of the innermost stands first
+-- a part of the innermost is first
 pub record NextText (objects : List Bool) (depth : ℕ) (rest more : List ℕ) (object first : Bool) (o : Open) (start now : List ℕ) : Type 0 where
   pub next : Next objects depth rest more object
   pub underway : IsUnderway start now (open_text true o) (before_part first object next.name ++ (value_text next.value ++ opens_text false (next.others ∷ next.under)))
@@ -73,7 +73,7 @@ module _ (objects : List Bool) (top : ℕ) (rest more : List ℕ) (first : Bool)
   Cases depth object = EndsText objects top rest more object o start now ⊎ NextText objects depth rest more object first o start now
 
   by_open : (p : Open) (os : List Open) (left d : ℕ) → top ≡ d → left + suc d ≡ 512 → AreOpen (p ∷ os) left → Stacks (p ∷ os) objects (suc d) → rest ≡ opens_key (p ∷ os) ++ more → IsUnderway start now (open_text true o) (opens_text first (p ∷ os)) → Cases (suc d) (is_object p)
-  by_open (items no_trees) os left d same levels a s st u = inl (record { under = os; left = suc left; levels = omega (arith, levels, same); are_open = a.1; stacked = subst (λ i. Stacks os objects i) (sym same) s.1; stands = st; underway = u })
+  by_open (items no_trees) os left d same levels a s st u = inl (record { under = os; left = suc left; levels = omega (arith, levels, same); are_open = a.1; stacked = subst (λ i. Stacks os objects i) (sym same) s.1; occurs = st; underway = u })
   by_open (items (more_trees t ts)) os left d same levels a s st u = inr (record {
     next = record {
       name = [];
@@ -85,11 +85,11 @@ module _ (objects : List Bool) (top : ℕ) (rest more : List ℕ) (first : Bool)
       levels = levels;
       are_open = ((a.0.0.1, a.0.1.1), a.1);
       stacked = s;
-      stands = st ∙ regroup [] (key_of t) (items_key ts) (opens_key os) more;
+      occurs = st ∙ regroup [] (key_of t) (items_key ts) (opens_key os) more;
     };
     underway = left_as _ u (item_split (comma_before first) (value_text t) (items_left false ts) (opens_text false os));
   })
-  by_open (members no_members) os left d same levels a s st u = inl (record { under = os; left = suc left; levels = omega (arith, levels, same); are_open = a.1; stacked = subst (λ i. Stacks os objects i) (sym same) s.1; stands = st; underway = u })
+  by_open (members no_members) os left d same levels a s st u = inl (record { under = os; left = suc left; levels = omega (arith, levels, same); are_open = a.1; stacked = subst (λ i. Stacks os objects i) (sym same) s.1; occurs = st; underway = u })
   by_open (members (more_members k t ms)) os left d same levels a s st u = inr (record {
     next = record {
       name = k;
@@ -101,7 +101,7 @@ module _ (objects : List Bool) (top : ℕ) (rest more : List ℕ) (first : Bool)
       levels = levels;
       are_open = ((a.0.0.2, a.0.1.1), a.1);
       stacked = s;
-      stands = st ∙ regroup (text_key k) (key_of t) (members_key ms) (opens_key os) more;
+      occurs = st ∙ regroup (text_key k) (key_of t) (members_key ms) (opens_key os) more;
     };
     underway = left_as _ u (member_split (comma_before first) (name_text true k) (value_text t) (members_left false ms) (opens_text false os));
   })
@@ -123,19 +123,19 @@ some_same x y e = cc
 
 module _ (objects : List Bool) (depth top : ℕ) (rest more : List ℕ) (object first : Bool) (o : Open) (start now : List ℕ) (below : top + 1 ≡ depth) (is_top : object ≡ get_or objects top false) (l : TextLeft objects depth rest more first o start now) where
   end_or_next : EndsText objects top rest more object o start now ⊎ NextText objects depth rest more object first o start now
-  end_or_next = by_opens objects top rest more first o start now l.opens l.left depth object l.levels l.are_open l.stacked l.stands l.underway below is_top
+  end_or_next = by_opens objects top rest more first o start now l.opens l.left depth object l.levels l.are_open l.stacked l.occurs l.underway below is_top
 
   -- where an end was read
   pub end_there : (others : List ℕ) → rest ≡ end_key object ++ others → EndsText objects top rest more object o start now
   end_there others read = elim end_or_next [
     | inl x ↦ x
-    | inr n ↦ absurd (no_end object n.next.name n.next.value n.next.left n.next.readable rest others (opens_key (n.next.others ∷ n.next.under) ++ more) read n.next.stands)
+    | inr n ↦ absurd (no_end object n.next.name n.next.value n.next.left n.next.readable rest others (opens_key (n.next.others ∷ n.next.under) ++ more) read n.next.occurs)
   ]
 
-  -- where none was read, a part stands there
+  -- where none was read, a part is there
   pub part_there : ((tail : List ℕ) → rest ≡ end_key object ++ tail → None ≡ Some tail) → NextText objects depth rest more object first o start now
   part_there none = elim end_or_next [
-    | inl x ↦ absurd (none_some (opens_key x.under ++ more) (none (opens_key x.under ++ more) x.stands))
+    | inl x ↦ absurd (none_some (opens_key x.under ++ more) (none (opens_key x.under ++ more) x.occurs))
     | inr n ↦ n
   ]
 
@@ -152,14 +152,14 @@ module _ (objects : List Bool) (top : ℕ) (rest more : List ℕ) (object : Bool
     levels = x.levels;
     are_open = x.are_open;
     stacked = x.stacked;
-    stands = some_same others (opens_key x.under ++ more) (found (opens_key x.under ++ more) x.stands);
+    occurs = some_same others (opens_key x.under ++ more) (found (opens_key x.under ++ more) x.occurs);
     underway = goes_on new (closing_text object ∷ []) (opens_text false x.under) x.underway refl closing;
   }
 
 -- ---- a part
 
 stack_more : (os : List Open) (p : Open) (objects : List Bool) (depth : ℕ) (b : Bool) → depth < length objects → is_object p ≡ b → Stacks os objects depth → Stacks (p ∷ os) (set objects depth b) (suc depth)
-stack_more os p objects depth b fits is s = (get_or-set_same objects depth b false fits ∙ sym is, stack_kept os objects depth b depth (omega arith) s)
+stack_more os p objects depth b fits is s = (get_or-set_same objects depth b false fits ∙ sym is, stack_retained os objects depth b depth (omega arith) s)
 
 module _ (objects : List Bool) (depth : ℕ) (rest more : List ℕ) (object first : Bool) (o : Open) (start now : List ℕ) (n : NextText objects depth rest more object first o start now) where
   -- what is left behind the value
@@ -187,7 +187,7 @@ module _ (objects : List Bool) (depth : ℕ) (rest more : List ℕ) (object firs
       levels = n.next.levels;
       are_open = n.next.are_open;
       stacked = n.next.stacked;
-      stands = e;
+      occurs = e;
       underway = goes_on new (value_text n.next.value) (opens_text false (n.next.others ∷ n.next.under)) due refl is;
     }
 
@@ -200,8 +200,8 @@ module _ (objects : List Bool) (depth : ℕ) (rest more : List ℕ) (object firs
       opening_fits = fits (opening_text b ∷ []) (open_text true p ++ opens_text false (n.next.others ∷ n.next.under)) due split
 
       pub part_begun : (inner : ℕ) → n.next.left ≡ suc inner → IsOpen p inner → is_object p ≡ b → depth < length objects → (others new : List ℕ) → others ≡ open_key p ++ (opens_key (n.next.others ∷ n.next.under) ++ more) → new ≡ named ++ opening_text b ∷ [] → TextLeft (set objects depth b) (depth + 1) others more true o start new
-      part_begun inner deeper h is room others new e opened =
-          let there : Stacks (p ∷ n.next.others ∷ n.next.under) (set objects depth b) (suc depth) = stack_more (n.next.others ∷ n.next.under) p objects depth b room is n.next.stacked in
+      part_begun inner deeper h is space others new e opened =
+          let there : Stacks (p ∷ n.next.others ∷ n.next.under) (set objects depth b) (suc depth) = stack_more (n.next.others ∷ n.next.under) p objects depth b space is n.next.stacked in
           let one_more : suc depth ≡ depth + 1 = omega arith in
           record {
             opens = p ∷ n.next.others ∷ n.next.under;
@@ -209,13 +209,13 @@ module _ (objects : List Bool) (depth : ℕ) (rest more : List ℕ) (object firs
             levels = omega (arith, n.next.levels, deeper);
             are_open = (h, subst (λ d. AreOpen (n.next.others ∷ n.next.under) d) deeper n.next.are_open);
             stacked = subst (λ d. Stacks (p ∷ n.next.others ∷ n.next.under) (set objects depth b) d) one_more there;
-            stands = e ∙ sym (append_assoc (open_key p) (opens_key (n.next.others ∷ n.next.under)) more);
+            occurs = e ∙ sym (append_assoc (open_key p) (opens_key (n.next.others ∷ n.next.under)) more);
             underway = goes_on new (opening_text b ∷ []) (open_text true p ++ opens_text false (n.next.others ∷ n.next.under)) due split opened;
           }
 
 -- with none open all is read, and written
 pub all_written : (objects : List Bool) (rest more : List ℕ) (depth : ℕ) (first : Bool) (o : Open) (start now : List ℕ) → depth ≡ 0 → TextLeft objects depth rest more first o start now → (rest ≡ more) × (now ≡ start ++ open_text true o)
-all_written objects rest more depth first o start now none l = go l.opens depth none l.stacked l.stands l.underway
+all_written objects rest more depth first o start now none l = go l.opens depth none l.stacked l.occurs l.underway
   where
     go : (opens : List Open) (depth : ℕ) → depth ≡ 0 → Stacks opens objects depth → rest ≡ opens_key opens ++ more → IsUnderway start now (open_text true o) (opens_text first opens) → (rest ≡ more) × (now ≡ start ++ open_text true o)
     go [] zero n s e u = (e, u.appended ∙ ap (λ t. start ++ t) (sym (u.whole ∙ append-nil u.front)))

@@ -46,26 +46,26 @@ object_text ms = ap (λ t. 123 ∷ t) (members_text true ms)
 -- ---- the key, and what the tree is
 
 mutual
-  pub key_kept : (t : Tree) → IsProper t → key_of (with_fewest_digits t) ≡ key_of t
-  key_kept null p = refl
-  key_kept (boolean b) p = refl
-  key_kept (string mark bytes) p = refl
-  key_kept (number n) p = fewest_key n p
-  key_kept (array ts) p = ap (λ key. 210 ∷ key) (items_kept ts p)
-  key_kept (object ms) p = ap (λ key. 209 ∷ key) (members_kept ms p.1)
-  key_kept (binary bytes) p = refl
-  key_kept (date days) p = refl
-  key_kept (timestamp micros) p = refl
-  key_kept (timestamp_tz offset micros) p = refl
-  key_kept (interval months days micros) p = refl
+  pub key_retained : (t : Tree) → IsProper t → key_of (with_fewest_digits t) ≡ key_of t
+  key_retained null p = refl
+  key_retained (boolean b) p = refl
+  key_retained (string mark bytes) p = refl
+  key_retained (number n) p = fewest_key n p
+  key_retained (array ts) p = ap (λ key. 210 ∷ key) (items_retained ts p)
+  key_retained (object ms) p = ap (λ key. 209 ∷ key) (members_retained ms p.1)
+  key_retained (binary bytes) p = refl
+  key_retained (date days) p = refl
+  key_retained (timestamp micros) p = refl
+  key_retained (timestamp_tz offset micros) p = refl
+  key_retained (interval months days micros) p = refl
 
-  items_kept : (ts : Trees) → AreProper ts → items_key (items_with_fewest_digits ts) ≡ items_key ts
-  items_kept no_trees p = refl
-  items_kept (more_trees t ts) p = ap₂ (λ key keys. key ++ keys) (key_kept t p.0) (items_kept ts p.1)
+  items_retained : (ts : Trees) → AreProper ts → items_key (items_with_fewest_digits ts) ≡ items_key ts
+  items_retained no_trees p = refl
+  items_retained (more_trees t ts) p = ap₂ (λ key keys. key ++ keys) (key_retained t p.0) (items_retained ts p.1)
 
-  members_kept : (ms : Members) → HaveProperParts ms → members_key (members_with_fewest_digits ms) ≡ members_key ms
-  members_kept no_members p = refl
-  members_kept (more_members k t ms) p = ap₂ (λ key keys. text_key k ++ (key ++ keys)) (key_kept t p.1) (members_kept ms p.2)
+  members_retained : (ms : Members) → HaveProperParts ms → members_key (members_with_fewest_digits ms) ≡ members_key ms
+  members_retained no_members p = refl
+  members_retained (more_members k t ms) p = ap₂ (λ key keys. text_key k ++ (key ++ keys)) (key_retained t p.1) (members_retained ms p.2)
 
 mutual
   has_one : (t : Tree) (depth : ℕ) → IsWithin IsAnyNumber t depth → has_text (with_fewest_digits t) ≡ true
@@ -110,6 +110,6 @@ mutual
 pub appended : (t : Tree) (old new : List ℕ) → IsReadable t → new ≡ old ++ value_text t → AppendsTextOf t old new
 appended t old new r e = record {
   text = record { bytes = value_text t; is_text = ap (λ (b : Bool). if b then Some (value_text t) else None) (has_one t max_depth r.within); appended = e };
-  is_key = key_kept t r.proper;
+  is_key = key_retained t r.proper;
   fewest = fewest t max_depth r.within;
 }

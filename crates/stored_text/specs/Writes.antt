@@ -16,8 +16,8 @@ use Rattle.jsonb_spec.specs.Tree.{Tree, Trees, no_trees, more_trees, Members, no
 use Rattle.stored_text.specs.FewestDigits.{with_fewest_digits}
 
 -- Nothing that was there is lost.
-pub record Keeps (old new : Vec ℕ Global) : Type 0 where
-  pub kept : Extends old.items new.items
+pub record Preserves (old new : Vec ℕ Global) : Type 0 where
+  pub retained : Extends old.items new.items
   pub capacity : vec_capacity old ≤ vec_capacity new
 
 -- The text is appended, and these bytes are left. Else memory ran out, as the capacity for all of the text is missing.
@@ -32,8 +32,8 @@ abbrev pub AppendsLeaving : Result (Bor (List ℕ)) KeyError → Vec ℕ Global 
 AppendsLeaving result old new more text = Writes (λ rest. rest.now) result old new more text
 
 -- The capacity for these bytes is missing.
-abbrev pub LacksRoom : Vec ℕ Global → List ℕ → Type 0
-LacksRoom buf bytes = vec_capacity buf < vec_len buf + length bytes
+abbrev pub LacksCapacity : Vec ℕ Global → List ℕ → Type 0
+LacksCapacity buf bytes = vec_capacity buf < vec_len buf + length bytes
 
 -- the text that is written of a value
 abbrev pub value_text : Tree → List ℕ
@@ -81,7 +81,7 @@ pub record WritesString (colon : Bool) (bytes : List ℕ) (result : Result (Bor 
   pub found : (text more : List ℕ) → bytes ≡ text_key text ++ more
       → AppendsLeaving result old new more (flat_map byte_text text ++ closing_quote colon)
   pub shorter : IfOk result (λ rest. length rest.now < length bytes)
-  pub keeps : Keeps old new
+  pub preserves : Preserves old new
 
 -- the last digits of a number, as many as are asked for
 unfoldable pub last_digits : ℕ → ℕ → List ℕ
@@ -90,17 +90,17 @@ last_digits (suc count) n = last_digits count (n / 10) ++ (ascii.digit_zero + n 
 
 -- The row has the first digits of a number that has `count` of them, without zeros at the end: there are `read` of
 -- them. All behind them are zeros.
-pub record IsSpelled (count magnitude read : ℕ) (row : List ℕ) : Type 0 where
+pub record IsEncoded (count magnitude read : ℕ) (row : List ℕ) : Type 0 where
   pub digits : ℕ
   pub is_digits : IsDigits count magnitude digits read
   pub not_zero : digits % 10 ≢ 0
-  pub spelled : row ≡ last_digits read digits ++ replicate (48 - read) ascii.digit_zero
+  pub encoded : row ≡ last_digits read digits ++ replicate (48 - read) ascii.digit_zero
 
--- The digits that stand first in the row, where the first stands at this place: with zeros behind them, with a point
+-- The digits that are first in the row, where the first is at this exponent: with zeros behind them, with a point
 -- among them, or behind a point and as many zeros.
-unfoldable pub placed_text : ℕ → ℕ → List ℕ → List ℕ
-placed_text place count row =
-    if nat_lt 255 place then
-    (if nat_lt (place - 255) count then take (place - 255) row ++ ascii.point ∷ slice_range row (place - 255) count
-    else take (place - 255) row)
-    else ascii.digit_zero ∷ ascii.point ∷ (replicate (255 - place) ascii.digit_zero ++ take count row)
+unfoldable pub scaled_text : ℕ → ℕ → List ℕ → List ℕ
+scaled_text exponent count row =
+    if nat_lt 255 exponent then
+    (if nat_lt (exponent - 255) count then take (exponent - 255) row ++ ascii.point ∷ slice_range row (exponent - 255) count
+    else take (exponent - 255) row)
+    else ascii.digit_zero ∷ ascii.point ∷ (replicate (255 - exponent) ascii.digit_zero ++ take count row)

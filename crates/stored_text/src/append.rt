@@ -4,7 +4,7 @@ ghost use Rattle.jsonb_spec.specs.Text.Appending.{Appends};
 
 use std::alloc::AllocError;
 
-// Appends the first bytes. More are copied where there are so many and there is room, since a copy of a fixed length
+// Appends the first bytes. More are copied where there are so many and there is space, since a copy of a fixed length
 // takes no call.
 #[inline(always)]
 pub(crate) fn append_first(bytes: &[u8], count: usize, buf: &mut Vec<u8>) -> Result<(), AllocError>
@@ -19,7 +19,7 @@ pub(crate) fn append_first(bytes: &[u8], count: usize, buf: &mut Vec<u8>) -> Res
     buf.extend_from_slice(&bytes[..count])
 }
 
-// Appends the first of these bytes: all of them, where there is room, without those behind the first ones.
+// Appends the first of these bytes: all of them, where there is space, without those behind the first ones.
 #[inline(always)]
 pub(crate) fn append_chunk(bytes: &[u8], count: usize, buf: &mut Vec<u8>) -> Result<(), AllocError>
     requires { count ≤ length bytes.now }

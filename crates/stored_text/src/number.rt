@@ -8,11 +8,11 @@ ghost use Rattle.jsonb_spec.specs.Text.Appending.{Appends};
 ghost use Rattle.jsonb_spec.specs.Text.NumberText.{number_text};
 ghost use Rattle.jsonb_spec.specs.Tree.{Num};
 ghost use Rattle.stored_text.specs.FewestDigits.{fewest_digits};
-ghost use Rattle.stored_text.specs.Writes.{IsSpelled, Keeps, AppendsLeaving, placed_text};
+ghost use Rattle.stored_text.specs.Writes.{IsEncoded, Preserves, AppendsLeaving, scaled_text};
 
 use crate::append::append_chunk;
 use jsonb_key::KeyError;
-use jsonb_key::number::{invert_if, read_place};
+use jsonb_key::number::{invert_if, read_exponent};
 use jsonb_value::sort_key::kind;
 use std::alloc::AllocError;
 
@@ -32,7 +32,7 @@ pub(crate) fn append_number<'k>(bytes: &'k [u8], buf: &mut Vec<u8>) -> Result<&'
     ensures found { (n : Num) → IsProperNumber n → (more : List ℕ) → bytes.now ≡ number_key n ++ more
         → AppendsLeaving result buf.old buf.new more (number_text (fewest_digits n)) }
     ensures shorter { IfOk result (λ rest. length rest.now < length bytes.now) }
-    ensures keeps { Keeps buf.old buf.new }
+    ensures preserves { Preserves buf.old buf.new }
 {
     let Some((first, others)) = bytes.split_first() else {
         return Err(KeyError::Invalid);
@@ -42,18 +42,18 @@ pub(crate) fn append_number<'k>(bytes: &'k [u8], buf: &mut Vec<u8>) -> Result<&'
         return Ok(others);
     }
     let negative = *first < kind::ZERO;
-    let Some((place, digits)) = read_place(negative, bytes) else {
+    let Some((exponent, digits)) = read_exponent(negative, bytes) else {
         return Err(KeyError::Invalid);
     };
     let mut row = [b'0'; 48];
-    let Some((count, rest)) = spell(negative, digits, &mut row) else {
+    let Some((count, rest)) = encode(negative, digits, &mut row) else {
         return Err(KeyError::Invalid);
     };
-    if place > 255 + MAX_FRONT {
+    if exponent > 255 + MAX_FRONT {
         return Err(KeyError::Invalid);
     }
     append_sign(negative, buf)?;
-    append_placed(place, count, &row, buf)?;
+    append_scaled(exponent, count, &row, buf)?;
     Ok(rest)
 }
 
@@ -70,11 +70,11 @@ fn append_sign(negative: bool, buf: &mut Vec<u8>) -> Result<(), AllocError>
 // Writes the digits to the row, of which the others stay zeros, and returns how many they are without zeros at the end,
 // and the bytes after them.
 #[inline(always)]
-fn spell<'k>(negative: bool, bytes: &'k [u8], row: &mut [u8; 48]) -> Option<(usize, &'k [u8])>
+fn encode<'k>(negative: bool, bytes: &'k [u8], row: &mut [u8; 48]) -> Option<(usize, &'k [u8])>
     requires { row.old ≡ replicate 48 ascii.digit_zero }
     ensures found { (count magnitude : ℕ) → magnitude < 10 ^ count → 0 < magnitude → count ≤ 39 → (more : List ℕ)
         → bytes.now ≡ map (invert_if negative) (digits_key count magnitude) ++ more
-        → MatchOption result ⊥ (λ r. IsSpelled count magnitude r.0 row.new × (r.1.now ≡ more)) }
+        → MatchOption result ⊥ (λ r. IsEncoded count magnitude r.0 row.new × (r.1.now ≡ more)) }
     ensures few { IfSome result (λ r. r.0 ≤ 40) }
     ensures shorter { IfSome result (λ r. length r.1.now ≤ length bytes.now) }
 {
@@ -110,25 +110,25 @@ fn digits_of_pair(pair: u8) -> (u8, u8)
     (PAIRS[from], PAIRS[from + 1])
 }
 
-// Appends the digits that stand first in the row, of which the first stands at this place. Mostly there is no point.
+// Appends the digits that are first in the row, of which the first is at this exponent. Mostly there is no point.
 #[inline(always)]
-fn append_placed(
-    place: u32,
+fn append_scaled(
+    exponent: u32,
     count: usize,
     row: &[u8; 48],
     buf: &mut Vec<u8>,
 ) -> Result<(), AllocError>
-    requires few { (place ≤ 295) × (count ≤ 40) }
-    ensures { Appends result buf.old buf.new (placed_text place count row.now) }
+    requires few { (exponent ≤ 295) × (count ≤ 40) }
+    ensures { Appends result buf.old buf.new (scaled_text exponent count row.now) }
 {
-    if place > 255 {
-        let front = (place - 255) as usize;
+    if exponent > 255 {
+        let front = (exponent - 255) as usize;
         if front >= count {
             return append_row(*row, front, buf);
         }
         return append_with_point(&row[..front], &row[front..count], buf);
     }
-    append_fraction((255 - place) as usize, &row[..count], buf)
+    append_fraction((255 - exponent) as usize, &row[..count], buf)
 }
 
 // Appends the first digits of the row. A function of its own, in which the copy of a fixed length takes no call.

@@ -35,7 +35,7 @@ pub(crate) fn append_text<'k>(
     append_long(colon, bytes, run, buf)
 }
 
-// Appends them where they are many, have escapes, or stand near the end of the key. As many of the first bytes as `run`
+// Appends them where they are many, have escapes, or are near the end of the key. As many of the first bytes as `run`
 // are written as they are.
 #[inline(never)]
 fn append_long<'k>(

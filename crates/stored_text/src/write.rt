@@ -11,7 +11,7 @@ ghost use Rattle.jsonb_spec.specs.SortKey.{key_of};
 ghost use Rattle.jsonb_spec.specs.Text.Appending.{Appends, comma_before};
 ghost use Rattle.jsonb_spec.specs.Tree.{Tree};
 ghost use Rattle.stored_text.specs.FewestDigits.{AppendsTextOf, AppendsDocumentWithKey};
-ghost use Rattle.stored_text.specs.Writes.{Keeps, LacksRoom, AppendsLeaving, name_text, opening_text, open_text, closing_text, value_text};
+ghost use Rattle.stored_text.specs.Writes.{Preserves, LacksCapacity, AppendsLeaving, name_text, opening_text, open_text, closing_text, value_text};
 
 use crate::number::append_number;
 use crate::string::append_text;
@@ -40,13 +40,13 @@ pub fn write_text_of_key(key: &[u8], buf: &mut Vec<u8>) -> Result<(), KeyError>
     ensures err { OnErr result (buf.new.items ≡ buf.old.items) }
     // A key fails only where the capacity for the whole text is missing.
     ensures invalid { IfErr result (λ e. e ≡ KeyError.Invalid → OfKey key.now (λ t. ⊥)) }
-    ensures full { OnErr result (OfKey key.now (λ t. LacksRoom buf.old (value_text t))) }
+    ensures full { OnErr result (OfKey key.now (λ t. LacksCapacity buf.old (value_text t))) }
     ensures capacity { vec_capacity buf.old ≤ vec_capacity buf.new }
 {
     let old_len = buf.len();
-    // Mostly the text is no longer. Where there is no such room, each append asks for its own.
-    let room = key.len().saturating_add(key.len() / 2);
-    let _reserved = buf.try_reserve(room.saturating_add(48));
+    // Mostly the text is no longer. Where there is no such space, each append asks for its own.
+    let space = key.len().saturating_add(key.len() / 2);
+    let _reserved = buf.try_reserve(space.saturating_add(48));
     match append_value(key, buf) {
         Ok(rest) => {
             if rest.is_empty() {
@@ -65,7 +65,7 @@ pub fn write_text_of_key(key: &[u8], buf: &mut Vec<u8>) -> Result<(), KeyError>
 // Appends the text of the value whose key the bytes begin with.
 fn append_value<'k>(bytes: &'k [u8], buf: &mut Vec<u8>) -> Result<&'k [u8], KeyError>
     ensures found { AtKey bytes.now (λ t more. AppendsLeaving result buf.old buf.new more (value_text t)) }
-    ensures keeps { Keeps buf.old buf.new }
+    ensures preserves { Preserves buf.old buf.new }
 {
     let Some((first, rest)) = bytes.split_first() else {
         return Err(KeyError::Invalid);
@@ -82,7 +82,7 @@ fn append_scalar<'k>(bytes: &'k [u8], buf: &mut Vec<u8>) -> Result<&'k [u8], Key
     ensures found { (depth : ℕ) → (t : Tree) → IsReadableAt depth t → IsScalar t → (more : List ℕ)
         → bytes.now ≡ key_of t ++ more → AppendsLeaving result buf.old buf.new more (value_text t) }
     ensures shorter { IfOk result (λ rest. length rest.now < length bytes.now) }
-    ensures keeps { Keeps buf.old buf.new }
+    ensures preserves { Preserves buf.old buf.new }
 {
     let Some((first, rest)) = bytes.split_first() else {
         return Err(KeyError::Invalid);
@@ -106,7 +106,7 @@ fn append_scalar<'k>(bytes: &'k [u8], buf: &mut Vec<u8>) -> Result<&'k [u8], Key
     append_number(bytes, buf)
 }
 
-// Appends what stands before a value: a comma, but for the first, and a member's name and a colon.
+// Appends what is before a value: a comma, but for the first, and a member's name and a colon.
 #[inline(always)]
 fn begin_part<'k>(
     object: bool,
@@ -117,7 +117,7 @@ fn begin_part<'k>(
     ensures found { (name more : List ℕ) → bytes.now ≡ name_key object name ++ more
         → AppendsLeaving result buf.old buf.new more (comma_before is_first ++ name_text object name) }
     ensures within { IfOk result (λ rest. length rest.now ≤ length bytes.now) }
-    ensures keeps { Keeps buf.old buf.new }
+    ensures preserves { Preserves buf.old buf.new }
 {
     if !object {
         append_comma(is_first, buf)?;
@@ -168,12 +168,12 @@ fn append_closing(object: bool, buf: &mut Vec<u8>) -> Result<(), AllocError>
     buf.extend_from_slice(b"]")
 }
 
-// Appends an object or an array, from the parts that the bytes begin with. Which of the open ones are objects stands in
+// Appends an object or an array, from the parts that the bytes begin with. Which of the open ones are objects is in
 // an array, outermost first.
 fn append_parts<'k>(object: bool, bytes: &'k [u8], buf: &mut Vec<u8>) -> Result<&'k [u8], KeyError>
     ensures found { AtParts object bytes.now (λ o more.
         AppendsLeaving result buf.old buf.new more (opening_text object ∷ open_text true o)) }
-    ensures keeps { Keeps buf.old buf.new }
+    ensures preserves { Preserves buf.old buf.new }
 {
     append_opening(object, buf)?;
     let mut objects = outermost(object);

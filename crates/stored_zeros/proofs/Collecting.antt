@@ -16,7 +16,7 @@ use Rattle.stored_zeros.proofs.Finding.{none_found, number_found}
 pub record ZerosLeft (t : Tree) (rest : List ℕ) (plain : ℕ) (old now : List ℕ) : Type 0 where
   pub text : NumberedText
   pub is_numbered : IsNumbered text
-  pub stands : rest ≡ bytes_with number_text text
+  pub occurs : rest ≡ bytes_with number_text text
   pub underway : IsUnderway old now (zeros_in t) (zeros_of plain (counts_of text))
 
 -- Whatever value has the text, its zeros are appended.
@@ -29,7 +29,7 @@ collects all old = λ t r e.
     record {
       text = x.text;
       is_numbered = x.is_numbered;
-      stands = e ∙ x.full;
+      occurs = e ∙ x.full;
       underway = record { front = []; appended = sym (append-nil old); whole = ap (zeros_of 0) x.counts };
     }
 
@@ -47,13 +47,13 @@ pub record NumberLeft (t : Tree) (number : List ℕ) (plain : ℕ) (old now : Li
   pub n : Num
   pub later : NumberedText
   pub is_numbered : IsNumbered (gap_then [] n later)
-  pub stands : number ≡ number_text n ++ bytes_with number_text later
+  pub occurs : number ≡ number_text n ++ bytes_with number_text later
   pub underway : IsUnderway old now (zeros_in t) (zeros_of plain (counts_of (gap_then [] n later)))
 
 module _ (t : Tree) (rest : List ℕ) (plain : ℕ) (old now : List ℕ) (left : ZerosLeft t rest plain old now) where
   -- each string ends
   pub some_found : None ≡ from_number rest → ⊥
-  some_found none = go left.text left.is_numbered left.stands
+  some_found none = go left.text left.is_numbered left.occurs
     where
       go : (text : NumberedText) → IsNumbered text → rest ≡ bytes_with number_text text → ⊥
       go (last_gap gap) h e = none_some [] (none ∙ ap from_number e ∙ none_found gap h)
@@ -61,7 +61,7 @@ module _ (t : Tree) (rest : List ℕ) (plain : ℕ) (old now : List ℕ) (left :
 
   -- no number is left
   pub all_found : (number : List ℕ) → Some number ≡ from_number rest → length number ≡ 0 → now ≡ old ++ zeros_in t
-  all_found number is none = go left.text left.is_numbered left.stands left.underway
+  all_found number is none = go left.text left.is_numbered left.occurs left.underway
     where
       go : (text : NumberedText) → IsNumbered text → rest ≡ bytes_with number_text text → IsUnderway old now (zeros_in t) (zeros_of plain (counts_of text)) → now ≡ old ++ zeros_in t
       go (last_gap gap) h e u = u.appended ∙ ap (λ zs. old ++ zs) (sym (u.whole ∙ append-nil u.front))
@@ -71,7 +71,7 @@ module _ (t : Tree) (rest : List ℕ) (plain : ℕ) (old now : List ℕ) (left :
 
   -- a number is left
   pub one_found : (number : List ℕ) → Some number ≡ from_number rest → 0 < length number → NumberLeft t number plain old now
-  one_found number is some = go left.text left.is_numbered left.stands left.underway
+  one_found number is some = go left.text left.is_numbered left.occurs left.underway
     where
       go : (text : NumberedText) → IsNumbered text → rest ≡ bytes_with number_text text → IsUnderway old now (zeros_in t) (zeros_of plain (counts_of text)) → NumberLeft t number plain old now
       go (last_gap gap) h e u = absurd (omega (arith, some, ap length (some_same number [] (is ∙ ap from_number e ∙ none_found gap h))))
@@ -79,7 +79,7 @@ module _ (t : Tree) (rest : List ℕ) (plain : ℕ) (old now : List ℕ) (left :
         n = n;
         later = k;
         is_numbered = (λ more. refl, h.1, h.2, h.3);
-        stands = some_same number (number_text n ++ bytes_with number_text k) (is ∙ ap from_number e ∙ number_found gap n k h);
+        occurs = some_same number (number_text n ++ bytes_with number_text k) (is ∙ ap from_number e ∙ number_found gap n k h);
         underway = u;
       }
 
@@ -87,12 +87,12 @@ module _ (t : Tree) (number : List ℕ) (plain : ℕ) (old now : List ℕ) (x : 
   there : (zeros ≡ count x.n x.is_numbered.1) × (rest ≡ bytes_with number_text x.later)
   there =
       let y = text_passed x.n x.is_numbered.1 (bytes_with number_text x.later) (ends_number number_text x.later x.is_numbered.2) in
-      pairs_same p y.0 zeros (count x.n x.is_numbered.1) rest (bytes_with number_text x.later) (ending ∙ ap (ending_of false 0) x.stands ∙ y.1)
+      pairs_same p y.0 zeros (count x.n x.is_numbered.1) rest (bytes_with number_text x.later) (ending ∙ ap (ending_of false 0) x.occurs ∙ y.1)
 
   pub not_many : zeros ≤ 255
   not_many = omega (arith, there.0, few x.n x.is_numbered.1)
 
-  -- there is room for the entry
+  -- there is space for the entry
   pub entry_fits : length now + length (entry_of plain zeros) ≤ length old + length (zeros_in t)
   entry_fits = omega (arith, fits (entry_of plain (count x.n x.is_numbered.1)) (zeros_of (plain_behind plain (count x.n x.is_numbered.1)) (counts_of x.later)) x.underway refl, ap (λ c. length (entry_of plain c)) there.0)
 
@@ -100,7 +100,7 @@ module _ (t : Tree) (number : List ℕ) (plain : ℕ) (old now : List ℕ) (x : 
   entry_appended new more is behind = record {
     text = x.later;
     is_numbered = x.is_numbered.3;
-    stands = there.1;
+    occurs = there.1;
     underway = subst (λ m. IsUnderway old new (zeros_in t) (zeros_of m (counts_of x.later))) (sym (behind ∙ ap (plain_behind plain) there.0))
         (goes_on new (entry_of plain (count x.n x.is_numbered.1)) (zeros_of (plain_behind plain (count x.n x.is_numbered.1)) (counts_of x.later)) x.underway refl (is ∙ ap (λ c. now ++ entry_of plain c) there.0));
   }

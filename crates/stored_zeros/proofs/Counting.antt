@@ -9,7 +9,7 @@ use Rattle.jsonb_spec.specs.Text.Range.{AreWithin, HaveWithin}
 use Rattle.jsonb_stored.proofs.Holding.{readable_up}
 use Rattle.jsonb_stored.specs.Open.{Open, items, members, is_object, open_key, IsOpen, end_key, name_key, opening_byte, IsScalar}
 use Rattle.jsonb_stored.specs.Parts.{opened_tree}
-use Rattle.jsonb_stored.proofs.Opens.{opens_key, AreOpen, Stacks, no_end, stack_kept}
+use Rattle.jsonb_stored.proofs.Opens.{opens_key, AreOpen, Stacks, no_end, stack_retained}
 use Rattle.jsonb_stored.proofs.Scalars.{array_open, object_open}
 use Rattle.jsonb_key.proofs.FirstBytes.{no_key}
 use Rattle.jsonb_spec.specs.SortKey.{key_of, items_key, members_key, text_key}
@@ -17,18 +17,18 @@ use Rattle.jsonb_value.proofs.SortKeys.Kinds.{is_small, number_begins}
 use Rattle.jsonb_value.proofs.Trees.Runs.{heads, tails}
 use Rattle.jsonb_spec.specs.Tree.{Tree, null, boolean, string, number, array, object, binary, date, timestamp, timestamp_tz, interval, Trees, no_trees, more_trees, Members, no_members, more_members}
 use Rattle.stored_zeros.specs.Zeros.{counts_in, counts_in_items, counts_in_members}
-use Rattle.stored_zeros.specs.PartsOf.{numbers_in, number_count, IsWhole, StandsIn, StandsInItems, StandsInMembers, numbers_open, StandsInOpen}
+use Rattle.stored_zeros.specs.PartsOf.{numbers_in, number_count, IsWhole, OccursIn, OccursInItems, OccursInMembers, numbers_open, OccursInOpen}
 
 -- how many numbers are left of all
 abbrev pub numbers_opens : List Open → ℕ
 numbers_opens [] = 0
 numbers_opens (o ∷ os) = numbers_open o + numbers_opens os
 
--- The part stands in what is left of all.
-abbrev pub StandsInOpens : List Open → List ℕ → ℕ → Tree → Type 0
-StandsInOpens [] before numbers part = ⊥
-StandsInOpens (o ∷ os) before numbers part = StandsInOpen o before numbers part
-    ⊎ ((inner : List ℕ) × (fewer : ℕ) × (before ≡ open_key o ++ inner) × (numbers ≡ numbers_open o + fewer) × StandsInOpens os inner fewer part)
+-- The part is in what is left of all.
+abbrev pub OccursInOpens : List Open → List ℕ → ℕ → Tree → Type 0
+OccursInOpens [] before numbers part = ⊥
+OccursInOpens (o ∷ os) before numbers part = OccursInOpen o before numbers part
+    ⊎ ((inner : List ℕ) × (fewer : ℕ) × (before ≡ open_key o ++ inner) × (numbers ≡ numbers_open o + fewer) × OccursInOpens os inner fewer part)
 
 -- What holds of those that are open.
 pub record Walked (objects : List Bool) (depth : ℕ) (rest more : List ℕ) (Holds : List Open → Type 0) : Type 0 where
@@ -37,7 +37,7 @@ pub record Walked (objects : List Bool) (depth : ℕ) (rest more : List ℕ) (Ho
   pub levels : left + depth ≡ 512
   pub are_open : AreOpen opens left
   pub stacked : Stacks opens objects depth
-  pub stands : rest ≡ opens_key opens ++ more
+  pub occurs : rest ≡ opens_key opens ++ more
   pub holds : Holds opens
 
 pub walk_begun : (Holds : List Open → Type 0) (objects : List Bool) (is_members : Bool) (bytes more : List ℕ) (o : Open) → get_or objects 0 false ≡ is_members → is_object o ≡ is_members → IsOpen o 511 → bytes ≡ open_key o ++ more → Holds (o ∷ []) → Walked objects 1 bytes more Holds
@@ -47,7 +47,7 @@ walk_begun Holds objects is_members bytes more o top is h e p = record {
   levels = omega arith;
   are_open = (h, tt);
   stacked = (top ∙ sym is, tt);
-  stands = e ∙ ap (λ key. key ++ more) (sym (append-nil (open_key o)));
+  occurs = e ∙ ap (λ key. key ++ more) (sym (append-nil (open_key o)));
   holds = p;
 }
 
@@ -65,8 +65,8 @@ IsPart (items (more_trees t ts)) name value others = (name ≡ []) × (value ≡
 IsPart (members no_members) name value others = ⊥
 IsPart (members (more_members k t ms)) name value others = (name ≡ k) × (value ≡ t) × (others ≡ members ms)
 
--- the end of the innermost stands first
-pub record EndStands (objects : List Bool) (top : ℕ) (rest more : List ℕ) (is_members : Bool) (Holds : List Open → Type 0) : Type 0 where
+-- the end of the innermost is first
+pub record EndOccurs (objects : List Bool) (top : ℕ) (rest more : List ℕ) (is_members : Bool) (Holds : List Open → Type 0) : Type 0 where
   pub over : Open
   pub is_over : IsOver over
   pub is : is_object over ≡ is_members
@@ -75,11 +75,11 @@ pub record EndStands (objects : List Bool) (top : ℕ) (rest more : List ℕ) (i
   pub levels : left + top ≡ 512
   pub are_open : AreOpen under left
   pub stacked : Stacks under objects top
-  pub stands : rest ≡ end_key is_members ++ (opens_key under ++ more)
+  pub occurs : rest ≡ end_key is_members ++ (opens_key under ++ more)
   pub holds : Holds (over ∷ under)
 
--- a part of the innermost stands first
-pub record PartStandsFirst (objects : List Bool) (depth : ℕ) (rest more : List ℕ) (is_members : Bool) (Holds : List Open → Type 0) : Type 0 where
+-- a part of the innermost is first
+pub record PartOccursFirst (objects : List Bool) (depth : ℕ) (rest more : List ℕ) (is_members : Bool) (Holds : List Open → Type 0) : Type 0 where
   pub innermost : Open
   pub is : is_object innermost ≡ is_members
   pub name : List ℕ
@@ -92,7 +92,7 @@ pub record PartStandsFirst (objects : List Bool) (depth : ℕ) (rest more : List
   pub levels : left + depth ≡ 512
   pub are_open : AreOpen (others ∷ under) left
   pub stacked : Stacks (others ∷ under) objects depth
-  pub stands : rest ≡ name_key is_members name ++ (key_of value ++ (opens_key (others ∷ under) ++ more))
+  pub occurs : rest ≡ name_key is_members name ++ (key_of value ++ (opens_key (others ∷ under) ++ more))
   pub holds : Holds (innermost ∷ under)
 
 regroup : (n k o u more : List ℕ) → ((n ++ (k ++ o)) ++ u) ++ more ≡ n ++ (k ++ ((o ++ u) ++ more))
@@ -100,10 +100,10 @@ regroup n k o u more = simp append_assoc
 
 module _ (objects : List Bool) (top : ℕ) (rest more : List ℕ) (Holds : List Open → Type 0) where
   abbrev Cases : ℕ → Bool → Type 0
-  Cases depth b = EndStands objects top rest more b Holds ⊎ PartStandsFirst objects depth rest more b Holds
+  Cases depth b = EndOccurs objects top rest more b Holds ⊎ PartOccursFirst objects depth rest more b Holds
 
   by_open : (o : Open) (os : List Open) (left d : ℕ) → top ≡ d → left + suc d ≡ 512 → AreOpen (o ∷ os) left → Stacks (o ∷ os) objects (suc d) → rest ≡ opens_key (o ∷ os) ++ more → Holds (o ∷ os) → Cases (suc d) (is_object o)
-  by_open (items no_trees) os left d same levels a s st h = inl (record { over = items no_trees; is_over = tt; is = refl; under = os; left = suc left; levels = omega (arith, levels, same); are_open = a.1; stacked = subst (λ i. Stacks os objects i) (sym same) s.1; stands = st; holds = h })
+  by_open (items no_trees) os left d same levels a s st h = inl (record { over = items no_trees; is_over = tt; is = refl; under = os; left = suc left; levels = omega (arith, levels, same); are_open = a.1; stacked = subst (λ i. Stacks os objects i) (sym same) s.1; occurs = st; holds = h })
   by_open (items (more_trees t ts)) os left d same levels a s st h = inr (record {
     innermost = items (more_trees t ts);
     is = refl;
@@ -117,10 +117,10 @@ module _ (objects : List Bool) (top : ℕ) (rest more : List ℕ) (Holds : List 
     levels = levels;
     are_open = ((a.0.0.1, a.0.1.1), a.1);
     stacked = s;
-    stands = st ∙ regroup [] (key_of t) (items_key ts) (opens_key os) more;
+    occurs = st ∙ regroup [] (key_of t) (items_key ts) (opens_key os) more;
     holds = h;
   })
-  by_open (members no_members) os left d same levels a s st h = inl (record { over = members no_members; is_over = tt; is = refl; under = os; left = suc left; levels = omega (arith, levels, same); are_open = a.1; stacked = subst (λ i. Stacks os objects i) (sym same) s.1; stands = st; holds = h })
+  by_open (members no_members) os left d same levels a s st h = inl (record { over = members no_members; is_over = tt; is = refl; under = os; left = suc left; levels = omega (arith, levels, same); are_open = a.1; stacked = subst (λ i. Stacks os objects i) (sym same) s.1; occurs = st; holds = h })
   by_open (members (more_members k t ms)) os left d same levels a s st h = inr (record {
     innermost = members (more_members k t ms);
     is = refl;
@@ -134,7 +134,7 @@ module _ (objects : List Bool) (top : ℕ) (rest more : List ℕ) (Holds : List 
     levels = levels;
     are_open = ((a.0.0.2, a.0.1.1), a.1);
     stacked = s;
-    stands = st ∙ regroup (text_key k) (key_of t) (members_key ms) (opens_key os) more;
+    occurs = st ∙ regroup (text_key k) (key_of t) (members_key ms) (opens_key os) more;
     holds = h;
   })
 
@@ -154,30 +154,30 @@ some_same : (x y : List ℕ) → Some x ≡ Some y → x ≡ y
 some_same x y e = cc
 
 module _ (objects : List Bool) (depth top : ℕ) (rest more : List ℕ) (is_members : Bool) (Holds : List Open → Type 0) (below : top + 1 ≡ depth) (is_top : is_members ≡ get_or objects top false) (w : Walked objects depth rest more Holds) where
-  end_or_next : EndStands objects top rest more is_members Holds ⊎ PartStandsFirst objects depth rest more is_members Holds
-  end_or_next = by_opens objects top rest more Holds w.opens w.left depth is_members w.levels w.are_open w.stacked w.stands w.holds below is_top
+  end_or_next : EndOccurs objects top rest more is_members Holds ⊎ PartOccursFirst objects depth rest more is_members Holds
+  end_or_next = by_opens objects top rest more Holds w.opens w.left depth is_members w.levels w.are_open w.stacked w.occurs w.holds below is_top
 
   -- where an end was read
-  pub end_there : (others : List ℕ) → rest ≡ end_key is_members ++ others → EndStands objects top rest more is_members Holds
+  pub end_there : (others : List ℕ) → rest ≡ end_key is_members ++ others → EndOccurs objects top rest more is_members Holds
   end_there others read = elim end_or_next [
     | inl x ↦ x
-    | inr n ↦ absurd (no_end is_members n.name n.value n.left n.readable rest others (opens_key (n.others ∷ n.under) ++ more) read n.stands)
+    | inr n ↦ absurd (no_end is_members n.name n.value n.left n.readable rest others (opens_key (n.others ∷ n.under) ++ more) read n.occurs)
   ]
 
-  -- where none was read, a part stands there
-  pub part_there : ((tail : List ℕ) → rest ≡ end_key is_members ++ tail → None ≡ Some tail) → PartStandsFirst objects depth rest more is_members Holds
+  -- where none was read, a part is there
+  pub part_there : ((tail : List ℕ) → rest ≡ end_key is_members ++ tail → None ≡ Some tail) → PartOccursFirst objects depth rest more is_members Holds
   part_there none = elim end_or_next [
-    | inl x ↦ absurd (none_some (opens_key x.under ++ more) (none (opens_key x.under ++ more) x.stands))
+    | inl x ↦ absurd (none_some (opens_key x.under ++ more) (none (opens_key x.under ++ more) x.occurs))
     | inr n ↦ n
   ]
 
 -- behind an end
-pub end_passed : (objects : List Bool) (top : ℕ) (rest more others : List ℕ) (is_members : Bool) (Holds Then : List Open → Type 0) (x : EndStands objects top rest more is_members Holds) → ((tail : List ℕ) → rest ≡ end_key is_members ++ tail → Some others ≡ Some tail) → Then x.under → Walked objects top others more Then
-end_passed objects top rest more others is_members Holds Then x found p = record { opens = x.under; left = x.left; levels = x.levels; are_open = x.are_open; stacked = x.stacked; stands = some_same others (opens_key x.under ++ more) (found (opens_key x.under ++ more) x.stands); holds = p }
+pub end_passed : (objects : List Bool) (top : ℕ) (rest more others : List ℕ) (is_members : Bool) (Holds Then : List Open → Type 0) (x : EndOccurs objects top rest more is_members Holds) → ((tail : List ℕ) → rest ≡ end_key is_members ++ tail → Some others ≡ Some tail) → Then x.under → Walked objects top others more Then
+end_passed objects top rest more others is_members Holds Then x found p = record { opens = x.under; left = x.left; levels = x.levels; are_open = x.are_open; stacked = x.stacked; occurs = some_same others (opens_key x.under ++ more) (found (opens_key x.under ++ more) x.occurs); holds = p }
 
 -- behind a part
-pub part_passed : (objects : List Bool) (depth : ℕ) (rest more others : List ℕ) (is_members : Bool) (Holds Then : List Open → Type 0) (n : PartStandsFirst objects depth rest more is_members Holds) → others ≡ opens_key (n.others ∷ n.under) ++ more → Then (n.others ∷ n.under) → Walked objects depth others more Then
-part_passed objects depth rest more others is_members Holds Then n e p = record { opens = n.others ∷ n.under; left = n.left; levels = n.levels; are_open = n.are_open; stacked = n.stacked; stands = e; holds = p }
+pub part_passed : (objects : List Bool) (depth : ℕ) (rest more others : List ℕ) (is_members : Bool) (Holds Then : List Open → Type 0) (n : PartOccursFirst objects depth rest more is_members Holds) → others ≡ opens_key (n.others ∷ n.under) ++ more → Then (n.others ∷ n.under) → Walked objects depth others more Then
+part_passed objects depth rest more others is_members Holds Then n e p = record { opens = n.others ∷ n.under; left = n.left; levels = n.levels; are_open = n.are_open; stacked = n.stacked; occurs = e; holds = p }
 
 -- the array or the is_members that a value is
 pub record Opening (left : ℕ) (value : Tree) (b : Bool) (rest tail : List ℕ) : Type 0 where
@@ -187,12 +187,12 @@ pub record Opening (left : ℕ) (value : Tree) (b : Bool) (rest tail : List ℕ)
   pub inner : ℕ
   pub deeper : left ≡ suc inner
   pub fits : IsOpen inside inner
-  pub stands : rest ≡ open_key inside ++ tail
+  pub occurs : rest ≡ open_key inside ++ tail
 
 -- within a part, which is an array or an is_members
-pub part_entered : (objects : List Bool) (depth : ℕ) (rest more : List ℕ) (is_members b : Bool) (Holds Then : List Open → Type 0) (n : PartStandsFirst objects depth rest more is_members Holds) (inside : List ℕ) (x : Opening n.left n.value b inside (opens_key (n.others ∷ n.under) ++ more)) → depth < length objects → Then (x.inside ∷ n.others ∷ n.under) → Walked (set objects depth b) (depth + 1) inside more Then
+pub part_entered : (objects : List Bool) (depth : ℕ) (rest more : List ℕ) (is_members b : Bool) (Holds Then : List Open → Type 0) (n : PartOccursFirst objects depth rest more is_members Holds) (inside : List ℕ) (x : Opening n.left n.value b inside (opens_key (n.others ∷ n.under) ++ more)) → depth < length objects → Then (x.inside ∷ n.others ∷ n.under) → Walked (set objects depth b) (depth + 1) inside more Then
 part_entered objects depth rest more is_members b Holds Then n inside x fits p =
-    let there : Stacks (x.inside ∷ n.others ∷ n.under) (set objects depth b) (suc depth) = (get_or-set_same objects depth b false fits ∙ sym x.is, stack_kept (n.others ∷ n.under) objects depth b depth (omega arith) n.stacked) in
+    let there : Stacks (x.inside ∷ n.others ∷ n.under) (set objects depth b) (suc depth) = (get_or-set_same objects depth b false fits ∙ sym x.is, stack_retained (n.others ∷ n.under) objects depth b depth (omega arith) n.stacked) in
     let one_more : suc depth ≡ depth + 1 = omega arith in
     record {
       opens = x.inside ∷ n.others ∷ n.under;
@@ -200,13 +200,13 @@ part_entered objects depth rest more is_members b Holds Then n inside x fits p =
       levels = omega (arith, n.levels, x.deeper);
       are_open = (x.fits, subst (λ d. AreOpen (n.others ∷ n.under) d) x.deeper n.are_open);
       stacked = subst (λ d. Stacks (x.inside ∷ n.others ∷ n.under) (set objects depth b) d) one_more there;
-      stands = x.stands ∙ sym (append_assoc (open_key x.inside) (opens_key (n.others ∷ n.under)) more);
+      occurs = x.occurs ∙ sym (append_assoc (open_key x.inside) (opens_key (n.others ∷ n.under)) more);
       holds = p;
     }
 
 -- with none open all is read
 pub all_walked : (objects : List Bool) (rest more : List ℕ) (depth : ℕ) (Holds : List Open → Type 0) → depth ≡ 0 → Walked objects depth rest more Holds → (rest ≡ more) × Holds []
-all_walked objects rest more depth Holds none w = go w.opens depth none w.stacked w.stands w.holds
+all_walked objects rest more depth Holds none w = go w.opens depth none w.stacked w.occurs w.holds
   where
     go : (opens : List Open) (depth : ℕ) → depth ≡ 0 → Stacks opens objects depth → rest ≡ opens_key opens ++ more → Holds opens → (rest ≡ more) × Holds []
     go [] zero n s e h = (e, h)
@@ -247,51 +247,51 @@ sums_within all counted o name value others inside under p is h = omega (arith, 
 
 -- ---- the part that is looked for
 
--- It stands in what is left, where so many bytes are left from it on, and so many numbers come before it.
+-- It is in what is left, where so many bytes are left from it on, and so many numbers come before it.
 pub record Ahead (part : Tree) (all stop counted len : ℕ) (opens : List Open) : Type 0 where
   pub before : List ℕ
   pub numbers : ℕ
-  pub stands : StandsInOpens opens before numbers part
+  pub occurs : OccursInOpens opens before numbers part
   pub sum : counted + numbers ≡ all
-  pub place : stop + length before ≡ len
+  pub offset : stop + length before ≡ len
 
 -- In an array or an object that has no part left it doesn't.
 pub ahead_behind_end : (part : Tree) (all stop counted len behind : ℕ) (over : Open) (under : List Open) → IsOver over → len ≡ length (end_key (is_object over)) + behind → Ahead part all stop counted len (over ∷ under) → Ahead part all stop counted behind under
-ahead_behind_end part all stop counted len behind over under is long a = go over is long a.stands
+ahead_behind_end part all stop counted len behind over under is long a = go over is long a.occurs
   where
-    go : (over : Open) → IsOver over → len ≡ length (end_key (is_object over)) + behind → StandsInOpens (over ∷ under) a.before a.numbers part → Ahead part all stop counted behind under
+    go : (over : Open) → IsOver over → len ≡ length (end_key (is_object over)) + behind → OccursInOpens (over ∷ under) a.before a.numbers part → Ahead part all stop counted behind under
     go (items no_trees) h l (inl x) = absurd x
-    go (items no_trees) h l (inr x) = record { before = x.0; numbers = x.1; stands = x.4; sum = omega (arith, a.sum, x.3); place = omega (arith, a.place, l, ap length x.2) }
+    go (items no_trees) h l (inr x) = record { before = x.0; numbers = x.1; occurs = x.4; sum = omega (arith, a.sum, x.3); offset = omega (arith, a.offset, l, ap length x.2) }
     go (items (more_trees t ts)) h l s = absurd h
     go (members no_members) h l (inl x) = absurd x
-    go (members no_members) h l (inr x) = record { before = x.0; numbers = x.1; stands = x.4; sum = omega (arith, a.sum, x.3); place = omega (arith, a.place, l, ap length x.2) }
+    go (members no_members) h l (inr x) = record { before = x.0; numbers = x.1; occurs = x.4; sum = omega (arith, a.sum, x.3); offset = omega (arith, a.offset, l, ap length x.2) }
     go (members (more_members k t ms)) h l s = absurd h
 
--- It stands in a value, where so many bytes are left from that on, or behind it.
+-- It is in a value, where so many bytes are left from that on, or behind it.
 pub record AheadHere (part : Tree) (all stop counted len : ℕ) (value : Tree) (opens : List Open) : Type 0 where
   pub before : List ℕ
   pub numbers : ℕ
-  pub stands : StandsIn value before numbers part ⊎ ((inner : List ℕ) × (fewer : ℕ) × (before ≡ key_of value ++ inner) × (numbers ≡ numbers_in value + fewer) × StandsInOpens opens inner fewer part)
+  pub occurs : OccursIn value before numbers part ⊎ ((inner : List ℕ) × (fewer : ℕ) × (before ≡ key_of value ++ inner) × (numbers ≡ numbers_in value + fewer) × OccursInOpens opens inner fewer part)
   pub sum : counted + numbers ≡ all
-  pub place : stop + length before ≡ len
+  pub offset : stop + length before ≡ len
 
 ahead_at : (part : Tree) (all stop counted len behind : ℕ) (o : Open) (name : List ℕ) (value : Tree) (others : Open) (under : List Open) → IsPart o name value others → len ≡ length (name_key (is_object o) name) + behind → Ahead part all stop counted len (o ∷ under) → AheadHere part all stop counted behind value (others ∷ under)
-ahead_at part all stop counted len behind o name value others under p long a = go o p long a.stands
+ahead_at part all stop counted len behind o name value others under p long a = go o p long a.occurs
   where
-    go : (o : Open) → IsPart o name value others → len ≡ length (name_key (is_object o) name) + behind → StandsInOpens (o ∷ under) a.before a.numbers part → AheadHere part all stop counted behind value (others ∷ under)
+    go : (o : Open) → IsPart o name value others → len ≡ length (name_key (is_object o) name) + behind → OccursInOpens (o ∷ under) a.before a.numbers part → AheadHere part all stop counted behind value (others ∷ under)
     go (items no_trees) p l s = absurd p
     go (items (more_trees t ts)) p l s =
         subst (λ v. AheadHere part all stop counted behind v (others ∷ under)) (sym p.1) (subst (λ o. AheadHere part all stop counted behind t (o ∷ under)) (sym p.2) (elim s [
           | inl x ↦ elim x [
-            | inl here ↦ record { before = a.before; numbers = a.numbers; stands = inl here; sum = a.sum; place = omega (arith, a.place, l) }
-            | inr y ↦ record { before = a.before; numbers = a.numbers; stands = inr (y.0, y.1, y.2, y.3, inl y.4); sum = a.sum; place = omega (arith, a.place, l) }
+            | inl here ↦ record { before = a.before; numbers = a.numbers; occurs = inl here; sum = a.sum; offset = omega (arith, a.offset, l) }
+            | inr y ↦ record { before = a.before; numbers = a.numbers; occurs = inr (y.0, y.1, y.2, y.3, inl y.4); sum = a.sum; offset = omega (arith, a.offset, l) }
           ]
           | inr x ↦ record {
             before = a.before;
             numbers = a.numbers;
-            stands = inr (items_key ts ++ x.0, numbers_open (items ts) + x.1, x.2 ∙ append_assoc (key_of t) (items_key ts) x.0, omega (arith, x.3, length-append (counts_in t) (counts_in_items ts)), inr (x.0, x.1, refl, refl, x.4));
+            occurs = inr (items_key ts ++ x.0, numbers_open (items ts) + x.1, x.2 ∙ append_assoc (key_of t) (items_key ts) x.0, omega (arith, x.3, length-append (counts_in t) (counts_in_items ts)), inr (x.0, x.1, refl, refl, x.4));
             sum = a.sum;
-            place = omega (arith, a.place, l);
+            offset = omega (arith, a.offset, l);
           }
         ]))
     go (members no_members) p l s = absurd p
@@ -299,21 +299,21 @@ ahead_at part all stop counted len behind o name value others under p long a = g
         let named : length (text_key name) ≡ length (text_key k) = ap (λ n. length (text_key n)) p.0 in
         subst (λ v. AheadHere part all stop counted behind v (others ∷ under)) (sym p.1) (subst (λ o. AheadHere part all stop counted behind t (o ∷ under)) (sym p.2) (elim s [
           | inl x ↦ elim x [
-            | inl y ↦ record { before = y.0; numbers = a.numbers; stands = inl y.2; sum = a.sum; place = omega (arith, a.place, l, named, ap length y.1, length-append (text_key k) y.0) }
+            | inl y ↦ record { before = y.0; numbers = a.numbers; occurs = inl y.2; sum = a.sum; offset = omega (arith, a.offset, l, named, ap length y.1, length-append (text_key k) y.0) }
             | inr y ↦ record {
               before = key_of t ++ y.0;
               numbers = a.numbers;
-              stands = inr (y.0, y.1, refl, y.3, inl y.4);
+              occurs = inr (y.0, y.1, refl, y.3, inl y.4);
               sum = a.sum;
-              place = omega (arith, a.place, l, named, ap length y.2, length-append (text_key k) (key_of t ++ y.0));
+              offset = omega (arith, a.offset, l, named, ap length y.2, length-append (text_key k) (key_of t ++ y.0));
             }
           ]
           | inr x ↦ record {
             before = key_of t ++ (members_key ms ++ x.0);
             numbers = a.numbers;
-            stands = inr (members_key ms ++ x.0, numbers_open (members ms) + x.1, refl, omega (arith, x.3, length-append (counts_in t) (counts_in_members ms)), inr (x.0, x.1, refl, refl, x.4));
+            occurs = inr (members_key ms ++ x.0, numbers_open (members ms) + x.1, refl, omega (arith, x.3, length-append (counts_in t) (counts_in_members ms)), inr (x.0, x.1, refl, refl, x.4));
             sum = a.sum;
-            place = omega (arith, a.place, l, named, ap length (x.2 ∙ regroup_member (text_key k) (key_of t) (members_key ms) x.0), length-append (text_key k) (key_of t ++ (members_key ms ++ x.0)));
+            offset = omega (arith, a.offset, l, named, ap length (x.2 ∙ regroup_member (text_key k) (key_of t) (members_key ms) x.0), length-append (text_key k) (key_of t ++ (members_key ms ++ x.0)));
           }
         ]))
       where
@@ -321,7 +321,7 @@ ahead_at part all stop counted len behind o name value others under p long a = g
         regroup_member n k o u = simp append_assoc
 
 -- where a part begins with no bytes before it, no numbers come before it
-pub at_start : (t : Tree) (before : List ℕ) (numbers : ℕ) (part : Tree) → StandsIn t before numbers part → length before ≡ 0 → numbers ≡ 0
+pub at_start : (t : Tree) (before : List ℕ) (numbers : ℕ) (part : Tree) → OccursIn t before numbers part → length before ≡ 0 → numbers ≡ 0
 at_start (array ts) before numbers part (inl w) none = w.1
 at_start (array ts) before numbers part (inr x) none = absurd (omega (arith, none, ap length x.1))
 at_start (object ms) before numbers part (inl w) none = w.1
@@ -337,7 +337,7 @@ at_start (timestamp_tz offset micros) before numbers part s none = s.1
 at_start (interval months days micros) before numbers part s none = s.1
 
 -- a scalar has no part but itself
-pub scalar_whole : (t : Tree) → IsScalar t → (before : List ℕ) (numbers : ℕ) (part : Tree) → StandsIn t before numbers part → length before ≡ 0
+pub scalar_whole : (t : Tree) → IsScalar t → (before : List ℕ) (numbers : ℕ) (part : Tree) → OccursIn t before numbers part → length before ≡ 0
 scalar_whole (array ts) s before numbers part h = absurd s
 scalar_whole (object ms) s before numbers part h = absurd s
 scalar_whole null s before numbers part h = ap length h.0
@@ -359,29 +359,29 @@ key_some depth t r = elim (cases_eq (length (key_of t)) 0) [
 -- the part is the value that begins here
 pub here_counted : (part : Tree) (all stop counted len depth : ℕ) (value : Tree) (opens : List Open) → IsReadableAt depth value → len ≡ stop → AheadHere part all stop counted len value opens → counted ≡ all
 here_counted part all stop counted len depth value opens r is a =
-    let none : length a.before ≡ 0 = omega (arith, a.place, is) in
-    elim a.stands [
+    let none : length a.before ≡ 0 = omega (arith, a.offset, is) in
+    elim a.occurs [
       | inl x ↦ omega (arith, a.sum, at_start value a.before a.numbers part x none)
       | inr x ↦ absurd (omega (arith, none, ap length x.2, length-append (key_of value) x.0, key_some depth value r))
     ]
 
 pub ahead_behind_scalar : (part : Tree) (all stop counted more len behind : ℕ) (value : Tree) (opens : List Open) → IsScalar value → len ≢ stop → more ≡ numbers_in value → len ≡ length (key_of value) + behind → AheadHere part all stop counted len value opens → Ahead part all stop (counted + more) behind opens
-ahead_behind_scalar part all stop counted more len behind value opens s other is long a = elim a.stands [
-  | inl x ↦ absurd (other (omega (arith, a.place, scalar_whole value s a.before a.numbers part x)))
-  | inr x ↦ record { before = x.0; numbers = x.1; stands = x.4; sum = omega (arith, a.sum, x.3, is); place = omega (arith, a.place, long, ap length x.2, length-append (key_of value) x.0) }
+ahead_behind_scalar part all stop counted more len behind value opens s other is long a = elim a.occurs [
+  | inl x ↦ absurd (other (omega (arith, a.offset, scalar_whole value s a.before a.numbers part x)))
+  | inr x ↦ record { before = x.0; numbers = x.1; occurs = x.4; sum = omega (arith, a.sum, x.3, is); offset = omega (arith, a.offset, long, ap length x.2, length-append (key_of value) x.0) }
 ]
 
 pub ahead_within : (part : Tree) (all stop counted len behind : ℕ) (value : Tree) (inside : Open) (opens : List Open) → value ≡ opened_tree inside → len ≢ stop → len ≡ suc behind → AheadHere part all stop counted len value opens → Ahead part all stop counted behind (inside ∷ opens)
 ahead_within part all stop counted len behind value inside opens is other long a =
-    go inside (subst (λ v. StandsIn v a.before a.numbers part ⊎ ((inner : List ℕ) × (fewer : ℕ) × (a.before ≡ key_of v ++ inner) × (a.numbers ≡ numbers_in v + fewer) × StandsInOpens opens inner fewer part)) is a.stands)
+    go inside (subst (λ v. OccursIn v a.before a.numbers part ⊎ ((inner : List ℕ) × (fewer : ℕ) × (a.before ≡ key_of v ++ inner) × (a.numbers ≡ numbers_in v + fewer) × OccursInOpens opens inner fewer part)) is a.occurs)
   where
-    go : (inside : Open) → StandsIn (opened_tree inside) a.before a.numbers part ⊎ ((inner : List ℕ) × (fewer : ℕ) × (a.before ≡ key_of (opened_tree inside) ++ inner) × (a.numbers ≡ numbers_in (opened_tree inside) + fewer) × StandsInOpens opens inner fewer part) → Ahead part all stop counted behind (inside ∷ opens)
-    go (items ts) (inl (inl w)) = absurd (other (omega (arith, a.place, ap length w.0)))
-    go (items ts) (inl (inr x)) = record { before = x.0; numbers = a.numbers; stands = inl x.2; sum = a.sum; place = omega (arith, a.place, long, ap length x.1) }
-    go (items ts) (inr x) = record { before = items_key ts ++ x.0; numbers = a.numbers; stands = inr (x.0, x.1, refl, x.3, x.4); sum = a.sum; place = omega (arith, a.place, long, ap length x.2) }
-    go (members ms) (inl (inl w)) = absurd (other (omega (arith, a.place, ap length w.0)))
-    go (members ms) (inl (inr x)) = record { before = x.0; numbers = a.numbers; stands = inl x.2; sum = a.sum; place = omega (arith, a.place, long, ap length x.1) }
-    go (members ms) (inr x) = record { before = members_key ms ++ x.0; numbers = a.numbers; stands = inr (x.0, x.1, refl, x.3, x.4); sum = a.sum; place = omega (arith, a.place, long, ap length x.2) }
+    go : (inside : Open) → OccursIn (opened_tree inside) a.before a.numbers part ⊎ ((inner : List ℕ) × (fewer : ℕ) × (a.before ≡ key_of (opened_tree inside) ++ inner) × (a.numbers ≡ numbers_in (opened_tree inside) + fewer) × OccursInOpens opens inner fewer part) → Ahead part all stop counted behind (inside ∷ opens)
+    go (items ts) (inl (inl w)) = absurd (other (omega (arith, a.offset, ap length w.0)))
+    go (items ts) (inl (inr x)) = record { before = x.0; numbers = a.numbers; occurs = inl x.2; sum = a.sum; offset = omega (arith, a.offset, long, ap length x.1) }
+    go (items ts) (inr x) = record { before = items_key ts ++ x.0; numbers = a.numbers; occurs = inr (x.0, x.1, refl, x.3, x.4); sum = a.sum; offset = omega (arith, a.offset, long, ap length x.2) }
+    go (members ms) (inl (inl w)) = absurd (other (omega (arith, a.offset, ap length w.0)))
+    go (members ms) (inl (inr x)) = record { before = x.0; numbers = a.numbers; occurs = inl x.2; sum = a.sum; offset = omega (arith, a.offset, long, ap length x.1) }
+    go (members ms) (inr x) = record { before = members_key ms ++ x.0; numbers = a.numbers; occurs = inr (x.0, x.1, refl, x.3, x.4); sum = a.sum; offset = omega (arith, a.offset, long, ap length x.2) }
 
 -- ---- first bytes
 
@@ -390,22 +390,22 @@ between true = (omega arith, omega arith)
 between false = (omega arith, omega arith)
 
 pub opening_there : (left : ℕ) (t : Tree) → IsReadableAt left t → (first : ℕ) (rest bytes tail : List ℕ) → bytes ≡ first ∷ rest → bytes ≡ key_of t ++ tail → (b : Bool) → first ≡ opening_byte b → Opening left t b rest tail
-opening_there left null r first rest bytes tail e stands b is = absurd (omega (arith, is, between b, heads first 211 rest tail (sym e ∙ stands)))
-opening_there left (boolean true) r first rest bytes tail e stands b is = absurd (omega (arith, is, between b, heads first 22 rest tail (sym e ∙ stands)))
-opening_there left (boolean false) r first rest bytes tail e stands b is = absurd (omega (arith, is, between b, heads first 21 rest tail (sym e ∙ stands)))
-opening_there left (string mark text) r first rest bytes tail e stands b is = absurd (omega (arith, is, between b, heads first 208 rest (text_key text ++ tail) (sym e ∙ stands)))
-opening_there left (number n) r first rest bytes tail e stands b is =
+opening_there left null r first rest bytes tail e occurs b is = absurd (omega (arith, is, between b, heads first 211 rest tail (sym e ∙ occurs)))
+opening_there left (boolean true) r first rest bytes tail e occurs b is = absurd (omega (arith, is, between b, heads first 22 rest tail (sym e ∙ occurs)))
+opening_there left (boolean false) r first rest bytes tail e occurs b is = absurd (omega (arith, is, between b, heads first 21 rest tail (sym e ∙ occurs)))
+opening_there left (string mark text) r first rest bytes tail e occurs b is = absurd (omega (arith, is, between b, heads first 208 rest (text_key text ++ tail) (sym e ∙ occurs)))
+opening_there left (number n) r first rest bytes tail e occurs b is =
     let x = number_begins n (is_small n r.proper) in
-    absurd (omega (arith, is, between b, x.high, heads first x.head rest (x.tail ++ tail) (sym e ∙ stands ∙ ap (λ key. key ++ tail) x.is)))
-opening_there left (array ts) r first rest bytes tail e stands true is = absurd (omega (arith, is, heads first 210 rest (items_key ts ++ tail) (sym e ∙ stands)))
-opening_there left (array ts) r first rest bytes tail e stands false is =
+    absurd (omega (arith, is, between b, x.high, heads first x.head rest (x.tail ++ tail) (sym e ∙ occurs ∙ ap (λ key. key ++ tail) x.is)))
+opening_there left (array ts) r first rest bytes tail e occurs true is = absurd (omega (arith, is, heads first 210 rest (items_key ts ++ tail) (sym e ∙ occurs)))
+opening_there left (array ts) r first rest bytes tail e occurs false is =
     let o = array_open ts left r in
-    record { inside = items ts; whole = refl; is = refl; inner = o.0; deeper = o.1; fits = o.2; stands = tails first 210 rest (items_key ts ++ tail) (sym e ∙ stands) }
-opening_there left (object ms) r first rest bytes tail e stands false is = absurd (omega (arith, is, heads first 209 rest (members_key ms ++ tail) (sym e ∙ stands)))
-opening_there left (object ms) r first rest bytes tail e stands true is =
+    record { inside = items ts; whole = refl; is = refl; inner = o.0; deeper = o.1; fits = o.2; occurs = tails first 210 rest (items_key ts ++ tail) (sym e ∙ occurs) }
+opening_there left (object ms) r first rest bytes tail e occurs false is = absurd (omega (arith, is, heads first 209 rest (members_key ms ++ tail) (sym e ∙ occurs)))
+opening_there left (object ms) r first rest bytes tail e occurs true is =
     let o = object_open ms left r in
-    record { inside = members ms; whole = refl; is = refl; inner = o.0; deeper = o.1; fits = o.2; stands = tails first 209 rest (members_key ms ++ tail) (sym e ∙ stands) }
-opening_there left t r first rest bytes tail e stands b is = absurd r.within
+    record { inside = members ms; whole = refl; is = refl; inner = o.0; deeper = o.1; fits = o.2; occurs = tails first 209 rest (members_key ms ++ tail) (sym e ∙ occurs) }
+opening_there left t r first rest bytes tail e occurs b is = absurd r.within
 
 -- one for the first byte of a number
 other_byte : (first : ℕ) → (first ≤ 22) ⊎ (208 ≤ first) → number_count first ≡ 0
@@ -420,39 +420,39 @@ number_byte : (first : ℕ) → 22 < first → first < 208 → number_count firs
 number_byte first low high = (λ i. if lt-ltb 22 first low i && lt-ltb first 208 high i then 1 else 0)
 
 pub scalar_numbers : (depth : ℕ) (t : Tree) → IsReadableAt depth t → IsScalar t → (first : ℕ) (rest bytes tail : List ℕ) → bytes ≡ first ∷ rest → bytes ≡ key_of t ++ tail → number_count first ≡ numbers_in t
-scalar_numbers depth null r s first rest bytes tail e stands = other_byte first (inr (omega (arith, heads first 211 rest tail (sym e ∙ stands))))
-scalar_numbers depth (boolean true) r s first rest bytes tail e stands = other_byte first (inl (omega (arith, heads first 22 rest tail (sym e ∙ stands))))
-scalar_numbers depth (boolean false) r s first rest bytes tail e stands = other_byte first (inl (omega (arith, heads first 21 rest tail (sym e ∙ stands))))
-scalar_numbers depth (string mark text) r s first rest bytes tail e stands = other_byte first (inr (omega (arith, heads first 208 rest (text_key text ++ tail) (sym e ∙ stands))))
-scalar_numbers depth (number n) r s first rest bytes tail e stands =
+scalar_numbers depth null r s first rest bytes tail e occurs = other_byte first (inr (omega (arith, heads first 211 rest tail (sym e ∙ occurs))))
+scalar_numbers depth (boolean true) r s first rest bytes tail e occurs = other_byte first (inl (omega (arith, heads first 22 rest tail (sym e ∙ occurs))))
+scalar_numbers depth (boolean false) r s first rest bytes tail e occurs = other_byte first (inl (omega (arith, heads first 21 rest tail (sym e ∙ occurs))))
+scalar_numbers depth (string mark text) r s first rest bytes tail e occurs = other_byte first (inr (omega (arith, heads first 208 rest (text_key text ++ tail) (sym e ∙ occurs))))
+scalar_numbers depth (number n) r s first rest bytes tail e occurs =
     let x = number_begins n (is_small n r.proper) in
-    let is = heads first x.head rest (x.tail ++ tail) (sym e ∙ stands ∙ ap (λ key. key ++ tail) x.is) in
+    let is = heads first x.head rest (x.tail ++ tail) (sym e ∙ occurs ∙ ap (λ key. key ++ tail) x.is) in
     number_byte first (omega (arith, is, x.low)) (omega (arith, is, x.high))
-scalar_numbers depth (array ts) r s first rest bytes tail e stands = absurd s
-scalar_numbers depth (object ms) r s first rest bytes tail e stands = absurd s
-scalar_numbers depth t r s first rest bytes tail e stands = absurd r.within
+scalar_numbers depth (array ts) r s first rest bytes tail e occurs = absurd s
+scalar_numbers depth (object ms) r s first rest bytes tail e occurs = absurd s
+scalar_numbers depth t r s first rest bytes tail e occurs = absurd r.within
 
 -- ---- where a value is due
 
-module _ (part : Tree) (all stop counted : ℕ) (objects : List Bool) (depth : ℕ) (rest more : List ℕ) (b : Bool) (n : PartStandsFirst objects depth rest more b (Ahead part all stop counted (length rest))) (value : List ℕ) (is : value ≡ key_of n.value ++ (opens_key (n.others ∷ n.under) ++ more)) where
+module _ (part : Tree) (all stop counted : ℕ) (objects : List Bool) (depth : ℕ) (rest more : List ℕ) (b : Bool) (n : PartOccursFirst objects depth rest more b (Ahead part all stop counted (length rest))) (value : List ℕ) (is : value ≡ key_of n.value ++ (opens_key (n.others ∷ n.under) ++ more)) where
   pub here_at : AheadHere part all stop counted (length value) n.value (n.others ∷ n.under)
   here_at =
       ahead_at part all stop counted (length rest) (length value) n.innermost n.name n.value n.others n.under n.is_part
-      (omega (arith, ap length n.stands, length-append (name_key b n.name) (key_of n.value ++ (opens_key (n.others ∷ n.under) ++ more)), ap length is, ap (λ (x : Bool). length (name_key x n.name)) n.is)) n.holds
+      (omega (arith, ap length n.occurs, length-append (name_key b n.name) (key_of n.value ++ (opens_key (n.others ∷ n.under) ++ more)), ap length is, ap (λ (x : Bool). length (name_key x n.name)) n.is)) n.holds
 
 -- a value has some bytes
 pub value_some : (depth : ℕ) (t : Tree) → IsReadableAt depth t → (value tail : List ℕ) → value ≡ key_of t ++ tail → length value ≡ 0 → ⊥
 value_some depth t r value tail is none = no_key depth t r value tail is none
 
--- so many bytes stand behind a value
+-- so many bytes are behind a value
 pub behind_long : (value key behind : List ℕ) → value ≡ key ++ behind → length value ≡ length key + length behind
 behind_long value key behind is = ap length is ∙ length-append key behind
 
--- it stands in the array or the object
-pub standing_within : (t : Tree) (inside : Open) → t ≡ opened_tree inside → (before : List ℕ) (numbers : ℕ) (part : Tree) → StandsIn t before numbers part → 0 < length before → (inner : List ℕ) × (length before ≡ suc (length inner)) × StandsInOpen inside inner numbers part
-standing_within t inside is before numbers part s some = go inside (subst (λ v. StandsIn v before numbers part) is s)
+-- it is in the array or the object
+pub occurring_within : (t : Tree) (inside : Open) → t ≡ opened_tree inside → (before : List ℕ) (numbers : ℕ) (part : Tree) → OccursIn t before numbers part → 0 < length before → (inner : List ℕ) × (length before ≡ suc (length inner)) × OccursInOpen inside inner numbers part
+occurring_within t inside is before numbers part s some = go inside (subst (λ v. OccursIn v before numbers part) is s)
   where
-    go : (inside : Open) → StandsIn (opened_tree inside) before numbers part → (inner : List ℕ) × (length before ≡ suc (length inner)) × StandsInOpen inside inner numbers part
+    go : (inside : Open) → OccursIn (opened_tree inside) before numbers part → (inner : List ℕ) × (length before ≡ suc (length inner)) × OccursInOpen inside inner numbers part
     go (items ts) (inl w) = absurd (omega (arith, some, ap length w.0))
     go (items ts) (inr x) = (x.0, ap length x.1, x.2)
     go (members ms) (inl w) = absurd (omega (arith, some, ap length w.0))
@@ -488,7 +488,7 @@ more_behind key more before part x = record { behind = x.behind ++ more; is = ap
     regroup_behind a b c d = simp append_assoc
 
 mutual
-  pub part_key : (t : Tree) (depth : ℕ) → depth ≤ 512 → IsReadableAt depth t → (before : List ℕ) (numbers : ℕ) (part : Tree) → StandsIn t before numbers part → PartKey (key_of t) before part
+  pub part_key : (t : Tree) (depth : ℕ) → depth ≤ 512 → IsReadableAt depth t → (before : List ℕ) (numbers : ℕ) (part : Tree) → OccursIn t before numbers part → PartKey (key_of t) before part
   part_key (array ts) depth few r before numbers part (inl w) = whole_key depth (array ts) few r before numbers part w
   part_key (array ts) depth few r before numbers part (inr x) =
       let o = array_open ts depth r in
@@ -503,13 +503,13 @@ mutual
   part_key (number n) depth few r before numbers part w = whole_key depth (number n) few r before numbers part w
   part_key t depth few r before numbers part w = absurd r.within
 
-  items_part : (ts : Trees) (depth : ℕ) → depth ≤ 512 → AreProper ts → AreWithin IsAnyNumber ts depth → (before : List ℕ) (numbers : ℕ) (part : Tree) → StandsInItems ts before numbers part → PartKey (items_key ts) before part
+  items_part : (ts : Trees) (depth : ℕ) → depth ≤ 512 → AreProper ts → AreWithin IsAnyNumber ts depth → (before : List ℕ) (numbers : ℕ) (part : Tree) → OccursInItems ts before numbers part → PartKey (items_key ts) before part
   items_part no_trees depth few p w before numbers part s = absurd s
   items_part (more_trees t ts) depth few p w before numbers part (inl s) =
       more_behind (key_of t) (items_key ts) before part (part_key t depth few (record { proper = p.0; within = w.0 }) before numbers part s)
   items_part (more_trees t ts) depth few p w before numbers part (inr x) = farther_on (key_of t) (items_key ts) before x.0 part x.2 (items_part ts depth few p.1 w.1 x.0 x.1 part x.4)
 
-  members_part : (ms : Members) (depth : ℕ) → depth ≤ 512 → HaveProperParts ms → HaveWithin IsAnyNumber ms depth → (before : List ℕ) (numbers : ℕ) (part : Tree) → StandsInMembers ms before numbers part → PartKey (members_key ms) before part
+  members_part : (ms : Members) (depth : ℕ) → depth ≤ 512 → HaveProperParts ms → HaveWithin IsAnyNumber ms depth → (before : List ℕ) (numbers : ℕ) (part : Tree) → OccursInMembers ms before numbers part → PartKey (members_key ms) before part
   members_part no_members depth few p w before numbers part s = absurd s
   members_part (more_members k t ms) depth few p w before numbers part (inl x) =
       farther_on (text_key k) (key_of t ++ members_key ms) before x.0 part x.1 (more_behind (key_of t) (members_key ms) x.0 part (part_key t depth few (record { proper = p.1; within = w.0 }) x.0 numbers part x.2))

@@ -121,7 +121,7 @@ padded_last least m small =
     let zs = replicate (least - length (decimal m)) 48 in
     record { front = zs ++ x.front; is = ap (λ ds. zs ++ ds) x.is ∙ sym (append_assoc zs x.front ((48 + m % 10) ∷ [])) }
 
--- ---- where the point stands
+-- ---- where the point is
 
 no_point : (ds : List ℕ) → with_point 0 ds ≡ ds
 unfolding with_point

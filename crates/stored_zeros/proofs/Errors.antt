@@ -5,7 +5,7 @@ use Rattle.std.specs.declared.alloc.Global.{Global}
 use Rattle.stored_zeros.specs.Appending.{AppendsOr}
 use Rattle.stored_zeros.specs.declared.error.ZerosError.{ZerosError}
 
--- there is this error, and there was no room
+-- there is this error, and there was no space
 pub or_error : {X : Type 0} (error : ZerosError) (r : Result X ZerosError) (old new : Vec ℕ Global) (bytes : List ℕ) → IsErrAnd r (λ e. e ≡ error) → vec_capacity old < vec_len old + length bytes → AppendsOr error r old new bytes
 or_error error (Ok x) old new bytes h full = absurd h
 or_error error (Err e) old new bytes h full = (h, full)

@@ -8,7 +8,7 @@ use Rattle.stored_zeros.proofs.Scanning.{IsGap}
 use Rattle.stored_zeros.proofs.NumberedTexts.{NumberedText, gap_then, bytes_with, shortest_text, IsNumbered, ends_number}
 use Rattle.stored_zeros.proofs.Decimals.{Begins, pointed, shortest_begins, shortest_passed, text_begins, ends_there}
 
--- a number stands first
+-- a number is first
 begins_there : (first : ℕ) (others : List ℕ) → is_number_byte first ≡ true → from_number (first ∷ others) ≡ Some (first ∷ others)
 begins_there first others e =
     let other : first == 34 ≡ false = ne_eqb first 34 (λ is. true≢false (sym e ∙ ap is_number_byte is)) in
@@ -32,7 +32,7 @@ behind_there text rest p b e =
     let is : text ++ rest ≡ b.first ∷ (b.others ++ rest) = ap (λ t. t ++ rest) b.is in
     ap (λ t. behind_number (Some t)) is ∙ ap (λ x. Some (x.0, x.1.1)) (ap (ending_of false 0) (sym is) ∙ e)
 
--- what stands behind the first number of the shortest text
+-- what is behind the first number of the shortest text
 pub shortest_behind : (gap : List ℕ) (n : Num) (k : NumberedText) (h : IsNumbered (gap_then gap n k)) → next_number (bytes_with shortest_text (gap_then gap n k)) ≡ Some (pointed n h.1, bytes_with shortest_text k)
 shortest_behind gap n k h =
     let rest = bytes_with shortest_text k in

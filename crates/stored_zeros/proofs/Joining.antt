@@ -3,7 +3,7 @@ use Rattle.std.proofs.Common.{◌≡◌, ℕ, ◌+◌, ◌≤◌, inl, inr, List
 use Rattle.std.proofs.Math.Seq.{drop-append_seam, take-append_seam}
 use Rattle.jsonb_spec.specs.Tree.{Tree, null, boolean, string, number, array, object, binary, date, timestamp, timestamp_tz, interval, Trees, no_trees, more_trees, Members, no_members, more_members}
 use Rattle.stored_zeros.specs.Numbers.{counts_taken}
-use Rattle.stored_zeros.specs.PartsOf.{numbers_in, IsWhole, StandsIn, StandsInItems, StandsInMembers}
+use Rattle.stored_zeros.specs.PartsOf.{numbers_in, IsWhole, OccursIn, OccursInItems, OccursInMembers}
 use Rattle.stored_zeros.specs.Zeros.{counts_in, counts_in_items, counts_in_members, entry_of, plain_behind, zeros_of, plain_at_end}
 
 pub zeros_joined : (plain : ℕ) (front back : List ℕ) → zeros_of plain (front ++ back) ≡ zeros_of plain front ++ zeros_of (plain_at_end plain front) back
@@ -18,7 +18,7 @@ plain_joined plain (count ∷ front) back = plain_joined (plain_behind plain cou
 
 -- ---- a part
 
--- The counts of the part stand among these, behind so many.
+-- The counts of the part are among these, behind so many.
 record PartCounts (counts : List ℕ) (numbers : ℕ) (part : Tree) : Type 0 where
   front : List ℕ
   behind : List ℕ
@@ -44,7 +44,7 @@ more_before first counts numbers fewer part e x = record {
 }
 
 mutual
-  part_counts : (t : Tree) (before : List ℕ) (numbers : ℕ) (part : Tree) → StandsIn t before numbers part → PartCounts (counts_in t) numbers part
+  part_counts : (t : Tree) (before : List ℕ) (numbers : ℕ) (part : Tree) → OccursIn t before numbers part → PartCounts (counts_in t) numbers part
   part_counts (array ts) before numbers part (inl w) = whole_counts (array ts) before numbers part w
   part_counts (array ts) before numbers part (inr x) = items_counts ts x.0 numbers part x.2
   part_counts (object ms) before numbers part (inl w) = whole_counts (object ms) before numbers part w
@@ -59,17 +59,17 @@ mutual
   part_counts (timestamp_tz offset micros) before numbers part w = whole_counts (timestamp_tz offset micros) before numbers part w
   part_counts (interval months days micros) before numbers part w = whole_counts (interval months days micros) before numbers part w
 
-  items_counts : (ts : Trees) (before : List ℕ) (numbers : ℕ) (part : Tree) → StandsInItems ts before numbers part → PartCounts (counts_in_items ts) numbers part
+  items_counts : (ts : Trees) (before : List ℕ) (numbers : ℕ) (part : Tree) → OccursInItems ts before numbers part → PartCounts (counts_in_items ts) numbers part
   items_counts no_trees before numbers part s = absurd s
   items_counts (more_trees t ts) before numbers part (inl s) = more_behind (counts_in t) (counts_in_items ts) numbers part (part_counts t before numbers part s)
   items_counts (more_trees t ts) before numbers part (inr x) = more_before (counts_in t) (counts_in_items ts) numbers x.1 part x.3 (items_counts ts x.0 x.1 part x.4)
 
-  members_counts : (ms : Members) (before : List ℕ) (numbers : ℕ) (part : Tree) → StandsInMembers ms before numbers part → PartCounts (counts_in_members ms) numbers part
+  members_counts : (ms : Members) (before : List ℕ) (numbers : ℕ) (part : Tree) → OccursInMembers ms before numbers part → PartCounts (counts_in_members ms) numbers part
   members_counts no_members before numbers part s = absurd s
   members_counts (more_members key t ms) before numbers part (inl x) = more_behind (counts_in t) (counts_in_members ms) numbers part (part_counts t x.0 numbers part x.2)
   members_counts (more_members key t ms) before numbers part (inr x) = more_before (counts_in t) (counts_in_members ms) numbers x.1 part x.3 (members_counts ms x.0 x.1 part x.4)
 
-pub counts_of_part : (t part : Tree) (before : List ℕ) (numbers : ℕ) → StandsIn t before numbers part → counts_taken numbers (numbers_in part) (counts_in t) ≡ counts_in part
+pub counts_of_part : (t part : Tree) (before : List ℕ) (numbers : ℕ) → OccursIn t before numbers part → counts_taken numbers (numbers_in part) (counts_in t) ≡ counts_in part
 counts_of_part t part before numbers s =
     let x = part_counts t before numbers part s in
     ap (λ n. take (numbers_in part) (drop n (counts_in t))) (sym x.long)
@@ -77,7 +77,7 @@ counts_of_part t part before numbers s =
     ∙ ap (take (numbers_in part)) (drop-append_seam x.front (counts_in part ++ x.behind))
     ∙ take-append_seam (counts_in part) x.behind
 
-pub numbers_of_part : (t part : Tree) (before : List ℕ) (numbers : ℕ) → StandsIn t before numbers part → numbers + numbers_in part ≤ length (counts_in t)
+pub numbers_of_part : (t part : Tree) (before : List ℕ) (numbers : ℕ) → OccursIn t before numbers part → numbers + numbers_in part ≤ length (counts_in t)
 numbers_of_part t part before numbers s =
     let x = part_counts t before numbers part s in
     omega (arith, x.long, ap length x.is, length-append x.front (counts_in part ++ x.behind), length-append (counts_in part) x.behind)

@@ -1,4 +1,4 @@
--- The text of a tree as its numbers, and what stands before each and behind the last.
+-- The text of a tree as its numbers, and what is before each and behind the last.
 use Rattle.std.proofs.Common.{◌≡◌, ℕ, zero, suc, Bool, true, false, List, [], ◌∷◌, ◌++◌, codes, unsigned_abs, refl, sym, ap, ◌∙◌, append_assoc, append-nil}
 use Rattle.std.specs.Bool.{⊤}
 use Rattle.jsonb_key.specs.Readable.{IsAnyNumber, IsReadable}
@@ -15,7 +15,7 @@ use Rattle.stored_zeros.specs.Scan.{is_number_byte}
 use Rattle.stored_zeros.specs.Zeros.{counts_in, counts_in_items, counts_in_members}
 use Rattle.stored_zeros.proofs.Scanning.{IsGap, quoted_gap, gaps}
 
--- a text: what stands before each number, and behind the last
+-- a text: what is before each number, and behind the last
 pub data NumberedText : Type 0 where
   last_gap : List ℕ → NumberedText
   gap_then : List ℕ → Num → NumberedText → NumberedText
@@ -175,24 +175,24 @@ mutual
       ∙ ap (with_gap (quoted_text key ++ 58 ∷ [])) (fewest_numbered t (members_numbered false ms k) ∙ ap (numbered_text (with_fewest_digits t)) (fewest_members false ms k)))
 
 mutual
-  within_kept : (t : Tree) (depth : ℕ) → IsWithin IsAnyNumber t depth → IsWithin IsAnyNumber (with_fewest_digits t) depth
-  within_kept null depth h = tt
-  within_kept (boolean b) depth h = tt
-  within_kept (string mark bytes) depth h = tt
-  within_kept (number n) depth h = tt
-  within_kept (array ts) zero h = absurd h
-  within_kept (array ts) (suc depth) h = items_kept ts depth h
-  within_kept (object ms) zero h = absurd h
-  within_kept (object ms) (suc depth) h = members_kept ms depth h
-  within_kept t depth h = absurd h
+  within_retained : (t : Tree) (depth : ℕ) → IsWithin IsAnyNumber t depth → IsWithin IsAnyNumber (with_fewest_digits t) depth
+  within_retained null depth h = tt
+  within_retained (boolean b) depth h = tt
+  within_retained (string mark bytes) depth h = tt
+  within_retained (number n) depth h = tt
+  within_retained (array ts) zero h = absurd h
+  within_retained (array ts) (suc depth) h = items_retained ts depth h
+  within_retained (object ms) zero h = absurd h
+  within_retained (object ms) (suc depth) h = members_retained ms depth h
+  within_retained t depth h = absurd h
 
-  items_kept : (ts : Trees) (depth : ℕ) → AreWithin IsAnyNumber ts depth → AreWithin IsAnyNumber (items_with_fewest_digits ts) depth
-  items_kept no_trees depth h = tt
-  items_kept (more_trees t ts) depth h = (within_kept t depth h.0, items_kept ts depth h.1)
+  items_retained : (ts : Trees) (depth : ℕ) → AreWithin IsAnyNumber ts depth → AreWithin IsAnyNumber (items_with_fewest_digits ts) depth
+  items_retained no_trees depth h = tt
+  items_retained (more_trees t ts) depth h = (within_retained t depth h.0, items_retained ts depth h.1)
 
-  members_kept : (ms : Members) (depth : ℕ) → HaveWithin IsAnyNumber ms depth → HaveWithin IsAnyNumber (members_with_fewest_digits ms) depth
-  members_kept no_members depth h = tt
-  members_kept (more_members key t ms) depth h = (within_kept t depth h.0, members_kept ms depth h.1)
+  members_retained : (ms : Members) (depth : ℕ) → HaveWithin IsAnyNumber ms depth → HaveWithin IsAnyNumber (members_with_fewest_digits ms) depth
+  members_retained no_members depth h = tt
+  members_retained (more_members key t ms) depth h = (within_retained t depth h.0, members_retained ms depth h.1)
 
 -- ---- its counts are the tree's
 
@@ -297,6 +297,6 @@ numbers_of t r =
       text = text;
       is_numbered = is_numbered t 512 r.proper r.within (last_gap []) tt (λ more. refl);
       full = sym (text_written t 512 r.within (last_gap []) ∙ append-nil (tree_text t));
-      shortest = sym (fewest_written text ∙ ap (bytes_with number_text) (fewest_numbered t (last_gap [])) ∙ text_written (with_fewest_digits t) 512 (within_kept t 512 r.within) (last_gap []) ∙ append-nil (tree_text (with_fewest_digits t)));
+      shortest = sym (fewest_written text ∙ ap (bytes_with number_text) (fewest_numbered t (last_gap [])) ∙ text_written (with_fewest_digits t) 512 (within_retained t 512 r.within) (last_gap []) ∙ append-nil (tree_text (with_fewest_digits t)));
       counts = sym (counts_numbered t (last_gap []) ∙ append-nil (counts_in t));
     }

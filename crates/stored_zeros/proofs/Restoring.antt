@@ -16,7 +16,7 @@ use Rattle.stored_zeros.proofs.Sevens.{some_sevens}
 pub record TextLeft (t : Tree) (text left old now : List ℕ) : Type 0 where
   pub numbers : NumberedText
   pub is_numbered : IsNumbered numbers
-  pub stands : text ≡ bytes_with shortest_text numbers
+  pub occurs : text ≡ bytes_with shortest_text numbers
   pub within : length text ≤ length (tree_text (with_fewest_digits t))
   pub zeros_left : left ≡ zeros_of 0 (counts_of numbers)
   pub underway : IsUnderway old now (tree_text t) (bytes_with number_text numbers)
@@ -31,7 +31,7 @@ restores shortest zeros old = λ t r e z.
     record {
       numbers = x.text;
       is_numbered = x.is_numbered;
-      stands = e ∙ x.shortest;
+      occurs = e ∙ x.shortest;
       within = omega (arith, ap length e);
       zeros_left = z ∙ ap (zeros_of 0) x.counts;
       underway = record { front = []; appended = sym (append-nil old); whole = x.full };
@@ -42,7 +42,7 @@ module _ (t : Tree) (text left old now : List ℕ) (x : TextLeft t text left old
   module _ (none : length left ≡ 0) where
     rest_same : bytes_with number_text x.numbers ≡ text
     rest_same = elim (split 0 x.numbers x.is_numbered) [
-      | inl plain ↦ plain.same ∙ sym x.stands
+      | inl plain ↦ plain.same ∙ sym x.occurs
       | inr next ↦ absurd (omega (arith, none, ap length (x.zeros_left ∙ next.zeros), length-append (in_sevens 8 (0 + next.before)) (next.zeros_there ∷ zeros_of 0 (counts_of next.later)), some_sevens 8 (0 + next.before)))
     ]
 
@@ -65,18 +65,18 @@ module _ (t : Tree) (text left old now : List ℕ) (x : TextLeft t text left old
     abbrev pub next : NextEntry 0 x.numbers
     next = next_there some
 
-    pub entry_stands : left ≡ in_sevens 8 next.before ++ next.zeros_there ∷ zeros_of 0 (counts_of next.later)
-    entry_stands = x.zeros_left ∙ next.zeros ∙ ap (λ b. in_sevens 8 b ++ next.zeros_there ∷ zeros_of 0 (counts_of next.later)) {x = 0 + next.before} {y = next.before} (omega arith)
+    pub entry_occurs : left ≡ in_sevens 8 next.before ++ next.zeros_there ∷ zeros_of 0 (counts_of next.later)
+    entry_occurs = x.zeros_left ∙ next.zeros ∙ ap (λ b. in_sevens 8 b ++ next.zeros_there ∷ zeros_of 0 (counts_of next.later)) {x = 0 + next.before} {y = next.before} (omega arith)
 
     pub few_before : next.before < length (tree_text (with_fewest_digits t))
-    few_before = omega (arith, next.fewer, ap length x.stands, x.within)
+    few_before = omega (arith, next.fewer, ap length x.occurs, x.within)
 
     pub number_there : after_numbers next.before text ≡ Some (next.has_point, bytes_with shortest_text next.later)
-    number_there = ap (after_numbers next.before) x.stands ∙ next.found
+    number_there = ap (after_numbers next.before) x.occurs ∙ next.found
 
-    -- what stands before what is left then
+    -- what is before what is left then
     pub text_split : text ≡ next.front ++ bytes_with shortest_text next.later
-    text_split = x.stands ∙ next.short
+    text_split = x.occurs ∙ next.short
 
     pub number_fits : length now + length (next.front ++ ending_text next.has_point next.zeros_there) ≤ length old + length (tree_text t)
     number_fits = fits (next.front ++ ending_text next.has_point next.zeros_there) (bytes_with number_text next.later) x.underway next.full
@@ -85,7 +85,7 @@ module _ (t : Tree) (text left old now : List ℕ) (x : TextLeft t text left old
     number_appended new others behind is zeros appended = record {
       numbers = next.later;
       is_numbered = next.is_numbered;
-      stands = is;
+      occurs = is;
       within = omega (arith, x.within, ap length text_split, length-append next.front (bytes_with shortest_text next.later), ap length is);
       zeros_left = zeros;
       underway = goes_on new (next.front ++ ending_text next.has_point next.zeros_there) (bytes_with number_text next.later) x.underway next.full appended;

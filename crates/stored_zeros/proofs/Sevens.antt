@@ -66,20 +66,20 @@ pub record SevensToCome (all n unit : ℕ) (rest more : List ℕ) : Type 0 where
   pub left : ℕ
   pub scale : unit * 128 ^ groups ≡ 2 ^ 56
   pub sum : n + left * unit ≡ all
-  pub stands : rest ≡ in_sevens groups left ++ more
+  pub occurs : rest ≡ in_sevens groups left ++ more
 
 -- Whatever number the bytes begin with, the rest of it is left.
 abbrev pub ReadsSevens : List ℕ → ℕ → ℕ → List ℕ → Type 0
 ReadsSevens bytes n unit rest = (all : ℕ) → all < 2 ^ 63 → (more : List ℕ) → bytes ≡ in_sevens 8 all ++ more → SevensToCome all n unit rest more
 
 pub sevens_to_come : (bytes : List ℕ) → ReadsSevens bytes 0 1 bytes
-sevens_to_come bytes = λ all small more e. record { groups = 8; left = all; scale = refl; sum = omega arith; stands = e }
+sevens_to_come bytes = λ all small more e. record { groups = 8; left = all; scale = refl; sum = omega arith; occurs = e }
 
 -- a byte that is the last one
 pub last_read : (byte : ℕ) (others bytes rest : List ℕ) (n unit : ℕ) → ReadsSevens bytes n unit rest → rest ≡ byte ∷ others → byte < 128 → (all : ℕ) → all < 2 ^ 63 → (more : List ℕ) → bytes ≡ in_sevens 8 all ++ more → (n + byte * unit ≡ all) × (others ≡ more)
 last_read byte others bytes rest n unit so_far first low all small more e =
     let s = so_far all small more e in
-    go s.groups s.left s.sum (sym first ∙ s.stands)
+    go s.groups s.left s.sum (sym first ∙ s.occurs)
   where
     ends : (left : ℕ) → n + left * unit ≡ all → byte ∷ others ≡ left ∷ more → (n + byte * unit ≡ all) × (others ≡ more)
     ends left sum is = (omega (arith, sum, ap (λ x. x * unit) (heads byte left others more is)), tails byte left others more is)
@@ -96,7 +96,7 @@ module _ (byte : ℕ) (others bytes rest : List ℕ) (n unit : ℕ) (so_far : Re
   pub too_many : 2 ^ 49 < unit → (all : ℕ) → all < 2 ^ 63 → (more : List ℕ) → bytes ≡ in_sevens 8 all ++ more → ⊥
   too_many wide all small more e =
       let s = so_far all small more e in
-      go s.groups s.left s.scale s.sum (sym first ∙ s.stands)
+      go s.groups s.left s.scale s.sum (sym first ∙ s.occurs)
     where
       go : (groups left : ℕ) → unit * 128 ^ groups ≡ 2 ^ 56 → n + left * unit ≡ all → byte ∷ others ≡ in_sevens groups left ++ more → ⊥
       go zero left scale sum is =
@@ -112,7 +112,7 @@ module _ (byte : ℕ) (others bytes rest : List ℕ) (n unit : ℕ) (so_far : Re
   pub seven_read : unit ≤ 2 ^ 49 → ReadsSevens bytes (n + (byte - 128) * unit) (unit * 128) others
   seven_read narrow all small more e =
       let s = so_far all small more e in
-      go s.groups s.left s.scale s.sum (sym first ∙ s.stands)
+      go s.groups s.left s.scale s.sum (sym first ∙ s.occurs)
     where
       go : (groups left : ℕ) → unit * 128 ^ groups ≡ 2 ^ 56 → n + left * unit ≡ all → byte ∷ others ≡ in_sevens groups left ++ more → SevensToCome all (n + (byte - 128) * unit) (unit * 128) others more
       go zero left scale sum is = absurd (omega (arith, narrow, scale, ap (λ x. unit * x) (pow-zero 128)))
@@ -127,7 +127,7 @@ module _ (byte : ℕ) (others bytes rest : List ℕ) (n unit : ℕ) (so_far : Re
               left = left / 128;
               scale = omega (arith, scale, ap (λ x. unit * x) (pow-suc 128 groups));
               sum = omega (arith, sum, ap (λ x. x * unit) low, ap (λ x. x * unit) split);
-              stands = tails byte (128 + left % 128) others (in_sevens groups (left / 128) ++ more) there;
+              occurs = tails byte (128 + left % 128) others (in_sevens groups (left / 128) ++ more) there;
             }
       ]
 
@@ -135,4 +135,4 @@ module _ (byte : ℕ) (others bytes rest : List ℕ) (n unit : ℕ) (so_far : Re
 pub byte_there : (bytes rest : List ℕ) (n unit : ℕ) → ReadsSevens bytes n unit rest → length rest ≡ 0 → (all : ℕ) → all < 2 ^ 63 → (more : List ℕ) → bytes ≡ in_sevens 8 all ++ more → ⊥
 byte_there bytes rest n unit so_far none all small more e =
     let s = so_far all small more e in
-    omega (arith, none, ap length s.stands, some_sevens s.groups s.left, length-append (in_sevens s.groups s.left) more)
+    omega (arith, none, ap length s.occurs, some_sevens s.groups s.left, length-append (in_sevens s.groups s.left) more)

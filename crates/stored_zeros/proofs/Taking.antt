@@ -63,8 +63,8 @@ module _ (counts zeros : List ℕ) (are : zeros ≡ zeros_of 0 counts) where
     | inr x ↦ x
   ]
 
-  pub pending_stands : (x : Pending 0 counts) → zeros ≡ in_sevens 8 x.before ++ x.count ∷ zeros_of 0 x.later
-  pending_stands x = are ∙ x.zeros ∙ ap (λ b. in_sevens 8 b ++ x.count ∷ zeros_of 0 x.later) {x = 0 + x.before} {y = x.before} (omega arith)
+  pub pending_occurs : (x : Pending 0 counts) → zeros ≡ in_sevens 8 x.before ++ x.count ∷ zeros_of 0 x.later
+  pending_occurs x = are ∙ x.zeros ∙ ap (λ b. in_sevens 8 b ++ x.count ∷ zeros_of 0 x.later) {x = 0 + x.before} {y = x.before} (omega arith)
 
 pub counts_long : (counts : List ℕ) (before count : ℕ) (later : List ℕ) → counts ≡ replicate before 0 ++ count ∷ later → length counts ≡ before + suc (length later)
 counts_long counts before count later is = omega (arith, ap length is, length-append (replicate before 0) (count ∷ later), length-replicate {A = ℕ} before 0)
@@ -95,7 +95,7 @@ drop_none left n h = ap (drop left) (sym (append-nil (replicate n 0))) ∙ drop_
 -- What is left of the counts of all numbers, of which so many are still to be left out.
 pub record SkipLeft (counts : List ℕ) (numbers left : ℕ) (rest : List ℕ) : Type 0 where
   pub others : List ℕ
-  pub stands : rest ≡ zeros_of 0 others
+  pub occurs : rest ≡ zeros_of 0 others
   pub same : drop left others ≡ drop numbers counts
   pub enough : left ≤ length others
   pub fewer : length others ≤ length counts
@@ -104,7 +104,7 @@ abbrev pub Skips : List ℕ → ℕ → ℕ → List ℕ → Type 0
 Skips zeros numbers left rest = (counts : List ℕ) → length counts < 2 ^ 63 → zeros ≡ zeros_of 0 counts → numbers ≤ length counts → SkipLeft counts numbers left rest
 
 pub skips : (zeros : List ℕ) (numbers : ℕ) → Skips zeros numbers numbers zeros
-skips zeros numbers = λ counts small are enough. record { others = counts; stands = are; same = refl; enough = enough; fewer = omega arith }
+skips zeros numbers = λ counts small are enough. record { others = counts; occurs = are; same = refl; enough = enough; fewer = omega arith }
 
 -- all that are left are 0
 pub none_skipped : (counts : List ℕ) (numbers left : ℕ) (rest : List ℕ) (s : SkipLeft counts numbers left rest) → s.others ≡ replicate (length s.others) 0 → drop numbers counts ≡ replicate (length (drop numbers counts)) 0
@@ -129,7 +129,7 @@ entry_skipped counts numbers left rest s before count behind p less =
     let long = counts_long s.others before count p.later p.is in
     record {
       others = p.later;
-      stands = p.zeros;
+      occurs = p.zeros;
       same = sym (drop_entry left before count p.later less) ∙ ap (drop left) (sym p.is) ∙ s.same;
       enough = omega (arith, s.enough, long, less);
       fewer = omega (arith, s.fewer, long);
@@ -190,8 +190,8 @@ module _ (plain : ℕ) (taken old now others : List ℕ) (left more before count
   pub gap_small : gap < 2 ^ 63
   gap_small = omega (arith, is_gap, c.fit, less)
 
-  pub entry_room : length now + length (entry_of gap count) ≤ length old + length (zeros_of plain taken)
-  entry_room = fits (entry_of gap count) (zeros_of (plain_behind gap count) (take (left - (before + 1)) p.later)) c.underway later_zeros
+  pub entry_sink : length now + length (entry_of gap count) ≤ length old + length (zeros_of plain taken)
+  entry_sink = fits (entry_of gap count) (zeros_of (plain_behind gap count) (take (left - (before + 1)) p.later)) c.underway later_zeros
 
   pub entry_copied : (new : List ℕ) (then : ℕ) → new ≡ now ++ entry_of gap count → then ≡ plain_behind gap count → CopyLeft plain taken old new p.later (left - (before + 1)) then
   entry_copied new then appended is =
@@ -206,12 +206,12 @@ module _ (plain : ℕ) (taken old now others : List ℕ) (left more before count
         short = omega (arith, c.short, long);
       }
 
--- ---- what is told
+-- ---- what is reported
 
 pub copied_as : (plain : ℕ) (taken : List ℕ) (r : Result ℕ ZerosError) (old new : Vec ℕ Global) (sum : ℕ) → MatchResult r (λ s. s ≡ sum) (λ e. ⊥) → (new.items ≡ old.items ++ zeros_of plain taken) × (sum ≡ plain_at_end plain taken) → CopiesNumbers plain taken r old new
 copied_as plain taken (Ok s) old new sum is x = (x.0, is ∙ x.1)
 copied_as plain taken (Err e) old new sum is x = absurd is
 
-pub no_room : (plain : ℕ) (taken : List ℕ) (r : Result ℕ ZerosError) (old new : Vec ℕ Global) → IsErrAnd r (λ e. e ≡ OutOfMemory) → vec_capacity old < vec_len old + length (zeros_of plain taken) → CopiesNumbers plain taken r old new
-no_room plain taken (Ok s) old new is full = absurd is
-no_room plain taken (Err e) old new is full = (is, full)
+pub no_capacity : (plain : ℕ) (taken : List ℕ) (r : Result ℕ ZerosError) (old new : Vec ℕ Global) → IsErrAnd r (λ e. e ≡ OutOfMemory) → vec_capacity old < vec_len old + length (zeros_of plain taken) → CopiesNumbers plain taken r old new
+no_capacity plain taken (Ok s) old new is full = absurd is
+no_capacity plain taken (Err e) old new is full = (is, full)

@@ -1,4 +1,4 @@
--- The shortest text and the zeros tell the text.
+-- The shortest text and the zeros determine the text.
 use Rattle.std.proofs.Common.{◌≡◌, ℕ, zero, suc, ◌+◌, ◌/◌, ◌%◌, ◌<◌, inl, inr, List, ◌∷◌, ◌++◌, length, sym, ap, ◌∙◌, arith, length-append}
 use Rattle.std.proofs.lemmas.Bool.{cases_lt}
 use Rattle.std.proofs.lemmas.List.{append_cancel_right}
@@ -15,7 +15,7 @@ use Rattle.stored_zeros.proofs.Sevens.{few, many, last, some_sevens}
 use Rattle.stored_zeros.proofs.Splitting.{NextEntry, split}
 use Rattle.stored_zeros.proofs.Restoring.{same_number}
 
--- a number in groups of seven bits is told from what follows
+-- a number in groups of seven bits is separated from what follows
 sevens_same : (more n m : ℕ) (xs ys : List ℕ) → in_sevens more n ++ xs ≡ in_sevens more m ++ ys → (n ≡ m) × (xs ≡ ys)
 sevens_same zero n m xs ys e =
     let there : n ∷ xs ≡ m ∷ ys = sym (ap (λ t. t ++ xs) (last n)) ∙ e ∙ ap (λ t. t ++ ys) (last m) in
@@ -70,8 +70,8 @@ same_text (suc bound) k l p q small short zeros = elim (split 0 k p) [
   ]
 ]
 
-pub text_told : (t u : Tree) → IsReadable t → IsReadable u → tree_text (with_fewest_digits t) ≡ tree_text (with_fewest_digits u) → zeros_in t ≡ zeros_in u → tree_text t ≡ tree_text u
-text_told t u r s short zeros =
+pub text_reported : (t u : Tree) → IsReadable t → IsReadable u → tree_text (with_fewest_digits t) ≡ tree_text (with_fewest_digits u) → zeros_in t ≡ zeros_in u → tree_text t ≡ tree_text u
+text_reported t u r s short zeros =
     let x = numbers_of t r in
     let y = numbers_of u s in
     x.full

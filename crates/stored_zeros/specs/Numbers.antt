@@ -24,12 +24,12 @@ pub record PendsAt (counts : List ℕ) (before count : ℕ) (rest : List ℕ) : 
   pub some : 0 < count
   pub zeros : rest ≡ zeros_of 0 later
 
--- what is told of the first count above 0; nothing where all are 0
+-- what is reported of the first count above 0; nothing where all are 0
 abbrev pub Pends : List ℕ → Option (ℕ × ℕ × Bor (List ℕ)) → Type 0
 Pends counts None = counts ≡ replicate (length counts) 0
 Pends counts (Some entry) = PendsAt counts entry.0 entry.1 entry.2.now
 
--- The zeros of numbers with so many each are appended, and it is told how many without any stand at the end. Else
+-- The zeros of numbers with so many each are appended, and it is reported how many without any are at the end. Else
 -- memory ran out, as the capacity for all of them is missing.
 abbrev pub CopiesNumbers : ℕ → List ℕ → Result ℕ ZerosError → Vec ℕ Global → Vec ℕ Global → Type 0
 CopiesNumbers plain counts result old new = MatchResult result

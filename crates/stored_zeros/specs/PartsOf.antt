@@ -1,4 +1,4 @@
--- Where the parts of a value stand in its key, and how many numbers come before them.
+-- Where the parts of a value are in its key, and how many numbers come before them.
 use Rattle.std.specs.Prelude.{◌≡◌, ℕ, ◌+◌, ◌⊎◌, ◌&&◌, nat_lt, if◌then◌else◌, List, [], ◌∷◌, ◌++◌, length, MatchOption, Option}
 use Rattle.std.specs.Borrow.{Bor}
 use Rattle.jsonb_stored.specs.Open.{Open, items, members}
@@ -20,54 +20,54 @@ abbrev pub IsWhole : Tree → List ℕ → ℕ → Tree → Type 0
 IsWhole t before numbers part = (before ≡ []) × (numbers ≡ 0) × (part ≡ t)
 
 abbrev mutual
-  -- The part stands in the value: these bytes of its key come before, and so many of its numbers.
-  pub StandsIn : Tree → List ℕ → ℕ → Tree → Type 0
-  StandsIn (array ts) before numbers part = IsWhole (array ts) before numbers part
-      ⊎ ((inner : List ℕ) × (before ≡ kind.array ∷ inner) × StandsInItems ts inner numbers part)
-  StandsIn (object ms) before numbers part = IsWhole (object ms) before numbers part
-      ⊎ ((inner : List ℕ) × (before ≡ kind.object ∷ inner) × StandsInMembers ms inner numbers part)
-  StandsIn t before numbers part = IsWhole t before numbers part
+  -- The part is in the value: these bytes of its key come before, and so many of its numbers.
+  pub OccursIn : Tree → List ℕ → ℕ → Tree → Type 0
+  OccursIn (array ts) before numbers part = IsWhole (array ts) before numbers part
+      ⊎ ((inner : List ℕ) × (before ≡ kind.array ∷ inner) × OccursInItems ts inner numbers part)
+  OccursIn (object ms) before numbers part = IsWhole (object ms) before numbers part
+      ⊎ ((inner : List ℕ) × (before ≡ kind.object ∷ inner) × OccursInMembers ms inner numbers part)
+  OccursIn t before numbers part = IsWhole t before numbers part
 
-  -- It stands in the first of these items, or in one behind that.
-  pub StandsInItems : Trees → List ℕ → ℕ → Tree → Type 0
-  StandsInItems no_trees before numbers part = ⊥
-  StandsInItems (more_trees t ts) before numbers part = StandsIn t before numbers part
+  -- It is in the first of these items, or in one behind that.
+  pub OccursInItems : Trees → List ℕ → ℕ → Tree → Type 0
+  OccursInItems no_trees before numbers part = ⊥
+  OccursInItems (more_trees t ts) before numbers part = OccursIn t before numbers part
       ⊎ ((inner : List ℕ) × (fewer : ℕ) × (before ≡ key_of t ++ inner) × (numbers ≡ numbers_in t + fewer)
-      × StandsInItems ts inner fewer part)
+      × OccursInItems ts inner fewer part)
 
-  -- It stands in the value of the first of these members, or in one behind that.
-  pub StandsInMembers : Members → List ℕ → ℕ → Tree → Type 0
-  StandsInMembers no_members before numbers part = ⊥
-  StandsInMembers (more_members key t ms) before numbers part =
-      ((inner : List ℕ) × (before ≡ text_key key ++ inner) × StandsIn t inner numbers part)
+  -- It is in the value of the first of these members, or in one behind that.
+  pub OccursInMembers : Members → List ℕ → ℕ → Tree → Type 0
+  OccursInMembers no_members before numbers part = ⊥
+  OccursInMembers (more_members key t ms) before numbers part =
+      ((inner : List ℕ) × (before ≡ text_key key ++ inner) × OccursIn t inner numbers part)
       ⊎ ((inner : List ℕ) × (fewer : ℕ) × (before ≡ text_key key ++ (key_of t ++ inner))
-      × (numbers ≡ numbers_in t + fewer) × StandsInMembers ms inner fewer part)
+      × (numbers ≡ numbers_in t + fewer) × OccursInMembers ms inner fewer part)
 
 -- how many numbers are left of an array or an object
 abbrev pub numbers_open : Open → ℕ
 numbers_open (items ts) = length (counts_in_items ts)
 numbers_open (members ms) = length (counts_in_members ms)
 
--- The part stands in what is left of it.
-abbrev pub StandsInOpen : Open → List ℕ → ℕ → Tree → Type 0
-StandsInOpen (items ts) before numbers part = StandsInItems ts before numbers part
-StandsInOpen (members ms) before numbers part = StandsInMembers ms before numbers part
+-- The part is in what is left of it.
+abbrev pub OccursInOpen : Open → List ℕ → ℕ → Tree → Type 0
+OccursInOpen (items ts) before numbers part = OccursInItems ts before numbers part
+OccursInOpen (members ms) before numbers part = OccursInMembers ms before numbers part
 
 -- The rest of the bytes begins with the key of a part, before which so many numbers come.
-pub record FoundPart (Stands : List ℕ → ℕ → Tree → Type 0) (bytes rest : List ℕ) (numbers : ℕ) : Type 0 where
+pub record FoundPart (Occurs : List ℕ → ℕ → Tree → Type 0) (bytes rest : List ℕ) (numbers : ℕ) : Type 0 where
   pub part : Tree
   pub before : List ℕ
-  pub stands : Stands before numbers part
+  pub occurs : Occurs before numbers part
   pub inside : bytes ≡ before ++ rest
   pub behind : List ℕ
   pub key : rest ≡ key_of part ++ behind
 
--- At the offset a part of the value stands whose key has this size, before which so many numbers come, and which has
+-- At the offset a part of the value is whose key has this size, before which so many numbers come, and which has
 -- so many.
 pub record IsCounted (t : Tree) (offset size before numbers : ℕ) : Type 0 where
   pub part : Tree
   pub front : List ℕ
-  pub stands : StandsIn t front before part
+  pub occurs : OccursIn t front before part
   pub offset_is : offset ≡ length front
   pub size_is : size ≡ length (key_of part)
   pub numbers_are : numbers ≡ numbers_in part
@@ -76,8 +76,8 @@ pub record IsCounted (t : Tree) (offset size before numbers : ℕ) : Type 0 wher
 abbrev pub Counts : ℕ → List ℕ → Option (ℕ × Bor (List ℕ)) → Type 0
 Counts numbers more result = MatchOption result ⊥ (λ r. (r.0 ≡ numbers) × (r.1.now ≡ more))
 
--- Where a part stands from which on there are so many bytes, the numbers before it are counted, and these are left.
+-- Where a part is from which on there are so many bytes, the numbers before it are counted, and these are left.
 abbrev pub StopsAtPart : (List ℕ → ℕ → Tree → Type 0) → ℕ → List ℕ → Option (ℕ × Bor (List ℕ)) → Type 0
-StopsAtPart Stands stop bytes result =
-    (before : List ℕ) → (numbers : ℕ) → (part : Tree) → Stands before numbers part
+StopsAtPart Occurs stop bytes result =
+    (before : List ℕ) → (numbers : ℕ) → (part : Tree) → Occurs before numbers part
     → stop + length before ≡ length bytes → MatchOption result ⊥ (λ r. (r.0 ≡ numbers) × (length r.1.now ≡ stop))

@@ -25,7 +25,7 @@ abbrev mutual
   behind_escaped [] = None
   behind_escaped (byte ∷ bytes) = from_number_behind bytes
 
--- A number stands first, or nothing.
+-- A number is first, or nothing.
 abbrev pub BeginsNumber : List ℕ → Type 0
 BeginsNumber [] = ⊤
 BeginsNumber (byte ∷ bytes) = is_number_byte byte ≡ true

@@ -32,7 +32,7 @@ in_sevens (suc more) n = if nat_lt n 128 then n ∷ [] else (128 + n % 128) ∷ 
 abbrev pub entry_of : ℕ → ℕ → List ℕ
 entry_of plain count = if count == 0 then [] else in_sevens 8 plain ++ count ∷ []
 
--- how many numbers without zeros stand at the end then
+-- how many numbers without zeros are at the end then
 abbrev pub plain_behind : ℕ → ℕ → ℕ
 plain_behind plain count = if count == 0 then suc plain else 0
 
@@ -41,7 +41,7 @@ abbrev pub zeros_of : ℕ → List ℕ → List ℕ
 zeros_of plain [] = []
 zeros_of plain (count ∷ counts) = entry_of plain count ++ zeros_of (plain_behind plain count) counts
 
--- how many without zeros stand at the end of all these
+-- how many without zeros are at the end of all these
 abbrev pub plain_at_end : ℕ → List ℕ → ℕ
 plain_at_end plain [] = plain
 plain_at_end plain (count ∷ counts) = plain_at_end (plain_behind plain count) counts

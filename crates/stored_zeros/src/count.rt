@@ -1,4 +1,4 @@
-//! How many numbers stand in a part of a key, and before it.
+//! How many numbers are in a part of a key, and before it.
 
 ghost use Rattle.std.specs.Prelude.{◌≡◌, ◌<◌, ◌≤◌, ◌++◌, List, ℕ, length, Some, IfSome};
 ghost use Rattle.jsonb_key.specs.Readable.{IsReadable};
@@ -6,21 +6,21 @@ ghost use Rattle.jsonb_spec.specs.SortKey.{key_of};
 ghost use Rattle.jsonb_spec.specs.Tree.{Tree};
 ghost use Rattle.jsonb_stored.specs.AtKeys.{AtKey, AtParts, OfKey};
 ghost use Rattle.jsonb_stored.specs.Open.{IsScalar};
-ghost use Rattle.stored_zeros.specs.PartsOf.{numbers_in, number_count, numbers_open, Counts, FoundPart, IsCounted, StandsIn, StandsInOpen, StopsAtPart};
+ghost use Rattle.stored_zeros.specs.PartsOf.{numbers_in, number_count, numbers_open, Counts, FoundPart, IsCounted, OccursIn, OccursInOpen, StopsAtPart};
 
 use jsonb_stored::skip::{
     MAX_DEPTH, after_end, after_name, after_scalar, kind_at, opening, outermost,
 };
 use jsonb_value::sort_key::kind;
 
-/// How many numbers stand in the value of a key before one of its parts, and how many in that, which stands at the
+/// How many numbers are in the value of a key before one of its parts, and how many in that, which is at the
 /// offset and is so large. `None` where no part does. Of bytes that aren't a key it may be any numbers, or `None`.
 ///
 /// The time is linear in the key. Nothing is allocated, no function calls itself, and the machine stack that is taken
 /// is the same for each key.
 pub fn count_numbers(key: &[u8], offset: usize, size: usize) -> Option<(usize, usize)>
     ensures counted { OfKey key.now (λ t. (before : List ℕ) → (numbers : ℕ) → (part : Tree)
-        → StandsIn t before numbers part → offset ≡ length before → size ≡ length (key_of part)
+        → OccursIn t before numbers part → offset ≡ length before → size ≡ length (key_of part)
         → result ≡ Some (numbers, numbers_in part)) }
     ensures only { IfSome result (λ r. OfKey key.now (λ t. IsCounted t offset size r.0 r.1)) }
 {
@@ -46,13 +46,13 @@ pub fn count_numbers(key: &[u8], offset: usize, size: usize) -> Option<(usize, u
     Some((before, numbers))
 }
 
-// How many numbers stand in the value whose key the bytes begin with, and the bytes behind it; or how many before the
+// How many numbers are in the value whose key the bytes begin with, and the bytes behind it; or how many before the
 // part from which on there are so many bytes, and these.
 fn count_until(bytes: &[u8], stop: usize) -> Option<(usize, &[u8])>
     ensures whole { stop ≡ 0 → AtKey bytes.now (λ t more. Counts (numbers_in t) more result) }
-    ensures found { AtKey bytes.now (λ t more. StopsAtPart (StandsIn t) stop bytes.now result) }
+    ensures found { AtKey bytes.now (λ t more. StopsAtPart (OccursIn t) stop bytes.now result) }
     ensures only { IfSome result (λ r. AtKey bytes.now (λ t more.
-        length r.1.now ≡ stop → length more < stop → FoundPart (StandsIn t) bytes.now r.1.now r.0)) }
+        length r.1.now ≡ stop → length more < stop → FoundPart (OccursIn t) bytes.now r.1.now r.0)) }
     ensures within { IfSome result (λ r. length r.1.now ≤ length bytes.now) }
 {
     if bytes.len() == stop {
@@ -97,9 +97,9 @@ fn number_count(first: u8) -> usize
 // That of an array or an object, from the parts that the bytes begin with.
 fn count_parts(object: bool, bytes: &[u8], stop: usize) -> Option<(usize, &[u8])>
     ensures whole { stop ≡ 0 → AtParts object bytes.now (λ o more. Counts (numbers_open o) more result) }
-    ensures found { AtParts object bytes.now (λ o more. StopsAtPart (StandsInOpen o) stop bytes.now result) }
+    ensures found { AtParts object bytes.now (λ o more. StopsAtPart (OccursInOpen o) stop bytes.now result) }
     ensures only { IfSome result (λ r. AtParts object bytes.now (λ o more.
-        length r.1.now ≡ stop → length more < stop → FoundPart (StandsInOpen o) bytes.now r.1.now r.0)) }
+        length r.1.now ≡ stop → length more < stop → FoundPart (OccursInOpen o) bytes.now r.1.now r.0)) }
     ensures within { IfSome result (λ r. length r.1.now ≤ length bytes.now) }
 {
     let mut objects = outermost(object);

@@ -2,7 +2,7 @@
 
 ghost use Rattle.std.specs.Prelude.{◌≡◌, ◌<◌, ◌≤◌, ◌^◌, ◌+◌, ◌++◌, ◌∷◌, ℕ, List, length, IfOk, IfSome, MatchOption};
 ghost use Rattle.jsonb_spec.specs.Text.Appending.{Appends};
-ghost use Rattle.stored_text.specs.Writes.{Keeps};
+ghost use Rattle.stored_text.specs.Writes.{Preserves};
 ghost use Rattle.stored_zeros.specs.Zeros.{in_sevens, entry_of, plain_behind};
 
 use std::alloc::AllocError;
@@ -12,7 +12,7 @@ use std::alloc::AllocError;
 pub fn append_entry(plain: usize, count: u8, buf: &mut Vec<u8>) -> Result<usize, AllocError>
     ensures appends { plain < 2 ^ 63 → Appends result buf.old buf.new (entry_of plain count) }
     ensures plain { plain < 2 ^ 63 → IfOk result (λ more. more ≡ plain_behind plain count) }
-    ensures keeps { Keeps buf.old buf.new }
+    ensures preserves { Preserves buf.old buf.new }
     ensures within { IfOk result (λ more. more ≤ plain + 1) }
 {
     if count == 0 {
@@ -26,7 +26,7 @@ pub fn append_entry(plain: usize, count: u8, buf: &mut Vec<u8>) -> Result<usize,
 /// Appends a number below 2^63, seven bits in a byte, the lowest first.
 pub fn append_sevens(n: usize, buf: &mut Vec<u8>) -> Result<(), AllocError>
     ensures appends { n < 2 ^ 63 → Appends result buf.old buf.new (in_sevens 8 n) }
-    ensures keeps { Keeps buf.old buf.new }
+    ensures preserves { Preserves buf.old buf.new }
 {
     let mut left = n;
     'sevens: while left >= 128 {
@@ -62,7 +62,7 @@ fn read_sevens(bytes: &[u8]) -> Option<(usize, &[u8])>
     ensures shorter { IfSome result (λ r. length r.1.now < length bytes.now) }
 {
     let mut n: usize = 0;
-    // What one in the next byte stands for.
+    // What one in the next byte means.
     let mut unit: usize = 1;
     let mut rest = bytes;
     'sevens: while let Some((byte, others)) = rest.split_first() {

@@ -2,15 +2,15 @@
 
 ghost use Rattle.std.specs.Prelude.{◌≡◌, ◌+◌, ◌<◌, ◌≤◌, ◌^◌, ◌++◌, ℕ, List, IfOk, IfErr, IfSome, OnErr, MatchResult, drop, length, take};
 ghost use Rattle.std.specs.Vec.{vec_capacity};
-ghost use Rattle.stored_text.specs.Writes.{Keeps, LacksRoom};
+ghost use Rattle.stored_text.specs.Writes.{Preserves, LacksCapacity};
 ghost use Rattle.stored_zeros.specs.Numbers.{CopiesNumbers, OfNumbers, Pends};
 ghost use Rattle.stored_zeros.specs.Zeros.{zeros_of, plain_at_end};
 
 use crate::entry::{append_entry, next_entry};
 use crate::error::ZerosError;
 
-/// Appends the zeros of some of a value's numbers behind those of other numbers: of `numbers` numbers, from the one with
-/// the index `first` on. `plain` is how many numbers without zeros come after the last entry in `buf`, and what is
+/// Appends the zeros of some of a value's numbers behind those of other numbers: of `numbers` numbers, from the one
+/// with the index `first` on. `plain` is how many numbers without zeros come after the last entry in `buf`, and what is
 /// returned is how many do then. After an error `buf` has the same bytes as before.
 ///
 /// So the zeros of a part of a value are had, and those of a value that is put together of several parts.
@@ -35,7 +35,7 @@ pub fn write_zeros_of_numbers(
     ensures invalid { IfErr result (λ e. e ≡ ZerosError.Invalid
         → OfNumbers zeros.now first numbers plain (λ taken. ⊥)) }
     ensures full { OnErr result (OfNumbers zeros.now first numbers plain (λ taken.
-        LacksRoom buf.old (zeros_of plain taken))) }
+        LacksCapacity buf.old (zeros_of plain taken))) }
     ensures capacity { vec_capacity buf.old ≤ vec_capacity buf.new }
 {
     let Ok(entry) = skip_numbers(zeros, first) else {
@@ -99,7 +99,7 @@ fn append_numbers(
     ensures found { (counts : List ℕ) → Pends counts entry.entry → numbers ≤ length counts
         → plain + length counts < 2 ^ 63
         → CopiesNumbers plain (take numbers counts) result buf.old buf.new }
-    ensures keeps { Keeps buf.old buf.new }
+    ensures preserves { Preserves buf.old buf.new }
 {
     let mut plain = plain;
     let mut left = numbers;

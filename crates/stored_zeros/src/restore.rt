@@ -5,7 +5,7 @@ ghost use Rattle.std.specs.Vec.{vec_capacity};
 ghost use Rattle.jsonb_spec.specs.Ascii as ascii;
 ghost use Rattle.jsonb_spec.specs.Text.{tree_text};
 ghost use Rattle.jsonb_spec.specs.Text.Appending.{Appends};
-ghost use Rattle.stored_text.specs.Writes.{Keeps, LacksRoom};
+ghost use Rattle.stored_text.specs.Writes.{Preserves, LacksCapacity};
 ghost use Rattle.stored_zeros.specs.Appending.{AppendsOr, OfTextAndZeros};
 ghost use Rattle.stored_zeros.specs.Scan.{ending_text};
 
@@ -39,7 +39,7 @@ pub fn write_text_with_zeros(
         buf.new.items ≡ buf.old.items ++ tree_text t)) }
     ensures err { OnErr result (buf.new.items ≡ buf.old.items) }
     ensures invalid { IfErr result (λ e. e ≡ ZerosError.Invalid → OfTextAndZeros shortest.now zeros.now (λ t. ⊥)) }
-    ensures full { OnErr result (OfTextAndZeros shortest.now zeros.now (λ t. LacksRoom buf.old (tree_text t))) }
+    ensures full { OnErr result (OfTextAndZeros shortest.now zeros.now (λ t. LacksCapacity buf.old (tree_text t))) }
     ensures capacity { vec_capacity buf.old ≤ vec_capacity buf.new }
 {
     let old_len = buf.len();
@@ -56,7 +56,7 @@ pub fn write_text_with_zeros(
 fn append_text(shortest: &[u8], zeros: &[u8], buf: &mut Vec<u8>) -> Result<(), ZerosError>
     ensures found { OfTextAndZeros shortest.now zeros.now (λ t.
         AppendsOr ZerosError.OutOfMemory result buf.old buf.new (tree_text t)) }
-    ensures keeps { Keeps buf.old buf.new }
+    ensures preserves { Preserves buf.old buf.new }
 {
     let mut text = shortest;
     let mut left = zeros;

@@ -2,7 +2,7 @@
 
 ghost use Rattle.std.specs.Prelude.{◌≡◌, ◌≤◌, ◌++◌, IfOk, IfErr, OnErr};
 ghost use Rattle.std.specs.Vec.{vec_capacity};
-ghost use Rattle.stored_text.specs.Writes.{Keeps, LacksRoom};
+ghost use Rattle.stored_text.specs.Writes.{Preserves, LacksCapacity};
 ghost use Rattle.stored_zeros.specs.Appending.{AppendsOr, OfText};
 ghost use Rattle.stored_zeros.specs.Zeros.{zeros_in};
 
@@ -29,7 +29,7 @@ pub fn write_zeros_of_text(text: &[u8], buf: &mut Vec<u8>) -> Result<(), ZerosEr
     ensures err { OnErr result (buf.new.items ≡ buf.old.items) }
     // A serialized form fails only where the capacity for all of its zeros is missing.
     ensures invalid { IfErr result (λ e. e ≡ ZerosError.Invalid → OfText text.now (λ t. ⊥)) }
-    ensures full { OnErr result (OfText text.now (λ t. LacksRoom buf.old (zeros_in t))) }
+    ensures full { OnErr result (OfText text.now (λ t. LacksCapacity buf.old (zeros_in t))) }
     ensures capacity { vec_capacity buf.old ≤ vec_capacity buf.new }
 {
     let old_len = buf.len();
@@ -45,7 +45,7 @@ pub fn write_zeros_of_text(text: &[u8], buf: &mut Vec<u8>) -> Result<(), ZerosEr
 // Appends the zeros of the value whose serialized form the text is.
 fn append_zeros(text: &[u8], buf: &mut Vec<u8>) -> Result<(), ZerosError>
     ensures found { OfText text.now (λ t. AppendsOr ZerosError.OutOfMemory result buf.old buf.new (zeros_in t)) }
-    ensures keeps { Keeps buf.old buf.new }
+    ensures preserves { Preserves buf.old buf.new }
 {
     let mut rest = text;
     let mut plain: usize = 0;

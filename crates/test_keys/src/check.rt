@@ -69,7 +69,7 @@ const KEYS: [&[u8]; 7] = [
     b"\x39\x38\x38\x38\x38\x38\x38\x38\x38\x38\x38\x38\x38\x38\x38\x38\x38\x38\x38\x39",
 ];
 
-// Compares the check with the document, and tells whether the bytes are a key.
+// Compares the check with the document, and returns whether the bytes are a key.
 fn expect_same(rt: &(impl AllocGlobal + Abort), bytes: &[u8]) -> Result<bool, AllocError> {
     let is_key = has_document(rt.alloc(), bytes)?;
     assert_eq!(rt; is_sort_key(bytes), is_key, "{bytes:?}");
@@ -118,12 +118,12 @@ fn what_is_no_key(rt: HostRuntime) -> Result<(), Fail> {
         // Names that don't ascend, and one that comes twice.
         b"\xD1b\x00\x01\x16a\x00\x01\x15\x00\x00",
         b"\xD1a\x00\x01\x16a\x00\x01\x15\x00\x00",
-        // 1 with a pair of zeros behind it, and with the pair 0 and 1 in place of 10; pairs past 99.
+        // 1 with a pair of zeros behind it, and with the pair 0 and 1 instead of 10; pairs past 99.
         b"\xA1\x15\x00",
         b"\xA1\x02",
         b"\xA1\xC8",
         b"\xA3\xC9\x3C",
-        // 0.1 and -0.05 with a place in two bytes.
+        // 0.1 and -0.05 with an exponent in two bytes.
         b"\x81\xFF\x14",
         b"\x7E\x01\x9B",
         // A number with 39 digits behind the point, one with 255, one of 39 digits, and 10 ^ 38 and 15 * 10 ^ 37.

@@ -26,12 +26,12 @@ fn names_of(rt: &(impl AllocGlobal + Abort), path: &[u8]) -> Result<Vec<String>,
 // The text of a key that was appended behind a byte, and is one; or none, where nothing was.
 fn text_behind(
     rt: &(impl AllocGlobal + Abort),
-    told: Result<bool, EditError>,
+    reported: Result<bool, EditError>,
     out: &[u8],
 ) -> Result<Option<Vec<u8>>, Fail> {
     let (first, key) = out.split_first().expect(rt, "what was there is gone");
     assert_eq!(rt; *first, b'x');
-    if !told? {
+    if !reported? {
         assert!(rt; key.is_empty());
         return Ok(None);
     }
@@ -90,8 +90,8 @@ fn parts_are_removed_as_in_jsonb(rt: HostRuntime) -> Result<(), Fail> {
         let (path, text) = cut(&rt, words);
         let mut out = Vec::from_slice(rt.alloc(), b"x")?;
         let key = key_of(&rt, document.as_bytes())?;
-        let told = append_without_part(&mut out, &key, &names_of(&rt, path.as_bytes())?);
-        let found = text_behind(&rt, told, &out)?;
+        let reported = append_without_part(&mut out, &key, &names_of(&rt, path.as_bytes())?);
+        let found = text_behind(&rt, reported, &out)?;
         assert_eq!(rt; found.as_deref(), expected_text(text), "{row}");
     }
     Ok(())
@@ -133,8 +133,8 @@ fn expect_set(
 ) -> Result<(), Fail> {
     let mut out = Vec::from_slice(rt.alloc(), b"x")?;
     let part = key_of(rt, b"{\"n\":[null]}")?;
-    let told = append_with_part(&mut out, key, names, &part, create);
-    let found = text_behind(rt, told, &out)?;
+    let reported = append_with_part(&mut out, key, names, &part, create);
+    let found = text_behind(rt, reported, &out)?;
     assert_eq!(rt; found.as_deref(), expected_text(text), "{create} {text}");
     Ok(())
 }
@@ -201,7 +201,7 @@ fn values_are_merged_as_in_jsonb(rt: HostRuntime) -> Result<(), Fail> {
     Ok(())
 }
 
-// What stands behind the first byte.
+// What is behind the first byte.
 fn behind_first(rt: &(impl AllocGlobal + Abort), out: &[u8]) -> Result<Vec<u8>, Fail> {
     let (_, key) = out.split_first().expect(rt, "what was there is gone");
     Ok(Vec::from_slice(rt.alloc(), key)?)
@@ -221,8 +221,8 @@ fn objects_are_built_as_in_jsonb(rt: HostRuntime) -> Result<(), Fail> {
         let (name, words) = cut(&rt, row);
         let (value, text) = cut(&rt, words);
         let mut out = Vec::from_slice(rt.alloc(), b"x")?;
-        let told = append_with_member(&mut out, &object, name, &key_of(&rt, value.as_bytes())?);
-        let found = text_behind(&rt, told, &out)?;
+        let reported = append_with_member(&mut out, &object, name, &key_of(&rt, value.as_bytes())?);
+        let found = text_behind(&rt, reported, &out)?;
         assert_eq!(rt; found.as_deref(), Some(text.as_bytes()), "{row}");
         object = behind_first(&rt, &out)?;
     }
@@ -240,8 +240,8 @@ fn arrays_are_built_as_in_jsonb(rt: HostRuntime) -> Result<(), Fail> {
     for row in ITEMS.lines() {
         let (item, text) = cut(&rt, row);
         let mut out = Vec::from_slice(rt.alloc(), b"x")?;
-        let told = append_with_item(&mut out, &array, &key_of(&rt, item.as_bytes())?);
-        let found = text_behind(&rt, told, &out)?;
+        let reported = append_with_item(&mut out, &array, &key_of(&rt, item.as_bytes())?);
+        let found = text_behind(&rt, reported, &out)?;
         assert_eq!(rt; found.as_deref(), Some(text.as_bytes()), "{row}");
         array = behind_first(&rt, &out)?;
     }
@@ -252,11 +252,11 @@ fn arrays_are_built_as_in_jsonb(rt: HostRuntime) -> Result<(), Fail> {
 fn arrays_take_no_members_and_objects_no_items(rt: HostRuntime) -> Result<(), Fail> {
     let mut out = Vec::from_slice(rt.alloc(), b"x")?;
     let array = key_of(&rt, b"[1]")?;
-    let told = append_with_member(&mut out, &array, "a", &EMPTY_ARRAY);
-    assert_eq!(rt; text_behind(&rt, told, &out)?, None);
+    let reported = append_with_member(&mut out, &array, "a", &EMPTY_ARRAY);
+    assert_eq!(rt; text_behind(&rt, reported, &out)?, None);
     let object = key_of(&rt, b"{\"a\":1}")?;
-    let told = append_with_item(&mut out, &object, &EMPTY_ARRAY);
-    assert_eq!(rt; text_behind(&rt, told, &out)?, None);
+    let reported = append_with_item(&mut out, &object, &EMPTY_ARRAY);
+    assert_eq!(rt; text_behind(&rt, reported, &out)?, None);
     Ok(())
 }
 
@@ -274,7 +274,7 @@ fn nested_arrays(rt: &(impl AllocGlobal + Abort), levels: usize) -> Result<Vec<u
 
 #[test]
 fn at_most_512_levels_are_made(rt: HostRuntime) -> Result<(), Fail> {
-    for (levels, more, told) in [
+    for (levels, more, reported) in [
         (1, 511, Ok(true)),
         (511, 1, Ok(true)),
         (512, 1, Ok(true)),
@@ -286,10 +286,10 @@ fn at_most_512_levels_are_made(rt: HostRuntime) -> Result<(), Fail> {
         let item = nested_arrays(&rt, more)?;
         assert_eq!(rt;
             append_with_item(&mut out, &key, &item),
-            told,
+            reported,
             "{levels} {more}"
         );
-        let len = if told.is_ok() {
+        let len = if reported.is_ok() {
             1 + key.len() + item.len()
         } else {
             1
@@ -305,13 +305,13 @@ fn what_is_no_key_is_rejected(rt: HostRuntime) -> Result<(), Fail> {
     let names = names_of(&rt, b"/a")?;
     let mut out = Vec::from_slice(rt.alloc(), b"x")?;
     for bytes in [b"" as &[u8], b"\xD1", b"\xD1a", b"\xD1a\x00\x01", b"\x10"] {
-        let told = append_without_part(&mut out, bytes, &names);
-        assert_eq!(rt; told, Err(EditError::NoKey), "{bytes:?}");
-        let told = append_with_part(&mut out, bytes, &names, b"\xD3", true);
-        assert_eq!(rt; told, Err(EditError::NoKey), "{bytes:?}");
+        let reported = append_without_part(&mut out, bytes, &names);
+        assert_eq!(rt; reported, Err(EditError::NoKey), "{bytes:?}");
+        let reported = append_with_part(&mut out, bytes, &names, b"\xD3", true);
+        assert_eq!(rt; reported, Err(EditError::NoKey), "{bytes:?}");
     }
-    let told = append_with_item(&mut out, &EMPTY_ARRAY, b"");
-    assert_eq!(rt; told, Err(EditError::NoKey));
+    let reported = append_with_item(&mut out, &EMPTY_ARRAY, b"");
+    assert_eq!(rt; reported, Err(EditError::NoKey));
     assert_eq!(rt;
         append_merged(&mut out, b"", &EMPTY_ARRAY),
         Err(EditError::NoKey)

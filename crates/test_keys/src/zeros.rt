@@ -97,8 +97,8 @@ fn other_bytes_are_no_zeros(rt: HostRuntime) -> Result<(), Fail> {
     for zeros in cases {
         let mut text = Vec::new(rt.alloc());
         text.push(b'x')?;
-        let told = write_text_with_zeros(b"[1,2]", zeros, &mut text);
-        assert!(rt; matches!(told, Err(ZerosError::Invalid)));
+        let reported = write_text_with_zeros(b"[1,2]", zeros, &mut text);
+        assert!(rt; matches!(reported, Err(ZerosError::Invalid)));
         assert_eq!(rt; text.len(), 1);
     }
     let mut found = Vec::new(rt.alloc());
@@ -128,8 +128,8 @@ fn zeros_of_some_numbers_are_taken(rt: HostRuntime) -> Result<(), Fail> {
         assert_eq!(rt; plain, more);
     }
     let mut taken = Vec::new(rt.alloc());
-    let told = write_zeros_of_numbers(0, b"\x01\x00", 0, 3, &mut taken);
-    assert!(rt; matches!(told, Err(ZerosError::Invalid)));
+    let reported = write_zeros_of_numbers(0, b"\x01\x00", 0, 3, &mut taken);
+    assert!(rt; matches!(reported, Err(ZerosError::Invalid)));
     Ok(())
 }
 

@@ -51,8 +51,8 @@ pub fn report<W: Write>(alloc: Global, line: &str, out: &mut W) -> io::Result<()
     say(out, "other_part", &part(alloc, mode, &text, b"/c~1/0"))?;
     say(out, "no_path", &part(alloc, mode, &text, b"/~"))?;
     say(out, "keys", &keys(alloc, mode, &text))?;
-    say(out, "without_room", &without_room(alloc, mode, &text))?;
-    say(out, "with_room", &with_room(alloc, mode, &text))?;
+    say(out, "without_room", &without_capacity(alloc, mode, &text))?;
+    say(out, "with_room", &with_capacity(alloc, mode, &text))?;
     say(out, "body", &body(alloc, &text))
 }
 
@@ -165,7 +165,7 @@ fn indented_text(alloc: Global, mode: Mode, text: &[u8]) -> Result<Vec<u8>> {
     Ok(Vec::from_slice(alloc, lines.as_bytes())?)
 }
 
-// The text of the part at a path, behind what the buffer held, or what there is in place of it.
+// The text of the part at a path, behind what the buffer held, or what there is instead of it.
 fn part(alloc: Global, mode: Mode, text: &[u8], path: &[u8]) -> Result<Vec<u8>> {
     let Some(keys) = read_keys(alloc, path)? else {
         return Ok(Vec::from_slice(alloc, b"no path")?);
@@ -187,16 +187,16 @@ fn keys(alloc: Global, mode: Mode, text: &[u8]) -> Result<Vec<u8>> {
     }
 }
 
-// The buffer holds what it held, where the text found no room.
-fn without_room(alloc: Global, mode: Mode, text: &[u8]) -> Result<Vec<u8>> {
+// The buffer holds what it held, where the text found no space.
+fn without_capacity(alloc: Global, mode: Mode, text: &[u8]) -> Result<Vec<u8>> {
     let value = read(alloc, mode, text)?;
     let mut buffer = Vec::from_slice(alloc, b"x")?;
     let done = value.write_text(&mut buffer);
     bytes_or_error(alloc, done, buffer)
 }
 
-// Where there is room, no memory is asked for.
-fn with_room(alloc: Global, mode: Mode, text: &[u8]) -> Result<Vec<u8>> {
+// Where there is space, no memory is asked for.
+fn with_capacity(alloc: Global, mode: Mode, text: &[u8]) -> Result<Vec<u8>> {
     let value = read(alloc, mode, text)?;
     let length = text_of(alloc, &value)?.len();
     let mut buffer = Vec::with_capacity(alloc, length)?;

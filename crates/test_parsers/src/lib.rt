@@ -1,4 +1,4 @@
-//! Worked examples of the calls of `jsonb` that no text alone can tell: of trees and values that are made by hand, of
+//! Worked examples of the calls of `jsonb` that no text alone can say: of trees and values that are made by hand, of
 //! indexes near the greatest, and of buffers that texts are appended to. What is
 //! read of texts `test_driver` is asked, with its file `stdin`.
 #![tactic(auto)]

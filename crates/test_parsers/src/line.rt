@@ -69,7 +69,7 @@ fn the_byte_to_show_of_each_code(rt: HostRuntime) {
 
 #[test]
 fn the_byte_to_show_in_lines(rt: HostRuntime) {
-    for (mode, text, index, place) in [
+    for (mode, text, index, offset) in [
         (Mode::Standard, b"[1.\n]" as &[u8], 3, (1, 4)),
         (Mode::Standard, b"[1,\n", 4, (2, 1)),
         (
@@ -87,7 +87,7 @@ fn the_byte_to_show_in_lines(rt: HostRuntime) {
             Some(index),
             "{text:?}"
         );
-        assert_eq!(rt; line_and_column(text, index), place, "{text:?}");
+        assert_eq!(rt; line_and_column(text, index), offset, "{text:?}");
     }
 }
 

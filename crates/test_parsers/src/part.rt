@@ -2,7 +2,7 @@
 use jsonb::{Error, Mode, ParseErrorCode};
 use std::alloc::Global;
 
-// The text of the part at the path, or `None` where nothing stands there.
+// The text of the part at the path, or `None` where nothing is there.
 fn part(alloc: Global, text: &[u8], path: &[&str]) -> Result<Option<String>, Error> {
     let mut keys = Vec::new(alloc);
     for key in path {
@@ -15,7 +15,7 @@ fn part(alloc: Global, text: &[u8], path: &[&str]) -> Result<Option<String>, Err
     Ok(None)
 }
 
-// Whether this is the text of the part, or nothing stands there.
+// Whether this is the text of the part, or nothing is there.
 fn is_part(alloc: Global, text: &[u8], path: &[&str], expected: Option<&str>) -> bool {
     match (part(alloc, text, path), expected) {
         (Ok(Some(found)), Some(expected)) => found.as_str() == expected,

@@ -1,4 +1,4 @@
-// Paths of RFC 6901, and the parts of documents that stand there.
+// Paths of RFC 6901, and the parts of documents that are there.
 use jsonb::{Error, Mode};
 use jsonb_path::read_keys;
 use std::alloc::{AllocError, Global};
@@ -45,7 +45,7 @@ fn paths_are_read_as_rfc_6901_has_them(rt: HostRuntime) -> Result<(), Fail> {
     Ok(())
 }
 
-// The text of the part at the path, `none` where nothing stands there, or `no path`.
+// The text of the part at the path, `none` where nothing is there, or `no path`.
 fn part(alloc: Global, path: &str, document: &str) -> Result<Vec<u8>, Error> {
     let Some(keys) = read_keys(alloc, path.as_bytes())? else {
         return Ok(Vec::from_slice(alloc, b"no path")?);
@@ -57,7 +57,7 @@ fn part(alloc: Global, path: &str, document: &str) -> Result<Vec<u8>, Error> {
     Ok(Vec::from_slice(alloc, b"none")?)
 }
 
-// Compares what stands at the path of the document.
+// Compares what is at the path of the document.
 fn expect(
     rt: &(impl AllocGlobal + Abort),
     path: &str,

@@ -11,9 +11,9 @@ fn expect_texts(
         let alone = code.to_string(rt.alloc())?;
         assert_eq!(rt; alone.as_str(), text);
         assert_eq!(rt; code.clone()?, code);
-        let placed = Error::Syntax(code, 16).to_string(rt.alloc())?;
+        let located = Error::Syntax(code, 16).to_string(rt.alloc())?;
         let wanted = format!(in rt.alloc(); "{text}, pos 16")?;
-        assert_eq!(rt; placed.as_str(), wanted.as_str());
+        assert_eq!(rt; located.as_str(), wanted.as_str());
     }
     Ok(())
 }

@@ -1,3 +1,3 @@
 pub mod Repeats
 pub mod Shuffles
-pub mod SpelledNumbers
+pub mod EncodedNumbers

@@ -1,4 +1,4 @@
-pub mod KeptScalar
+pub mod VerbatimScalar
 pub mod ShortString
 pub mod SourceText
-pub mod SpelledNumber
+pub mod EncodedNumber

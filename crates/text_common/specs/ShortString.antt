@@ -1,7 +1,7 @@
 -- Strings whose escapes are of one letter, as both modes have them.
 use Rattle.std.specs.Prelude.{◌≡◌, ℕ, List, [], ◌∷◌, map, Some}
 use Rattle.std.specs.List.{flat_map, AllByRecursion}
-use Rattle.jsonb_spec.specs.Grammar.StringBody.{Item, raw, escape, unit, spelling, standard_escape}
+use Rattle.jsonb_spec.specs.Grammar.StringBody.{Item, raw, escape, unit, encoding, standard_escape}
 use Rattle.jsonb_spec.specs.Text.StringText.{byte_text}
 
 -- a byte that is written as it is, or an escape of one letter
@@ -20,5 +20,5 @@ short_byte (unit braces digits) = 0
 pub record IsShort (body text : List ℕ) : Type 0 where
   pub items : List Item
   pub each : AllByRecursion IsShortItem items
-  pub spelled : body ≡ flat_map spelling items
+  pub encoded : body ≡ flat_map encoding items
   pub means : text ≡ map short_byte items

@@ -23,7 +23,7 @@ fn words(rt: &(impl Env + AllocGlobal)) -> io::Result<Vec<String>> {
     Ok(words)
 }
 
-// When it is told how much was read, at these streams.
+// When it is reported how much was read, at these streams.
 fn delay_of(rt: &HostRuntime, progress: Progress) -> Option<u64> {
     if !rt.stderr().is_terminal() {
         return None;

@@ -1,4 +1,4 @@
-//! An input that tells on a terminal how much of it was read.
+//! An input that says on a terminal how much of it was read.
 
 use std::io;
 use std::io::{Read, Write};

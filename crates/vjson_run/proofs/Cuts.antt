@@ -14,7 +14,7 @@ use Rattle.vjson_run.specs.Input.{without_end}
 abbrev HasNone : List ℕ → Type 0
 HasNone bytes = All (λ b. b ≢ 10) bytes
 
--- The bytes have a line feed, which stands behind a front that has none.
+-- The bytes have a line feed, which is behind a front that has none.
 record IsCut (bytes : List ℕ) : Type 0 where
   front : List ℕ
   rest : List ℕ

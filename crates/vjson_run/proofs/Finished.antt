@@ -6,7 +6,7 @@ use Rattle.std.specs.declared.alloc.Global.{Global}
 use Rattle.vjson_text.specs.Json.{AppendsKeyOf}
 use Rattle.std.specs.Io.KnownBytes.{Appends, Keeps}
 use Rattle.std.specs.List.{flat_map}
-use Rattle.vjson_run.proofs.Taken.{appended_more, kept_along, same_answered}
+use Rattle.vjson_run.proofs.Taken.{appended_more, retained_along, same_answered}
 use Rattle.vjson_run.specs.Lines.{line_text}
 use Rattle.vjson_run.specs.Output.{IsWritten, output}
 use Rattle.vjson_run.specs.Runs.{AreAnswered, AreEqual, AreEqualSoFar, AreLinesFor, AreSorted, HasMade, HasTaken, IsDone, WritesSorted, ends_sorted, is_yes, sorts}
@@ -26,34 +26,34 @@ module _ {W E : Type 0} (contents : W → Option (List ℕ)) where
   -- nothing is to be sorted: what is printed is written
   unsorted_sort : (check good : Bool) (s : Session W E) (start end : Option (List ℕ)) (texts : List (List ℕ)) → s.options.now.check ≡ check → is_yes s.status ≡ good → (not check && good) ≡ false
       → Keeps (output contents s.out) end → HasMade contents start texts s Sort → IsDone s.options.now texts start end good Sort
-  unsorted_sort true good s start end texts is status unsorted kept had = subst (λ b. MatchBool b ⊤ (AreSorted s.options.now texts start end good)) (sym is) tt
-  unsorted_sort false true s start end texts is status unsorted kept had = cc
-  unsorted_sort false false s start end texts is status unsorted kept had =
+  unsorted_sort true good s start end texts is status unsorted retained had = subst (λ b. MatchBool b ⊤ (AreSorted s.options.now texts start end good)) (sym is) tt
+  unsorted_sort false true s start end texts is status unsorted retained had = cc
+  unsorted_sort false false s start end texts is status unsorted retained had =
       let m : AreLinesFor s.options.now texts s.lines.items (is_yes s.status) × Appends start (output contents s.out) [] × (s.over ≡ false) =
       subst (λ b. MatchBool b ⊤ (AreLinesFor s.options.now texts s.lines.items (is_yes s.status) × Appends start (output contents s.out) [] × (s.over ≡ false))) is had in
       subst (λ b. MatchBool b ⊤ (AreSorted s.options.now texts start end false)) (sym is)
-      (subst (AreLinesFor s.options.now texts s.lines.items) status m.0, kept_along start (output contents s.out) end [] m.1 kept)
+      (subst (AreLinesFor s.options.now texts s.lines.items) status m.0, retained_along start (output contents s.out) end [] m.1 retained)
 
   answered_done : (s : Session W E) (start end : Option (List ℕ)) (texts : List (List ℕ)) → Keeps (output contents s.out) end
       → AreAnswered s.options.now texts start (output contents s.out) (is_yes s.status) × (s.over ≡ false) → AreAnswered s.options.now texts start end (is_yes s.status)
-  answered_done s start end texts kept had =
-      same_answered s.options.now texts start (output contents s.out) end (is_yes s.status) had.0 (λ w h. kept_along start (output contents s.out) end w h kept)
+  answered_done s start end texts retained had =
+      same_answered s.options.now texts start (output contents s.out) end (is_yes s.status) had.0 (λ w h. retained_along start (output contents s.out) end w h retained)
 
   pub unsorted_done : (command : Command) (s : Session W E) (start end : Option (List ℕ)) (texts : List (List ℕ)) → ends_sorted command s.options.now.check s.status ≡ false → Keeps (output contents s.out) end
       → HasMade contents start texts s command → IsDone s.options.now texts start end (is_yes s.status) command
-  unsorted_done Check s start end texts unsorted kept had = answered_done s start end texts kept had
-  unsorted_done Format s start end texts unsorted kept had = answered_done s start end texts kept had
-  unsorted_done Get s start end texts unsorted kept had = answered_done s start end texts kept had
-  unsorted_done Keys s start end texts unsorted kept had = answered_done s start end texts kept had
-  unsorted_done Equal s start end texts unsorted kept had = (equal_done s.options.now texts s.last (is_yes s.status) had.0, kept_along start (output contents s.out) end [] had.1 kept)
-  unsorted_done Sort s start end texts unsorted kept had = unsorted_sort s.options.now.check (is_yes s.status) s start end texts refl refl unsorted kept had
+  unsorted_done Check s start end texts unsorted retained had = answered_done s start end texts retained had
+  unsorted_done Format s start end texts unsorted retained had = answered_done s start end texts retained had
+  unsorted_done Get s start end texts unsorted retained had = answered_done s start end texts retained had
+  unsorted_done Keys s start end texts unsorted retained had = answered_done s start end texts retained had
+  unsorted_done Equal s start end texts unsorted retained had = (equal_done s.options.now texts s.last (is_yes s.status) had.0, retained_along start (output contents s.out) end [] had.1 retained)
+  unsorted_done Sort s start end texts unsorted retained had = unsorted_sort s.options.now.check (is_yes s.status) s start end texts refl refl unsorted retained had
 
   -- the lines are written in order
   sorted_sort : (check good : Bool) (s t : Session W E) (start end : Option (List ℕ)) (texts : List (List ℕ)) → s.options.now.check ≡ check → is_yes s.status ≡ good → (not check && good) ≡ true
       → WritesSorted contents s t → t.out.error ≡ None → Keeps (output contents t.out) end → HasMade contents start texts s Sort → IsDone s.options.now texts start end good Sort
-  sorted_sort true good s t start end texts is status unsorted w fine kept had = cc
-  sorted_sort false false s t start end texts is status unsorted w fine kept had = cc
-  sorted_sort false true s t start end texts is status unsorted w fine kept had =
+  sorted_sort true good s t start end texts is status unsorted w fine retained had = cc
+  sorted_sort false false s t start end texts is status unsorted w fine retained had = cc
+  sorted_sort false true s t start end texts is status unsorted w fine retained had =
       let m : AreLinesFor s.options.now texts s.lines.items (is_yes s.status) × Appends start (output contents s.out) [] × (s.over ≡ false) =
       subst (λ b. MatchBool b ⊤ (AreLinesFor s.options.now texts s.lines.items (is_yes s.status) × Appends start (output contents s.out) [] × (s.over ≡ false))) is had in
       subst (λ b. MatchBool b ⊤ (AreSorted s.options.now texts start end true)) (sym is) (
@@ -61,18 +61,18 @@ module _ {W E : Type 0} (contents : W → Option (List ℕ)) where
         w.sorted,
         subst (AreLinesFor s.options.now texts s.lines.items) status m.0,
         w.arranged,
-        kept_along start (output contents t.out) end (flat_map line_text w.sorted)
-            (appended_more contents start (output contents s.out) (output contents t.out) [] (flat_map line_text w.sorted) m.1 (w.printed.printed fine)) kept,
+        retained_along start (output contents t.out) end (flat_map line_text w.sorted)
+            (appended_more contents start (output contents s.out) (output contents t.out) [] (flat_map line_text w.sorted) m.1 (w.printed.printed fine)) retained,
       )
 
   pub sorted_done : (command : Command) (s t : Session W E) (start end : Option (List ℕ)) (texts : List (List ℕ)) → ends_sorted command s.options.now.check s.status ≡ true → WritesSorted contents s t
       → t.out.error ≡ None → Keeps (output contents t.out) end → HasMade contents start texts s command → IsDone s.options.now texts start end (is_yes s.status) command
-  sorted_done Sort s t start end texts sorted w fine kept had = sorted_sort s.options.now.check (is_yes s.status) s t start end texts refl refl sorted w fine kept had
-  sorted_done Check s t start end texts sorted w fine kept had = cc
-  sorted_done Format s t start end texts sorted w fine kept had = cc
-  sorted_done Get s t start end texts sorted w fine kept had = cc
-  sorted_done Keys s t start end texts sorted w fine kept had = cc
-  sorted_done Equal s t start end texts sorted w fine kept had = cc
+  sorted_done Sort s t start end texts sorted w fine retained had = sorted_sort s.options.now.check (is_yes s.status) s t start end texts refl refl sorted w fine retained had
+  sorted_done Check s t start end texts sorted w fine retained had = cc
+  sorted_done Format s t start end texts sorted w fine retained had = cc
+  sorted_done Get s t start end texts sorted w fine retained had = cc
+  sorted_done Keys s t start end texts sorted w fine retained had = cc
+  sorted_done Equal s t start end texts sorted w fine retained had = cc
 
   by_sorts : (sorted : Bool) (s m t : Session W E) (start : Option (List ℕ)) (texts : List (List ℕ)) → sorts s ≡ sorted → (sorts s ≡ false → m ≡ s) → (sorts s ≡ true → m.status ≢ Trouble → WritesSorted contents s m)
       → m.status ≢ Trouble → IsWritten contents m.out t.out → HasTaken contents start texts s

@@ -1,4 +1,5 @@
--- Of a sorted list the first of neighbours that are equal is the first of them in each list that a stable sort was given.
+-- Of a sorted list the first of neighbours that are equal is the first of them in each list that a stable sort was
+-- given.
 use Rattle.std.proofs.Common.{◌≡◌, zero, suc, Bool, true, false, true≢false, not, ◌&&◌, List, [], ◌∷◌, All, Option, Some, None, cond, get_or, Ordering, Less, Equal, Greater, is_eq, is_lt, refl, sym, ap, ◌∙◌, arith}
 use Rattle.std.proofs.lemmas.Bool.{cond_both}
 use Rattle.std.proofs.lemmas.List.Elements.{All-nil, All-cons, All-head, All-tail, filter_agree}
@@ -95,28 +96,28 @@ module _ {X : Type 0} {R : X → X → Ordering} (o : IsTotalOrder R) {E : X →
   below_next : (k x y : X) → R k x ≡ Less → is_lt (R y x) ≡ false → R k y ≡ Less
   below_next k x y l n = less_from (R k y) (λ f. true≢false (ap is_lt (sym l) ∙ (ranks_by o (λ a. a)).chain k y x f n))
 
-  kept_from : (k : X) (xs : List X) → All (λ y. is_lt (R y k) ≡ false) xs → AllPairs (λ a b. is_lt (R b a) ≡ false) xs → All (IsFirst (k ∷ xs)) (dedup_from E k xs)
-  kept_from k [] above up = All-cons (IsFirst (k ∷ [])) k [] (ap (λ b. cond b (Some k) None) (itself k)) (All-nil (IsFirst (k ∷ [])))
-  kept_from k (x ∷ xs) above up =
+  retained_from : (k : X) (xs : List X) → All (λ y. is_lt (R y k) ≡ false) xs → AllPairs (λ a b. is_lt (R b a) ≡ false) xs → All (IsFirst (k ∷ xs)) (dedup_from E k xs)
+  retained_from k [] above up = All-cons (IsFirst (k ∷ [])) k [] (ap (λ b. cond b (Some k) None) (itself k)) (All-nil (IsFirst (k ∷ [])))
+  retained_from k (x ∷ xs) above up =
       let rest : AllPairs (λ a b. is_lt (R b a) ≡ false) xs = λ i j d below inside. up (suc i) (suc j) d (omega arith) (omega arith) in
       let from_x : All (λ y. is_lt (R y x) ≡ false) xs = λ j d inside. up zero (suc j) d (omega arith) (omega arith) in
       let low = All-head (λ y. is_lt (R y k) ≡ false) x xs above in
       cond_both (E x k) (dedup_from E k xs) (k ∷ dedup_from E x xs) (All (IsFirst (k ∷ x ∷ xs)))
       (λ e.
-      let kept = kept_from k xs (All-tail (λ y. is_lt (R y k) ≡ false) x xs above) rest in
-      λ i d inside. past k x (get_or (dedup_from E k xs) i d) xs e (kept i d inside))
+      let retained = retained_from k xs (All-tail (λ y. is_lt (R y k) ≡ false) x xs above) rest in
+      λ i d inside. past k x (get_or (dedup_from E k xs) i d) xs e (retained i d inside))
       (λ f.
       let first : R k x ≡ Less = o.antisymm k x ∙ above_reversed (R x k) low (sym (equal x k) ∙ f) in
       let all : All (λ y. R k y ≡ Less) (dedup_from E x xs) =
       All-dedup E (λ y. R k y ≡ Less) (x ∷ xs) (All-cons (λ y. R k y ≡ Less) x xs first (λ j d inside. below_next k x (get_or xs j d) first (from_x j d inside))) in
-      let kept = kept_from x xs from_x rest in
+      let retained = retained_from x xs from_x rest in
       All-cons (IsFirst (k ∷ x ∷ xs)) k (dedup_from E x xs) (ap (λ b. cond b (Some k) (find (E k) (x ∷ xs))) (itself k))
-      (λ i d inside. ap (λ b. cond b (Some k) (find (E (get_or (dedup_from E x xs) i d)) (x ∷ xs))) (apart k (get_or (dedup_from E x xs) i d) (all i d inside)) ∙ kept i d inside))
+      (λ i d inside. ap (λ b. cond b (Some k) (find (E (get_or (dedup_from E x xs) i d)) (x ∷ xs))) (apart k (get_or (dedup_from E x xs) i d) (all i d inside)) ∙ retained i d inside))
 
-  -- what `dedup` keeps of a sorted list are the first ones of what was given
-  pub firsts_kept : (given sorted : List X) → IsSorted R sorted → IsStable R given sorted → All (λ l. find (E l) given ≡ Some l) (dedup E sorted)
-  firsts_kept given [] up stable = All-nil (IsFirst given)
-  firsts_kept given (x ∷ xs) up stable =
+  -- what `dedup` holds of a sorted list are the first ones of what was given
+  pub firsts_retained : (given sorted : List X) → IsSorted R sorted → IsStable R given sorted → All (λ l. find (E l) given ≡ Some l) (dedup E sorted)
+  firsts_retained given [] up stable = All-nil (IsFirst given)
+  firsts_retained given (x ∷ xs) up stable =
       let far : AllPairs (λ a b. is_lt (R b a) ≡ false) (x ∷ xs) = λ i j d below inside. sorted_far _ (ranks_by o (λ a. a)) (x ∷ xs) up i j d (omega arith) inside in
-      let kept = kept_from x xs (λ j d inside. far zero (suc j) d (omega arith) (omega arith)) (λ i j d below inside. far (suc i) (suc j) d (omega arith) (omega arith)) in
-      λ i d inside. first_given given (x ∷ xs) stable (get_or (dedup_from E x xs) i d) ∙ kept i d inside
+      let retained = retained_from x xs (λ j d inside. far zero (suc j) d (omega arith) (omega arith)) (λ i j d below inside. far (suc i) (suc j) d (omega arith) (omega arith)) in
+      λ i d inside. first_given given (x ∷ xs) stable (get_or (dedup_from E x xs) i d) ∙ retained i d inside

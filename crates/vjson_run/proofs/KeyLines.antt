@@ -22,7 +22,7 @@ rises a b less = ⊎_elim
     (λ (over : 10 ≤ a). omega (arith, high_digit a over, high_digit b high)) (cases_lt a 10))
     (cases_lt b 10)
 
--- a tab stands before each digit
+-- a tab is before each digit
 pub above_tab : (a : ℕ) → 9 < hex_digit a
 above_tab a = ⊎_elim (λ (low : a < 10). omega (arith, low_digit a low)) (λ (high : 10 ≤ a). omega (arith, high_digit a high)) (cases_lt a 10)
 

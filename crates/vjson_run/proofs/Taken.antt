@@ -11,7 +11,7 @@ use Rattle.vjson_run.specs.Answers.{Answers, IsFound, IsLaidOut, IsOne, LacksPar
 use Rattle.vjson_run.specs.Lines.{key_line}
 use Rattle.vjson_run.specs.Output.{output, PrintsNothing, PrintsPart}
 use Rattle.vjson_run.specs.declared.report.Output.{Output}
-use Rattle.vjson_run.specs.Runs.{Answer, AreAnswered, AreLinesFor, IsAnswer, IsLineFor, HasMade, HasTaken, Gets, AddsLine, AreEqual, AreEqualSoFar, Compares, Differs, IsKept, IsSame, Takes, denied, is_yes}
+use Rattle.vjson_run.specs.Runs.{Answer, AreAnswered, AreLinesFor, IsAnswer, IsLineFor, HasMade, HasTaken, Gets, AddsLine, AreEqual, AreEqualSoFar, Compares, Differs, IsVerbatim, IsSame, Takes, denied, is_yes}
 use Rattle.vjson_run.specs.declared.lines.Line.{Line}
 use Rattle.vjson_run.specs.declared.options.Command.{Command}
 use Rattle.vjson_run.specs.declared.options.Command.TheVariants.{Check, Format, Get, Sort, Equal, Keys}
@@ -26,11 +26,11 @@ grown None c w old part h = tt
 grown (Some xs) None w old part h = absurd h
 grown (Some xs) (Some ys) w old part h = sym (append_assoc ys old part) ∙ ap (λ l. l ++ part) h ∙ append_assoc xs w part
 
-pub kept_along : (start a b : Option (List ℕ)) (w : List ℕ) → Appends start a w → Keeps a b → Appends start b w
-kept_along None a b w h k = tt
-kept_along (Some xs) None b w h k = absurd h
-kept_along (Some xs) (Some ys) None w h k = absurd k
-kept_along (Some xs) (Some ys) (Some zs) w h k = k ∙ h
+pub retained_along : (start a b : Option (List ℕ)) (w : List ℕ) → Appends start a w → Keeps a b → Appends start b w
+retained_along None a b w h k = tt
+retained_along (Some xs) None b w h k = absurd h
+retained_along (Some xs) (Some ys) None w h k = absurd k
+retained_along (Some xs) (Some ys) (Some zs) w h k = k ∙ h
 
 zipped_more : {A B : Type 0} (R : A → B → Type 0) (xs : List A) (ys : List B) (x : A) (y : B) → AllZip R xs ys → R x y → AllZip R (xs ++ x ∷ []) (ys ++ y ∷ [])
 zipped_more R [] [] x y all one = (one, tt)
@@ -133,8 +133,8 @@ IsByText Equal = ⊥
 IsByText command = ⊤
 
 module _ {W E : Type 0} (contents : W → Option (List ℕ)) where
-  -- Unless it failed or there is trouble, t has answered what s had and one more text, of which this part is printed; no
-  -- line is added.
+  -- Unless it failed or there is trouble, t has answered what s had and one more text, of which this part is printed;
+  -- no line is added.
   pub record Moves (s t : Session W E) (good : Bool) (part : List ℕ) : Type 0 where
     pub options : t.options ≡ s.options
     pub failed : t.out.error ≡ None → s.out.error ≡ None
@@ -170,8 +170,8 @@ module _ {W E : Type 0} (contents : W → Option (List ℕ)) where
       subst (λ o. Made start (before ++ text ∷ []) t o.now.command) (sym h.options)
       (by_command s.options.now.command s t good part text start before refl by h calm fine answer (had (untroubled good s.status t.status (h.status calm) calm) (h.failed fine)))
 
-  pub kept_moves : (s t : Session W E) (part : List ℕ) → IsKept s t → t.out.bytes.items ≡ s.out.bytes.items ++ part → Moves s t true part
-  kept_moves s t part k bytes = record {
+  pub retained_moves : (s t : Session W E) (part : List ℕ) → IsVerbatim s t → t.out.bytes.items ≡ s.out.bytes.items ++ part → Moves s t true part
+  retained_moves s t part k bytes = record {
     options = k.options;
     failed = λ fine. sym k.error ∙ fine;
     grows = λ _ start w h. subst (λ x. Appends start (append_known (contents x) t.out.bytes.items) (w ++ part)) (sym k.writer)
@@ -182,15 +182,15 @@ module _ {W E : Type 0} (contents : W → Option (List ℕ)) where
 
   pub checked_taken : (s t : Session W E) (text : List ℕ) → s.options.now.command ≡ Check → IsOne s.options.now.grammar text → IsSame s t → Takes contents s (text ∷ []) t
   checked_taken s t text is one same =
-      takes_answered s t true [] text (kept_moves s t [] same.kept (same.bytes ∙ sym (append-nil s.out.bytes.items))) (subst IsByText (sym is) tt) (checked is one)
+      takes_answered s t true [] text (retained_moves s t [] same.retained (same.bytes ∙ sym (append-nil s.out.bytes.items))) (subst IsByText (sym is) tt) (checked is one)
 
-  pub laid_taken : (s t : Session W E) (text : List ℕ) → s.options.now.command ≡ Format → Prints (IsLaidOut s.options.now text) s.out.bytes.items t.out.bytes.items → IsKept s t → Takes contents s (text ∷ []) t
-  laid_taken s t text is laid kept =
-      takes_answered s t true (printed laid.bytes) text (kept_moves s t (printed laid.bytes) kept laid.appended) (subst IsByText (sym is) tt) (laid_out laid.bytes is laid.is_printed)
+  pub laid_taken : (s t : Session W E) (text : List ℕ) → s.options.now.command ≡ Format → Prints (IsLaidOut s.options.now text) s.out.bytes.items t.out.bytes.items → IsVerbatim s t → Takes contents s (text ∷ []) t
+  laid_taken s t text is laid retained =
+      takes_answered s t true (printed laid.bytes) text (retained_moves s t (printed laid.bytes) retained laid.appended) (subst IsByText (sym is) tt) (laid_out laid.bytes is laid.is_printed)
 
-  pub keyed_taken : (s t : Session W E) (text : List ℕ) → s.options.now.command ≡ Keys → PrintsKeyed s.options.now text s.out.bytes.items t.out.bytes.items → IsKept s t → Takes contents s (text ∷ []) t
-  keyed_taken s t text is h kept =
-      takes_answered s t true (key_line h.key h.line) text (kept_moves s t (key_line h.key h.line) kept h.appended) (subst IsByText (sym is) tt) (keyed h.key h.line is h.keyed)
+  pub keyed_taken : (s t : Session W E) (text : List ℕ) → s.options.now.command ≡ Keys → PrintsKeyed s.options.now text s.out.bytes.items t.out.bytes.items → IsVerbatim s t → Takes contents s (text ∷ []) t
+  keyed_taken s t text is h retained =
+      takes_answered s t true (key_line h.key h.line) text (retained_moves s t (key_line h.key h.line) retained h.appended) (subst IsByText (sym is) tt) (keyed h.key h.line is h.keyed)
 
   gets_moves : (s t : Session W E) (text : List ℕ) (good : Bool) (part : List ℕ) → Gets s text t → t.status ≡ after good s.status → t.out.bytes.items ≡ s.out.bytes.items ++ part → Moves s t good part
   gets_moves s t text good part k status bytes = record {
@@ -254,7 +254,7 @@ module _ {W E : Type 0} (contents : W → Option (List ℕ)) where
   rejected_moves s t h other = record {
     options = h.options;
     failed = h.printed.failed;
-    grows = λ fine start w had. subst (λ l. Appends start (output contents t.out) l) (sym (append-nil w)) (kept_along start (output contents s.out) (output contents t.out) w had (h.printed.same fine));
+    grows = λ fine start w had. subst (λ l. Appends start (output contents t.out) l) (sym (append-nil w)) (retained_along start (output contents s.out) (output contents t.out) w had (h.printed.same fine));
     status = λ _. h.status other;
     over = λ _ unchecked. h.over unchecked;
   }
@@ -268,7 +268,7 @@ module _ {W E : Type 0} (contents : W → Option (List ℕ)) where
   rejected_by_check false s t text start before is command none h status fine had =
       let m : Collected s.options.now start before s = subst (λ b. MatchBool b ⊤ (Collected s.options.now start before s)) is had in (
         subst (AreLinesFor s.options.now (before ++ text ∷ []) t.lines.items) (sym (ap is_yes status ∙ not_yes s.status)) (any_last (IsNoTextOf s.options.now.grammar) before text none),
-        kept_along start (output contents s.out) (output contents t.out) [] m.1 (h.printed.same fine),
+        retained_along start (output contents s.out) (output contents t.out) [] m.1 (h.printed.same fine),
         h.over (ap (λ c. asked c s.options.now.check) command ∙ is) ∙ m.2,
       )
 
@@ -328,7 +328,7 @@ module _ {W E : Type 0} (contents : W → Option (List ℕ)) where
   flushed_answered s t start texts h fine had = (
     subst (λ o. AreAnswered o.now texts start (output contents t.out) (is_yes t.status)) (sym h.options)
         (subst (λ status. AreAnswered s.options.now texts start (output contents t.out) (is_yes status)) (sym h.status)
-        (same_answered s.options.now texts start (output contents s.out) (output contents t.out) (is_yes s.status) had.0 (λ w k. kept_along start (output contents s.out) (output contents t.out) w k (h.printed.same fine)))),
+        (same_answered s.options.now texts start (output contents s.out) (output contents t.out) (is_yes s.status) had.0 (λ w k. retained_along start (output contents s.out) (output contents t.out) w k (h.printed.same fine)))),
     h.over ∙ had.1,
   )
 
@@ -336,7 +336,7 @@ module _ {W E : Type 0} (contents : W → Option (List ℕ)) where
   flushed_collected true s t start texts h fine had = tt
   flushed_collected false s t start texts h fine had = (
     subst (λ lines. AreLinesFor s.options.now texts lines (is_yes t.status)) (sym h.lines) (subst (λ status. AreLinesFor s.options.now texts s.lines.items (is_yes status)) (sym h.status) had.0),
-    kept_along start (output contents s.out) (output contents t.out) [] had.1 (h.printed.same fine),
+    retained_along start (output contents s.out) (output contents t.out) [] had.1 (h.printed.same fine),
     h.over ∙ had.2,
   )
 
@@ -350,7 +350,7 @@ module _ {W E : Type 0} (contents : W → Option (List ℕ)) where
     subst (λ o. AreEqualSoFar o.now texts t.last (is_yes t.status)) (sym h.options)
         (subst (λ last. AreEqualSoFar s.options.now texts last (is_yes t.status)) (sym h.last)
         (subst (λ status. AreEqualSoFar s.options.now texts s.last (is_yes status)) (sym h.status) had.0)),
-    kept_along start (output contents s.out) (output contents t.out) [] had.1 (h.printed.same fine),
+    retained_along start (output contents s.out) (output contents t.out) [] had.1 (h.printed.same fine),
     λ calm. h.over ∙ had.2 (sym h.status ∙ calm),
   )
 
@@ -369,30 +369,30 @@ module _ {W E : Type 0} (contents : W → Option (List ℕ)) where
   answered_same : (s t : Session W E) (start : Option (List ℕ)) (texts : List (List ℕ)) → IsSame s t → AreAnswered s.options.now texts start (output contents s.out) (is_yes s.status) × (s.over ≡ false)
       → AreAnswered t.options.now texts start (output contents t.out) (is_yes t.status) × (t.over ≡ false)
   answered_same s t start texts h had = (
-    subst (λ o. AreAnswered o.now texts start (output contents t.out) (is_yes t.status)) (sym h.kept.options)
-        (subst (λ status. AreAnswered s.options.now texts start (output contents t.out) (is_yes status)) (sym h.kept.status)
-        (subst (λ writer. AreAnswered s.options.now texts start (append_known (contents writer) t.out.bytes.items) (is_yes s.status)) (sym h.kept.writer)
+    subst (λ o. AreAnswered o.now texts start (output contents t.out) (is_yes t.status)) (sym h.retained.options)
+        (subst (λ status. AreAnswered s.options.now texts start (output contents t.out) (is_yes status)) (sym h.retained.status)
+        (subst (λ writer. AreAnswered s.options.now texts start (append_known (contents writer) t.out.bytes.items) (is_yes s.status)) (sym h.retained.writer)
         (subst (λ items. AreAnswered s.options.now texts start (append_known (contents s.out.writer) items) (is_yes s.status)) (sym h.bytes) had.0))),
-    h.kept.over ∙ had.1,
+    h.retained.over ∙ had.1,
   )
 
   -- of two sessions that are the same one has taken what the other has
   made_same : (command : Command) (s t : Session W E) (start : Option (List ℕ)) (texts : List (List ℕ)) → IsSame s t → Made start texts s command → Made start texts t command
   made_same Equal s t start texts h had = (
-    subst (λ o. AreEqualSoFar o.now texts t.last (is_yes t.status)) (sym h.kept.options)
-        (subst (λ last. AreEqualSoFar s.options.now texts last (is_yes t.status)) (sym h.kept.last)
-        (subst (λ status. AreEqualSoFar s.options.now texts s.last (is_yes status)) (sym h.kept.status) had.0)),
-    subst (λ writer. Appends start (append_known (contents writer) t.out.bytes.items) []) (sym h.kept.writer) (subst (λ items. Appends start (append_known (contents s.out.writer) items) []) (sym h.bytes) had.1),
-    λ calm. h.kept.over ∙ had.2 (sym h.kept.status ∙ calm),
+    subst (λ o. AreEqualSoFar o.now texts t.last (is_yes t.status)) (sym h.retained.options)
+        (subst (λ last. AreEqualSoFar s.options.now texts last (is_yes t.status)) (sym h.retained.last)
+        (subst (λ status. AreEqualSoFar s.options.now texts s.last (is_yes status)) (sym h.retained.status) had.0)),
+    subst (λ writer. Appends start (append_known (contents writer) t.out.bytes.items) []) (sym h.retained.writer) (subst (λ items. Appends start (append_known (contents s.out.writer) items) []) (sym h.bytes) had.1),
+    λ calm. h.retained.over ∙ had.2 (sym h.retained.status ∙ calm),
   )
   made_same Sort s t start texts h had =
-      made_sort s.options.now.check s t start texts refl h.kept.options (at s.options.now.check had)
+      made_sort s.options.now.check s t start texts refl h.retained.options (at s.options.now.check had)
     where
       moved : Collected s.options.now start texts s → Collected s.options.now start texts t
       moved m = (
-        subst (λ lines. AreLinesFor s.options.now texts lines (is_yes t.status)) (sym h.kept.lines) (subst (λ status. AreLinesFor s.options.now texts s.lines.items (is_yes status)) (sym h.kept.status) m.0),
-        subst (λ writer. Appends start (append_known (contents writer) t.out.bytes.items) []) (sym h.kept.writer) (subst (λ items. Appends start (append_known (contents s.out.writer) items) []) (sym h.bytes) m.1),
-        h.kept.over ∙ m.2,
+        subst (λ lines. AreLinesFor s.options.now texts lines (is_yes t.status)) (sym h.retained.lines) (subst (λ status. AreLinesFor s.options.now texts s.lines.items (is_yes status)) (sym h.retained.status) m.0),
+        subst (λ writer. Appends start (append_known (contents writer) t.out.bytes.items) []) (sym h.retained.writer) (subst (λ items. Appends start (append_known (contents s.out.writer) items) []) (sym h.bytes) m.1),
+        h.retained.over ∙ m.2,
       )
 
       at : (check : Bool) → MatchBool check ⊤ (Collected s.options.now start texts s) → MatchBool check ⊤ (Collected s.options.now start texts t)
@@ -406,13 +406,13 @@ module _ {W E : Type 0} (contents : W → Option (List ℕ)) where
   pub same_taken : (s t : Session W E) → IsSame s t → Takes contents s [] t
   same_taken s t h start before had calm fine =
       subst (λ texts. Made start texts t t.options.now.command) (sym (append-nil before))
-      (subst (λ o. Made start before t o.now.command) (sym h.kept.options)
-      (made_same s.options.now.command s t start before h (had (λ e. calm (h.kept.status ∙ e)) (sym h.kept.error ∙ fine))))
+      (subst (λ o. Made start before t o.now.command) (sym h.retained.options)
+      (made_same s.options.now.command s t start before h (had (λ e. calm (h.retained.status ∙ e)) (sym h.retained.error ∙ fine))))
 
   -- an error of a text that is none is one
   pub error_taken : (s t u : Session W E) (text : List ℕ) → IsNoTextOf s.options.now.grammar text × IsSame s t → (IsNoTextOf t.options.now.grammar text → Takes contents t (text ∷ []) u) → Takes contents s (text ∷ []) u
   error_taken s t u text h rejects =
-      takes_then s t u [] (text ∷ []) (same_taken s t h.1) (rejects (subst (λ o. IsNoTextOf o.now.grammar text) (sym h.1.kept.options) h.0))
+      takes_then s t u [] (text ∷ []) (same_taken s t h.1) (rejects (subst (λ o. IsNoTextOf o.now.grammar text) (sym h.1.retained.options) h.0))
 
   over_made : (command : Command) (check : Bool) (t : Session W E) (start : Option (List ℕ)) (texts more : List (List ℕ)) → t.over ≡ true → t.options.now.check ≡ check → Made start texts t command → Made start (texts ++ more) t command
   over_made Equal check t start texts more over is had = (
@@ -474,12 +474,12 @@ module _ {W : Type 0} (contents : W → Option (List ℕ)) where
   one_more None old one = tt
   one_more (Some xs) old one = sym (append_assoc xs old one)
 
-  pub keeps_self : (known : Option (List ℕ)) → Keeps known known
-  keeps_self None = tt
-  keeps_self (Some xs) = refl
+  pub preserves_self : (known : Option (List ℕ)) → Keeps known known
+  preserves_self None = tt
+  preserves_self (Some xs) = refl
 
   pub prints_same : (out : Output W) → PrintsNothing contents out out
-  prints_same out = record { failed = λ fine. fine; same = λ _. keeps_self (output contents out) }
+  prints_same out = record { failed = λ fine. fine; same = λ _. preserves_self (output contents out) }
 
   -- bytes are added to an output, which is then written
   pub prints_more : (a b c d : Output W) (part one whole : List ℕ) → PrintsPart contents a b part → c.writer ≡ b.writer → c.error ≡ b.error → c.bytes.items ≡ b.bytes.items ++ one
@@ -491,6 +491,6 @@ module _ {W : Type 0} (contents : W → Option (List ℕ)) where
         subst (λ x. Appends (output contents b) (append_known (contents x) c.bytes.items) one) (sym writer)
         (subst (λ items. Appends (output contents b) (append_known (contents b.writer) items) one) (sym bytes) (one_more (contents b.writer) b.bytes.items one)) in
         subst (λ w. Appends (output contents a) (output contents d) w) (sym is)
-        (kept_along (output contents a) (output contents c) (output contents d) (part ++ one)
+        (retained_along (output contents a) (output contents c) (output contents d) (part ++ one)
         (appended_more (output contents a) (output contents b) (output contents c) part one (h.printed (sym error ∙ k.failed fine)) added) (k.same fine));
   }

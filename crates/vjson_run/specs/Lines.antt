@@ -42,10 +42,10 @@ pub record Arranges (cmp : Line → Line → Ordering) (given sorted : List Line
 
 -- Of the lines given, the first of each key that there is, in order: each comes strictly before the next, each is the
 -- first of those given that has its key, and each that was given has the key of one.
-pub record IsFirstOfEach (cmp : Line → Line → Ordering) (given kept : List Line) : Type 0 where
-  pub ascending : IsStrictlySortedBy cmp kept
-  pub first : All (λ l. find (same_key l) given ≡ Some l) kept
-  pub covers : (l : Line) → Contains given l → Any (λ m. line_cmp l m ≡ Equal) kept
+pub record IsFirstOfEach (cmp : Line → Line → Ordering) (given retained : List Line) : Type 0 where
+  pub ascending : IsStrictlySortedBy cmp retained
+  pub first : All (λ l. find (same_key l) given ≡ Some l) retained
+  pub covers : (l : Line) → Contains given l → Any (λ m. line_cmp l m ≡ Equal) retained
 
 -- The lines given in order, up or down: all of them, or the first of each key.
 abbrev pub IsArranged : Bool → Bool → List Line → List Line → Type 0

@@ -177,7 +177,7 @@ fn path_of(options: &Options) -> &[String]
     }
 }
 
-/// Puts the key of the text's value in place of the one in the buffers.
+/// Puts the key of the text's value instead of the one in the buffers.
 ///
 /// # Errors
 ///
@@ -196,7 +196,7 @@ pub fn make_whole_key(
     vjson_text::append_key(alloc, grammar, text, plain, &mut buffers.key)
 }
 
-/// Puts the key that the text is sorted by in place of the one in the buffers.
+/// Puts the key that the text is sorted by instead of the one in the buffers.
 ///
 /// # Errors
 ///
@@ -222,7 +222,7 @@ pub fn make_key(
     Ok(())
 }
 
-// Puts the key of the part in the buffers, which is a text of extended mode, in place of the one that is there.
+// Puts the key of the part in the buffers, which is a text of extended mode, instead of the one that is there.
 fn make_part_key(alloc: Global, buffers: &mut Buffers) -> Result<(), AllocError>
     ensures ok { OnOk result (AppendsKeyOf Grammar.Extended buffers.old.part.items [] buffers.new.key.items) }
 {

@@ -4,7 +4,7 @@
 pub mod answers;
 pub mod input;
 pub mod lines;
+pub mod location;
 pub mod options;
-pub mod place;
 pub mod report;
 pub mod session;

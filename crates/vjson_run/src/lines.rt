@@ -91,7 +91,7 @@ impl Ord for Line {
     }
 }
 
-/// Sorts the lines, upwards or downwards, and keeps all of them or the first of each key.
+/// Sorts the lines, upwards or downwards, and holds all of them or the first of each key.
 pub fn arrange(lines: &mut Vec<Line>, down: bool, unique: bool) -> Result<(), AllocError>
     ensures ok { OnOk result (IsArranged down unique lines.old.items lines.new.items) }
 {

@@ -29,11 +29,11 @@ standard input is read.
   -u, --unique           sort: one of equal values, the first
       --reverse          sort: descending
       --by POINTER       sort, keys: by this part; lines without it come first
-      --check            sort: only tell whether the lines are in order
+      --check            sort: only say whether the lines are in order
       --canonical        sort, keys: print the values' canonical text
   -q, --quiet            check, equal: the status alone
       --progress, --no-progress
-                         tell on a terminal how much was read (after 2 seconds)
+                         show on a terminal how much was read (after 2 seconds)
       --help, --version
 
 Status: 0 done; 1 some text is rejected, a part is missing, values differ or lines
@@ -51,7 +51,7 @@ pub enum Command {
     Keys,
 }
 
-/// When it is told how much was read.
+/// When it is reported how much was read.
 #[derive(Clone, Copy, PartialEq, Eq, Debug)]
 pub enum Progress {
     Never,

@@ -1,4 +1,4 @@
-//! What is told on standard error, and what is written on standard output.
+//! What is reported on standard error, and what is written on standard output.
 
 ghost use Rattle.std.specs.Prelude.{◌≡◌, [], None, OnOk};
 ghost use Rattle.std.specs.List.{flat_map};
@@ -6,12 +6,12 @@ ghost use Rattle.vjson_run.specs.Lines.{line_text};
 ghost use Rattle.vjson_run.specs.Output.{PrintsNothing, PrintsPart};
 
 use crate::lines::{Line, append_line};
-use crate::place::{append_shown, shown_line};
+use crate::location::{append_shown, shown_line};
 use std::alloc::{AllocError, Global};
 use std::io;
 use std::io::Write;
 
-// How many bytes are kept at most before they are written.
+// How many bytes are held at most before they are written.
 const BLOCK: usize = 1 << 16;
 
 /// Standard output, with what isn't written yet, and the error by which it failed.
@@ -23,7 +23,7 @@ pub struct Output<W> {
 }
 
 impl<W: Write> Output<W> {
-    /// An output of which nothing is kept yet.
+    /// An output of which nothing is held yet.
     pub fn new(alloc: Global, writer: W) -> Output<W>
         ensures writer { result.writer ≡ writer }
         ensures bytes { result.bytes.items ≡ [] }
@@ -43,7 +43,7 @@ impl<W: Write> Output<W> {
         self.error
     }
 
-    /// Writes what is kept.
+    /// Writes what is held.
     pub fn flush(&mut self)
         ensures nothing { PrintsNothing W.contents self.old self.new }
         ensures empty { self.new.bytes.items ≡ [] }
@@ -56,7 +56,7 @@ impl<W: Write> Output<W> {
         self.bytes.clear();
     }
 
-    /// Writes what is kept, where it is much.
+    /// Writes what is held, where it is much.
     pub fn flush_much(&mut self)
         ensures nothing { PrintsNothing W.contents self.old self.new }
     {
@@ -89,7 +89,7 @@ fn words_of(alloc: Global, error: &io::Error) -> Result<String, AllocError> {
     }
 }
 
-fn try_tell_stream<E: Write>(
+fn try_report_stream<E: Write>(
     alloc: Global,
     err: &mut E,
     name: &str,
@@ -104,19 +104,19 @@ fn try_tell_stream<E: Write>(
     Ok(())
 }
 
-/// Tells that a file or a stream failed.
-pub fn tell_stream<E: Write>(alloc: Global, err: &mut E, name: &str, error: &io::Error) {
-    if try_tell_stream(alloc, err, name, error).is_err() {
-        tell_memory(err);
+/// Reports that a file or a stream failed.
+pub fn report_stream<E: Write>(alloc: Global, err: &mut E, name: &str, error: &io::Error) {
+    if try_report_stream(alloc, err, name, error).is_err() {
+        report_memory(err);
     }
 }
 
-/// Tells that memory ran out.
-pub fn tell_memory<E: Write>(err: &mut E) {
+/// Reports that memory ran out.
+pub fn report_memory<E: Write>(err: &mut E) {
     let _ = err.write_all(b"vjson: out of memory\n");
 }
 
-/// A place of a file.
+/// A location of a file.
 #[derive(Clone, Copy)]
 pub struct Spot<'a> {
     pub name: &'a str,
@@ -124,7 +124,7 @@ pub struct Spot<'a> {
     pub column: u64,
 }
 
-fn try_tell_fault<E: Write>(
+fn try_report_fault<E: Write>(
     alloc: Global,
     err: &mut E,
     spot: Spot<'_>,
@@ -145,8 +145,8 @@ fn try_tell_fault<E: Write>(
     Ok(())
 }
 
-/// Tells what is wrong with a text, and where.
-pub fn tell_fault<E: Write>(
+/// Says what is wrong with a text, and where.
+pub fn report_fault<E: Write>(
     alloc: Global,
     err: &mut E,
     spot: Spot<'_>,
@@ -154,7 +154,7 @@ pub fn tell_fault<E: Write>(
     text: &[u8],
     offset: usize,
 ) {
-    if try_tell_fault(alloc, err, spot, message, text, offset).is_err() {
-        tell_memory(err);
+    if try_report_fault(alloc, err, spot, message, text, offset).is_err() {
+        report_memory(err);
     }
 }

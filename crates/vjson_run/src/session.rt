@@ -13,7 +13,7 @@ ghost use Rattle.vjson_run.specs.Runs.{
   Gets,
   HasTaken,
   IsDone,
-  IsKept,
+  IsVerbatim,
   IsSame,
   Takes,
   WritesSorted,
@@ -27,7 +27,7 @@ use crate::answers::Buffers;
 use crate::input::{is_blank_line, without_end, without_mark};
 use crate::lines::{Line, arrange};
 use crate::options::{Command, Options};
-use crate::report::{Output, Spot, print_lines, tell_fault, tell_memory, tell_stream};
+use crate::report::{Output, Spot, print_lines, report_fault, report_memory, report_stream};
 use jsonb::line_and_column;
 use std::alloc::{AllocError, Global};
 use std::io;
@@ -89,13 +89,13 @@ impl<'o, W: Write, E: Write> Session<'o, W, E> {
         }
     }
 
-    /// Tells that a file can't be read.
+    /// Reports that a file can't be read.
     pub fn cannot_read(&mut self, name: &str, error: &io::Error)
         ensures trouble { self.new.status ≡ Status.Trouble }
     {
         self.status = Status::Trouble;
         self.out.flush();
-        tell_stream(self.alloc, &mut self.err, name, error);
+        report_stream(self.alloc, &mut self.err, name, error);
     }
 
     fn no_memory(&mut self)
@@ -103,7 +103,7 @@ impl<'o, W: Write, E: Write> Session<'o, W, E> {
     {
         self.status = Status::Trouble;
         self.over = true;
-        tell_memory(&mut self.err);
+        report_memory(&mut self.err);
     }
 
     /// Reads one input to its end.
@@ -146,7 +146,7 @@ impl<'o, W: Write, E: Write> Session<'o, W, E> {
                     line: u64::try_from(line).unwrap_or(u64::MAX),
                     column: u64::try_from(column).unwrap_or(u64::MAX),
                 };
-                // What stands behind a text on a line of its own is often a text of the next line.
+                // What is behind a text on a line of its own is often a text of the next line.
                 let message = if line > 1
                     && column == 1
                     && message.as_str() == "trailing characters"
@@ -211,7 +211,7 @@ impl<'o, W: Write, E: Write> Session<'o, W, E> {
         }
     }
 
-    // Tells that the line isn't in order, where this is so, and reads no more.
+    // Reports that the line isn't in order, where this is so, and reads no more.
     fn stop_out_of_order(&mut self, name: &str, number: u64)
         ensures { Takes W.contents self.old [] self.new }
     {
@@ -221,7 +221,7 @@ impl<'o, W: Write, E: Write> Session<'o, W, E> {
         }
     }
 
-    // Tells that a text is rejected.
+    // Reports that a text is rejected.
     fn reject(&mut self, spot: Spot<'_>, message: &str, text: &[u8], offset: usize)
         ensures { IsNoTextOf self.old.options.now.grammar text.now → Takes W.contents self.old (text.now ∷ []) self.new }
     {
@@ -231,7 +231,7 @@ impl<'o, W: Write, E: Write> Session<'o, W, E> {
             return;
         }
         self.out.flush();
-        tell_fault(self.alloc, &mut self.err, spot, message, text, offset);
+        report_fault(self.alloc, &mut self.err, spot, message, text, offset);
     }
 
     // Whether no more is read once a text is rejected: where it is asked whether lines are in order.
@@ -308,7 +308,7 @@ impl<'o, W: Write, E: Write> Session<'o, W, E> {
             self.new.out.bytes.items) }
         ensures err { IfErr result (λ f. f ≢ Fault.NoMemory → self.new.out.bytes.items ≡ self.old.out.bytes.items) }
         ensures rejected { Rejects self.old.options.now.grammar text.now result }
-        ensures kept { IsKept self.old self.new }
+        ensures retained { IsVerbatim self.old self.new }
     {
         let out = &mut self.out.bytes;
         answers::format(self.alloc, self.options, text, &mut self.buffers, out)
@@ -331,7 +331,7 @@ impl<'o, W: Write, E: Write> Session<'o, W, E> {
             self.new.out.bytes.items) }
         ensures err { IfErr result (λ f. f ≢ Fault.NoMemory → self.new.out.bytes.items ≡ self.old.out.bytes.items) }
         ensures rejected { Rejects self.old.options.now.grammar text.now result }
-        ensures kept { IsKept self.old self.new }
+        ensures retained { IsVerbatim self.old self.new }
     {
         let out = &mut self.out.bytes;
         answers::print_key(self.alloc, self.options, text, &mut self.buffers, out)
@@ -386,7 +386,7 @@ impl<'o, W: Write, E: Write> Session<'o, W, E> {
         Ok(())
     }
 
-    // Whether the key may not stand behind the last one.
+    // Whether the key may not be behind the last one.
     fn is_wrong(&self) -> bool {
         let Some(last) = &self.last else {
             return false;
@@ -430,7 +430,7 @@ impl<'o, W: Write, E: Write> Session<'o, W, E> {
         if let Some(error) = self.out.error() {
             self.status = Status::Trouble;
             if error.kind() != ErrorKind::BrokenPipe {
-                tell_stream(self.alloc, &mut self.err, "standard output", &error);
+                report_stream(self.alloc, &mut self.err, "standard output", &error);
             }
         }
     }

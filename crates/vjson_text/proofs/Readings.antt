@@ -1,4 +1,4 @@
--- What follows for a text from what was parsed in its place.
+-- What follows for a text from what was parsed instead.
 use Rattle.std.proofs.Common.{◌≡◌, ◌≢◌, ℕ, List, [], Result, Ok, Err, sym, subst, ap, ◌∙◌}
 use Rattle.jsonb_spec.specs.Grammar.{IsDocument, IsNoDocument}
 use Rattle.jsonb_spec.specs.Mode.{Mode, standard, extended}
@@ -12,7 +12,7 @@ use Rattle.vjson_text.specs.declared.fault.Fault.TheVariants.{NoMemory}
 use Rattle.vjson_text.specs.declared.reader.Grammar.{Grammar}
 use Rattle.vjson_text.specs.declared.reader.Grammar.TheVariants.{Json, Standard, Extended}
 
--- what is a document in place of the text makes it a text
+-- what is a document instead of the text makes it a text
 pub accepted : (g : Grammar) (text read : List ℕ) (t : Tree) → IsReadAs g text read → IsDocument (parser_mode g) read t → IsTextOf g text t
 accepted Json text read t h document = record { strict = h.0; written = read; is_written = h.1; document = document }
 accepted Standard text read t h document = subst (λ bytes. IsDocument standard bytes t) h document
@@ -31,5 +31,5 @@ rejected Extended text read h none = λ t is. none t (subst (λ bytes. IsDocumen
 -- the same of an error, which is none of memory
 pub explained : (g : Grammar) (mode : Mode) (text read : List ℕ) (e : Error) (f : Fault) → mode ≡ parser_mode g → IsReadAs g text read → (e ≢ OutOfMemory → IsNoDocument mode read)
     → (e ≡ OutOfMemory → f ≡ NoMemory) → f ≢ NoMemory → IsNoTextOf g text
-explained g mode text read e f is h none memory told =
-    rejected g text read h (subst (λ m. IsNoDocument m read) is (none (λ lack. told (memory lack))))
+explained g mode text read e f is h none memory reported =
+    rejected g text read h (subst (λ m. IsNoDocument m read) is (none (λ lack. reported (memory lack))))

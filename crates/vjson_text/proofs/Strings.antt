@@ -30,7 +30,7 @@ run_passed (suc count) [] within plain = absurd (omega (arith, within))
 run_passed (suc count) (b ∷ bytes) within plain =
     plain_byte b bytes (one_plain b (take count bytes) plain) ∙ run_passed count bytes (omega (arith, within)) (rest_plain b (take count bytes) plain)
 
--- bytes that are written as they are, and what stands behind them
+-- bytes that are written as they are, and what is behind them
 pub passed : (all rest behind : List ℕ) (run : ℕ) → in_string 0 all ≡ in_string 0 rest → run ≤ length rest → ArePlain (take run rest) → behind ≡ drop run rest
     → in_string 0 all ≡ in_string 0 behind
 passed all rest behind run same within plain is = same ∙ run_passed run rest within plain ∙ ap (in_string 0) (sym is)

@@ -16,7 +16,7 @@ no_length : (b : ℕ) (bytes : List ℕ) → is_word_byte b ≡ false → word_l
 unfolding word_length
 no_length b bytes h = cond-false (is_word_byte b) _ _ h
 
--- what stands behind a word stands behind the rest of the word
+-- what is behind a word is behind the rest of the word
 behind_word : (b : ℕ) (bytes : List ℕ) → is_word_byte b ≡ true → drop (word_length bytes) bytes ≡ drop (word_length (b ∷ bytes)) (b ∷ bytes)
 behind_word b bytes inside =
     let one : suc (word_length bytes) ≡ word_length (b ∷ bytes) = omega (arith, length_at b bytes inside) in

@@ -15,7 +15,7 @@ use Rattle.vjson_text.specs.declared.reader.Grammar.TheVariants.{Json, Standard,
 use Rattle.vjson_text.specs.declared.reader.Layout.{Layout}
 use Rattle.vjson_text.specs.declared.reader.Layout.TheVariants.{Compact, Indent}
 
--- A text of RFC 8259 as the project means it: its tokens are those of RFC 8259, in places where it may have them, and
+-- A text of RFC 8259 as the project means it: its tokens are those of RFC 8259, where it may have them, and
 -- once its numbers are written out it is an extended document of the tree. (So keys are distinct, at most 512 arrays
 -- and objects are nested, and numbers have at most 38 digits, with exponents at their exact value.)
 pub record IsJson (text : List ℕ) (t : Tree) : Type 0 where

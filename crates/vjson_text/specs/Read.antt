@@ -1,4 +1,4 @@
--- What the library's parser reads in place of a text, and what is said of a text that is rejected.
+-- What the library's parser reads instead of a text, and what is said of a text that is rejected.
 use Rattle.std.specs.Prelude.{◌≡◌, ◌≢◌, ℕ, Bool, true, false, List, Ok, Result, IfErr}
 use Rattle.jsonb_spec.specs.Mode.{Mode, standard, extended}
 use Rattle.plain_numbers.specs.Expansion.{expanded}
@@ -20,7 +20,7 @@ abbrev pub read_text : Bool → List ℕ → List ℕ → List ℕ
 read_text true text plain = plain
 read_text false text plain = text
 
--- These bytes are parsed in place of a text: the text itself; or of RFC 8259's texts, which have its tokens alone, the
+-- These bytes are parsed instead of a text: the text itself; or of RFC 8259's texts, which have its tokens alone, the
 -- text with its numbers written out.
 abbrev pub IsReadAs : Grammar → List ℕ → List ℕ → Type 0
 IsReadAs Json text read = (is_strict text ≡ true) × (expanded text ≡ Ok read)

@@ -1,4 +1,4 @@
--- The tokens of RFC 8259, and where commas and words stand: what extended mode has more is found byte by byte.
+-- The tokens of RFC 8259, and where commas and words are: what extended mode has more is found byte by byte.
 use Rattle.std.specs.Prelude.{ℕ, zero, suc, ◌==◌, ◌&&◌, nat_le, Bool, true, false, if◌then◌else◌, List, [], ◌∷◌, take}
 use Rattle.std.specs.Char.{is_ascii_hexdigit}
 use Rattle.std.specs.Option.{is_some}
@@ -27,18 +27,18 @@ abbrev pub may_end : Last → Bool
 may_end nothing = false
 may_end last = true
 
--- A comma may follow: neither a comma nor an opening bracket stands before it.
+-- A comma may follow: neither a comma nor an opening bracket is before it.
 abbrev pub may_separate : Last → Bool
 may_separate opened = false
 may_separate comma = false
 may_separate last = true
 
--- What closes may follow: no comma stands before it.
+-- What closes may follow: no comma is before it.
 abbrev pub may_close : Last → Bool
 may_close comma = false
 may_close last = true
 
--- A colon may follow: no word stands before it, as keys have quotes.
+-- A colon may follow: no word is before it, as keys have quotes.
 abbrev pub may_name : Last → Bool
 may_name word = false
 may_name ended_word = false
@@ -49,12 +49,12 @@ abbrev pub may_begin : Last → List ℕ → Bool
 may_begin word bytes = true
 may_begin last bytes = is_json_word (take (word_length bytes) bytes)
 
--- a byte that stands for itself in a string: no control character
+-- a byte that means itself in a string: no control character
 abbrev pub is_plain : ℕ → Bool
 is_plain byte = nat_le ascii.space byte
 
 abbrev mutual
-  -- The rest of a text, outside of strings, has the tokens of RFC 8259 in places where it may have them.
+  -- The rest of a text, outside of strings, has the tokens of RFC 8259 where it may have them.
   pub is_strict_from : Last → List ℕ → Bool
   is_strict_from last [] = may_end last
   is_strict_from last (byte ∷ bytes) =
@@ -81,6 +81,6 @@ abbrev mutual
   in_escape (byte ∷ bytes) = if byte == ascii.lower_u then in_string 4 bytes
       else is_some (standard_escape byte) && in_string zero bytes
 
--- the tokens of a text are those of RFC 8259, in places where it may have them
+-- the tokens of a text are those of RFC 8259, where it may have them
 abbrev pub is_strict : List ℕ → Bool
 is_strict text = is_strict_from nothing text

@@ -1,11 +1,11 @@
-//! A text with each number replaced by a zero and spaces: an error of it stands where it does in the text.
+//! A text with each number replaced by a zero and spaces: an error of it is where it is in the text.
 
 ghost use Rattle.std.specs.Prelude.{◌≤◌, length, IfOk};
 
 use crate::word::{is_json_word, word_len};
 use std::alloc::{AllocError, Global};
 
-// Appends a string up to its end, whose first quote stands before the bytes, and returns what stands behind.
+// Appends a string up to its end, whose first quote is before the bytes, and returns what is behind.
 fn copy_string<'a>(bytes: &'a [u8], out: &mut Vec<u8>) -> Result<&'a [u8], AllocError>
     ensures within { IfOk result (λ rest. length rest.now ≤ length bytes.now) }
 {

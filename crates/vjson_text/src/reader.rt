@@ -48,7 +48,7 @@ fn parser_mode(grammar: Grammar) -> Mode
     }
 }
 
-// What to say of a place that no text of RFC 8259 has.
+// What to say of a position that no text of RFC 8259 has.
 fn not_json(alloc: Global, text: &[u8], offset: usize) -> Fault {
     let message = match text.get(offset) {
         None => "the text ends too early",
@@ -59,7 +59,7 @@ fn not_json(alloc: Global, text: &[u8], offset: usize) -> Fault {
     fault_at(alloc, offset, message)
 }
 
-// The fault of a text that isn't one of RFC 8259 at this offset: what the parser says of what stands before, or there.
+// The fault of a text that isn't one of RFC 8259 at this offset: what the parser says of what is before, or there.
 fn json_fault(alloc: Global, text: &[u8], offset: usize) -> Fault {
     let Ok(mask) = masked(alloc, text) else {
         return Fault::NoMemory;
@@ -67,14 +67,14 @@ fn json_fault(alloc: Global, text: &[u8], offset: usize) -> Fault {
     match jsonb::check(alloc, &mask, Mode::Standard) {
         Ok(()) => not_json(alloc, text, offset),
         Err(error) => match fault_of(alloc, &mask, &error) {
-            Fault::At(place, message) if place <= offset => Fault::At(place, message),
+            Fault::At(position, message) if position <= offset => Fault::At(position, message),
             Fault::At(_, _) => not_json(alloc, text, offset),
             Fault::NoMemory => Fault::NoMemory,
         },
     }
 }
 
-// Whether the parser is to read the buffer, which has the text with its numbers written out, in place of the text.
+// Whether the parser is to read the buffer, which has the text with its numbers written out, instead of the text.
 fn prepare(alloc: Global, grammar: Grammar, text: &[u8], plain: &mut Vec<u8>) -> Result<bool, Fault>
     ensures ok { IfOk result (λ written. IsReadAs grammar text.now (read_text written text.now plain.new.items)) }
     ensures rejected { Rejects grammar text.now result }
@@ -116,7 +116,7 @@ fn read_text<'t>(written: bool, text: &'t [u8], plain: &'t [u8]) -> &'t [u8]
 }
 
 // The fault of an error of what the parser read: of the text, or of the text with its numbers written out. Then the
-// error stands where it does in the text with these numbers masked.
+// error is where it is in the text with these numbers masked.
 fn explain(alloc: Global, text: &[u8], written: bool, error: &Error) -> Fault
     ensures memory { error.now ≡ Error.OutOfMemory → result ≡ Fault.NoMemory }
 {
@@ -137,7 +137,7 @@ fn explain(alloc: Global, text: &[u8], written: bool, error: &Error) -> Fault
 ///
 /// # Errors
 ///
-/// `At` with a place where the text isn't one, and `NoMemory`, which says nothing of the text.
+/// `At` with a position where the text isn't one, and `NoMemory`, which says nothing of the text.
 pub fn check(alloc: Global, grammar: Grammar, text: &[u8], plain: &mut Vec<u8>) -> Result<(), Fault>
     ensures ok { OnOk result ((t : Tree) × IsTextOf grammar text.now t) }
     ensures rejected { Rejects grammar text.now result }

@@ -21,7 +21,7 @@ enum Last {
     Value,
 }
 
-// What stands behind the hexadecimal digit that the bytes begin with; `None` where they begin with none.
+// What is behind the hexadecimal digit that the bytes begin with; `None` where they begin with none.
 fn after_digit(bytes: &[u8]) -> Option<&[u8]>
     ensures within { IfSome result (λ rest. length rest.now < length bytes.now) }
     ensures some { IfSome result (λ rest. (due : ℕ) → in_string (suc due) bytes.now ≡ in_string due rest.now) }
@@ -35,7 +35,7 @@ fn after_digit(bytes: &[u8]) -> Option<&[u8]>
     }
 }
 
-// What stands behind the escape whose backslash stands before the bytes; `None` where RFC 8259 has no such escape.
+// What is behind the escape whose backslash is before the bytes; `None` where RFC 8259 has no such escape.
 fn after_escape(bytes: &[u8]) -> Option<&[u8]>
     ensures within { IfSome result (λ rest. length rest.now < length bytes.now) }
     ensures some { IfSome result (λ rest. in_escape bytes.now ≡ in_string 0 rest.now) }
@@ -51,7 +51,7 @@ fn after_escape(bytes: &[u8]) -> Option<&[u8]>
     }
 }
 
-// What stands behind a string whose first quote stands before the bytes, or how many bytes there are from a fault on.
+// What is behind a string whose first quote is before the bytes, or how many bytes there are from a fault on.
 fn after_string(bytes: &[u8]) -> Result<&[u8], usize>
     ensures within { IfOk result (λ rest. length rest.now ≤ length bytes.now) }
     ensures ok { IfOk result (λ rest. in_string 0 bytes.now ≡ is_strict_from value rest.now) }
@@ -80,7 +80,7 @@ fn after_string(bytes: &[u8]) -> Result<&[u8], usize>
     }
 }
 
-/// The offset of a place that no text of RFC 8259 has; `None` where only its tokens stand in places where it may have
+/// The offset of a position that no text of RFC 8259 has; `None` where only its tokens are where it may have
 /// them.
 pub fn strict_fault(text: &[u8]) -> Option<usize>
     ensures none { IfNone result (is_strict text.now ≡ true) }
@@ -92,7 +92,7 @@ pub fn strict_fault(text: &[u8]) -> Option<usize>
     }
 }
 
-// What was read last once a byte of punctuation or whitespace is read, which stands so many bytes before the end; or
+// What was read last once a byte of punctuation or whitespace is read, which is so many bytes before the end; or
 // how many bytes there are from a fault on.
 fn after_mark(last: Last, byte: u8, here: usize) -> Result<Last, usize>
     requires word { is_word_byte byte ≡ false }

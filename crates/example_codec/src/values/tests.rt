@@ -7,17 +7,17 @@ use std::test::Fail;
 fn expect_frames(
     rt: &(impl AllocGlobal + Abort),
     text: &str,
-    told: &[u8],
+    reported: &[u8],
 ) -> Result<(), AllocError> {
     let mut lines = Vec::new(rt.alloc());
     for line in text.lines() {
         lines.push(Vec::from_slice(rt.alloc(), line.as_bytes())?)?;
     }
     match encode_lines(rt.alloc(), &lines) {
-        Ok(got) => assert_eq!(rt; got.as_slice(), told, "frames of {text:?}"),
+        Ok(got) => assert_eq!(rt; got.as_slice(), reported, "frames of {text:?}"),
         Err(error) => {
             let got = format!(in rt.alloc(); "{error}")?;
-            assert_eq!(rt; got.as_bytes(), told, "error of {text:?}");
+            assert_eq!(rt; got.as_bytes(), reported, "error of {text:?}");
         }
     }
     Ok(())
@@ -27,13 +27,13 @@ fn expect_frames(
 fn expect_lines(
     rt: &(impl AllocGlobal + Abort),
     frames: &[u8],
-    told: &str,
+    reported: &str,
 ) -> Result<(), AllocError> {
     match decode_lines(rt.alloc(), frames) {
-        Ok(got) => assert_eq!(rt; got.as_slice(), told.as_bytes(), "lines of {frames:?}"),
+        Ok(got) => assert_eq!(rt; got.as_slice(), reported.as_bytes(), "lines of {frames:?}"),
         Err(error) => {
             let got = format!(in rt.alloc(); "{error}")?;
-            assert_eq!(rt; got.as_str(), told, "error of {frames:?}");
+            assert_eq!(rt; got.as_str(), reported, "error of {frames:?}");
         }
     }
     Ok(())

@@ -4,7 +4,7 @@ use std::process::Abort;
 use std::test::Fail;
 
 // Compares the settings, or what is printed of the error.
-fn expect(rt: &(impl AllocGlobal + Abort), text: &str, told: &str) -> Result<(), AllocError> {
+fn expect(rt: &(impl AllocGlobal + Abort), text: &str, reported: &str) -> Result<(), AllocError> {
     let got = match read_config(rt.alloc(), text.as_bytes()) {
         Ok(config) => {
             let host = config.host.as_str();
@@ -15,13 +15,13 @@ fn expect(rt: &(impl AllocGlobal + Abort), text: &str, told: &str) -> Result<(),
         }
         Err(error) => format!(in rt.alloc(); "{error}")?,
     };
-    assert_eq!(rt; got.as_str(), told, "settings of {text:?}");
+    assert_eq!(rt; got.as_str(), reported, "settings of {text:?}");
     Ok(())
 }
 
 #[test]
 fn missing_settings_have_their_defaults(rt: HostRuntime) -> Result<(), Fail> {
-    for (text, told) in [
+    for (text, reported) in [
         ("{}", "localhost 8080 4 false"),
         ("{port: 0x50, host: 'a.example'}", "a.example 80 4 false"),
         (
@@ -30,14 +30,14 @@ fn missing_settings_have_their_defaults(rt: HostRuntime) -> Result<(), Fail> {
         ),
         ("{port: 65535}", "localhost 65535 4 false"),
     ] {
-        expect(&rt, text, told)?;
+        expect(&rt, text, reported)?;
     }
     Ok(())
 }
 
 #[test]
-fn errors_name_the_place_and_the_key(rt: HostRuntime) -> Result<(), Fail> {
-    for (text, told) in [
+fn errors_name_the_offset_and_the_key(rt: HostRuntime) -> Result<(), Fail> {
+    for (text, reported) in [
         (
             "{\n  host: 'a',\n  port: 65536\n}",
             "line 3, column 7: port isn't an integer from 0 to 65535",
@@ -70,7 +70,7 @@ fn errors_name_the_place_and_the_key(rt: HostRuntime) -> Result<(), Fail> {
         ),
         ("{a: x}", "line 1, column 5: expected value, pos 5"),
     ] {
-        expect(&rt, text, told)?;
+        expect(&rt, text, reported)?;
     }
     Ok(())
 }

@@ -24,7 +24,7 @@ use Rattle.jsonb_spec.specs.Source.{Found, Source, Spot, array_source_of, member
 use Rattle.text_common.proofs.Repeats.{no_repeat}
 use Rattle.jsonb_parse.proofs.Containers.Sources.{array_tree, object_tree}
 use Rattle.jsonb_parse.proofs.Containers.Values.{same_keys}
-use Rattle.jsonb.proofs.Places.Views.{source-Array}
+use Rattle.jsonb.proofs.Offsets.Views.{source-Array}
 use Rattle.jsonb_value.proofs.Trees.MembersInOrder.{IsNew}
 
 -- ---- values in turn

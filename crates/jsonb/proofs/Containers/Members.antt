@@ -8,7 +8,7 @@ use Rattle.jsonb_scan.specs.Parsing.Container.{object_or_fault}
 use Rattle.jsonb_spec.specs.Source.{Found, SpotsAreSorted, Spot, adjacent_repeat, first_repeat, object_source, sort_by, source_members_of, spot_of}
 use Rattle.text_common.proofs.Repeats.{distinct}
 use Rattle.text_common.proofs.Shuffles.{first_repeat-sorted, none_left, shuffle-map, shuffled, sort-ascending, sort-distinct}
-use Rattle.jsonb.proofs.Places.Views.{fuse}
+use Rattle.jsonb.proofs.Offsets.Views.{fuse}
 
 abbrev pub spots : List Written → List Spot
 spots ms = map spot_of (map found_of ms)
@@ -21,7 +21,7 @@ module _ (old new : List Written) (p : IsPermutation old new) (up : SpotsAreSort
   first_is : first_repeat (spots old) ≡ adjacent_repeat (spots new)
   first_is = first_repeat-sorted (spots old) (spots new) (shuffle-map spot_of (shuffle-map found_of (shuffled old new p))) up
 
-  pub repeated : (s : Spot) (rest : List ℕ) → adjacent_repeat (spots new) ≡ Some s → object_or_fault (first_repeat (spots old)) (map found_of old) rest ≡ Err (record { code = object_duplicate_key s.key; place = s.place })
+  pub repeated : (s : Spot) (rest : List ℕ) → adjacent_repeat (spots new) ≡ Some s → object_or_fault (first_repeat (spots old)) (map found_of old) rest ≡ Err (record { code = object_duplicate_key s.key; offset = s.offset })
   repeated s rest e = ap (λ o. object_or_fault o (map found_of old) rest) (first_is ∙ e)
 
   pub not_repeated : (rest : List ℕ) → adjacent_repeat (spots new) ≡ None → object_or_fault (first_repeat (spots old)) (map found_of old) rest ≡ Ok (object_source (source_members_of (map found_of new)), rest)

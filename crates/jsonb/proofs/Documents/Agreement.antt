@@ -16,12 +16,12 @@ use Rattle.jsonb_scan.specs.Parsing.{Fault, ◌>>=◌}
 use Rattle.jsonb_scan.specs.Parsing.Document.{document_of, source_of}
 use Rattle.jsonb_parse.specs.Handler.{IsWritten}
 use Rattle.jsonb.specs.Explained.{IsExplained}
-use Rattle.jsonb_spec.specs.Placed.{IsPlaced}
+use Rattle.jsonb_spec.specs.Located.{IsLocated}
 use Rattle.jsonb.specs.Source.{source_view}
-use Rattle.jsonb.proofs.Places.Placed.{source_placed}
-use Rattle.jsonb.proofs.Places.Views.{tree_of_view}
-use Rattle.jsonb.proofs.Documents.Spellings.{document_unique, rejected_is_none}
-use Rattle.jsonb.proofs.Errors.OfTexts.{document_stands}
+use Rattle.jsonb.proofs.Offsets.Located.{source_located}
+use Rattle.jsonb.proofs.Offsets.Views.{tree_of_view}
+use Rattle.jsonb.proofs.Documents.Encodings.{document_unique, rejected_is_none}
+use Rattle.jsonb.proofs.Errors.OfTexts.{document_holds}
 use Rattle.jsonb_parse.proofs.Containers.Values.{document_sound}
 
 -- ---- what an answer says
@@ -40,19 +40,19 @@ document_built mode bytes t s same e = ap (λ q. q >>= λ s. Ok (tree_of_source 
 pub gives_tree : (mode : Mode) (bytes : List ℕ) (r : Result JsonAst Error) → Gives source_view r (source_of mode bytes) → Gives ast_view r (document_of mode bytes)
 unfolding document_of
 gives_tree mode bytes (Ok v) g = ap (λ q. q >>= λ s. Ok (tree_of_source s)) g ∙ ap (λ t. Ok t) (tree_of_view v)
-gives_tree mode bytes (Err (Syntax code place)) g = ap (λ q. q >>= λ s. Ok (tree_of_source s)) g
+gives_tree mode bytes (Err (Syntax code offset)) g = ap (λ q. q >>= λ s. Ok (tree_of_source s)) g
 gives_tree mode bytes (Err OutOfMemory) g = tt
 gives_tree mode bytes (Err other) g = absurd g
 
--- each value stands where it was parsed
-pub gives_source : (mode : Mode) (bytes : List ℕ) (r : Result JsonAst Error) → Gives source_view r (source_of mode bytes) → IfOk r (λ v. IsPlaced mode bytes (source_view v))
-gives_source mode bytes (Ok v) g = source_placed mode bytes (source_view v) g
+-- each value is where it was parsed
+pub gives_source : (mode : Mode) (bytes : List ℕ) (r : Result JsonAst Error) → Gives source_view r (source_of mode bytes) → IfOk r (λ v. IsLocated mode bytes (source_view v))
+gives_source mode bytes (Ok v) g = source_located mode bytes (source_view v) g
 gives_source mode bytes (Err e) g = tt
 
 -- a text is rejected by a fault or for want of memory
 pub gives_errors : {X Y : Type 0} (view : X → Y) (r : Result X Error) (read : Result Y Fault) → Gives view r read → IfErr r IsTextError
 gives_errors view (Ok x) read g = tt
-gives_errors view (Err (Syntax code place)) read g = tt
+gives_errors view (Err (Syntax code offset)) read g = tt
 gives_errors view (Err OutOfMemory) read g = tt
 gives_errors view (Err other) read g = absurd g
 
@@ -67,13 +67,13 @@ module _ {V : Type 0} (mode : Mode) (view : V → Tree) (bytes : List ℕ) where
 
   gives_rejected : (r : Result V Error) → Gives view r (document_of mode bytes) → IfErr r (λ e. e ≢ OutOfMemory → IsNoDocument mode bytes)
   gives_rejected (Ok v) g = tt
-  gives_rejected (Err (Syntax code place)) g = λ n t d. rejected_is_none mode bytes (record { code = code_of code; place = place }) g t d
+  gives_rejected (Err (Syntax code offset)) g = λ n t d. rejected_is_none mode bytes (record { code = code_of code; offset = offset }) g t d
   gives_rejected (Err OutOfMemory) g = λ n. absurd (n refl)
   gives_rejected (Err other) g = absurd g
 
   gives_explained : (r : Result V Error) → Gives view r (document_of mode bytes) → IfErr r (IsExplained mode bytes)
   gives_explained (Ok v) g = tt
-  gives_explained (Err (Syntax code place)) g = document_stands mode bytes (record { code = code_of code; place = place }) g
+  gives_explained (Err (Syntax code offset)) g = document_holds mode bytes (record { code = code_of code; offset = offset }) g
   gives_explained (Err OutOfMemory) g = tt
   gives_explained (Err other) g = absurd g
 

@@ -13,7 +13,7 @@ use Rattle.jsonb_spec.specs.Text.{has_text, items_have_texts, members_have_texts
 use Rattle.jsonb_spec.specs.Tree.{Tree, array, object, Trees, no_trees, more_trees, Members, no_members, more_members}
 use Rattle.jsonb_value.proofs.Trees.DocumentTexts.{text_of-has_text}
 use Rattle.jsonb_spec.specs.PartAt.{child_at, index_named, part_at}
-use Rattle.jsonb.specs.Appends.{AppendsPart, AppendsPartOf, IsParsed, LacksRoomForPart}
+use Rattle.jsonb.specs.Appends.{AppendsPart, AppendsPartOf, IsParsed, LacksCapacityForPart}
 use Rattle.jsonb.proofs.Documents.Straight.{text_there}
 
 same_tree : (t u : Tree) → Some t ≡ Some u → t ≡ u
@@ -67,13 +67,13 @@ with_text t e = by (has_text t) e
 
 -- memory ran out for the text of a part
 pub part_lacks : (mode : Mode) (text : List ℕ) (t : Tree) (keys : List (List ℕ)) (part : Tree) (r : Result (Unit {0}) Error) (e : Error) (capacity len : ℕ) → IsDocument mode text t → part_at keys t ≡ Some part → r ≡ Err e → IfErr r (λ e. (e ≡ UnexpectedType) ⊎ (e ≡ OutOfMemory)) → IfErr r (λ e. e ≢ OutOfMemory → text_of part ≡ None)
-    → (IsErrOf r OutOfMemory → IfSome (text_of part) (λ bytes. capacity < len + length bytes)) → LacksRoomForPart mode text keys capacity len
+    → (IsErrOf r OutOfMemory → IfSome (text_of part) (λ bytes. capacity < len + length bytes)) → LacksCapacityForPart mode text keys capacity len
 part_lacks mode text t keys part r e capacity len document at is errors rejected full = by_error (subst (λ q. IfErr q (λ e. (e ≡ UnexpectedType) ⊎ (e ≡ OutOfMemory))) is errors)
   where
     whole : text_of part ≡ Some (tree_text part)
     whole = text_of-has_text part (part_has_text keys t part at (with_text t (text_there mode text t document)))
 
-    by_error : (e ≡ UnexpectedType) ⊎ (e ≡ OutOfMemory) → LacksRoomForPart mode text keys capacity len
+    by_error : (e ≡ UnexpectedType) ⊎ (e ≡ OutOfMemory) → LacksCapacityForPart mode text keys capacity len
     by_error (inl other) =
         let none : text_of part ≡ None = subst (λ q. IfErr q (λ e. e ≢ OutOfMemory → text_of part ≡ None)) is rejected (λ same. let f : UnexpectedType ≡ OutOfMemory = sym other ∙ same in cc) in
         let some : text_of part ≡ Some (tree_text part) = whole in

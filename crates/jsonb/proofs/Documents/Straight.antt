@@ -11,10 +11,10 @@ use Rattle.jsonb_spec.specs.Tree.{Tree}
 use Rattle.jsonb_value.proofs.Trees.DocumentTexts.{document_has_text, some_text}
 use Rattle.jsonb_scan.specs.Parsing.Document.{source_of}
 use Rattle.jsonb_spec.specs.Source.{Source, tree_of_source}
-use Rattle.jsonb.specs.Appends.{IsParsed, LacksRoomForText}
+use Rattle.jsonb.specs.Appends.{IsParsed, LacksCapacityForText}
 use Rattle.jsonb_parse.proofs.Containers.Values.{document_sound}
 use Rattle.jsonb.proofs.Documents.Agreement.{document_built}
-use Rattle.jsonb.proofs.Documents.Spellings.{document_unique}
+use Rattle.jsonb.proofs.Documents.Encodings.{document_unique}
 
 -- the only one of a list
 pub same_only : {xs ys : List ℕ} → (xs ∷ []) ≡ (ys ∷ []) → xs ≡ ys
@@ -42,10 +42,10 @@ text_there mode text t d = some_text t (document_has_text mode text t d)
 
 -- memory ran out for the text of a document's tree
 pub text_lacks : (mode : Mode) (text : List ℕ) (t : Tree) (r : Result (Unit {0}) Error) (e : Error) (capacity len : ℕ) → IsDocument mode text t → r ≡ Err e → IfErr r (λ e. (e ≡ UnexpectedType) ⊎ (e ≡ OutOfMemory)) → IfErr r (λ e. e ≢ OutOfMemory → text_of t ≡ None)
-    → (IsErrOf r OutOfMemory → IfSome (text_of t) (λ bytes. capacity < len + length bytes)) → LacksRoomForText mode text capacity len
+    → (IsErrOf r OutOfMemory → IfSome (text_of t) (λ bytes. capacity < len + length bytes)) → LacksCapacityForText mode text capacity len
 text_lacks mode text t r e capacity len document is errors rejected full = by_error (subst (λ q. IfErr q (λ e. (e ≡ UnexpectedType) ⊎ (e ≡ OutOfMemory))) is errors)
   where
-    by_error : (e ≡ UnexpectedType) ⊎ (e ≡ OutOfMemory) → LacksRoomForText mode text capacity len
+    by_error : (e ≡ UnexpectedType) ⊎ (e ≡ OutOfMemory) → LacksCapacityForText mode text capacity len
     by_error (inl other) =
         let none : text_of t ≡ None = subst (λ q. IfErr q (λ e. e ≢ OutOfMemory → text_of t ≡ None)) is rejected (λ same. let f : UnexpectedType ≡ OutOfMemory = sym other ∙ same in cc) in
         let some : text_of t ≡ Some (tree_text t) = text_there mode text t document in

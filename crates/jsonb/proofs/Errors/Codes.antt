@@ -4,14 +4,14 @@ use Rattle.jsonb_spec.specs.Code.{Code}
 use Rattle.jsonb_spec.specs.Code.Code.{depth_limit_exceeded, expected_some_value, invalid_eof, number_not_carried, object_duplicate_key, unexpected_trailing_characters}
 use Rattle.jsonb_scan.specs.Parsing.{Fault, fault, reject, ◌>>=◌}
 
--- the codes of which `Stands` says something
-abbrev pub IsTold : Code → Type 0
-IsTold expected_some_value = Unit {0}
-IsTold unexpected_trailing_characters = Unit {0}
-IsTold number_not_carried = Unit {0}
-IsTold depth_limit_exceeded = Unit {0}
-IsTold (object_duplicate_key k) = Unit {0}
-IsTold other = ⊥
+-- the codes of which `Applies` says something
+abbrev pub IsReported : Code → Type 0
+IsReported expected_some_value = Unit {0}
+IsReported unexpected_trailing_characters = Unit {0}
+IsReported number_not_carried = Unit {0}
+IsReported depth_limit_exceeded = Unit {0}
+IsReported (object_duplicate_key k) = Unit {0}
+IsReported other = ⊥
 
 -- what two equal faults are
 fault_in : {B : Type 0} → Fault → Result B Fault → Fault
@@ -27,9 +27,9 @@ pub bind_err : {A B : Type 0} (r : Result A Fault) (g : A → Result B Fault) (f
 bind_err (Ok x) g f e = inr (x, refl, e)
 bind_err {B = B} (Err d) g f e = let same : d ≡ f = same_err {B = B} d f e in inl (ap (λ (h : Fault). Err h) same)
 
-pub silent_fault : {B : Type 0} (code : Code) (place : ℕ) (f : Fault) → ◌≡◌ {A = Result B Fault} (fault code place) (Err f) → (IsTold code → ⊥) → IsTold f.code → ⊥
-silent_fault {B} code place f e silent told = silent (subst (λ (g : Fault). IsTold g.code) (sym (same_err {B = B} (record { code = code; place = place }) f e)) told)
+pub silent_fault : {B : Type 0} (code : Code) (offset : ℕ) (f : Fault) → ◌≡◌ {A = Result B Fault} (fault code offset) (Err f) → (IsReported code → ⊥) → IsReported f.code → ⊥
+silent_fault {B} code offset f e silent reported = silent (subst (λ (g : Fault). IsReported g.code) (sym (same_err {B = B} (record { code = code; offset = offset }) f e)) reported)
 
-pub silent_rejected : {B : Type 0} (size : ℕ) (code : Code) (step : ℕ) (bytes : List ℕ) (f : Fault) → ◌≡◌ {A = Result B Fault} (reject size code step bytes) (Err f) → (IsTold code → ⊥) → IsTold f.code → ⊥
-silent_rejected {B} size code step [] f e silent told = silent_fault {B = B} invalid_eof size f e (λ n. n) told
-silent_rejected {B} size code step (b ∷ bytes) f e silent told = silent_fault {B = B} code (size - length (b ∷ bytes) + step) f e silent told
+pub silent_rejected : {B : Type 0} (size : ℕ) (code : Code) (step : ℕ) (bytes : List ℕ) (f : Fault) → ◌≡◌ {A = Result B Fault} (reject size code step bytes) (Err f) → (IsReported code → ⊥) → IsReported f.code → ⊥
+silent_rejected {B} size code step [] f e silent reported = silent_fault {B = B} invalid_eof size f e (λ n. n) reported
+silent_rejected {B} size code step (b ∷ bytes) f e silent reported = silent_fault {B = B} code (size - length (b ∷ bytes) + step) f e silent reported

@@ -11,7 +11,7 @@ use Rattle.jsonb_spec.specs.Mode.Mode.{extended, standard}
 use Rattle.jsonb_spec.specs.Grammar.Scalar.{IsNumber, IsQuote, IsScalar, IsUnrepresentable, IsNumberText}
 use Rattle.jsonb_spec.specs.Grammar.Scalar.IsLiteral.{false_word, null_word, true_word}
 use Rattle.jsonb_spec.specs.Grammar.Scalar.IsScalar.{literal_value, number_value, string_value}
-use Rattle.jsonb_spec.specs.Grammar.StringBody.{Item, escaped_byte, meaning, spelling}
+use Rattle.jsonb_spec.specs.Grammar.StringBody.{Item, escaped_byte, meaning, encoding}
 use Rattle.jsonb_spec.specs.Tree.{Mark, plain, Num, Tree}
 use Rattle.jsonb_spec.specs.Tree.Tree.{boolean, null, number, string}
 use Rattle.jsonb_scan.specs.Parsing.{Fault, Parse, begins, fault, fault_at, reject}
@@ -19,37 +19,37 @@ use Rattle.jsonb_scan.specs.Parsing.BareKey.{bare_key_at, key_end, key_to, text_
 use Rattle.jsonb_scan.specs.Parsing.Scalar.{begins_letter, begins_number, false_at, fold_letter, key_at, letters_at, null_at, number_at, number_or_fault, number_value_at, on_single_quote, or_else, quoted_at, scalar_at, true_or_false_at, unquoted_at, word_at, words_at}
 use Rattle.jsonb_scan.specs.Parsing.String.{Body, body_of, checked_unit, string_up_to, string_of_body, escape_at, item_at, items_within, known_escape, meaning_of, non_digit, onto, quote_end, string_at, then_items, unit_at}
 use Rattle.jsonb_scan.proofs.Steps.Tests.{bind_ok, chosen, same_read}
-use Rattle.jsonb.proofs.Errors.Codes.{IsTold, bind_err, same_err, silent_fault, silent_rejected}
+use Rattle.jsonb.proofs.Errors.Codes.{IsReported, bind_err, same_err, silent_fault, silent_rejected}
 use Rattle.jsonb_scan.proofs.Containers.JoinedParts.{on_byte_cases}
 use Rattle.jsonb_scan.proofs.Numbers.Extended.{ExtendedFault, ExtendedUnrepresentable, extended_faults, extended_sound}
 use Rattle.jsonb_scan.proofs.Numbers.Extended.ExtendedFault.{no_text, unrepresentable_text}
 use Rattle.jsonb_scan.proofs.Numbers.ExtendedParts.{extended_is_text}
 use Rattle.jsonb_scan.proofs.Numbers.ExtendedTexts.{IsNumberCode}
-use Rattle.jsonb_parse.proofs.Scalars.Spellings.{IsNumberTree, StartsWord, number_opens, on_letter_cases, quote_is, quoted_starts, scalar-number, scalar_complete, single_cases, word_starts}
+use Rattle.jsonb_parse.proofs.Scalars.Encodings.{IsNumberTree, StartsWord, number_opens, on_letter_cases, quote_is, quoted_starts, scalar-number, scalar_complete, single_cases, word_starts}
 use Rattle.jsonb_scan.proofs.Numbers.Standard.{FaultRead, UnrepresentableRead, number_faults, number_longest, standard_is_text}
 use Rattle.jsonb_scan.proofs.Numbers.Standard.FaultRead.{no_number, not_representable}
 
 -- ---- words, strings and keys are silent
 
-letters_silent : (size : ℕ) (mode : Mode) (word bytes : List ℕ) (f : Fault) → letters_at size mode word bytes ≡ Err f → IsTold f.code → ⊥
-letters_silent size mode [] bytes f e told = absurd cc
-letters_silent size mode (c ∷ cs) bytes f e told =
+letters_silent : (size : ℕ) (mode : Mode) (word bytes : List ℕ) (f : Fault) → letters_at size mode word bytes ≡ Err f → IsReported f.code → ⊥
+letters_silent size mode [] bytes f e reported = absurd cc
+letters_silent size mode (c ∷ cs) bytes f e reported =
     elim (on_letter_cases mode c bytes (letters_at size mode cs) (reject size expected_some_ident 1 bytes) (Err f) e) [
-      | inl t ↦ letters_silent size mode cs t.1 f t.4 told
-      | inr g ↦ silent_rejected {B = List ℕ} size expected_some_ident 1 bytes f g.1 (λ n. n) told
+      | inl t ↦ letters_silent size mode cs t.1 f t.4 reported
+      | inr g ↦ silent_rejected {B = List ℕ} size expected_some_ident 1 bytes f g.1 (λ n. n) reported
     ]
 
-word_silent : (size : ℕ) (mode : Mode) (word : List ℕ) (t : Tree) (bytes : List ℕ) (f : Fault) → word_at size mode word t bytes ≡ Err f → IsTold f.code → ⊥
-word_silent size mode word t bytes f e told =
+word_silent : (size : ℕ) (mode : Mode) (word : List ℕ) (t : Tree) (bytes : List ℕ) (f : Fault) → word_at size mode word t bytes ≡ Err f → IsReported f.code → ⊥
+word_silent size mode word t bytes f e reported =
     elim (bind_err (letters_at size mode word bytes) (λ (r : List ℕ). Ok (t, r)) f e) [
-      | inl h ↦ letters_silent size mode word bytes f h told
+      | inl h ↦ letters_silent size mode word bytes f h reported
       | inr h ↦ absurd (let never : ◌≡◌ {A = Parse Tree} (Ok (t, h.0)) (Err f) = h.2 in cc)
     ]
 
--- The codes of a body's faults are none of those that are told.
+-- The codes of a body's faults are none of those that are reported.
 IsSilentBody : {A : Type 0} → Body A → Type 0
 IsSilentBody (Ok x) = Unit {0}
-IsSilentBody (Err f) = IsTold f.0 → ⊥
+IsSilentBody (Err f) = IsReported f.0 → ⊥
 
 checked_silent : (braces : Bool) (digits : List ℕ) (found : Option ℕ) → IsSilentBody (checked_unit braces digits found)
 unfolding IsSilentBody
@@ -89,10 +89,10 @@ items_silent : (n : ℕ) (mode : Mode) (bytes : List ℕ) → IsSilentBody (item
 unfolding items_within IsSilentBody
 items_silent n mode [] = tt
 items_silent zero mode (b ∷ bytes) = tt
-items_silent (suc n) mode (b ∷ bytes) = then_silent (item_at mode b bytes) (item_silent mode b bytes) (λ x. items_silent n mode (drop (length (spelling x)) (b ∷ bytes)))
+items_silent (suc n) mode (b ∷ bytes) = then_silent (item_at mode b bytes) (item_silent mode b bytes) (λ x. items_silent n mode (drop (length (encoding x)) (b ∷ bytes)))
   where
-    then_silent : (r : Body Item) → IsSilentBody r → ((x : Item) → IsSilentBody (items_within n mode (drop (length (spelling x)) (b ∷ bytes)))) → IsSilentBody (then_items r (λ item. items_within n mode (drop (length (spelling item)) (b ∷ bytes))))
-    then_silent (Ok x) p others = onto_silent x (items_within n mode (drop (length (spelling x)) (b ∷ bytes))) (others x)
+    then_silent : (r : Body Item) → IsSilentBody r → ((x : Item) → IsSilentBody (items_within n mode (drop (length (encoding x)) (b ∷ bytes)))) → IsSilentBody (then_items r (λ item. items_within n mode (drop (length (encoding item)) (b ∷ bytes))))
+    then_silent (Ok x) p others = onto_silent x (items_within n mode (drop (length (encoding x)) (b ∷ bytes))) (others x)
     then_silent (Err f) p others = p
 
 body_silent : (mode : Mode) (bytes : List ℕ) → IsSilentBody (body_of mode bytes)
@@ -103,77 +103,77 @@ body_silent mode bytes = meant_silent (items_within (length bytes) mode bytes) (
     meant_silent (Ok items) p = choice_silent (is_utf8 (meaning items)) _ _ tt (λ n. n)
     meant_silent (Err f) p = p
 
-string_silent : (size : ℕ) (mode : Mode) (quote : ℕ) (bytes : List ℕ) (f : Fault) → string_at size mode quote bytes ≡ Err f → IsTold f.code → ⊥
+string_silent : (size : ℕ) (mode : Mode) (quote : ℕ) (bytes : List ℕ) (f : Fault) → string_at size mode quote bytes ≡ Err f → IsReported f.code → ⊥
 unfolding string_at IsSilentBody
-string_silent size mode quote bytes f e told = by_end (quote_end quote bytes) e
+string_silent size mode quote bytes f e reported = by_end (quote_end quote bytes) e
   where
     by_body : (end : ℕ) (r : Body (Mark × List ℕ)) → IsSilentBody r → string_of_body size bytes end r ≡ Err f → ⊥
     by_body end (Ok x) p h = absurd (let never : ◌≡◌ {A = Parse (Mark × List ℕ)} (Ok (x, drop (end + 1) bytes)) (Err f) = h in cc)
-    by_body end (Err g) p h = silent_fault {B = (Mark × List ℕ) × List ℕ} g.0 (size - length bytes + 1 + g.1) f h p told
+    by_body end (Err g) p h = silent_fault {B = (Mark × List ℕ) × List ℕ} g.0 (size - length bytes + 1 + g.1) f h p reported
 
     by_end : (r : Result ℕ ℕ) → string_up_to size mode bytes r ≡ Err f → ⊥
     by_end (Ok end) h = by_body end (body_of mode (take end bytes)) (body_silent mode (take end bytes)) h
-    by_end (Err at) h = silent_fault {B = (Mark × List ℕ) × List ℕ} invalid_eof (size - length bytes + at) f h (λ n. n) told
+    by_end (Err at) h = silent_fault {B = (Mark × List ℕ) × List ℕ} invalid_eof (size - length bytes + at) f h (λ n. n) reported
 
-bare_silent : (size : ℕ) (bytes : List ℕ) (f : Fault) → bare_key_at size bytes ≡ Err f → IsTold f.code → ⊥
+bare_silent : (size : ℕ) (bytes : List ℕ) (f : Fault) → bare_key_at size bytes ≡ Err f → IsReported f.code → ⊥
 unfolding bare_key_at
-bare_silent size [] f e told = silent_fault {B = (Mark × List ℕ) × List ℕ} invalid_eof size f e (λ n. n) told
-bare_silent size (b ∷ bytes) f e told =
+bare_silent size [] f e reported = silent_fault {B = (Mark × List ℕ) × List ℕ} invalid_eof size f e (λ n. n) reported
+bare_silent size (b ∷ bytes) f e reported =
     elim (chosen (is_ascii_digit b) (fault object_key_invalid_number (size - length (b ∷ bytes) + 1)) (key_to size (b ∷ bytes) (key_end (b ∷ bytes))) (Err f) e) [
-      | inl t ↦ silent_fault {B = (Mark × List ℕ) × List ℕ} object_key_invalid_number (size - length (b ∷ bytes) + 1) f t.1 (λ n. n) told
+      | inl t ↦ silent_fault {B = (Mark × List ℕ) × List ℕ} object_key_invalid_number (size - length (b ∷ bytes) + 1) f t.1 (λ n. n) reported
       | inr g ↦ by_end (key_end (b ∷ bytes)) g.1
     ]
   where
     by_end : (r : Result ℕ ℕ) → key_to size (b ∷ bytes) r ≡ Err f → ⊥
-    by_end (Err at) h = silent_fault {B = (Mark × List ℕ) × List ℕ} invalid_eof (size - length (b ∷ bytes) + at) f h (λ n. n) told
+    by_end (Err at) h = silent_fault {B = (Mark × List ℕ) × List ℕ} invalid_eof (size - length (b ∷ bytes) + at) f h (λ n. n) reported
     by_end (Ok end) h =
         elim (chosen (eqb end 0 || leb 128 (get_or (b ∷ bytes) end 0)) (fault object_key_invalid_character (size - length (b ∷ bytes) + end)) (text_key size (b ∷ bytes) end) (Err f) h) [
-          | inl t ↦ silent_fault {B = (Mark × List ℕ) × List ℕ} object_key_invalid_character (size - length (b ∷ bytes) + end) f t.1 (λ n. n) told
+          | inl t ↦ silent_fault {B = (Mark × List ℕ) × List ℕ} object_key_invalid_character (size - length (b ∷ bytes) + end) f t.1 (λ n. n) reported
           | inr g ↦ elim (chosen (is_utf8 (take end (b ∷ bytes))) (Ok ((plain, take end (b ∷ bytes)), drop end (b ∷ bytes))) (fault invalid_string_value (size - length (b ∷ bytes) + end)) (Err f) g.1) [
             | inl t ↦ absurd (let never : ◌≡◌ {A = Parse (Mark × List ℕ)} (Ok ((plain, take end (b ∷ bytes)), drop end (b ∷ bytes))) (Err f) = t.1 in cc)
-            | inr t ↦ silent_fault {B = (Mark × List ℕ) × List ℕ} invalid_string_value (size - length (b ∷ bytes) + end) f t.1 (λ n. n) told
+            | inr t ↦ silent_fault {B = (Mark × List ℕ) × List ℕ} invalid_string_value (size - length (b ∷ bytes) + end) f t.1 (λ n. n) reported
           ]
         ]
 
-unquoted_silent : (size : ℕ) (mode : Mode) (bytes : List ℕ) (f : Fault) → unquoted_at size mode bytes ≡ Err f → IsTold f.code → ⊥
-unquoted_silent size standard bytes f e told = silent_rejected {B = (Mark × List ℕ) × List ℕ} size expected_some_ident 1 bytes f e (λ n. n) told
-unquoted_silent size extended bytes f e told = bare_silent size bytes f e told
+unquoted_silent : (size : ℕ) (mode : Mode) (bytes : List ℕ) (f : Fault) → unquoted_at size mode bytes ≡ Err f → IsReported f.code → ⊥
+unquoted_silent size standard bytes f e reported = silent_rejected {B = (Mark × List ℕ) × List ℕ} size expected_some_ident 1 bytes f e (λ n. n) reported
+unquoted_silent size extended bytes f e reported = bare_silent size bytes f e reported
 
-pub key_silent : (size : ℕ) (mode : Mode) (bytes : List ℕ) (f : Fault) → key_at size mode bytes ≡ Err f → IsTold f.code → ⊥
+pub key_silent : (size : ℕ) (mode : Mode) (bytes : List ℕ) (f : Fault) → key_at size mode bytes ≡ Err f → IsReported f.code → ⊥
 unfolding key_at
-key_silent size mode bytes f e told =
+key_silent size mode bytes f e reported =
     elim (on_byte_cases 34 bytes (string_at size mode 34) (on_single_quote mode bytes (string_at size mode 39) (unquoted_at size mode bytes)) (Err f) e) [
-      | inl q ↦ string_silent size mode 34 q.0 f q.2 told
+      | inl q ↦ string_silent size mode 34 q.0 f q.2 reported
       | inr d ↦ elim (single_cases mode bytes (string_at size mode 39) (unquoted_at size mode bytes) (Err f) d.1) [
-        | inl q ↦ string_silent size mode 39 q.0 f q.3 told
-        | inr g ↦ unquoted_silent size mode bytes f g.1 told
+        | inl q ↦ string_silent size mode 39 q.0 f q.3 reported
+        | inr g ↦ unquoted_silent size mode bytes f g.1 reported
       ]
     ]
 
 -- ---- what a fault of a scalar says
 
 -- The bytes begin with one that begins no scalar.
-pub record NoScalar (mode : Mode) (size : ℕ) (bytes : List ℕ) (place : ℕ) : Type 0 where
+pub record NoScalar (mode : Mode) (size : ℕ) (bytes : List ℕ) (offset : ℕ) : Type 0 where
   pub byte : ℕ
   pub others : List ℕ
   pub whole : bytes ≡ byte ∷ others
-  pub at_byte : place ≡ size - length bytes + 1
+  pub at_byte : offset ≡ size - length bytes + 1
   pub begins_none : (rest : List ℕ) (t : Tree) → IsScalar mode (byte ∷ rest) t → ⊥
 
--- The bytes begin with a number that no tree carries, and with no longer spelling of a number.
-pub record NotRepresentable (mode : Mode) (size : ℕ) (bytes : List ℕ) (place : ℕ) : Type 0 where
+-- The bytes begin with a number that no tree carries, and with no longer encoding of a number.
+pub record NotRepresentable (mode : Mode) (size : ℕ) (bytes : List ℕ) (offset : ℕ) : Type 0 where
   pub text : List ℕ
   pub others : List ℕ
   pub whole : bytes ≡ text ++ others
   pub is_unrepresentable : IsUnrepresentable mode text
   pub longest : (longer rest : List ℕ) → text ++ others ≡ longer ++ rest → length text < length longer → IsNumberText mode longer → ⊥
-  pub after_text : place ≡ size - length others
+  pub after_text : offset ≡ size - length others
 
 -- what a fault of a scalar says of the bytes
 abbrev pub WrongScalar : Mode → ℕ → List ℕ → Code → ℕ → Type 0
-WrongScalar mode size bytes expected_some_value place = NoScalar mode size bytes place
-WrongScalar mode size bytes number_not_carried place = NotRepresentable mode size bytes place
-WrongScalar mode size bytes other place = ⊥
+WrongScalar mode size bytes expected_some_value offset = NoScalar mode size bytes offset
+WrongScalar mode size bytes number_not_carried offset = NotRepresentable mode size bytes offset
+WrongScalar mode size bytes other offset = ⊥
 
 -- how a scalar begins
 data FirstOf (mode : Mode) (bytes : List ℕ) : Type 0 where
@@ -194,7 +194,7 @@ scalar_first mode bytes t (literal_value (false_word is)) = with_letter 102 (inr
 scalar_first mode bytes t (string_value {quote = quote} {text = text} {mark = mark} is q) = let o = quoted_starts mode quote bytes text mark q in with_quote quote o.0 is o.1
 scalar_first mode bytes t (number_value {n = n} is) = with_number (number_begins mode bytes n is)
 
--- None of what begins a scalar stands at the front of the bytes.
+-- None of what begins a scalar is at the front of the bytes.
 record BeginsNoScalar (mode : Mode) (bytes : List ℕ) : Type 0 where
   pub double : begins 34 bytes ≡ false
   pub single : mode ≡ extended → begins 39 bytes ≡ false
@@ -230,54 +230,54 @@ same_first mode b rest more n =
       number_byte = begins_other mode b more rest ∙ n.number_byte;
     }
 
-no_scalar : (mode : Mode) (size : ℕ) (bytes : List ℕ) (f : Fault) → BeginsNoScalar mode bytes → ◌≡◌ {A = Parse Tree} (reject size expected_some_value 1 bytes) (Err f) → IsTold f.code → WrongScalar mode size bytes f.code f.place
-no_scalar mode size [] f n e told = absurd (silent_fault {B = Tree × List ℕ} invalid_eof size f e (λ x. x) told)
-no_scalar mode size (b ∷ bytes) f n e told =
-    subst (λ (h : Fault). WrongScalar mode size (b ∷ bytes) h.code h.place) (same_err {B = Tree × List ℕ} (fault_at size expected_some_value 1 (b ∷ bytes)) f e)
+no_scalar : (mode : Mode) (size : ℕ) (bytes : List ℕ) (f : Fault) → BeginsNoScalar mode bytes → ◌≡◌ {A = Parse Tree} (reject size expected_some_value 1 bytes) (Err f) → IsReported f.code → WrongScalar mode size bytes f.code f.offset
+no_scalar mode size [] f n e reported = absurd (silent_fault {B = Tree × List ℕ} invalid_eof size f e (λ x. x) reported)
+no_scalar mode size (b ∷ bytes) f n e reported =
+    subst (λ (h : Fault). WrongScalar mode size (b ∷ bytes) h.code h.offset) (same_err {B = Tree × List ℕ} (fault_at size expected_some_value 1 (b ∷ bytes)) f e)
     (record { byte = b; others = bytes; whole = refl; at_byte = refl; begins_none = λ rest u s. not_first mode (b ∷ rest) (same_first mode b bytes rest n) (scalar_first mode (b ∷ rest) u s) })
 
 -- a fault of a number
-number_wrong : (size : ℕ) (mode : Mode) (bytes : List ℕ) (f : Fault) → number_at size mode bytes ≡ Err f → IsTold f.code → WrongScalar mode size bytes f.code f.place
-number_wrong size extended bytes f e told = by_fault (extended_faults size bytes f e)
+number_wrong : (size : ℕ) (mode : Mode) (bytes : List ℕ) (f : Fault) → number_at size mode bytes ≡ Err f → IsReported f.code → WrongScalar mode size bytes f.code f.offset
+number_wrong size extended bytes f e reported = by_fault (extended_faults size bytes f e)
   where
-    wrong : ExtendedUnrepresentable size bytes f.place → NotRepresentable extended size bytes f.place
+    wrong : ExtendedUnrepresentable size bytes f.offset → NotRepresentable extended size bytes f.offset
     wrong u = record {
       text = u.text;
       others = u.rest;
       whole = u.joined;
       is_unrepresentable = u.unrepresentable;
       longest = λ longer rest same more text. u.longest longer rest (u.joined ∙ same) (omega (arith, more, ap length same, length-append u.text u.rest, length-append longer rest)) text;
-      after_text = u.place_is;
+      after_text = u.offset_is;
     }
 
-    silent : (code : Code) → IsNumberCode code → IsTold code → ⊥
-    silent code (inl is) h = subst IsTold is h
-    silent code (inr (inl is)) h = subst IsTold is h
-    silent code (inr (inr is)) h = subst IsTold is h
+    silent : (code : Code) → IsNumberCode code → IsReported code → ⊥
+    silent code (inl is) h = subst IsReported is h
+    silent code (inr (inl is)) h = subst IsReported is h
+    silent code (inr (inr is)) h = subst IsReported is h
 
-    by_fault : ExtendedFault size bytes f → WrongScalar extended size bytes f.code f.place
-    by_fault (unrepresentable_text is u) = subst (λ (c : Code). WrongScalar extended size bytes c f.place) (sym is) (wrong u)
-    by_fault (no_text is none) = absurd (silent f.code is told)
-number_wrong size standard bytes f e told = by_fault (number_faults size bytes f e)
+    by_fault : ExtendedFault size bytes f → WrongScalar extended size bytes f.code f.offset
+    by_fault (unrepresentable_text is u) = subst (λ (c : Code). WrongScalar extended size bytes c f.offset) (sym is) (wrong u)
+    by_fault (no_text is none) = absurd (silent f.code is reported)
+number_wrong size standard bytes f e reported = by_fault (number_faults size bytes f e)
   where
-    wrong : UnrepresentableRead size bytes f.place → NotRepresentable standard size bytes f.place
+    wrong : UnrepresentableRead size bytes f.offset → NotRepresentable standard size bytes f.offset
     wrong u = record {
       text = u.text;
       others = u.rest;
       whole = u.joined;
       is_unrepresentable = u.unrepresentable;
       longest = λ longer rest same more text. u.longest longer rest (u.joined ∙ same) (omega (arith, more, ap length same, length-append u.text u.rest, length-append longer rest)) text;
-      after_text = u.place_is;
+      after_text = u.offset_is;
     }
 
-    by_fault : FaultRead size bytes f → WrongScalar standard size bytes f.code f.place
-    by_fault (not_representable is u) = subst (λ (c : Code). WrongScalar standard size bytes c f.place) (sym is) (wrong u)
-    by_fault (no_number is none) = absurd (subst IsTold is told)
+    by_fault : FaultRead size bytes f → WrongScalar standard size bytes f.code f.offset
+    by_fault (not_representable is u) = subst (λ (c : Code). WrongScalar standard size bytes c f.offset) (sym is) (wrong u)
+    by_fault (no_number is none) = absurd (subst IsReported is reported)
 
-number_value_wrong : (size : ℕ) (mode : Mode) (bytes : List ℕ) (f : Fault) → number_value_at size mode bytes ≡ Err f → IsTold f.code → WrongScalar mode size bytes f.code f.place
-number_value_wrong size mode bytes f e told =
+number_value_wrong : (size : ℕ) (mode : Mode) (bytes : List ℕ) (f : Fault) → number_value_at size mode bytes ≡ Err f → IsReported f.code → WrongScalar mode size bytes f.code f.offset
+number_value_wrong size mode bytes f e reported =
     elim (bind_err (number_at size mode bytes) (λ (x : Num × List ℕ). Ok (number x.0, x.1)) f e) [
-      | inl h ↦ number_wrong size mode bytes f h told
+      | inl h ↦ number_wrong size mode bytes f h reported
       | inr h ↦ absurd (let never : ◌≡◌ {A = Parse Tree} (Ok (number h.0.0, h.0.1)) (Err f) = h.2 in cc)
     ]
 
@@ -285,37 +285,37 @@ or_else_err : {A : Type 0} (r other : Result A Fault) (f : Fault) → or_else r 
 or_else_err {A} (Ok x) other f e = absurd (let never : ◌≡◌ {A = Result A Fault} (Ok x) (Err f) = e in cc)
 or_else_err (Err d) other f e = e
 
-null_wrong : (size : ℕ) (mode : Mode) (bytes : List ℕ) (f : Fault) → null_at size mode bytes ≡ Err f → IsTold f.code → WrongScalar mode size bytes f.code f.place
-null_wrong size standard bytes f e told = absurd (word_silent size standard (codes "null") null bytes f e told)
-null_wrong size extended bytes f e told = number_value_wrong size extended bytes f (or_else_err (word_at size extended (codes "null") null bytes) (number_value_at size extended bytes) f e) told
+null_wrong : (size : ℕ) (mode : Mode) (bytes : List ℕ) (f : Fault) → null_at size mode bytes ≡ Err f → IsReported f.code → WrongScalar mode size bytes f.code f.offset
+null_wrong size standard bytes f e reported = absurd (word_silent size standard (codes "null") null bytes f e reported)
+null_wrong size extended bytes f e reported = number_value_wrong size extended bytes f (or_else_err (word_at size extended (codes "null") null bytes) (number_value_at size extended bytes) f e) reported
 
--- a string's faults are not told of
-quoted_silent : (size : ℕ) (mode : Mode) (quote : ℕ) (bytes : List ℕ) (f : Fault) → quoted_at size mode quote bytes ≡ Err f → IsTold f.code → ⊥
-quoted_silent size mode quote bytes f e told =
+-- a string's faults are not reported
+quoted_silent : (size : ℕ) (mode : Mode) (quote : ℕ) (bytes : List ℕ) (f : Fault) → quoted_at size mode quote bytes ≡ Err f → IsReported f.code → ⊥
+quoted_silent size mode quote bytes f e reported =
     elim (bind_err (string_at size mode quote bytes) (λ (x : (Mark × List ℕ) × List ℕ). Ok (string x.0.0 x.0.1, x.1)) f e) [
-      | inl h ↦ string_silent size mode quote bytes f h told
+      | inl h ↦ string_silent size mode quote bytes f h reported
       | inr h ↦ absurd (let never : ◌≡◌ {A = Parse Tree} (Ok (string h.0.0.0 h.0.0.1, h.0.1)) (Err f) = h.2 in cc)
     ]
 
--- A fault of a scalar says what is wrong with the bytes, if it is told of.
-pub scalar_rejected : (size : ℕ) (mode : Mode) (bytes : List ℕ) (f : Fault) → scalar_at size mode bytes ≡ Err f → IsTold f.code → WrongScalar mode size bytes f.code f.place
+-- A fault of a scalar says what is wrong with the bytes, if it is reported.
+pub scalar_rejected : (size : ℕ) (mode : Mode) (bytes : List ℕ) (f : Fault) → scalar_at size mode bytes ≡ Err f → IsReported f.code → WrongScalar mode size bytes f.code f.offset
 unfolding scalar_at
-scalar_rejected size mode bytes f e told =
+scalar_rejected size mode bytes f e reported =
     elim (on_byte_cases 34 bytes (quoted_at size mode 34) (on_single_quote mode bytes (quoted_at size mode 39) (words_at size mode bytes)) (Err f) e) [
-      | inl q ↦ absurd (quoted_silent size mode 34 q.0 f q.2 told)
+      | inl q ↦ absurd (quoted_silent size mode 34 q.0 f q.2 reported)
       | inr d ↦ elim (single_cases mode bytes (quoted_at size mode 39) (words_at size mode bytes) (Err f) d.1) [
-        | inl q ↦ absurd (quoted_silent size mode 39 q.0 f q.3 told)
+        | inl q ↦ absurd (quoted_silent size mode 39 q.0 f q.3 reported)
         | inr q ↦ elim (chosen (begins_letter mode 110 bytes) (null_at size mode bytes) (true_or_false_at size mode bytes) (Err f) q.1) [
-          | inl w ↦ null_wrong size mode bytes f w.1 told
+          | inl w ↦ null_wrong size mode bytes f w.1 reported
           | inr n ↦ elim (chosen (begins_letter mode 116 bytes) (word_at size mode (codes "true") (boolean true) bytes) (false_at size mode bytes) (Err f) n.1) [
-            | inl w ↦ absurd (word_silent size mode (codes "true") (boolean true) bytes f w.1 told)
+            | inl w ↦ absurd (word_silent size mode (codes "true") (boolean true) bytes f w.1 reported)
             | inr t ↦ elim (chosen (begins_letter mode 102 bytes) (word_at size mode (codes "false") (boolean false) bytes) (number_or_fault size mode bytes) (Err f) t.1) [
-              | inl w ↦ absurd (word_silent size mode (codes "false") (boolean false) bytes f w.1 told)
+              | inl w ↦ absurd (word_silent size mode (codes "false") (boolean false) bytes f w.1 reported)
               | inr g ↦ elim (chosen (begins_number mode bytes) (number_value_at size mode bytes) (reject size expected_some_value 1 bytes) (Err f) g.1) [
-                | inl m ↦ number_value_wrong size mode bytes f m.1 told
+                | inl m ↦ number_value_wrong size mode bytes f m.1 reported
                 | inr m ↦
                     no_scalar mode size bytes f
-                    (record { double = d.0; single = q.0; null_letter = n.0; true_letter = t.0; false_letter = g.0; number_byte = m.0 }) m.1 told
+                    (record { double = d.0; single = q.0; null_letter = n.0; true_letter = t.0; false_letter = g.0; number_byte = m.0 }) m.1 reported
               ]
             ]
           ]
@@ -323,16 +323,16 @@ scalar_rejected size mode bytes f e told =
       ]
     ]
 
--- A fault that is told of has bytes to tell of.
-pub scalar_some : (size : ℕ) (mode : Mode) (bytes : List ℕ) (f : Fault) → scalar_at size mode bytes ≡ Err f → IsTold f.code → 0 < length bytes
+-- A fault that is reported has bytes to speak of.
+pub scalar_some : (size : ℕ) (mode : Mode) (bytes : List ℕ) (f : Fault) → scalar_at size mode bytes ≡ Err f → IsReported f.code → 0 < length bytes
 unfolding scalar_at
-scalar_some size mode (b ∷ bytes) f e told = omega arith
-scalar_some size standard [] f e told = absurd (silent_fault {B = Tree × List ℕ} invalid_eof size f e (λ x. x) told)
-scalar_some size extended [] f e told = absurd (silent_fault {B = Tree × List ℕ} invalid_eof size f e (λ x. x) told)
+scalar_some size mode (b ∷ bytes) f e reported = omega arith
+scalar_some size standard [] f e reported = absurd (silent_fault {B = Tree × List ℕ} invalid_eof size f e (λ x. x) reported)
+scalar_some size extended [] f e reported = absurd (silent_fault {B = Tree × List ℕ} invalid_eof size f e (λ x. x) reported)
 
 -- ---- what is parsed is the longest
 
--- No spelling of a scalar that is no number goes past what is parsed.
+-- No encoding of a scalar that is no number goes past what is parsed.
 other_longest : (size : ℕ) (mode : Mode) (core : List ℕ) (u : Tree) (rest : List ℕ) (t : Tree) (after : List ℕ) → IsScalar mode core u → (IsNumberTree u → ⊥) → scalar_at size mode (core ++ rest) ≡ Ok (t, after) → length after ≤ length rest
 other_longest size mode core u rest t after s other e =
     let same = same_read u t rest after (sym (scalar_complete size mode core u rest s (λ n. absurd (other n))) ∙ e) in
@@ -360,7 +360,7 @@ number_past size mode core n rest t after is e =
         ⊎_elim (λ (longer : length rest < length after). absurd ((extended_sound size (core ++ rest) k middle h).longest core rest refl (omega (arith, longer, ap length same)) (extended_is_text core n is_number)))
         (λ (fits : length after ≤ length rest). fits) (cases_lt (length rest) (length after))
 
--- No spelling of a scalar goes past what is parsed.
+-- No encoding of a scalar goes past what is parsed.
 pub scalar_longest : (size : ℕ) (mode : Mode) (core : List ℕ) (u : Tree) (rest : List ℕ) (t : Tree) (after : List ℕ) → IsScalar mode core u → scalar_at size mode (core ++ rest) ≡ Ok (t, after) → length after ≤ length rest
 scalar_longest size mode core u rest t after (literal_value (null_word is)) e = other_longest size mode core u rest t after (literal_value (null_word is)) (λ n. n) e
 scalar_longest size mode core u rest t after (literal_value (true_word is)) e = other_longest size mode core u rest t after (literal_value (true_word is)) (λ n. n) e

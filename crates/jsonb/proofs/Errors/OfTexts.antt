@@ -19,14 +19,14 @@ use Rattle.jsonb_scan.specs.Parsing.Whitespace.{opens_comment, skip_closed_white
 use Rattle.jsonb_scan.specs.Parsing.Container.{array_at, object_at}
 use Rattle.jsonb_scan.specs.Parsing.Document.{alone_at, at_end, comment_at, document_of, nothing_at, source_from, source_of, too_deep, value_at, value_to_end, value_with}
 use Rattle.jsonb_scan.specs.Parsing.Scalar.{scalar_at}
-use Rattle.jsonb_spec.specs.Errors.{IsFront, Stands, Trails}
+use Rattle.jsonb_spec.specs.Errors.{IsFront, Applies, Trails}
 use Rattle.jsonb_scan.proofs.Steps.Tests.{bind_ok, chosen, same_read}
-use Rattle.jsonb.proofs.Errors.Codes.{IsTold, bind_err, same_err, silent_fault}
+use Rattle.jsonb.proofs.Errors.Codes.{IsReported, bind_err, same_err, silent_fault}
 use Rattle.jsonb_scan.proofs.Containers.JoinedParts.{Ends, Starts, ends-piece, ends_at, on_byte-other, skip-starts, starts-append}
 use Rattle.jsonb.proofs.Errors.Explained.{Wrong, stops_after_whitespace, value_explains}
 use Rattle.jsonb.proofs.Errors.OfScalars.{scalar_longest}
-use Rattle.jsonb_parse.proofs.Scalars.Spellings.{Follows, IsNumberTree, scalar_starts}
-use Rattle.jsonb_parse.proofs.Scalars.Spellings.Follows.{before}
+use Rattle.jsonb_parse.proofs.Scalars.Encodings.{Follows, IsNumberTree, scalar_starts}
+use Rattle.jsonb_parse.proofs.Scalars.Encodings.Follows.{before}
 use Rattle.jsonb_scan.proofs.Text.Whitespace.{last_within, length-pass, length-past, length-skip, pass-pass, passes, skip-piece, skip-whitespace, skip-nil, skip-passed, skip-skip, skips}
 use Rattle.jsonb_parse.proofs.Containers.Values.{value_is_complete, value_sound}
 
@@ -40,10 +40,10 @@ no_piece_at {mode} bytes none piece rest b whole =
     omega (arith, ap length skipped, length-skip mode rest, ap length whole, length-append piece rest, ap length one.whole, length-append piece [])
 
 -- what is wrong where a parser stops, in the whole text
-stands_at : (mode : Mode) (input front rest : List ℕ) (count left : ℕ) (code : Code) (place : ℕ) → input ≡ front ++ rest → count + left ≡ max_depth → IsFront mode front count
-    → Wrong mode left (length input) rest code place → Stands mode input code place
-stands_at mode input front rest count left number_not_carried place whole sum h w =
-    let after_text : place ≡ length front + length w.text = omega (arith, w.after_text, ap length whole, length-append front rest, ap length w.whole, length-append w.text w.others) in
+holds_at : (mode : Mode) (input front rest : List ℕ) (count left : ℕ) (code : Code) (offset : ℕ) → input ≡ front ++ rest → count + left ≡ max_depth → IsFront mode front count
+    → Wrong mode left (length input) rest code offset → Applies mode input code offset
+holds_at mode input front rest count left number_not_carried offset whole sum h w =
+    let after_text : offset ≡ length front + length w.text = omega (arith, w.after_text, ap length whole, length-append front rest, ap length w.whole, length-append w.text w.others) in
     let within : count ≤ max_depth = omega (arith, sum) in
     record {
       front = front;
@@ -57,8 +57,8 @@ stands_at mode input front rest count left number_not_carried place whole sum h 
       longest = w.longest;
       after_text = after_text;
     }
-stands_at mode input front rest count left (object_duplicate_key k) place whole sum h w =
-    let after_key : place ≡ length front + 1 + w.length_upto = omega (arith, w.after_key, ap length whole, length-append front rest) in
+holds_at mode input front rest count left (object_duplicate_key k) offset whole sum h w =
+    let after_key : offset ≡ length front + 1 + w.length_upto = omega (arith, w.after_key, ap length whole, length-append front rest) in
     let within : count < max_depth = omega (arith, sum, w.some_left) in
     record {
       front = front;
@@ -72,8 +72,8 @@ stands_at mode input front rest count left (object_duplicate_key k) place whole 
       repeats = w.repeats;
       after_key = after_key;
     }
-stands_at mode input front rest count left expected_some_value place whole sum h w =
-    let at_byte : place ≡ length front + 1 = omega (arith, w.at_byte, ap length whole, length-append front rest, ap length w.whole) in
+holds_at mode input front rest count left expected_some_value offset whole sum h w =
+    let at_byte : offset ≡ length front + 1 = omega (arith, w.at_byte, ap length whole, length-append front rest, ap length w.whole) in
     let within : count ≤ max_depth = omega (arith, sum) in
     record {
       front = front;
@@ -87,8 +87,8 @@ stands_at mode input front rest count left expected_some_value place whole sum h
       begins_none = w.begins_none;
       no_piece = no_piece_at (w.byte ∷ w.others) (ap (λ (u : List ℕ). skip_whitespace mode u) (sym w.whole) ∙ w.none_skipped ∙ w.whole);
     }
-stands_at mode input front rest count left depth_limit_exceeded place whole sum h w =
-    let at_byte : place ≡ length front + 1 = omega (arith, w.at_byte, ap length whole, length-append front rest, ap length w.whole) in
+holds_at mode input front rest count left depth_limit_exceeded offset whole sum h w =
+    let at_byte : offset ≡ length front + 1 = omega (arith, w.at_byte, ap length whole, length-append front rest, ap length w.whole) in
     let all : count ≡ max_depth = omega (arith, sum, w.none_left) in
     record {
       front = front;
@@ -99,7 +99,7 @@ stands_at mode input front rest count left depth_limit_exceeded place whole sum 
       is_front = subst (λ (n : ℕ). IsFront mode front n) all h;
       opens = w.opens;
     }
-stands_at mode input front rest count left other place whole sum h w = absurd w
+holds_at mode input front rest count left other offset whole sum h w = absurd w
 
 -- ---- after the value
 
@@ -117,7 +117,7 @@ scalar_within size mode arrays objects core u rest t after s e =
     let same = same_read (source_alone b.0.0) t b.0.1 after b.2 in
     omega (arith, scalar_longest size mode core u rest b.0.0 b.0.1 s b.1, ap length same.rest)
 
--- No spelling of a value goes past what is parsed.
+-- No encoding of a value goes past what is parsed.
 value_longest : (size : ℕ) (mode : Mode) (depth : ℕ) (core : List ℕ) (u : Tree) (rest : List ℕ) (t : Source) (after : List ℕ) → Derives mode depth core u
     → value_at size mode depth (core ++ rest) ≡ Ok (t, after) → length after ≤ length rest
 unfolding value_at
@@ -204,7 +204,7 @@ trails mode input t after c others e left end closed =
     ∙ sym (append_assoc front.whitespace (s.core ++ back.whitespace) (c ∷ others)) in
     let at_byte : length input - length (c ∷ others) + 1 ≡ length first + 1 = omega (arith, ap length whole, length-append first (c ∷ others)) in
     let more : length (c ∷ others) < length (skip_whitespace mode input) =
-    subst (λ (w : List ℕ). length (c ∷ others) < length (skip_whitespace mode w)) (sym whole) (value_some mode max_depth s.core back.whitespace (tree_of_source t) (c ∷ others) front.is_whitespace s.spells) in
+    subst (λ (w : List ℕ). length (c ∷ others) < length (skip_whitespace mode w)) (sym whole) (value_some mode max_depth s.core back.whitespace (tree_of_source t) (c ∷ others) front.is_whitespace s.encodes) in
     let stays : skip_whitespace mode (c ∷ others) ≡ c ∷ others = skip-passed mode (c ∷ others) c others (ap (skip_closed_whitespace mode) (sym end) ∙ pass-pass mode after ∙ end) closed in
     record {
       before = first;
@@ -213,77 +213,77 @@ trails mode input t after c others e left end closed =
       whole = whole;
       at_byte = at_byte;
       tree = tree_of_source t;
-      document = value_alone front.is_whitespace s.spells (whitespace_to_end back.is_whitespace);
-      not_piece = λ b. let some : 0 < length (skip_whitespace mode (first ++ [])) = value_some mode max_depth s.core back.whitespace (tree_of_source t) [] front.is_whitespace s.spells in omega (arith, some, ap length (skip-whitespace b []), ap length (skip-nil mode));
+      document = value_alone front.is_whitespace s.encodes (whitespace_to_end back.is_whitespace);
+      not_piece = λ b. let some : 0 < length (skip_whitespace mode (first ++ [])) = value_some mode max_depth s.core back.whitespace (tree_of_source t) [] front.is_whitespace s.encodes in omega (arith, some, ap length (skip-whitespace b []), ap length (skip-nil mode));
       no_piece = no_piece_at (c ∷ others) stays;
       longest = λ longer rest u split long d. document_within mode input first (c ∷ others) longer rest t u after whole more end closed e split long d;
     }
 
 -- ---- whole texts
 
--- a comment that never ends is not told of
-comment_silent : (size : ℕ) (t : Source) (bytes : List ℕ) (f : Fault) → comment_at size t bytes ≡ Err f → IsTold f.code → ⊥
-comment_silent size t bytes f e told =
+-- a comment that never ends is not reported
+comment_silent : (size : ℕ) (t : Source) (bytes : List ℕ) (f : Fault) → comment_at size t bytes ≡ Err f → IsReported f.code → ⊥
+comment_silent size t bytes f e reported =
     elim (chosen (begins 47 bytes) (Ok t) (fault invalid_eof size) (Err f) e) [
       | inl h ↦ let never : ◌≡◌ {A = Result Source Fault} (Ok t) (Err f) = h.1 in cc
-      | inr h ↦ silent_fault {B = Source} invalid_eof size f h.1 (λ n. n) told
+      | inr h ↦ silent_fault {B = Source} invalid_eof size f h.1 (λ n. n) reported
     ]
 
-stands_after : (mode : Mode) (input : List ℕ) (t : Source) (after rest : List ℕ) (f : Fault) → value_at (length input) mode max_depth (skip_whitespace mode input) ≡ Ok (t, after) → 0 < length (skip_whitespace mode input) → skip_closed_whitespace mode after ≡ rest
-    → at_end (length input) mode t rest ≡ Err f → IsTold f.code → Stands mode input f.code f.place
-stands_after mode input t after [] f e left end g told = absurd cc
-stands_after mode input t after (c ∷ others) f e left end g told =
+holds_after : (mode : Mode) (input : List ℕ) (t : Source) (after rest : List ℕ) (f : Fault) → value_at (length input) mode max_depth (skip_whitespace mode input) ≡ Ok (t, after) → 0 < length (skip_whitespace mode input) → skip_closed_whitespace mode after ≡ rest
+    → at_end (length input) mode t rest ≡ Err f → IsReported f.code → Applies mode input f.code f.offset
+holds_after mode input t after [] f e left end g reported = absurd cc
+holds_after mode input t after (c ∷ others) f e left end g reported =
     elim (chosen (opens_comment mode (c ∷ others)) (comment_at (length input) t others) (fault unexpected_trailing_characters (length input - length (c ∷ others) + 1)) (Err f) g) [
-      | inl h ↦ absurd (comment_silent (length input) t others f h.1 told)
+      | inl h ↦ absurd (comment_silent (length input) t others f h.1 reported)
       | inr h ↦
-          let is : record { code = unexpected_trailing_characters; place = length input - length (c ∷ others) + 1 } ≡ f = same_err {B = Source} (record { code = unexpected_trailing_characters; place = length input - length (c ∷ others) + 1 }) f h.1 in
-          subst (λ (d : Fault). Stands mode input d.code d.place) is (trails mode input t after c others e left end h.0)
+          let is : record { code = unexpected_trailing_characters; offset = length input - length (c ∷ others) + 1 } ≡ f = same_err {B = Source} (record { code = unexpected_trailing_characters; offset = length input - length (c ∷ others) + 1 }) f h.1 in
+          subst (λ (d : Fault). Applies mode input d.code d.offset) is (trails mode input t after c others e left end h.0)
     ]
 
-nothing_silent : (mode : Mode) (size : ℕ) (f : Fault) → nothing_at size mode ≡ Err f → IsTold f.code → ⊥
-nothing_silent standard size f e told = silent_fault {B = Source} invalid_eof size f e (λ n. n) told
-nothing_silent extended size f e told = absurd (let never : ◌≡◌ {A = Result Source Fault} (Ok null_source) (Err f) = e in cc)
+nothing_silent : (mode : Mode) (size : ℕ) (f : Fault) → nothing_at size mode ≡ Err f → IsReported f.code → ⊥
+nothing_silent standard size f e reported = silent_fault {B = Source} invalid_eof size f e (λ n. n) reported
+nothing_silent extended size f e reported = absurd (let never : ◌≡◌ {A = Result Source Fault} (Ok null_source) (Err f) = e in cc)
 
-value_told : (mode : Mode) (input : List ℕ) (b : ℕ) (rest : List ℕ) (f : Fault) → skip_whitespace mode input ≡ b ∷ rest → value_to_end (length input) mode (b ∷ rest) ≡ Err f → IsTold f.code → Stands mode input f.code f.place
-value_told mode input b rest f skipped e told =
+value_reported : (mode : Mode) (input : List ℕ) (b : ℕ) (rest : List ℕ) (f : Fault) → skip_whitespace mode input ≡ b ∷ rest → value_to_end (length input) mode (b ∷ rest) ≡ Err f → IsReported f.code → Applies mode input f.code f.offset
+value_reported mode input b rest f skipped e reported =
     elim (bind_err (value_at (length input) mode max_depth (b ∷ rest)) (λ (x : Source × List ℕ). at_end (length input) mode x.0 (skip_closed_whitespace mode x.1)) f e) [
       | inl h ↦
           let within : length (skip_whitespace mode input) ≤ length input = length-skip mode input in
           let s = stops_after_whitespace mode max_depth (length input) input f
-          (value_explains (length input) mode max_depth (skip_whitespace mode input) f within (skip-skip mode input) (ap (λ (w : List ℕ). value_at (length input) mode max_depth w) skipped ∙ h) told) in
-          stands_at mode input s.front s.rest s.count s.left f.code f.place s.whole s.sum s.is_front s.wrong
+          (value_explains (length input) mode max_depth (skip_whitespace mode input) f within (skip-skip mode input) (ap (λ (w : List ℕ). value_at (length input) mode max_depth w) skipped ∙ h) reported) in
+          holds_at mode input s.front s.rest s.count s.left f.code f.offset s.whole s.sum s.is_front s.wrong
       | inr h ↦
           let left : 0 < length (skip_whitespace mode input) = omega (arith, ap length skipped) in
-          stands_after mode input h.0.0 h.0.1 (skip_closed_whitespace mode h.0.1) f (ap (λ (w : List ℕ). value_at (length input) mode max_depth w) skipped ∙ h.1) left refl h.2 told
+          holds_after mode input h.0.0 h.0.1 (skip_closed_whitespace mode h.0.1) f (ap (λ (w : List ℕ). value_at (length input) mode max_depth w) skipped ∙ h.1) left refl h.2 reported
     ]
 
-document_told : (mode : Mode) (input rest : List ℕ) (f : Fault) → skip_closed_whitespace mode input ≡ rest → source_from (length input) mode rest ≡ Err f → IsTold f.code → Stands mode input f.code f.place
-document_told mode input [] f passed e told = absurd (nothing_silent mode (length input) f e told)
-document_told mode input (b ∷ rest) f passed e told =
+document_reported : (mode : Mode) (input rest : List ℕ) (f : Fault) → skip_closed_whitespace mode input ≡ rest → source_from (length input) mode rest ≡ Err f → IsReported f.code → Applies mode input f.code f.offset
+document_reported mode input [] f passed e reported = absurd (nothing_silent mode (length input) f e reported)
+document_reported mode input (b ∷ rest) f passed e reported =
     elim (chosen (opens_comment mode (b ∷ rest)) (comment_at (length input) null_source rest) (value_to_end (length input) mode (b ∷ rest)) (Err f) e) [
-      | inl h ↦ absurd (comment_silent (length input) null_source rest f h.1 told)
-      | inr h ↦ value_told mode input b rest f (skip-passed mode input b rest passed h.0) h.1 told
+      | inl h ↦ absurd (comment_silent (length input) null_source rest f h.1 reported)
+      | inr h ↦ value_reported mode input b rest f (skip-passed mode input b rest passed h.0) h.1 reported
     ]
 
 -- of other codes nothing is said
-untold : (mode : Mode) (input : List ℕ) (code : Code) (place : ℕ) → (IsTold code → Stands mode input code place) → Stands mode input code place
-untold mode input unexpected_trailing_characters place h = h tt
-untold mode input number_not_carried place h = h tt
-untold mode input (object_duplicate_key k) place h = h tt
-untold mode input expected_some_value place h = h tt
-untold mode input depth_limit_exceeded place h = h tt
-untold mode input other place h = tt
+silent_error : (mode : Mode) (input : List ℕ) (code : Code) (offset : ℕ) → (IsReported code → Applies mode input code offset) → Applies mode input code offset
+silent_error mode input unexpected_trailing_characters offset h = h tt
+silent_error mode input number_not_carried offset h = h tt
+silent_error mode input (object_duplicate_key k) offset h = h tt
+silent_error mode input expected_some_value offset h = h tt
+silent_error mode input depth_limit_exceeded offset h = h tt
+silent_error mode input other offset h = tt
 
 -- the tree of the source has its fault
 tree_fault : (r : Result Source Fault) (f : Fault) → (r >>= λ s. Ok (tree_of_source s)) ≡ Err f → r ≡ Err f
 tree_fault (Ok s) f e = absurd (let never : ◌≡◌ {A = Result Tree Fault} (Ok (tree_of_source s)) (Err f) = e in cc)
 tree_fault (Err d) f e = ap (λ (g : Fault). Err g) (same_err {B = Tree} d f e)
 
-source_stands : (mode : Mode) (input : List ℕ) (f : Fault) → source_of mode input ≡ Err f → Stands mode input f.code f.place
+source_holds : (mode : Mode) (input : List ℕ) (f : Fault) → source_of mode input ≡ Err f → Applies mode input f.code f.offset
 unfolding source_of
-source_stands mode input f e = untold mode input f.code f.place (λ told. document_told mode input (skip_closed_whitespace mode input) f refl e told)
+source_holds mode input f e = silent_error mode input f.code f.offset (λ reported. document_reported mode input (skip_closed_whitespace mode input) f refl e reported)
 
 -- What the fault of a text says of it.
-pub document_stands : (mode : Mode) (input : List ℕ) (f : Fault) → document_of mode input ≡ Err f → Stands mode input f.code f.place
+pub document_holds : (mode : Mode) (input : List ℕ) (f : Fault) → document_of mode input ≡ Err f → Applies mode input f.code f.offset
 unfolding document_of
-document_stands mode input f e = source_stands mode input f (tree_fault (source_of mode input) f e)
+document_holds mode input f e = source_holds mode input f (tree_fault (source_of mode input) f e)

@@ -2,7 +2,7 @@
 ghost use Rattle.std.specs.Prelude.{◌≡◌, ◌<◌, IfOk, Err};
 ghost use Rattle.jsonb.specs.AstView.{ast_view};
 ghost use Rattle.jsonb_scan.specs.Answer.{mode_of};
-ghost use Rattle.jsonb_spec.specs.Placed.{IsPlaced};
+ghost use Rattle.jsonb_spec.specs.Located.{IsLocated};
 ghost use Rattle.jsonb.specs.Follows.{FollowsSpecification};
 ghost use Rattle.jsonb.specs.Parses.{Parses};
 ghost use Rattle.jsonb.specs.Source.{source_view};
@@ -51,13 +51,13 @@ impl<'a> JsonAst<'a> {
         ensures parses { Parses (mode_of mode) ast_view buf.now result }
         ensures follows { FollowsSpecification (mode_of mode) ast_view buf.now result }
 
-        // Each value stands in the text where it was parsed. Each object's keys ascend, and each member's own key ends
+        // Each value is in the text where it was parsed. Each object's keys ascend, and each member's own key ends
         // at its index.
-        ensures source { IfOk result (λ v. IsPlaced (mode_of mode) buf.now (source_view v)) }
+        ensures source { IfOk result (λ v. IsLocated (mode_of mode) buf.now (source_view v)) }
     {
         match parse_text::<JsonAst>(&mut (), alloc, buf, mode) {
             Ok(tree) => Ok(tree),
-            Err(told) => match told {
+            Err(reported) => match reported {
                 Some(error) => Err(error),
                 None => unreachable!(),
             },

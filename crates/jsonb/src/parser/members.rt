@@ -31,7 +31,7 @@ fn sort_members(members: &mut Vec<Member>)
     members.sort_unstable_by(member_cmp);
 }
 
-// Puts the members in the order of their keys, and tells a key that comes twice.
+// Puts the members in the order of their keys, and reports a key that comes twice.
 pub(super) fn settle_members(alloc: Global, members: &mut Vec<Member>) -> Result<()>
     ensures parses { (rest : List ℕ) → Gives
         (λ _. (object_source (source_members_of (map found_of members.new.items)), rest)) result

@@ -2,7 +2,7 @@
 ghost use Rattle.std.specs.Prelude.{◌≡◌, ◌⊎◌, map, string_bytes, vec_len, IfOk, OnErr, Err};
 ghost use Rattle.std.specs.Vec.{vec_capacity};
 ghost use Rattle.jsonb_scan.specs.Answer.{mode_of, MayAllocate};
-ghost use Rattle.jsonb.specs.Appends.{AppendsPartOf, LacksRoomForPart};
+ghost use Rattle.jsonb.specs.Appends.{AppendsPartOf, LacksCapacityForPart};
 ghost use Rattle.jsonb.specs.Follows.{FailsAsSpecified};
 ghost use Rattle.jsonb.specs.Parses.{Rejects};
 
@@ -13,12 +13,12 @@ use crate::part::part_at;
 use jsonb_parse::parse_text;
 use jsonb_value::error::{Error, Result};
 use jsonb_value::value::Value;
-use jsonb_write::part::PartRoom;
+use jsonb_write::part::PartSink;
 use std::alloc::Global;
 
 /// Parses a whole text, and appends the serialized form of a part of its value: the member with the first key of the
 /// path, or the item whose index the key is in decimal digits, in it what the second key leads to, and so on. False
-/// where nothing stands there; then, and after an error, `buf` has the same bytes as before. No value is made.
+/// where nothing is there; then, and after an error, `buf` has the same bytes as before. No value is made.
 ///
 /// The time is that of [`append_text`], and so is the memory, but for the part.
 ///
@@ -45,9 +45,9 @@ pub fn append_part(
     ensures ok { IfOk result (AppendsPartOf (mode_of mode) text.now (map string_bytes path.now) buf.old.items
         buf.new.items) }
     ensures err { OnErr result (buf.new.items ≡ buf.old.items) }
-    // Memory runs out only where the text may take some, or where the room for all that is appended is missing.
+    // Memory runs out only where the text may take some, or where the space for all that is appended is missing.
     ensures memory { result ≡ Err Error.OutOfMemory → MayAllocate text.now
-        ⊎ LacksRoomForPart (mode_of mode) text.now (map string_bytes path.now) (vec_capacity buf.old)
+        ⊎ LacksCapacityForPart (mode_of mode) text.now (map string_bytes path.now) (vec_capacity buf.old)
         (vec_len buf.old) }
 
     // An error is that of the parsers.
@@ -57,9 +57,9 @@ pub fn append_part(
     if !may_allocate(text) {
         return append_part_of_value(alloc, text, mode, path, buf);
     }
-    let mut room = PartRoom::new(alloc, text, path);
-    match parse_text::<SinkPart<PartRoom>>(&mut room, alloc, text, mode) {
-        Ok(_) => match room.into_part() {
+    let mut sink = PartSink::new(alloc, text, path);
+    match parse_text::<SinkPart<PartSink>>(&mut sink, alloc, text, mode) {
+        Ok(_) => match sink.into_part() {
             Some(part) => {
                 if buf.extend_from_slice(&part).is_err() {
                     return Err(Error::OutOfMemory);
@@ -68,7 +68,7 @@ pub fn append_part(
             }
             None => Ok(false),
         },
-        Err(told) => match told {
+        Err(reported) => match reported {
             Some(error) => Err(error),
             None => append_part_of_value(alloc, text, mode, path, buf),
         },
@@ -76,7 +76,7 @@ pub fn append_part(
 }
 
 // Appends the serialized form of a part of a text's value, which is made first. Scalars without escapes go this way, of
-// which it takes no memory but the room that `buf` lacks. So do texts where an object holds most of the text at many
+// which it takes no memory but the space that `buf` lacks. So do texts where an object holds most of the text at many
 // levels, and its members are out of order at each: there it takes less time.
 #[cold]
 #[inline(never)]
@@ -91,7 +91,7 @@ fn append_part_of_value(
         buf.new.items) }
     ensures err { OnErr result (buf.new.items ≡ buf.old.items) }
     ensures memory { result ≡ Err Error.OutOfMemory → MayAllocate text.now
-        ⊎ LacksRoomForPart (mode_of mode) text.now (map string_bytes path.now) (vec_capacity buf.old)
+        ⊎ LacksCapacityForPart (mode_of mode) text.now (map string_bytes path.now) (vec_capacity buf.old)
         (vec_len buf.old) }
     ensures rejects { Rejects (mode_of mode) text.now result }
     ensures follows { FailsAsSpecified (mode_of mode) text.now result }

@@ -3,7 +3,7 @@ ghost use Rattle.std.specs.Prelude.{◌≡◌, MatchBool, OnOk, Err};
 ghost use Rattle.jsonb_spec.specs.Tree.{Tree};
 ghost use Rattle.jsonb_value.specs.View.{view};
 ghost use Rattle.jsonb_scan.specs.Answer.{mode_of, MayAllocate};
-ghost use Rattle.jsonb.specs.Appends.{AppendsKeyOf, AppendsTextOf, IsParsed, LacksRoomForKey, LacksRoomForText};
+ghost use Rattle.jsonb.specs.Appends.{AppendsKeyOf, AppendsTextOf, IsParsed, LacksCapacityForKey, LacksCapacityForText};
 ghost use Rattle.jsonb.specs.Follows.{FailsAsSpecified, FollowsSpecification};
 ghost use Rattle.jsonb.specs.Parses.{AppendsParsed, Parses, Rejects};
 
@@ -12,9 +12,9 @@ use super::{Mode, parse_value, parse_value_standard_mode};
 use jsonb_parse::parse_text;
 use jsonb_value::error::{Error, Result};
 use jsonb_value::value::Value;
-use jsonb_write::check::CheckRoom;
-use jsonb_write::key::KeyRoom;
-use jsonb_write::text::TextRoom;
+use jsonb_write::check::CheckSink;
+use jsonb_write::key::KeySink;
+use jsonb_write::text::TextSink;
 use memchr::memchr3;
 use std::alloc::Global;
 use std::mem;
@@ -57,11 +57,11 @@ pub fn check(alloc: Global, text: &[u8], mode: Mode) -> Result<()>
     ensures rejects { Rejects (mode_of mode) text.now result }
     ensures follows { FailsAsSpecified (mode_of mode) text.now result }
 {
-    let mut room = CheckRoom::new(alloc, text);
-    let read = parse_text::<CheckedPart>(&mut room, alloc, text, mode);
+    let mut sink = CheckSink::new(alloc, text);
+    let read = parse_text::<CheckedPart>(&mut sink, alloc, text, mode);
     match read {
         Ok(_) => Ok(()),
-        Err(told) => match told {
+        Err(reported) => match reported {
             Some(error) => Err(error),
             None => unreachable!(),
         },
@@ -74,7 +74,7 @@ pub fn check(alloc: Global, text: &[u8], mode: Mode) -> Result<()>
 /// The time is linear in the text, and sorting the n members of an object takes n log n comparisons of keys. Besides
 /// the growth of `buf` it allocates an entry for each member of the objects that are open, a copy of an object that is
 /// out of order, and keys with escapes; and strings with escapes where the text isn't UTF-8. Machine stack doesn't grow
-/// with the depth of the text, but where objects out of order stand around most of it at more than eight levels: then a
+/// with the depth of the text, but where objects out of order are around most of it at more than eight levels: then a
 /// value is made after all.
 ///
 /// ```
@@ -90,7 +90,7 @@ pub fn check(alloc: Global, text: &[u8], mode: Mode) -> Result<()>
 pub fn append_text(alloc: Global, text: &[u8], mode: Mode, buf: &mut Vec<u8>) -> Result<()>
     // What is appended is of the one tree of the document. After an error the buffer has its old bytes.
     ensures appends { AppendsParsed (AppendsTextOf (mode_of mode) text.now)
-        (LacksRoomForText (mode_of mode) text.now) text.now result buf.old buf.new }
+        (LacksCapacityForText (mode_of mode) text.now) text.now result buf.old buf.new }
 
     // An error is that of the parsers.
     ensures rejects { Rejects (mode_of mode) text.now result }
@@ -100,20 +100,20 @@ pub fn append_text(alloc: Global, text: &[u8], mode: Mode, buf: &mut Vec<u8>) ->
         return append_text_of_value(alloc, text, mode, buf);
     }
     let out = mem::replace(buf, Vec::new(alloc));
-    let mut room = TextRoom::new(alloc, text, out);
-    let read = parse_text::<SinkPart<TextRoom>>(&mut room, alloc, text, mode);
+    let mut sink = TextSink::new(alloc, text, out);
+    let read = parse_text::<SinkPart<TextSink>>(&mut sink, alloc, text, mode);
     match read {
         Ok(_) => {
-            if room.finish().is_err() {
-                *buf = room.take_back();
+            if sink.finish().is_err() {
+                *buf = sink.take_back();
                 return Err(Error::OutOfMemory);
             }
-            *buf = room.into_buffer();
+            *buf = sink.into_buffer();
             Ok(())
         }
-        Err(told) => {
-            *buf = room.take_back();
-            match told {
+        Err(reported) => {
+            *buf = sink.take_back();
+            match reported {
                 Some(error) => Err(error),
                 None => append_text_of_value(alloc, text, mode, buf),
             }
@@ -127,7 +127,7 @@ pub fn append_text(alloc: Global, text: &[u8], mode: Mode, buf: &mut Vec<u8>) ->
 /// The time is linear in the text, and sorting the n members of an object takes n log n comparisons of keys. Besides
 /// the growth of `buf` it allocates an entry for each member of the objects that are open, a copy of an object that is
 /// out of order, and keys with escapes; and strings with escapes where they mean a zero or the text isn't UTF-8.
-/// Machine stack doesn't grow with the depth of the text, but where objects out of order stand around most of it at
+/// Machine stack doesn't grow with the depth of the text, but where objects out of order are around most of it at
 /// more than eight levels: then a value is made after all.
 ///
 /// ```
@@ -143,7 +143,7 @@ pub fn append_text(alloc: Global, text: &[u8], mode: Mode, buf: &mut Vec<u8>) ->
 pub fn append_sort_key(alloc: Global, text: &[u8], mode: Mode, buf: &mut Vec<u8>) -> Result<()>
     // What is appended is of the one tree of the document. After an error the buffer has its old bytes.
     ensures appends { AppendsParsed (AppendsKeyOf (mode_of mode) text.now)
-        (LacksRoomForKey (mode_of mode) text.now) text.now result buf.old buf.new }
+        (LacksCapacityForKey (mode_of mode) text.now) text.now result buf.old buf.new }
 
     // An error is that of the parsers.
     ensures rejects { Rejects (mode_of mode) text.now result }
@@ -153,20 +153,20 @@ pub fn append_sort_key(alloc: Global, text: &[u8], mode: Mode, buf: &mut Vec<u8>
         return append_sort_key_of_value(alloc, text, mode, buf);
     }
     let out = mem::replace(buf, Vec::new(alloc));
-    let mut room = KeyRoom::new(alloc, text, out);
-    let read = parse_text::<SinkPart<KeyRoom>>(&mut room, alloc, text, mode);
+    let mut sink = KeySink::new(alloc, text, out);
+    let read = parse_text::<SinkPart<KeySink>>(&mut sink, alloc, text, mode);
     match read {
         Ok(_) => {
-            if room.finish().is_err() {
-                *buf = room.take_back();
+            if sink.finish().is_err() {
+                *buf = sink.take_back();
                 return Err(Error::OutOfMemory);
             }
-            *buf = room.into_buffer();
+            *buf = sink.into_buffer();
             Ok(())
         }
-        Err(told) => {
-            *buf = room.take_back();
-            match told {
+        Err(reported) => {
+            *buf = sink.take_back();
+            match reported {
                 Some(error) => Err(error),
                 None => append_sort_key_of_value(alloc, text, mode, buf),
             }
@@ -186,13 +186,13 @@ pub(super) fn value_of(alloc: Global, text: &[u8], mode: Mode) -> Result<Value<'
 }
 
 // Appends the serialized form of a text's value, which is made first. Scalars without escapes go this way, of which it
-// takes no memory but the room that `buf` lacks. So do texts where an object holds most of the text at many levels, and
-// its members are out of order at each: there it takes less time.
+// takes no memory but the space that `buf` lacks. So do texts where an object holds most of the text at many levels,
+// and its members are out of order at each: there it takes less time.
 #[cold]
 #[inline(never)]
 fn append_text_of_value(alloc: Global, text: &[u8], mode: Mode, buf: &mut Vec<u8>) -> Result<()>
     ensures appends { AppendsParsed (AppendsTextOf (mode_of mode) text.now)
-        (LacksRoomForText (mode_of mode) text.now) text.now result buf.old buf.new }
+        (LacksCapacityForText (mode_of mode) text.now) text.now result buf.old buf.new }
     ensures rejects { Rejects (mode_of mode) text.now result }
     ensures follows { FailsAsSpecified (mode_of mode) text.now result }
 {
@@ -206,13 +206,13 @@ fn append_text_of_value(alloc: Global, text: &[u8], mode: Mode, buf: &mut Vec<u8
 }
 
 // Appends the sort key of a text's value, which is made first. Scalars without escapes go this way, of which it takes
-// no memory but the room that `buf` lacks. So do texts where an object holds most of the text at many levels, and its
+// no memory but the space that `buf` lacks. So do texts where an object holds most of the text at many levels, and its
 // members are out of order at each: there it takes less time.
 #[cold]
 #[inline(never)]
 fn append_sort_key_of_value(alloc: Global, text: &[u8], mode: Mode, buf: &mut Vec<u8>) -> Result<()>
     ensures appends { AppendsParsed (AppendsKeyOf (mode_of mode) text.now)
-        (LacksRoomForKey (mode_of mode) text.now) text.now result buf.old buf.new }
+        (LacksCapacityForKey (mode_of mode) text.now) text.now result buf.old buf.new }
     ensures rejects { Rejects (mode_of mode) text.now result }
     ensures follows { FailsAsSpecified (mode_of mode) text.now result }
 {

@@ -1,7 +1,7 @@
 use Rattle.std.proofs.Common.{rules, ◌⊎◌, ℕ, List, [], ◌∷◌, ◌++◌, IfSome, inl, inr, map, string_bytes, refl, subst, sym}
 use Rattle.std.proofs.lemmas.Result.{IfOk-weaker}
 use Rattle.jsonb_scan.specs.Answer.{MayAllocate}
-use Rattle.jsonb_path.specs.Path.{IsPath, StartsKey, spelled_key, spelled_keys}
+use Rattle.jsonb_path.specs.Path.{IsPath, StartsKey, encoded_key, encoded_keys}
 use Rattle.jsonb_c.specs.Interface.{IsAccepted, HasPartAt}
 use Rattle.jsonb_c.proofs.part_of.Goals as goal
 
@@ -10,7 +10,7 @@ wanted : (number : ℕ) (path text : List ℕ) (keys : List (List ℕ)) → IsPa
     → MayAllocate text ⊎ (IsAccepted number text × StartsKey path) ⊎ HasPartAt number path text
 wanted number path text keys is_path (inl may) = inl may
 wanted number path text [] is_path (inr accepted) = inr (inr (record { tree = accepted.tree; read = accepted.read; keys = []; is_path = is_path; part = accepted.tree; at = refl }))
-wanted number path text (key ∷ keys) is_path (inr accepted) = inr (inl (accepted, (spelled_key key ++ spelled_keys keys, is_path.spelled)))
+wanted number path text (key ∷ keys) is_path (inr accepted) = inr (inl (accepted, (encoded_key key ++ encoded_keys keys, is_path.encoded)))
 
 pub returns-in-Ok-Some-clause-part : goal.returns-in-Ok-Some-clause-part
 returns-in-Ok-Some-clause-part c =

@@ -1,7 +1,7 @@
 use Rattle.std.proofs.Common.{◌++◌, ◌⊎◌, inl, inr, ap, ◌∙◌}
 use Rattle.std.specs.Vec.{vec_capacity, vec_len}
 use Rattle.jsonb_spec.specs.SortKey.{key_of}
-use Rattle.jsonb.specs.Appends.{LacksRoomForKey}
+use Rattle.jsonb.specs.Appends.{LacksCapacityForKey}
 use Rattle.jsonb_scan.specs.Answer.{MayAllocate, mode_of}
 use Rattle.jsonb_c.proofs.Keys.{key_is}
 use Rattle.jsonb_c.proofs.Reasons.{memory_said, reason_says}
@@ -22,6 +22,6 @@ returns-in-Err-clause-fails c = record {
       by_memory (c.in-Err.ensures.appends.memory (memory_said c.args.which c.in-Err.error c.reason_of.result c.reason_of.ensures is));
 }
   where
-    by_memory : MayAllocate c.args.text.now ⊎ LacksRoomForKey (mode_of c.in-Some.mode) c.args.text.now (vec_capacity c.buffer_of-bytes.result) (vec_len c.buffer_of-bytes.result) → MayAllocate c.args.text.now ⊎ IsAccepted c.args.mode c.args.text.now
+    by_memory : MayAllocate c.args.text.now ⊎ LacksCapacityForKey (mode_of c.in-Some.mode) c.args.text.now (vec_capacity c.buffer_of-bytes.result) (vec_len c.buffer_of-bytes.result) → MayAllocate c.args.text.now ⊎ IsAccepted c.args.mode c.args.text.now
     by_memory (inl may) = inl may
     by_memory (inr lacks) = inr (document_accepted c.args.mode c.args.text.now lacks.tree c.in-Some.ensures lacks.document)

@@ -1,6 +1,6 @@
 use Rattle.std.proofs.Common.{◌⊎◌, inl, inr}
 use Rattle.std.specs.Vec.{vec_capacity, vec_len}
-use Rattle.jsonb.specs.Appends.{LacksRoomForText}
+use Rattle.jsonb.specs.Appends.{LacksCapacityForText}
 use Rattle.jsonb_scan.specs.Answer.{MayAllocate, mode_of}
 use Rattle.jsonb_c.proofs.Reasons.{memory_said, reason_says}
 use Rattle.jsonb_c.proofs.Texts.{document_accepted, parsed_accepted, text_is}
@@ -20,6 +20,6 @@ returns-in-Err-clause-fails c = record {
       by_memory (c.in-Err.ensures.appends.memory (memory_said 1 c.in-Err.error c.reason_of.result c.reason_of.ensures is));
 }
   where
-    by_memory : MayAllocate c.args.text.now ⊎ LacksRoomForText (mode_of c.in-Some.mode) c.args.text.now (vec_capacity c.buffer_of-bytes.result) (vec_len c.buffer_of-bytes.result) → MayAllocate c.args.text.now ⊎ IsAccepted c.args.mode c.args.text.now
+    by_memory : MayAllocate c.args.text.now ⊎ LacksCapacityForText (mode_of c.in-Some.mode) c.args.text.now (vec_capacity c.buffer_of-bytes.result) (vec_len c.buffer_of-bytes.result) → MayAllocate c.args.text.now ⊎ IsAccepted c.args.mode c.args.text.now
     by_memory (inl may) = inl may
     by_memory (inr lacks) = inr (document_accepted c.args.mode c.args.text.now lacks.tree c.in-Some.ensures lacks.document)

@@ -8,7 +8,7 @@ use Rattle.jsonb_c.proofs.vizhoniku_compare.Goals as goal
 
 pub returns-in-Err-clause-accepted : goal.returns-in-Err-clause-accepted
 returns-in-Err-clause-accepted c = λ first second.
-    inr (c.tell.ensures.status ∙ memory_wanting_of_two c.args.mode c.args.left.now c.args.right.now c.in-Err.rejected c.in-Err.ensures.orders.reason first second)
+    inr (c.report.ensures.status ∙ memory_wanting_of_two c.args.mode c.args.left.now c.args.right.now c.in-Err.rejected c.in-Err.ensures.orders.reason first second)
 
 pub returns-in-Ok-clause-keys : goal.returns-in-Ok-clause-keys
 returns-in-Ok-clause-keys c accepted key other k l =

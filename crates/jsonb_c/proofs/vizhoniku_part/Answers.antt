@@ -15,12 +15,12 @@ returns-in-Ok-Nothing-clause-accepted c = λ has.
 
 pub returns-in-Err-clause-accepted : goal.returns-in-Err-clause-accepted
 returns-in-Err-clause-accepted c = λ has.
-    inr (inr (c.tell.ensures.status ∙ memory_wanting c.args.mode c.args.text.now c.in-Err.rejected c.in-Err.ensures.fails.reason (has_accepted c.args.mode c.args.path.now c.args.text.now has)))
+    inr (inr (c.report.ensures.status ∙ memory_wanting c.args.mode c.args.text.now c.in-Err.rejected c.in-Err.ensures.fails.reason (has_accepted c.args.mode c.args.path.now c.args.text.now has)))
 
 pub returns-in-Err-clause-nothing_there : goal.returns-in-Err-clause-nothing_there
 returns-in-Err-clause-nothing_there c = λ lacks.
-    inr (c.tell.ensures.status ∙ memory_wanting c.args.mode c.args.text.now c.in-Err.rejected c.in-Err.ensures.fails.reason (lacks_accepted c.args.mode c.args.path.now c.args.text.now lacks))
+    inr (c.report.ensures.status ∙ memory_wanting c.args.mode c.args.text.now c.in-Err.rejected c.in-Err.ensures.fails.reason (lacks_accepted c.args.mode c.args.path.now c.args.text.now lacks))
 
 pub returns-in-Err-clause-wrong_path : goal.returns-in-Err-clause-wrong_path
 returns-in-Err-clause-wrong_path c = λ accepted none.
-    inr (c.tell.ensures.status ∙ memory_wanting c.args.mode c.args.text.now c.in-Err.rejected c.in-Err.ensures.fails.reason accepted)
+    inr (c.report.ensures.status ∙ memory_wanting c.args.mode c.args.text.now c.in-Err.rejected c.in-Err.ensures.fails.reason accepted)

@@ -7,6 +7,6 @@ returns-in-Err-clause-status c = record {
   known = search rules;
   mode = search rules;
   accepted = λ accepted.
-      inr (inr (c.tell.ensures.status ∙ memory_wanting c.args.mode c.args.text.now c.in-Err.rejected c.in-Err.ensures.fails.reason accepted));
+      inr (inr (c.report.ensures.status ∙ memory_wanting c.args.mode c.args.text.now c.in-Err.rejected c.in-Err.ensures.fails.reason accepted));
   memory = search rules;
 }

@@ -44,13 +44,13 @@ impl Read for Slow<'_> {
 #[derive(Drop)]
 struct Endless {
     reads: u64,
-    least_room: usize,
+    least_capacity: usize,
 }
 
 impl Read for Endless {
     fn read(&mut self, buf: &mut [u8]) -> io::Result<usize> {
         self.reads = self.reads.saturating_add(1);
-        self.least_room = self.least_room.min(buf.len());
+        self.least_capacity = self.least_capacity.min(buf.len());
         if buf.is_empty() {
             return Ok(0);
         }
@@ -59,7 +59,7 @@ impl Read for Endless {
     }
 }
 
-// Gives so many spaces, one at each read, and then tells its end.
+// Gives so many spaces, one at each read, and then says its end.
 #[derive(Drop)]
 struct Whitespace {
     left: u32,
@@ -76,7 +76,7 @@ impl Read for Whitespace {
     }
 }
 
-// Takes so many bytes and keeps them, and then fails.
+// Takes so many bytes and holds them, and then fails.
 #[derive(Drop)]
 struct Full {
     left: usize,
@@ -99,7 +99,7 @@ impl Write for Full {
     }
 }
 
-// Takes all bytes and keeps them, and fails to pass them on.
+// Takes all bytes and holds them, and fails to pass them on.
 #[derive(Drop)]
 struct Unflushed {
     bytes: Vec<u8>,
@@ -151,7 +151,7 @@ fn wrong_words_give_the_usage_line_before_reading(
     for words in ["--x", "--Standard", "--standard --standard"] {
         let mut input = Endless {
             reads: 0,
-            least_room: usize::MAX,
+            least_capacity: usize::MAX,
         };
         expect_run(&rt, words, &mut input, 2, "", usage)?;
         assert_eq!(rt; input.reads, 0);
@@ -187,16 +187,16 @@ fn a_reader_may_give_a_byte_at_each_read(rt: HostRuntime) -> std::result::Result
 fn a_reader_without_an_end_is_left(rt: HostRuntime) -> std::result::Result<(), Fail> {
     let mut input = Endless {
         reads: 0,
-        least_room: usize::MAX,
+        least_capacity: usize::MAX,
     };
     expect_run(&rt, "--standard", &mut input, 1, "", "InvalidUtf8\n")?;
     assert_eq!(rt; input.reads, 1 << 20);
-    assert!(rt; input.least_room >= 4096);
+    assert!(rt; input.least_capacity >= 4096);
     Ok(())
 }
 
 #[test]
-fn the_last_read_may_tell_the_end(rt: HostRuntime) -> std::result::Result<(), Fail> {
+fn the_last_read_may_report_the_end(rt: HostRuntime) -> std::result::Result<(), Fail> {
     let mut input = Whitespace {
         left: (1 << 20) - 1,
     };
@@ -208,7 +208,7 @@ fn the_last_read_may_tell_the_end(rt: HostRuntime) -> std::result::Result<(), Fa
 
 #[test]
 fn a_fault_in_telling_an_error_changes_no_status(rt: HostRuntime) -> std::result::Result<(), Fail> {
-    for (word, status, told) in [
+    for (word, status, reported) in [
         ("--x", 2, "usage: jsonb_cat [--standard]\n"),
         ("--standard", 1, "InvalidUtf8\n"),
     ] {
@@ -227,7 +227,7 @@ fn a_fault_in_telling_an_error_changes_no_status(rt: HostRuntime) -> std::result
                 &mut err,
             );
             assert_eq!(rt; got, status);
-            assert_eq!(rt; err.bytes.as_slice(), &told.as_bytes()[..left]);
+            assert_eq!(rt; err.bytes.as_slice(), &reported.as_bytes()[..left]);
             assert!(rt; out.is_empty());
         }
     }
@@ -328,7 +328,7 @@ fn texts_that_are_too_deep_are_rejected(rt: HostRuntime) -> std::result::Result<
 }
 
 #[test]
-fn what_stands_in_the_output_stays(rt: HostRuntime) -> std::result::Result<(), Fail> {
+fn what_is_in_the_output_stays(rt: HostRuntime) -> std::result::Result<(), Fail> {
     let mut out = Vec::from_slice(rt.alloc(), b"x")?;
     assert!(rt; convert(rt.alloc(), Mode::Standard, b"nul", &mut out).is_err());
     assert_eq!(rt; out.as_slice(), b"x".as_slice());

@@ -72,7 +72,7 @@ fn numbers_have_the_fewest_digits(rt: HostRuntime) -> Result<(), Fail> {
 }
 
 // Compares the text of the value that the key is decoded as, or what is printed of the error.
-fn expect(rt: &(impl AllocGlobal + Abort), key: &[u8], told: &str) -> Result<(), AllocError> {
+fn expect(rt: &(impl AllocGlobal + Abort), key: &[u8], reported: &str) -> Result<(), AllocError> {
     let got = match value_of_sort_key(rt.alloc(), key) {
         Ok(value) => {
             let mut text = Vec::new(rt.alloc());
@@ -86,7 +86,7 @@ fn expect(rt: &(impl AllocGlobal + Abort), key: &[u8], told: &str) -> Result<(),
             Vec::from_slice(rt.alloc(), printed.as_bytes())?
         }
     };
-    assert_eq!(rt; got.as_slice(), told.as_bytes(), "{key:?}");
+    assert_eq!(rt; got.as_slice(), reported.as_bytes(), "{key:?}");
     Ok(())
 }
 
@@ -108,8 +108,8 @@ fn keys_are_decoded_with_the_fewest_digits(rt: HostRuntime) -> Result<(), Fail> 
         ),
         (b"\xd2\xd2\x00\xd1\x00\x00\x00", "[[],{}]"),
     ];
-    for (key, told) in cases {
-        expect(&rt, key, told)?;
+    for (key, reported) in cases {
+        expect(&rt, key, reported)?;
     }
     Ok(())
 }

@@ -40,15 +40,15 @@ use Rattle.jsonb_scan.proofs.Text.Whitespace.{skip-stop}
 -- ---- what is returned after a first step
 
 -- A step was built, and what comes after it is the whole; or its fault is that of the whole.
-pub builds_then : {X F Y B : Type 0} (silent : Bool) (told : Option Error) (See : X → Y → Type 0) (r : Result X F) (read : Parse Y) (rest : List ℕ) (then : Y × List ℕ → Result B Fault) (whole : Result B Fault) (P : X → Type 0)
-    → Builds silent told See r read rest → whole ≡ (read >>= then) → ((x : X) (y : Y) → See x y → whole ≡ then (y, rest) → P x) → ElseFails silent told r whole P
-builds_then silent told See (Ok x) read rest then whole P b e f = f x b.0 b.1 (e ∙ ap (λ q. q >>= then) b.2)
-builds_then silent told See (Err t) read rest then whole P b e f = misses_same silent told (read >>= then) whole e (misses_through silent told read then b)
+pub builds_then : {X F Y B : Type 0} (silent : Bool) (reported : Option Error) (See : X → Y → Type 0) (r : Result X F) (read : Parse Y) (rest : List ℕ) (then : Y × List ℕ → Result B Fault) (whole : Result B Fault) (P : X → Type 0)
+    → Builds silent reported See r read rest → whole ≡ (read >>= then) → ((x : X) (y : Y) → See x y → whole ≡ then (y, rest) → P x) → ElseFails silent reported r whole P
+builds_then silent reported See (Ok x) read rest then whole P b e f = f x b.0 b.1 (e ∙ ap (λ q. q >>= then) b.2)
+builds_then silent reported See (Err t) read rest then whole P b e f = misses_same silent reported (read >>= then) whole e (misses_through silent reported read then b)
 
 -- a value that holds no others
-pub builds_alone : {X F : Type 0} (silent : Bool) (told : Option Error) (Sees : X → Source → Type 0) (r : Result X F) (read : Parse Tree) (rest : List ℕ) → Builds silent told (AsScalar Sees) r read rest → Builds silent told Sees r (alone_at read) rest
-builds_alone silent told Sees (Ok x) read rest b = (source_alone b.0, b.1, ap alone_at b.2)
-builds_alone silent told Sees (Err f) read rest b = misses_through silent told read (λ x. Ok (source_alone x.0, x.1)) b
+pub builds_alone : {X F : Type 0} (silent : Bool) (reported : Option Error) (Sees : X → Source → Type 0) (r : Result X F) (read : Parse Tree) (rest : List ℕ) → Builds silent reported (AsScalar Sees) r read rest → Builds silent reported Sees r (alone_at read) rest
+builds_alone silent reported Sees (Ok x) read rest b = (source_alone b.0, b.1, ap alone_at b.2)
+builds_alone silent reported Sees (Err f) read rest b = misses_through silent reported read (λ x. Ok (source_alone x.0, x.1)) b
 
 pub each_error : {X F : Type 0} {P : F → Type 0} (r : Result X F) → ((f : F) → P f) → IfErr r P
 each_error (Ok x) h = tt
@@ -82,10 +82,10 @@ module _ (size : ℕ) (mode : Mode) (depth : ℕ) where
       sym (on_byte-then 44 bytes (λ rest. Ok (false, rest)) last g
       ∙ ap (λ (o : Parse Source). on_byte 44 bytes (λ rest. g (false, rest)) o) (on_byte-then 93 bytes (λ rest. Ok (true, rest)) (reject size expected_array_comma_or_end 0 bytes) g))
 
-  pub member_ends : (front : List Found) (key : Mark × List ℕ) (place : ℕ) (bytes : List ℕ)
-      → resume_after_part size mode depth (members_so_far front key place) bytes ≡ (part_end size expected_object_comma_or_end 125 bytes >>= λ x. resume_part size mode depth x.0 (members_so_far front key place) x.1)
-  member_ends front key place bytes =
-      let g : Bool × List ℕ → Parse Source = λ x. resume_part size mode depth x.0 (members_so_far front key place) x.1 in
+  pub member_ends : (front : List Found) (key : Mark × List ℕ) (offset : ℕ) (bytes : List ℕ)
+      → resume_after_part size mode depth (members_so_far front key offset) bytes ≡ (part_end size expected_object_comma_or_end 125 bytes >>= λ x. resume_part size mode depth x.0 (members_so_far front key offset) x.1)
+  member_ends front key offset bytes =
+      let g : Bool × List ℕ → Parse Source = λ x. resume_part size mode depth x.0 (members_so_far front key offset) x.1 in
       let last : Parse Bool = on_byte 125 bytes (λ rest. Ok (true, rest)) (reject size expected_object_comma_or_end 0 bytes) in
       sym (on_byte-then 44 bytes (λ rest. Ok (false, rest)) last g
       ∙ ap (λ (o : Parse Source). on_byte 44 bytes (λ rest. g (false, rest)) o) (on_byte-then 125 bytes (λ rest. Ok (true, rest)) (reject size expected_object_comma_or_end 0 bytes) g))
@@ -106,8 +106,8 @@ after_element p depth front x =
     part_end (size_of p) expected_array_comma_or_end 93 (skip_whitespace (mode_of p.mode) x.1) >>= λ y. resume_part (size_of p) (mode_of p.mode) depth y.0 (elements_so_far (front ++ source_alone x.0 ∷ [])) y.1
 
 abbrev pub after_member : Parser → ℕ → List Found → Mark × List ℕ → ℕ → Tree × List ℕ → Parse Source
-after_member p depth front k place x =
-    part_end (size_of p) expected_object_comma_or_end 125 (skip_whitespace (mode_of p.mode) x.1) >>= λ y. resume_part (size_of p) (mode_of p.mode) depth y.0 (members_so_far (front ++ found_member k (source_alone x.0) place ∷ []) (plain, []) 0) y.1
+after_member p depth front k offset x =
+    part_end (size_of p) expected_object_comma_or_end 125 (skip_whitespace (mode_of p.mode) x.1) >>= λ y. resume_part (size_of p) (mode_of p.mode) depth y.0 (members_so_far (front ++ found_member k (source_alone x.0) offset ∷ []) (plain, []) 0) y.1
 
 -- an element that holds no others is due, or none
 pub element_turn : (p l s : Parser) (depth : ℕ) (front : List Source) → Advances p l → Advances l s → rest_of s ≡ skip_whitespace (mode_of l.mode) (rest_of l) → begins 91 (rest_of s) ≡ false → begins 123 (rest_of s) ≡ false
@@ -137,16 +137,16 @@ member_due p l depth front a =
     ∙ ap (λ (r : Parse ((Mark × List ℕ) × ℕ)). r >>= waits p depth front) (sym (ap₂ (λ n m. member_start n m (rest_of l)) (same_size p l a) (ap mode_of a.mode)))
 
 -- a member's value, which holds no others
-pub member_turn : (p s : Parser) (depth : ℕ) (front : List Found) (k : Mark × List ℕ) (place : ℕ) → Advances p s → begins 91 (rest_of s) ≡ false → begins 123 (rest_of s) ≡ false
-    → waits p depth front ((k, place), rest_of s) ≡ (parse_at scalar_at s >>= after_member p depth front k place)
-member_turn p s depth front k place a no_array no_object =
+pub member_turn : (p s : Parser) (depth : ℕ) (front : List Found) (k : Mark × List ℕ) (offset : ℕ) → Advances p s → begins 91 (rest_of s) ≡ false → begins 123 (rest_of s) ≡ false
+    → waits p depth front ((k, offset), rest_of s) ≡ (parse_at scalar_at s >>= after_member p depth front k offset)
+member_turn p s depth front k offset a no_array no_object =
     let read : Parse Tree = scalar_at (size_of s) (mode_of s.mode) (rest_of s) in
-    ap (λ (r : Parse Source). r >>= finish_open (size_of p) (mode_of p.mode) depth (members_so_far front k place)) (value_alone p s depth a no_array no_object)
-    ∙ then-then read (λ (x : Tree × List ℕ). Ok (source_alone x.0, x.1)) (finish_open (size_of p) (mode_of p.mode) depth (members_so_far front k place))
-    ∙ then-same read (λ (x : Tree × List ℕ). finish_open (size_of p) (mode_of p.mode) depth (members_so_far front k place) (source_alone x.0, x.1)) (after_member p depth front k place)
-    (λ x. member_ends (size_of p) (mode_of p.mode) depth (front ++ found_member k (source_alone x.0) place ∷ []) (plain, []) 0 (skip_whitespace (mode_of p.mode) x.1))
+    ap (λ (r : Parse Source). r >>= finish_open (size_of p) (mode_of p.mode) depth (members_so_far front k offset)) (value_alone p s depth a no_array no_object)
+    ∙ then-then read (λ (x : Tree × List ℕ). Ok (source_alone x.0, x.1)) (finish_open (size_of p) (mode_of p.mode) depth (members_so_far front k offset))
+    ∙ then-same read (λ (x : Tree × List ℕ). finish_open (size_of p) (mode_of p.mode) depth (members_so_far front k offset) (source_alone x.0, x.1)) (after_member p depth front k offset)
+    (λ x. member_ends (size_of p) (mode_of p.mode) depth (front ++ found_member k (source_alone x.0) offset ∷ []) (plain, []) 0 (skip_whitespace (mode_of p.mode) x.1))
 
--- the end of a part, told of the parser that stands there
+-- the end of a part, reported of the parser that is there
 pub same_end : (p q : Parser) (code : Code) (close : ℕ) → Advances p q → part_end (size_of q) code close (skip_whitespace (mode_of q.mode) (rest_of q)) ≡ part_end (size_of p) code close (skip_whitespace (mode_of p.mode) (rest_of q))
 same_end p q code close a = ap₂ (λ n m. part_end n code close (skip_whitespace m (rest_of q))) (same_size p q a) (ap mode_of a.mode)
 
@@ -212,40 +212,40 @@ module _ (size : ℕ) (mode : Mode) (depth : ℕ) (bytes rest : List ℕ) where
       ∙ on_byte-found 93 rest (λ (r : List ℕ). Ok (array_source no_sources, r)) (elements_at size mode (value_at size mode depth) bytes)
   array-starts false e = array-begun size mode depth bytes e.0 ∙ ap (λ (u : List ℕ). elements_from size mode depth [] u) e.1
 
-  object-starts : (key : Mark × List ℕ) (place : ℕ) (closed : Bool) → cond closed (skip_whitespace mode bytes ≡ 125 ∷ rest) ((begins 125 (skip_whitespace mode bytes) ≡ false) × (skip_whitespace mode bytes ≡ rest))
-      → object_at size mode (value_at size mode depth) bytes ≡ resume_part size mode depth closed (members_so_far [] key place) rest
-  object-starts key place true e =
+  object-starts : (key : Mark × List ℕ) (offset : ℕ) (closed : Bool) → cond closed (skip_whitespace mode bytes ≡ 125 ∷ rest) ((begins 125 (skip_whitespace mode bytes) ≡ false) × (skip_whitespace mode bytes ≡ rest))
+      → object_at size mode (value_at size mode depth) bytes ≡ resume_part size mode depth closed (members_so_far [] key offset) rest
+  object-starts key offset true e =
       ap (λ (u : List ℕ). on_byte 125 u (λ (r : List ℕ). Ok (object_source no_source_members, r)) (members_at size mode (value_at size mode depth) bytes)) e
       ∙ on_byte-found 125 rest (λ (r : List ℕ). Ok (object_source no_source_members, r)) (members_at size mode (value_at size mode depth) bytes)
       ∙ sym (ap (λ o. object_or_fault o [] rest) (no_repeat [] tt))
-  object-starts key place false e = object-begun size mode depth bytes e.0 ∙ ap (λ (u : List ℕ). object_members_from size mode depth [] u) e.1
+  object-starts key offset false e = object-begun size mode depth bytes e.0 ∙ ap (λ (u : List ℕ). object_members_from size mode depth [] u) e.1
 
 outer-same : (p q : Parser) (depth : ℕ) (closed : Bool) (cs : List Open) (bytes : List ℕ) → Advances p q → resume_stack (size_of p) (mode_of p.mode) depth closed cs bytes ≡ resume_stack (size_of q) (mode_of q.mode) depth closed cs bytes
 outer-same p q depth closed cs bytes a = sym (ap₂ (λ n m. resume_stack n m depth closed cs bytes) (same_size p q a) (ap mode_of a.mode))
 
 -- ---- the stack
 
--- The innermost container is the last of the stack, and the first of those that are told.
+-- The innermost container is the last of the stack, and the first of those that are reported.
 pub innermost_first : {A : Type 0} (fs : List A) (f : A) → reverse (fs ++ f ∷ []) ≡ f ∷ reverse fs
 innermost_first fs f = reverse-append fs (f ∷ [])
 
 -- the innermost container, and the others
-pub record Innermost {I M K : Type 0} (Stands : Bool → List (Frame I M K) → List Open → Type 0) (due : Bool) (below : List (Frame I M K)) (f : Frame I M K) (cs : List Open) : Type 0 where
+pub record Innermost {I M K : Type 0} (Holds : Bool → List (Frame I M K) → List Open → Type 0) (due : Bool) (below : List (Frame I M K)) (f : Frame I M K) (cs : List Open) : Type 0 where
   pub inner : Open
   pub others : List Open
   pub are : cs ≡ inner ∷ others
   pub fits : Fits f inner
   pub others_fit : AllFit below others
-  pub held : Stands due (f ∷ below) (inner ∷ others)
+  pub held : Holds due (f ∷ below) (inner ∷ others)
 
-innermost : {I M K : Type 0} (Stands : Bool → List (Frame I M K) → List Open → Type 0) (due : Bool) (below : List (Frame I M K)) (f : Frame I M K) (cs : List Open) → AllFit (f ∷ below) cs → Stands due (f ∷ below) cs → Innermost Stands due below f cs
-innermost Stands due below f [] fit held = absurd fit
-innermost Stands due below f (c ∷ cs) fit held = record { inner = c; others = cs; are = refl; fits = fit.0; others_fit = fit.1; held = held }
+innermost : {I M K : Type 0} (Holds : Bool → List (Frame I M K) → List Open → Type 0) (due : Bool) (below : List (Frame I M K)) (f : Frame I M K) (cs : List Open) → AllFit (f ∷ below) cs → Holds due (f ∷ below) cs → Innermost Holds due below f cs
+innermost Holds due below f [] fit held = absurd fit
+innermost Holds due below f (c ∷ cs) fit held = record { inner = c; others = cs; are = refl; fits = fit.0; others_fit = fit.1; held = held }
 
-pub innermost_of : {I M K : Type 0} (Stands : Bool → List (Frame I M K) → List Open → Type 0) (due : Bool) (fs gs : List (Frame I M K)) (f : Frame I M K) (cs : List Open) → gs ≡ fs ++ f ∷ [] → AllFit (reverse gs) cs → Stands due (reverse gs) cs → Innermost Stands due (reverse fs) f cs
-innermost_of Stands due fs gs f cs e fit held =
+pub innermost_of : {I M K : Type 0} (Holds : Bool → List (Frame I M K) → List Open → Type 0) (due : Bool) (fs gs : List (Frame I M K)) (f : Frame I M K) (cs : List Open) → gs ≡ fs ++ f ∷ [] → AllFit (reverse gs) cs → Holds due (reverse gs) cs → Innermost Holds due (reverse fs) f cs
+innermost_of Holds due fs gs f cs e fit held =
     let turned = ap reverse e ∙ innermost_first fs f in
-    innermost Stands due (reverse fs) f cs (subst (λ hs. AllFit hs cs) turned fit) (subst (λ hs. Stands due hs cs) turned held)
+    innermost Holds due (reverse fs) f cs (subst (λ hs. AllFit hs cs) turned fit) (subst (λ hs. Holds due hs cs) turned held)
 
 -- no other is open
 none_open : (I M K : Type 0) (cs : List Open) → AllFit {I = I} {M = M} {K = K} [] cs → cs ≡ []
@@ -253,35 +253,35 @@ none_open I M K [] fit = refl
 none_open I M K (c ∷ cs) fit = absurd fit
 
 -- no container is open yet
-pub outermost_due : {I M K : Type 0} (Stands : Bool → List (Frame I M K) → List Open → Type 0) (p : Parser) (fs : List (Frame I M K)) → fs ≡ [] → Stands true [] [] → BeforeValue Stands (value_at (size_of p) (mode_of p.mode) max_depth (rest_of p)) p fs
-outermost_due Stands p fs e held =
-    subst (λ gs. BeforeValue Stands (value_at (size_of p) (mode_of p.mode) max_depth (rest_of p)) p gs) (sym e)
+pub outermost_due : {I M K : Type 0} (Holds : Bool → List (Frame I M K) → List Open → Type 0) (p : Parser) (fs : List (Frame I M K)) → fs ≡ [] → Holds true [] [] → BeforeValue Holds (value_at (size_of p) (mode_of p.mode) max_depth (rest_of p)) p fs
+outermost_due Holds p fs e held =
+    subst (λ gs. BeforeValue Holds (value_at (size_of p) (mode_of p.mode) max_depth (rest_of p)) p gs) (sym e)
     (record { opens = []; fit = tt; held = held; parses = sym (resume-none (size_of p) (mode_of p.mode) max_depth (value_at (size_of p) (mode_of p.mode) max_depth (rest_of p))) })
 
 -- as many are open as may be
-pub too_many : {I M K : Type 0} (Stands : Bool → List (Frame I M K) → List Open → Type 0) (p : Parser) (fs : List (Frame I M K)) (whole : Parse Source) → length fs ≡ max_depth → OpensContainer (rest_of p) → BeforeValue Stands whole p fs → whole ≡ Err (record { code = depth_limit_exceeded; place = p.offset + 1 })
-too_many Stands p fs whole full opens due =
+pub too_many : {I M K : Type 0} (Holds : Bool → List (Frame I M K) → List Open → Type 0) (p : Parser) (fs : List (Frame I M K)) (whole : Parse Source) → length fs ≡ max_depth → OpensContainer (rest_of p) → BeforeValue Holds whole p fs → whole ≡ Err (record { code = depth_limit_exceeded; offset = p.offset + 1 })
+too_many Holds p fs whole full opens due =
     let none : depth_within fs ≡ 0 = omega arith in
     due.parses
     ∙ ap (λ n. value_at (size_of p) (mode_of p.mode) n (rest_of p) >>= resume (size_of p) (mode_of p.mode) n due.opens) none
     ∙ ap (λ (r : Parse Source). r >>= resume (size_of p) (mode_of p.mode) 0 due.opens) (rejected_here opens)
   where
-    place-is : (c : ℕ) → rest_of p ≡ c ∷ drop (p.offset + 1) p.buf.now → size_of p - length (drop (p.offset + 1) p.buf.now) ≡ p.offset + 1
-    place-is c e = omega (arith, ap length e, length-drop p.offset p.buf.now, length-drop (p.offset + 1) p.buf.now)
+    offset-is : (c : ℕ) → rest_of p ≡ c ∷ drop (p.offset + 1) p.buf.now → size_of p - length (drop (p.offset + 1) p.buf.now) ≡ p.offset + 1
+    offset-is c e = omega (arith, ap length e, length-drop p.offset p.buf.now, length-drop (p.offset + 1) p.buf.now)
 
-    rejected_here : OpensContainer (rest_of p) → value_at (size_of p) (mode_of p.mode) 0 (rest_of p) ≡ Err (record { code = depth_limit_exceeded; place = p.offset + 1 })
+    rejected_here : OpensContainer (rest_of p) → value_at (size_of p) (mode_of p.mode) 0 (rest_of p) ≡ Err (record { code = depth_limit_exceeded; offset = p.offset + 1 })
     rejected_here (inl e) =
         let next = next_found 91 p e in
         ap (λ r. value_at (size_of p) (mode_of p.mode) 0 r) next
         ∙ array-value (size_of p) (mode_of p.mode) 0 (drop (p.offset + 1) p.buf.now)
-        ∙ ap (λ n. Err (record { code = depth_limit_exceeded; place = n })) (place-is 91 next)
+        ∙ ap (λ n. Err (record { code = depth_limit_exceeded; offset = n })) (offset-is 91 next)
     rejected_here (inr e) =
         let next = next_found 123 p e in
         ap (λ r. value_at (size_of p) (mode_of p.mode) 0 r) next
         ∙ object-value (size_of p) (mode_of p.mode) 0 (drop (p.offset + 1) p.buf.now)
-        ∙ ap (λ n. Err (record { code = depth_limit_exceeded; place = n })) (place-is 123 next)
+        ∙ ap (λ n. Err (record { code = depth_limit_exceeded; offset = n })) (offset-is 123 next)
 
--- Old and New are what the room stands for before and after a step.
+-- Old and New are what the sink means before and after a step.
 module _ {I M K : Type 0} (Old New : Bool → List (Frame I M K) → List Open → Type 0) where
   -- a container was pushed that is parsed from here on
   opened : (p q : Parser) (fs gs : List (Frame I M K)) (f : Frame I M K) (c : Open) (closed : Bool) (whole : Parse Source) → Advances p q → gs ≡ fs ++ f ∷ [] → Fits f c → ((cs : List Open) → Old true (reverse fs) cs → New false (f ∷ reverse fs) (c ∷ cs)) → length gs ≤ max_depth
@@ -311,14 +311,14 @@ module _ {I M K : Type 0} (Old New : Bool → List (Frame I M K) → List Open �
       ∙ array-starts (size_of p) (mode_of p.mode) depth (rest_of o) (rest_of q) closed (closing 93 (mode_of p.mode) (rest_of o) s q closed (skipped ∙ sym (skip_same p o (rest_of o) a)) found_member closes))
       due
 
-  pub object_opened : (p o s q : Parser) (fs gs : List (Frame I M K)) (v : OpenObject M K) (key : Mark × List ℕ) (place : ℕ) (closed : Bool) (whole : Parse Source) → Advances p o → Advances p q → rest_of p ≡ 123 ∷ rest_of o → rest_of s ≡ skip_whitespace (mode_of o.mode) (rest_of o)
-      → closed ≡ begins 125 (rest_of s) → cond closed (rest_of s ≡ 125 ∷ rest_of q) (q ≡ s) → ((cs : List Open) → Old true (reverse fs) cs → New false (variants.Object v ∷ reverse fs) (members_so_far [] key place ∷ cs)) → gs ≡ fs ++ variants.Object v ∷ [] → length gs ≤ max_depth → BeforeValue Old whole p fs → AtPart New whole q gs closed
-  object_opened p o s q fs gs v key place closed whole a b brace skipped found_member closes held e fits due =
-      opened p q fs gs (variants.Object v) (members_so_far [] key place) closed whole b e tt held fits
+  pub object_opened : (p o s q : Parser) (fs gs : List (Frame I M K)) (v : OpenObject M K) (key : Mark × List ℕ) (offset : ℕ) (closed : Bool) (whole : Parse Source) → Advances p o → Advances p q → rest_of p ≡ 123 ∷ rest_of o → rest_of s ≡ skip_whitespace (mode_of o.mode) (rest_of o)
+      → closed ≡ begins 125 (rest_of s) → cond closed (rest_of s ≡ 125 ∷ rest_of q) (q ≡ s) → ((cs : List Open) → Old true (reverse fs) cs → New false (variants.Object v ∷ reverse fs) (members_so_far [] key offset ∷ cs)) → gs ≡ fs ++ variants.Object v ∷ [] → length gs ≤ max_depth → BeforeValue Old whole p fs → AtPart New whole q gs closed
+  object_opened p o s q fs gs v key offset closed whole a b brace skipped found_member closes held e fits due =
+      opened p q fs gs (variants.Object v) (members_so_far [] key offset) closed whole b e tt held fits
       (λ depth.
       ap (λ r. value_at (size_of p) (mode_of p.mode) (suc depth) r) brace
       ∙ object-value (size_of p) (mode_of p.mode) (suc depth) (rest_of o)
-      ∙ object-starts (size_of p) (mode_of p.mode) depth (rest_of o) (rest_of q) key place closed (closing 125 (mode_of p.mode) (rest_of o) s q closed (skipped ∙ sym (skip_same p o (rest_of o) a)) found_member closes))
+      ∙ object-starts (size_of p) (mode_of p.mode) depth (rest_of o) (rest_of q) key offset closed (closing 125 (mode_of p.mode) (rest_of o) s q closed (skipped ∙ sym (skip_same p o (rest_of o) a)) found_member closes))
       due
 
   -- ---- parts are parsed
@@ -334,9 +334,9 @@ module _ {I M K : Type 0} (Old New : Bool → List (Frame I M K) → List Open �
         ∙ ap (λ cs. resume_stack (size_of p) (mode_of p.mode) (depth_within fs) false cs (rest_of p)) i.are
         ∙ ap (λ (r : Parse Source). r >>= resume (size_of p) (mode_of p.mode) (suc (depth_within fs)) i.others) s.parses
 
-    -- what stands once the innermost was parsed so far
-    stand_on : (due : Bool) (c : Open) (cs : List Open) → New due (g ∷ reverse hs) (c ∷ cs) → New due (reverse gs) (c ∷ cs)
-    stand_on due c cs h = subst (λ ks. New due ks (c ∷ cs)) (sym (ap reverse d ∙ innermost_first hs g)) h
+    -- what is once the innermost was parsed so far
+    hold_on : (due : Bool) (c : Open) (cs : List Open) → New due (g ∷ reverse hs) (c ∷ cs) → New due (reverse gs) (c ∷ cs)
+    hold_on due c cs h = subst (λ ks. New due ks (c ∷ cs)) (sym (ap reverse d ∙ innermost_first hs g)) h
 
     fit_on : (c : Open) (cs : List Open) → Fits g c → AllFit (reverse hs) cs → AllFit (reverse gs) (c ∷ cs)
     fit_on c cs h i = subst (λ ks. AllFit ks (c ∷ cs)) (sym (ap reverse d ∙ innermost_first hs g)) (h, i)
@@ -350,7 +350,7 @@ module _ {I M K : Type 0} (Old New : Bool → List (Frame I M K) → List Open �
         record {
           opens = s.so_far ∷ i.others;
           fit = fit_on s.so_far i.others s.fits i.others_fit;
-          held = stand_on false s.so_far i.others s.held;
+          held = hold_on false s.so_far i.others s.held;
           parses =
               stopped true ahead i s
               ∙ outer-same p q (depth_within fs) true (s.so_far ∷ i.others) (rest_of q) a
@@ -366,7 +366,7 @@ module _ {I M K : Type 0} (Old New : Bool → List (Frame I M K) → List Open �
         record {
           opens = s.so_far ∷ i.others;
           fit = fit_on s.so_far i.others s.fits i.others_fit;
-          held = stand_on true s.so_far i.others s.held;
+          held = hold_on true s.so_far i.others s.held;
           parses =
               stopped false ahead i s
               ∙ resume-part (size_of p) (mode_of p.mode) (depth_within fs) s.so_far i.others (value_at (size_of p) (mode_of p.mode) (depth_within fs) (rest_of q))
@@ -438,7 +438,7 @@ module _ {I M K : Type 0} (Old New : Bool → List (Frame I M K) → List Open �
     pub ends : (depth : ℕ) (bytes : List ℕ) → resume_after_part size mode depth (add_part c s) bytes ≡ (part_end size code close bytes >>= λ y. resume_part size mode depth y.0 (add_part c s) y.1)
 
   module _ (p q : Parser) (gs ks hs : List (Frame I M K)) (f g inner : Frame I M K) (whole : Parse Source) (s : Source) (code : Code) (close : ℕ) (a : Advances p q) (e : gs ≡ hs ++ f ∷ []) (d : ks ≡ hs ++ g ∷ []) where
-    -- the container around, where a value stands that was due
+    -- the container around, where a value is that was due
     record Around (x : Ended whole p gs inner) : Type 0 where
       pub outer : Open
       pub others : List Open
@@ -453,11 +453,11 @@ module _ {I M K : Type 0} (Old New : Bool → List (Frame I M K) → List Open �
         by_cases [] same fit = absurd fit
         by_cases (c ∷ cs) same fit = record { outer = c; others = cs; are = same; others_fit = fit.1; joins = joins c cs fit.0 same }
 
-    pub joined : {F : Type 0} (silent : Bool) (told : Option Error) (r : Result Bool F) (x : Ended whole p gs inner) → finish_container x.inner (rest_of p) ≡ Ok (s, rest_of p)
+    pub joined : {F : Type 0} (silent : Bool) (reported : Option Error) (r : Result Bool F) (x : Ended whole p gs inner) → finish_container x.inner (rest_of p) ≡ Ok (s, rest_of p)
         → ((c : Open) (cs : List Open) → Fits f c → x.others ≡ c ∷ cs → Joins (size_of p) (mode_of p.mode) s c cs g (reverse hs) code close)
-        → Builds silent told (λ b c. b ≡ c) r (part_end (size_of p) code close (skip_whitespace (mode_of p.mode) (rest_of p))) (rest_of q) → ElseFails silent told r whole (AtPart New whole q ks)
+        → Builds silent reported (λ b c. b ≡ c) r (part_end (size_of p) code close (skip_whitespace (mode_of p.mode) (rest_of p))) (rest_of q) → ElseFails silent reported r whole (AtPart New whole q ks)
     unfolding resume
-    joined silent told r x finished joins built =
+    joined silent reported r x finished joins built =
         let i = around x joins in
         let j = i.joins in
         let depth = depth_within gs in
@@ -465,7 +465,7 @@ module _ {I M K : Type 0} (Old New : Bool → List (Frame I M K) → List Open �
         let then : Bool × List ℕ → Parse Source = λ y. resume_part (size_of p) (mode_of p.mode) depth y.0 (add_part i.outer s) y.1 >>= others in
         let read = part_end (size_of p) code close (skip_whitespace (mode_of p.mode) (rest_of p)) in
         let turned = sym (ap reverse d ∙ innermost_first hs g) in
-        builds_then silent told (λ b c. b ≡ c) r read (rest_of q) then whole (AtPart New whole q ks) built
+        builds_then silent reported (λ b c. b ≡ c) r read (rest_of q) then whole (AtPart New whole q ks) built
         (x.parses
         ∙ ap (λ (u : Parse Source). u >>= resume (size_of p) (mode_of p.mode) depth x.others) finished
         ∙ ap (λ cs. resume (size_of p) (mode_of p.mode) depth cs (s, rest_of p)) i.are
@@ -487,21 +487,21 @@ module _ {I M K : Type 0} (Old New : Bool → List (Frame I M K) → List Open �
   pub array-joins : (Full : List (Frame I M K) → List Open → Type 0) (size : ℕ) (mode : Mode) (v w : I) (s : Source) (below : List (Frame I M K)) (cs : List Open) → ((ss : List Source) → Full (variants.Array v ∷ below) (elements_so_far ss ∷ cs) → New false (variants.Array w ∷ below) (elements_so_far (ss ++ s ∷ []) ∷ cs))
       → (c : Open) → IsArray c → Full (variants.Array v ∷ below) (c ∷ cs) → Joins size mode s c cs (variants.Array w) below expected_array_comma_or_end 93
   array-joins Full size mode v w s below cs put (elements_so_far ss) fits h = record { fits = tt; held = put ss h; ends = λ depth bytes. element_ends size mode depth (ss ++ s ∷ []) bytes }
-  array-joins Full size mode v w s below cs put (members_so_far fs key place) fits h = absurd fits
+  array-joins Full size mode v w s below cs put (members_so_far fs key offset) fits h = absurd fits
 
-  pub object-joins : (Full : List (Frame I M K) → List Open → Type 0) (size : ℕ) (mode : Mode) (v w : OpenObject M K) (s : Source) (below : List (Frame I M K)) (cs : List Open) → ((fs : List Found) (k : Mark × List ℕ) (place : ℕ) → Full (variants.Object v ∷ below) (members_so_far fs k place ∷ cs) → New false (variants.Object w ∷ below) (members_so_far (fs ++ found_member k s place ∷ []) (plain, []) 0 ∷ cs))
+  pub object-joins : (Full : List (Frame I M K) → List Open → Type 0) (size : ℕ) (mode : Mode) (v w : OpenObject M K) (s : Source) (below : List (Frame I M K)) (cs : List Open) → ((fs : List Found) (k : Mark × List ℕ) (offset : ℕ) → Full (variants.Object v ∷ below) (members_so_far fs k offset ∷ cs) → New false (variants.Object w ∷ below) (members_so_far (fs ++ found_member k s offset ∷ []) (plain, []) 0 ∷ cs))
       → (c : Open) → IsObject c → Full (variants.Object v ∷ below) (c ∷ cs) → Joins size mode s c cs (variants.Object w) below expected_object_comma_or_end 125
   object-joins Full size mode v w s below cs put (elements_so_far ss) fits h = absurd fits
-  object-joins Full size mode v w s below cs put (members_so_far fs key place) fits h = record { fits = tt; held = put fs key place h; ends = λ depth bytes. member_ends size mode depth (fs ++ found_member key s place ∷ []) (plain, []) 0 bytes }
+  object-joins Full size mode v w s below cs put (members_so_far fs key offset) fits h = record { fits = tt; held = put fs key offset h; ends = λ depth bytes. member_ends size mode depth (fs ++ found_member key s offset ∷ []) (plain, []) 0 bytes }
 
 -- ---- a container that is made
 
--- an object that is open ends, or its fault is told
-pub object_ended : {X F : Type 0} (Stands : List Open → Type 0) (Done : Source → Type 0) (silent : Bool) (told : Option Error) (result : Result X F) (c : Open) (rest : List ℕ) (cs : List Open) → IsObject c → Stands (c ∷ cs)
-    → ((front : List Found) → (k : Mark × List ℕ) → (place : ℕ) → Stands (members_so_far front k place ∷ cs) → ElseFails silent told result (object_end front rest) (λ _. (s : Source) × Done s × (object_end front rest ≡ Ok (s, rest))))
-    → ElseFails silent told result (finish_container c rest) (λ _. (s : Source) × Done s × (finish_container c rest ≡ Ok (s, rest)))
-object_ended Stands Done silent told result (elements_so_far ss) rest cs is held ends = absurd is
-object_ended Stands Done silent told result (members_so_far fs key place) rest cs is held ends = ends fs key place held
+-- an object that is open ends, or its fault is reported
+pub object_ended : {X F : Type 0} (Holds : List Open → Type 0) (Done : Source → Type 0) (silent : Bool) (reported : Option Error) (result : Result X F) (c : Open) (rest : List ℕ) (cs : List Open) → IsObject c → Holds (c ∷ cs)
+    → ((front : List Found) → (k : Mark × List ℕ) → (offset : ℕ) → Holds (members_so_far front k offset ∷ cs) → ElseFails silent reported result (object_end front rest) (λ _. (s : Source) × Done s × (object_end front rest ≡ Ok (s, rest))))
+    → ElseFails silent reported result (finish_container c rest) (λ _. (s : Source) × Done s × (finish_container c rest ≡ Ok (s, rest)))
+object_ended Holds Done silent reported result (elements_so_far ss) rest cs is held ends = absurd is
+object_ended Holds Done silent reported result (members_so_far fs key offset) rest cs is held ends = ends fs key offset held
 
 -- what is so of a member that was put in
 pub put_new : {A P : Type 0} (Q : Type 0) (r : Result Bool A) → r ≡ Ok true → IfOk r (λ b. MatchBool b P Q) → P
@@ -528,4 +528,4 @@ array_awaits Before After p items more next depth (elements_so_far ss) fs cs due
       held = due ss held;
       parses = element_stops p p p depth ss (stays p) (stays p) (e ∙ sym (ap (skip_whitespace mode) e ∙ skip-stop mode 91 rest refl)) (ap (is_left_out mode) e ∙ bracket-there mode rest);
     }
-array_awaits Before After p items more next depth (members_so_far ms k place) fs cs due fits held = absurd fits
+array_awaits Before After p items more next depth (members_so_far ms k offset) fs cs due fits held = absurd fits

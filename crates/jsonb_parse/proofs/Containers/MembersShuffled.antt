@@ -7,7 +7,7 @@ use Rattle.jsonb_spec.specs.Tree.{Member, Members, Tree, put, put_all}
 use Rattle.jsonb_spec.specs.Tree.Members.{more_members, no_members}
 use Rattle.text_common.proofs.Repeats.{chained, same_key}
 use Rattle.text_common.proofs.Shuffles.{IsShuffle, distinct-shuffle, shuffle-map}
-use Rattle.text_common.proofs.Shuffles.IsShuffle.{same, keep, exchange, follow}
+use Rattle.text_common.proofs.Shuffles.IsShuffle.{same, preserve, exchange, follow}
 use Rattle.jsonb_value.proofs.Trees.MembersInOrder.{HaveDistinctKeys}
 
 -- the members with t at k, where k compares with the first key so
@@ -31,29 +31,29 @@ module _ (k l : List ℕ) (t u : Tree) (less : slice_cmp nat_cmp k l ≡ Less) w
   low : (m : List ℕ) → is_gt (slice_cmp nat_cmp l m) ≡ false → slice_cmp nat_cmp k m ≡ Less
   low m e = chained k l m less e
 
-  member_place : (m : List ℕ) (v : Tree) (ms : Members) → put k t (put l u ms) ≡ put l u (put k t ms) → (o p : Ordering) → slice_cmp nat_cmp k m ≡ o → slice_cmp nat_cmp l m ≡ p
+  member_offset : (m : List ℕ) (v : Tree) (ms : Members) → put k t (put l u ms) ≡ put l u (put k t ms) → (o p : Ordering) → slice_cmp nat_cmp k m ≡ o → slice_cmp nat_cmp l m ≡ p
       → put k t (put l u (more_members m v ms)) ≡ put l u (put k t (more_members m v ms))
   unfolding put_by
-  member_place m v ms again o Less e f =
+  member_offset m v ms again o Less e f =
       ap (λ x. put k t (put_by x l u m v ms (put l u ms))) f ∙ before_l (more_members m v ms)
       ∙ sym (ap (λ x. put l u (put_by x k t m v ms (put k t ms))) (low m (ap is_gt f)) ∙ behind (more_members m v ms) ∙ ap (λ x. more_members k t (put_by x l u m v ms (put l u ms))) f)
-  member_place m v ms again o Equal e f =
+  member_offset m v ms again o Equal e f =
       ap (λ x. put k t (put_by x l u m v ms (put l u ms))) f ∙ ap (λ x. put_by x k t m u ms (put k t ms)) (low m (ap is_gt f))
       ∙ sym (ap (λ x. put l u (put_by x k t m v ms (put k t ms))) (low m (ap is_gt f)) ∙ behind (more_members m v ms) ∙ ap (λ x. more_members k t (put_by x l u m v ms (put l u ms))) f)
-  member_place m v ms again Less Greater e f =
+  member_offset m v ms again Less Greater e f =
       ap (λ x. put k t (put_by x l u m v ms (put l u ms))) f ∙ ap (λ x. put_by x k t m v (put l u ms) (put k t (put l u ms))) e
       ∙ sym (ap (λ x. put l u (put_by x k t m v ms (put k t ms))) e ∙ behind (more_members m v ms) ∙ ap (λ x. more_members k t (put_by x l u m v ms (put l u ms))) f)
-  member_place m v ms again Equal Greater e f =
+  member_offset m v ms again Equal Greater e f =
       ap (λ x. put k t (put_by x l u m v ms (put l u ms))) f ∙ ap (λ x. put_by x k t m v (put l u ms) (put k t (put l u ms))) e
       ∙ sym (ap (λ x. put l u (put_by x k t m v ms (put k t ms))) e ∙ ap (λ x. put_by x l u m t ms (put l u ms)) f)
-  member_place m v ms again Greater Greater e f =
+  member_offset m v ms again Greater Greater e f =
       ap (λ x. put k t (put_by x l u m v ms (put l u ms))) f ∙ ap (λ x. put_by x k t m v (put l u ms) (put k t (put l u ms))) e
       ∙ ap (λ rest. more_members m v rest) again
       ∙ sym (ap (λ x. put l u (put_by x k t m v ms (put k t ms))) e ∙ ap (λ x. put_by x l u m v (put k t ms) (put l u (put k t ms))) f)
 
   put_both : (ms : Members) → put k t (put l u ms) ≡ put l u (put k t ms)
   put_both no_members = before_l no_members ∙ sym (behind no_members)
-  put_both (more_members m v ms) = member_place m v ms (put_both ms) (slice_cmp nat_cmp k m) (slice_cmp nat_cmp l m) refl refl
+  put_both (more_members m v ms) = member_offset m v ms (put_both ms) (slice_cmp nat_cmp k m) (slice_cmp nat_cmp l m) refl refl
 
 put_commute : (k l : List ℕ) (t u : Tree) (ms : Members) → k ≢ l → put k t (put l u ms) ≡ put l u (put k t ms)
 put_commute k l t u ms n =
@@ -66,6 +66,6 @@ put_commute k l t u ms n =
 -- members with distinct keys make one object, in whatever order
 pub put_all-shuffle : {es fs : List Member} (s : IsShuffle es fs) (ms : Members) → HaveDistinctKeys es → put_all es ms ≡ put_all fs ms
 put_all-shuffle same ms h = refl
-put_all-shuffle (keep {x = e} s) ms h = put_all-shuffle s (put e.0 e.1 ms) h.1
+put_all-shuffle (preserve {x = e} s) ms h = put_all-shuffle s (put e.0 e.1 ms) h.1
 put_all-shuffle (exchange {x = e} {y = f} {xs = es}) ms h = ap (λ ns. put_all es ns) (put_commute f.0 e.0 f.1 e.1 ms (λ same_keys. h.0.0 (sym same_keys)))
 put_all-shuffle (follow s t) ms h = put_all-shuffle s ms h ∙ put_all-shuffle t ms (distinct-shuffle (shuffle-map (λ (m : Member). m.0) s) h)

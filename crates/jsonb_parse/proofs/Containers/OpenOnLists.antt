@@ -97,8 +97,8 @@ module _ {A : Type 0} (size : ℕ) (code : Code) (close : ℕ) (part : List ℕ 
 
 -- ---- elements and members
 
-pub sound-shrinks : {A : Type 0} (Spells : List ℕ → A → Type 0) (part : List ℕ → Parse A) → IsSoundBefore Spells part → Shrinks part
-sound-shrinks Spells part sound bytes x e =
+pub sound-shrinks : {A : Type 0} (Encodes : List ℕ → A → Type 0) (part : List ℕ → Parse A) → IsSoundBefore Encodes part → Shrinks part
+sound-shrinks Encodes part sound bytes x e =
     ⊎_elim (λ (some : 0 < length x.1). let s = sound bytes x.0 x.1 e some in omega (arith, ap length s.whole, length-append s.core x.1)) (λ (none : length x.1 ≤ 0). omega (arith, none)) (cases_lt 0 (length x.1))
 
 module _ (size : ℕ) (mode : Mode) (depth : ℕ) where
@@ -154,9 +154,9 @@ module _ (size : ℕ) (mode : Mode) (depth : ℕ) where
       colon : (Mark × List ℕ) × List ℕ → Parse ((Mark × List ℕ) × ℕ)
       colon k = on_byte 58 (skip_whitespace mode k.1) (λ rest. Ok ((k.0, size - length k.1), skip_whitespace mode rest)) (reject size expected_colon 0 (skip_whitespace mode k.1))
 
-      padded-found : (key : Mark × List ℕ) (place : ℕ) (r : Parse Source) → (r >>= (λ (x : Source × List ℕ). Ok (x.0, skip_whitespace mode x.1)) >>= found_at key place >>= added) ≡ (r >>= finish_open size mode depth (members_so_far front key place))
-      padded-found key place (Ok x) = refl
-      padded-found key place (Err f) = refl
+      padded-found : (key : Mark × List ℕ) (offset : ℕ) (r : Parse Source) → (r >>= (λ (x : Source × List ℕ). Ok (x.0, skip_whitespace mode x.1)) >>= found_at key offset >>= added) ≡ (r >>= finish_open size mode depth (members_so_far front key offset))
+      padded-found key offset (Ok x) = refl
+      padded-found key offset (Err f) = refl
 
       keyed : (k : (Mark × List ℕ) × List ℕ) → (after_key size mode (value_at size mode depth) k.0 (size - length k.1) (skip_whitespace mode k.1) >>= added) ≡ (colon k >>= waits)
       keyed k =

@@ -23,15 +23,15 @@ use Rattle.jsonb_parse.proofs.Containers.Sources.{alone_tree, array_tree, object
 use Rattle.jsonb_scan.specs.Parsing.Document.{alone_at, at_end, comment_at, document_of, source_from, source_of, nothing_at, too_deep, value_at, value_to_end, value_with}
 use Rattle.jsonb_scan.specs.Parsing.Scalar.{key_at, scalar_at}
 use Rattle.jsonb_scan.proofs.Steps.Tests.{SameRead, bind_ok, chosen, rejected_fails, same_ok, same_read}
-use Rattle.jsonb_scan.proofs.Containers.JoinedParts.{IsOther, IsPartComplete, IsShown, IsSound, IsSoundBefore, SeenBy, Spelled, Starts, ends-whitespace, ends_at, joined-skip, joined_complete, joined_seen, joined_sound, length-joined, on_byte-none, on_byte-other, on_byte_cases, other, padded_complete, padded_seen, padded_sound, skip-padded}
+use Rattle.jsonb_scan.proofs.Containers.JoinedParts.{IsOther, IsPartComplete, IsShown, IsSound, IsSoundBefore, SeenBy, Encoded, Starts, ends-whitespace, ends_at, joined-skip, joined_complete, joined_seen, joined_sound, length-joined, on_byte-none, on_byte-other, on_byte_cases, other, padded_complete, padded_seen, padded_sound, skip-padded}
 use Rattle.text_common.proofs.Repeats.{distinct, no_repeat}
-use Rattle.jsonb_parse.proofs.Scalars.Spellings.{Follows, IsNumberTree, key_complete, key_sound, scalar_complete, scalar_sound, scalar_starts}
-use Rattle.jsonb_parse.proofs.Scalars.Spellings.Follows.{before}
+use Rattle.jsonb_parse.proofs.Scalars.Encodings.{Follows, IsNumberTree, key_complete, key_sound, scalar_complete, scalar_sound, scalar_starts}
+use Rattle.jsonb_parse.proofs.Scalars.Encodings.Follows.{before}
 use Rattle.jsonb_scan.proofs.Text.Comments.{begins_found}
 use Rattle.jsonb_scan.proofs.Text.Whitespace.{Passes, ends_all, ends_line, passes, skip-whitespace, skip-skip, skip-stop, skips}
 use Rattle.jsonb_value.proofs.Trees.MembersInOrder.{HaveDistinctKeys}
 
--- The bytes are a spelling of the source's tree.
+-- The bytes are an encoding of the source's tree.
 abbrev pub Seen : (List ℕ → Tree → Type 0) → List ℕ → Source → Type 0
 Seen Value = SeenBy tree_of_source Value
 
@@ -62,7 +62,7 @@ alone_sound size mode bytes s rest e =
     let r = scalar_sound size mode bytes b.0.0 b.0.1 b.1 in
     record {
       core = r.core;
-      spells = subst (λ (u : Tree). IsScalar mode r.core u) (sym (alone_tree r.spells) ∙ ap tree_of_source same.value) r.spells;
+      encodes = subst (λ (u : Tree). IsScalar mode r.core u) (sym (alone_tree r.encodes) ∙ ap tree_of_source same.value) r.encodes;
       whole = r.whole ∙ ap (λ (u : List ℕ). r.core ++ u) same.rest;
     }
 
@@ -147,13 +147,13 @@ module _ (mode : Mode) (Value : List ℕ → Tree → Type 0) (read : List ℕ �
             let front = skips mode bytes (omega (arith, left, ap length rest-is)) in
             record {
               core = front.whitespace;
-              spells = subst (λ (v : Source). Seen (IsElement mode Value) front.whitespace v) (same.value ∙ out.value) (empty_element (is_extended_if mode (skip_whitespace mode bytes) h.0) front.is_whitespace);
+              encodes = subst (λ (v : Source). Seen (IsElement mode Value) front.whitespace v) (same.value ∙ out.value) (empty_element (is_extended_if mode (skip_whitespace mode bytes) h.0) front.is_whitespace);
               whole = front.whole ∙ ap (λ (u : List ℕ). front.whitespace ++ u) rest-is;
             }
         | inr h ↦
             let again : padded_at mode read bytes ≡ Ok (t, rest) = ap (λ (r : Parse Source). r >>= λ (x : Source × List ℕ). Ok (x.0, skip_whitespace mode x.1)) h.1 ∙ b.2 in
             let s = padded_sound mode (Seen Value) read sound bytes t rest again left in
-            record { core = s.core; spells = whole_element (padded_seen tree_of_source Value s.spells); whole = s.whole }
+            record { core = s.core; encodes = whole_element (padded_seen tree_of_source Value s.encodes); whole = s.whole }
       ]
 
   -- ---- members
@@ -163,18 +163,18 @@ module _ (mode : Mode) (Value : List ℕ → Tree → Type 0) (read : List ℕ �
   member_reads size complete bytes m c rest (key_and_value {left = left} {right = right} {key = k} {t = t} kp vp) is_end is_none =
       let colon : List ℕ = 58 ∷ (right ++ c ∷ rest) in
       let s = skip-padded mode (IsKey mode) (key_complete size mode).starts left k colon kp in
-      let place : ℕ = size - length (s.after ++ colon) in
+      let offset : ℕ = size - length (s.after ++ colon) in
       let key_read : key_at size mode (s.core ++ (s.after ++ colon)) ≡ Ok (k, s.after ++ colon) =
-      (key_complete size mode).parses s.core k (s.after ++ colon) s.spells (ends-whitespace s.is_whitespace colon (ends_at 58 (right ++ c ∷ rest) refl)) in
+      (key_complete size mode).parses s.core k (s.after ++ colon) s.encodes (ends-whitespace s.is_whitespace colon (ends_at 58 (right ++ c ∷ rest) refl)) in
       let skipped : skip_whitespace mode (s.after ++ colon) ≡ colon = skip-whitespace s.is_whitespace colon ∙ skip-stop mode 58 (right ++ c ∷ rest) refl in
       let v = padded_complete tree_of_source mode Value read (value_complete complete) right t c rest vp is_end is_none in (
-        found_member k v.0 place,
+        found_member k v.0 offset,
         ap (λ (u : Tree). (k.1, u)) v.1,
         ap (λ (u : List ℕ). member_at size mode read u) (append_assoc left (58 ∷ right) (c ∷ rest))
             ∙ ap (λ (u : List ℕ). key_at size mode u >>= λ (x : (Mark × List ℕ) × List ℕ). after_key size mode read x.0 (size - length x.1) (skip_whitespace mode x.1)) s.skipped
             ∙ ap (λ (r : Parse (Mark × List ℕ)). r >>= λ (x : (Mark × List ℕ) × List ℕ). after_key size mode read x.0 (size - length x.1) (skip_whitespace mode x.1)) key_read
-            ∙ ap (λ (u : List ℕ). after_key size mode read k place u) skipped
-            ∙ ap (λ (r : Parse Source). r >>= λ (x : Source × List ℕ). found_at k place x) v.2,
+            ∙ ap (λ (u : List ℕ). after_key size mode read k offset u) skipped
+            ∙ ap (λ (r : Parse Source). r >>= λ (x : Source × List ℕ). found_at k offset x) v.2,
       )
 
   members_complete : (size : ℕ) → IsValueComplete Value read → IsPartComplete member_of 125 (IsMember mode Value) (member_at size mode read)
@@ -192,18 +192,18 @@ module _ (mode : Mode) (Value : List ℕ → Tree → Type 0) (read : List ℕ �
   member_sound size sound bytes f rest e left_over =
       let b = bind_ok (key_at size mode (skip_whitespace mode bytes)) (λ (x : (Mark × List ℕ) × List ℕ). after_key size mode read x.0 (size - length x.1) (skip_whitespace mode x.1)) (f, rest) e in
       let k : Mark × List ℕ = b.0.0 in
-      let place : ℕ = size - length b.0.1 in
+      let offset : ℕ = size - length b.0.1 in
       let colon : List ℕ = skip_whitespace mode b.0.1 in
       let key_read : padded_at mode (key_at size mode) bytes ≡ Ok (k, colon) = ap (λ (r : Parse (Mark × List ℕ)). r >>= λ (x : (Mark × List ℕ) × List ℕ). Ok (x.0, skip_whitespace mode x.1)) b.1 in
-      elim (on_byte_cases 58 colon (λ (r : List ℕ). padded_at mode read r >>= λ (x : Source × List ℕ). found_at k place x) (reject size expected_colon 0 colon) (Ok (f, rest)) b.2) [
+      elim (on_byte_cases 58 colon (λ (r : List ℕ). padded_at mode read r >>= λ (x : Source × List ℕ). found_at k offset x) (reject size expected_colon 0 colon) (Ok (f, rest)) b.2) [
         | inl t ↦
-            let v = bind_ok (padded_at mode read t.0) (λ (x : Source × List ℕ). found_at k place x) (f, rest) t.2 in
+            let v = bind_ok (padded_at mode read t.0) (λ (x : Source × List ℕ). found_at k offset x) (f, rest) t.2 in
             let left = padded_sound mode (IsKey mode) (key_at size mode) (key_sound size mode) bytes k colon key_read (omega (arith, ap length t.1)) in
-            let same = same_read (found_member k v.0.0 place) f v.0.1 rest v.2 in
+            let same = same_read (found_member k v.0.0 offset) f v.0.1 rest v.2 in
             let right = padded_sound mode (Seen Value) read sound t.0 v.0.0 v.0.1 v.1 (omega (arith, left_over, ap length same.rest)) in
             record {
               core = left.core ++ 58 ∷ right.core;
-              spells = subst (λ (g : Found). IsFound (left.core ++ 58 ∷ right.core) g) same.value (key_and_value left.spells (padded_seen tree_of_source Value right.spells));
+              encodes = subst (λ (g : Found). IsFound (left.core ++ 58 ∷ right.core) g) same.value (key_and_value left.encodes (padded_seen tree_of_source Value right.encodes));
               whole =
                   left.whole ∙ ap (λ (u : List ℕ). left.core ++ u) (t.1 ∙ ap (λ (u : List ℕ). 58 ∷ u) (right.whole ∙ ap (λ (u : List ℕ). right.core ++ u) same.rest))
                   ∙ sym (append_assoc left.core (58 ∷ right.core) rest);
@@ -213,11 +213,11 @@ module _ (mode : Mode) (Value : List ℕ → Tree → Type 0) (read : List ℕ �
 
   -- ---- how arrays and objects that are not empty begin
 
-  begins-padded : {A : Type 0} (Spells : List ℕ → A → Type 0) → ((core : List ℕ) (a : A) → Spells core a → Starts core) → (bytes : List ℕ) (a : A) (rest : List ℕ) (c : ℕ) → IsPadded mode Spells bytes a
+  begins-padded : {A : Type 0} (Encodes : List ℕ → A → Type 0) → ((core : List ℕ) (a : A) → Encodes core a → Starts core) → (bytes : List ℕ) (a : A) (rest : List ℕ) (c : ℕ) → IsPadded mode Encodes bytes a
       → ((b : ℕ) → IsOther b → eqb b c ≡ false) → begins c (skip_whitespace mode (bytes ++ rest)) ≡ false
-  begins-padded Spells starts bytes a rest c p apart =
-      let s = skip-padded mode Spells starts bytes a rest p in
-      let st = starts s.core a s.spells in
+  begins-padded Encodes starts bytes a rest c p apart =
+      let s = skip-padded mode Encodes starts bytes a rest p in
+      let st = starts s.core a s.encodes in
       ap (λ (u : List ℕ). begins c u) (s.skipped ∙ ap (λ (u : List ℕ). u ++ (s.after ++ rest)) st.whole)
       ∙ cond-false (eqb st.first c) true false (apart st.first (other st.first st.is_start))
 
@@ -247,7 +247,7 @@ module _ (mode : Mode) (Value : List ℕ → Tree → Type 0) (read : List ℕ �
 
   -- ---- arrays
 
-  array_sound : (size : ℕ) → IsSound (Seen Value) read → (bytes : List ℕ) (t : Source) (rest : List ℕ) → array_at size mode read bytes ≡ Ok (t, rest) → Spelled (Seen (IsValue mode Value)) (91 ∷ bytes) t rest
+  array_sound : (size : ℕ) → IsSound (Seen Value) read → (bytes : List ℕ) (t : Source) (rest : List ℕ) → array_at size mode read bytes ≡ Ok (t, rest) → Encoded (Seen (IsValue mode Value)) (91 ∷ bytes) t rest
   array_sound size sound bytes t rest e =
       elim (on_byte_cases 93 (skip_whitespace mode bytes) (λ (r : List ℕ). Ok (array_source no_sources, r)) (elements_at size mode read bytes) (Ok (t, rest)) e) [
         | inl h ↦
@@ -255,7 +255,7 @@ module _ (mode : Mode) (Value : List ℕ → Tree → Type 0) (read : List ℕ �
             let same = same_read (array_source no_sources) t h.0 rest h.2 in
             record {
               core = 91 ∷ (front.whitespace ++ 93 ∷ []);
-              spells = subst (λ (v : Source). Seen (IsValue mode Value) (91 ∷ (front.whitespace ++ 93 ∷ [])) v) same.value (empty_array front.is_whitespace);
+              encodes = subst (λ (v : Source). Seen (IsValue mode Value) (91 ∷ (front.whitespace ++ 93 ∷ [])) v) same.value (empty_array front.is_whitespace);
               whole = close_up 91 93 bytes front.whitespace rest (front.whole ∙ ap (λ (u : List ℕ). front.whitespace ++ u) (h.1 ∙ ap (λ (u : List ℕ). 93 ∷ u) same.rest));
             }
         | inr h ↦
@@ -269,7 +269,7 @@ module _ (mode : Mode) (Value : List ℕ → Tree → Type 0) (read : List ℕ �
             true≢false (sym found ∙ h.0) in
             record {
               core = 91 ∷ (j.0 ++ 93 ∷ []);
-              spells = subst (λ (v : Source). Seen (IsValue mode Value) (91 ∷ (j.0 ++ 93 ∷ [])) v) same.value (subst (λ (v : Tree). IsValue mode Value (91 ∷ (j.0 ++ 93 ∷ [])) v) (sym (array_tree b.0.0)) (full_array (joined_seen tree_of_source (IsElement mode Value) j.1) not_piece));
+              encodes = subst (λ (v : Source). Seen (IsValue mode Value) (91 ∷ (j.0 ++ 93 ∷ [])) v) same.value (subst (λ (v : Tree). IsValue mode Value (91 ∷ (j.0 ++ 93 ∷ [])) v) (sym (array_tree b.0.0)) (full_array (joined_seen tree_of_source (IsElement mode Value) j.1) not_piece));
               whole = close_up 91 93 bytes j.0 rest whole;
             }
       ]
@@ -296,7 +296,7 @@ module _ (mode : Mode) (Value : List ℕ → Tree → Type 0) (read : List ℕ �
   pub member_skip : (size : ℕ) (u : List ℕ) → member_at size mode read (skip_whitespace mode u) ≡ member_at size mode read u
   member_skip size u = ap (λ (w : List ℕ). key_at size mode w >>= λ (x : (Mark × List ℕ) × List ℕ). after_key size mode read x.0 (size - length x.1) (skip_whitespace mode x.1)) (skip-skip mode u)
 
-  object_sound : (size : ℕ) → IsSound (Seen Value) read → (bytes : List ℕ) (t : Source) (rest : List ℕ) → object_at size mode read bytes ≡ Ok (t, rest) → Spelled (Seen (IsValue mode Value)) (123 ∷ bytes) t rest
+  object_sound : (size : ℕ) → IsSound (Seen Value) read → (bytes : List ℕ) (t : Source) (rest : List ℕ) → object_at size mode read bytes ≡ Ok (t, rest) → Encoded (Seen (IsValue mode Value)) (123 ∷ bytes) t rest
   object_sound size sound bytes t rest e =
       elim (on_byte_cases 125 (skip_whitespace mode bytes) (λ (r : List ℕ). Ok (object_source no_source_members, r)) (members_at size mode read bytes) (Ok (t, rest)) e) [
         | inl h ↦
@@ -304,7 +304,7 @@ module _ (mode : Mode) (Value : List ℕ → Tree → Type 0) (read : List ℕ �
             let same = same_read (object_source no_source_members) t h.0 rest h.2 in
             record {
               core = 123 ∷ (front.whitespace ++ 125 ∷ []);
-              spells = subst (λ (v : Source). Seen (IsValue mode Value) (123 ∷ (front.whitespace ++ 125 ∷ [])) v) same.value (empty_object front.is_whitespace);
+              encodes = subst (λ (v : Source). Seen (IsValue mode Value) (123 ∷ (front.whitespace ++ 125 ∷ [])) v) same.value (empty_object front.is_whitespace);
               whole = close_up 123 125 bytes front.whitespace rest (front.whole ∙ ap (λ (u : List ℕ). front.whitespace ++ u) (h.1 ∙ ap (λ (u : List ℕ). 125 ∷ u) same.rest));
             }
         | inr h ↦
@@ -316,7 +316,7 @@ module _ (mode : Mode) (Value : List ℕ → Tree → Type 0) (read : List ℕ �
             let keys : HaveDistinctKeys (map member_of b.0.0) = subst AreDistinct (same_keys b.0.0) (distinct (map spot_of b.0.0) o.0) in
             record {
               core = 123 ∷ (j.0 ++ 125 ∷ []);
-              spells = subst (λ (v : Source). Seen (IsValue mode Value) (123 ∷ (j.0 ++ 125 ∷ [])) v) o.1.value (subst (λ (v : Tree). IsValue mode Value (123 ∷ (j.0 ++ 125 ∷ [])) v) (sym (object_tree b.0.0 keys)) (full_object (joined_seen member_of (IsMember mode Value) j.1) keys));
+              encodes = subst (λ (v : Source). Seen (IsValue mode Value) (123 ∷ (j.0 ++ 125 ∷ [])) v) o.1.value (subst (λ (v : Tree). IsValue mode Value (123 ∷ (j.0 ++ 125 ∷ [])) v) (sym (object_tree b.0.0 keys)) (full_object (joined_seen member_of (IsMember mode Value) j.1) keys));
               whole = close_up 123 125 bytes j.0 rest whole;
             }
       ]
@@ -346,10 +346,10 @@ module _ (mode : Mode) (Value : List ℕ → Tree → Type 0) (read : List ℕ �
   pub containers_sound : (size : ℕ) → IsSound (Seen Value) read → IsSound (Seen (IsValue mode Value)) (value_with size mode (array_at size mode read) (object_at size mode read))
   containers_sound size sound bytes t rest e =
       elim (on_byte_cases 91 bytes (array_at size mode read) (on_byte 123 bytes (object_at size mode read) (alone_at (scalar_at size mode bytes))) (Ok (t, rest)) e) [
-        | inl h ↦ subst (λ (u : List ℕ). Spelled (Seen (IsValue mode Value)) u t rest) (sym h.1) (array_sound size sound h.0 t rest h.2)
+        | inl h ↦ subst (λ (u : List ℕ). Encoded (Seen (IsValue mode Value)) u t rest) (sym h.1) (array_sound size sound h.0 t rest h.2)
         | inr h ↦ elim (on_byte_cases 123 bytes (object_at size mode read) (alone_at (scalar_at size mode bytes)) (Ok (t, rest)) h.1) [
-          | inl k ↦ subst (λ (u : List ℕ). Spelled (Seen (IsValue mode Value)) u t rest) (sym k.1) (object_sound size sound k.0 t rest k.2)
-          | inr k ↦ let s = alone_sound size mode bytes t rest k.1 in record { core = s.core; spells = scalar s.spells; whole = s.whole }
+          | inl k ↦ subst (λ (u : List ℕ). Encoded (Seen (IsValue mode Value)) u t rest) (sym k.1) (object_sound size sound k.0 t rest k.2)
+          | inr k ↦ let s = alone_sound size mode bytes t rest k.1 in record { core = s.core; encodes = scalar s.encodes; whole = s.whole }
         ]
       ]
 
@@ -444,7 +444,7 @@ source_sound mode bytes t e = go (skip_closed_whitespace mode bytes) refl e
         let s = value_sound (length bytes) mode max_depth (b ∷ rest) r.0.0 r.0.1 r.1 in
         let end = ended (length bytes) mode r.0.0 r.0.1 (skip_closed_whitespace mode r.0.1) t refl r.2 in
         let regrouped : front.whitespace ++ (s.core ++ r.0.1) ≡ bytes = sym (front.whole ∙ ap (λ (u : List ℕ). front.whitespace ++ u) s.whole) in
-        subst₂ (λ (u : List ℕ) (v : Source). Seen (IsDocument mode) u v) regrouped end.1 (value_alone front.is_whitespace s.spells end.0)
+        subst₂ (λ (u : List ℕ) (v : Source). Seen (IsDocument mode) u v) regrouped end.1 (value_alone front.is_whitespace s.encodes end.0)
 
     go : (rest : List ℕ) → skip_closed_whitespace mode bytes ≡ rest → source_from (length bytes) mode rest ≡ Ok t → Seen (IsDocument mode) bytes t
     go [] passed e = nothing_read mode bytes t (length bytes) (ends_all mode bytes passed) e

@@ -18,23 +18,23 @@ use Rattle.jsonb_scan.specs.Parsing.String.{string_at}
 use Rattle.jsonb_scan.specs.Open.{Open}
 use Rattle.jsonb_spec.specs.Source.{Source, number_source, source_alone}
 use Rattle.jsonb_spec.specs.Grammar.StandardNumber.{IsStandardNumber}
-use Rattle.jsonb_scan.specs.Spelled.{IsSpelled, IsSpelledAt}
+use Rattle.jsonb_scan.specs.Encoded.{IsEncoded, IsEncodedAt}
 use Rattle.jsonb_parse.specs.Literals.{literal_text, literal_tree}
 use Rattle.jsonb_parse.specs.declared.parser.scalar.Literal.{Literal}
 use Rattle.jsonb_parse.specs.declared.parser.scalar.Literal.TheVariants as literals
 use Rattle.jsonb_parse.specs.declared.parser.frame.Frame.{Frame}
-use Rattle.jsonb_parse.specs.Handler.{AsKey, AsNumber, AsScalar, Builds, IsUntold}
+use Rattle.jsonb_parse.specs.Handler.{AsKey, AsNumber, AsScalar, Builds, IsUnreported}
 use Rattle.jsonb_parse.specs.Frames.{IsPut}
 use Rattle.jsonb_parse.specs.Slots.{Takes}
 use Rattle.jsonb_parse.specs.Parser.{Advances, IsBehind, rest_of, size_of}
 use Rattle.jsonb_spec.specs.Text.{in_quotes}
 use Rattle.jsonb_spec.specs.Text.NumberText.{number_text}
 use Rattle.std.proofs.lemmas.List.{drop_more}
-use Rattle.text_common.specs.KeptScalar.{IsIntegerAt, IsKeptAt}
-use Rattle.text_common.specs.declared.kept.Kept.{Kept}
+use Rattle.text_common.specs.VerbatimScalar.{IsIntegerAt, IsVerbatimAt}
+use Rattle.text_common.specs.declared.verbatim.Verbatim.{Verbatim}
 use Rattle.jsonb_parse.proofs.Scalars.FirstBytes.{extended_number, standard_number}
 use Rattle.jsonb_scan.proofs.Containers.JoinedParts.{on_byte-none}
-use Rattle.jsonb_parse.proofs.Steps.Failures.{memory_misses, misses_through, untold_misses}
+use Rattle.jsonb_parse.proofs.Steps.Failures.{memory_misses, misses_through, unreported_misses}
 use Rattle.jsonb_parse.proofs.Steps.Outcomes.{same_size, scalar_quoted}
 
 -- ---- strings
@@ -55,38 +55,38 @@ null_read size extended bytes rest read = ap (λ (r : Result (List ℕ) Fault). 
 -- no word begins here, in extended mode
 pub null_missed : (size : ℕ) (mode : Mode) (bytes : List ℕ) (e : Error) → mode ≡ extended → e ≢ OutOfMemory → Fails e (letters_at size mode (codes "null") bytes) → null_at size mode bytes ≡ number_value_at size mode bytes
 null_missed size standard bytes e is other h = cc
-null_missed size extended bytes (Syntax code place) is other h = ap (λ (r : Result (List ℕ) Fault). or_else (r >>= λ rest. Ok (null, rest)) (number_value_at size extended bytes)) h
+null_missed size extended bytes (Syntax code offset) is other h = ap (λ (r : Result (List ℕ) Fault). or_else (r >>= λ rest. Ok (null, rest)) (number_value_at size extended bytes)) h
 null_missed size extended bytes OutOfMemory is other h = absurd (other refl)
 null_missed size extended bytes e is other h = absurd h
 
 -- ---- numbers
 
 -- a number as a value
-pub number_built : {V F : Type 0} (silent : Bool) (told : Option Error) (Sees : V → Source → Type 0) (result : Result V F) (size : ℕ) (mode : Mode) (bytes rest : List ℕ) → Builds silent told (AsNumber Sees) result (number_at size mode bytes) rest
-    → Builds silent told (AsScalar Sees) result (number_value_at size mode bytes) rest
-number_built silent told Sees (Ok v) size mode bytes rest h = (number h.0, h.1, ap (λ (r : Parse Num). r >>= λ x. Ok (number x.0, x.1)) h.2)
-number_built silent told Sees (Err f) size mode bytes rest h = misses_through silent told (number_at size mode bytes) (λ x. Ok (number x.0, x.1)) h
+pub number_built : {V F : Type 0} (silent : Bool) (reported : Option Error) (Sees : V → Source → Type 0) (result : Result V F) (size : ℕ) (mode : Mode) (bytes rest : List ℕ) → Builds silent reported (AsNumber Sees) result (number_at size mode bytes) rest
+    → Builds silent reported (AsScalar Sees) result (number_value_at size mode bytes) rest
+number_built silent reported Sees (Ok v) size mode bytes rest h = (number h.0, h.1, ap (λ (r : Parse Num). r >>= λ x. Ok (number x.0, x.1)) h.2)
+number_built silent reported Sees (Err f) size mode bytes rest h = misses_through silent reported (number_at size mode bytes) (λ x. Ok (number x.0, x.1)) h
 
 -- ---- what is parsed is put in
 
-pub put_so : {R I M K F : Type 0} (silent : Bool) (Stands : List ℕ → R → Bool → List (Frame I M K) → List Open → Type 0) (Is : List ℕ → Source → Type 0) (text : List ℕ) (q r : Parser) (old new : R) (result : Result Unit F) (before : Frame I M K) (t : Tree) (read : Parse Tree) (after : Frame I M K)
-    → OnOk result (Takes Stands Is old before new after) → OnOk result (r ≡ q) → IfErr result (λ _. IsUntold silent r.told) → Is text (source_alone t) → read ≡ Ok (t, rest_of q) → IsPut silent r.told Stands text result old before read new after (rest_of r)
-put_so silent Stands Is text q r old new (Ok x) before t read after put same told there is = (t, is ∙ ap (λ o. Ok (t, rest_of o)) (sym same), λ c fs cs fits stands. put text (source_alone t) c fs cs fits stands there)
-put_so silent Stands Is text q r old new (Err f) before t read after put same told there is = untold_misses silent r.told read told
+pub put_so : {R I M K F : Type 0} (silent : Bool) (Holds : List ℕ → R → Bool → List (Frame I M K) → List Open → Type 0) (Is : List ℕ → Source → Type 0) (text : List ℕ) (q r : Parser) (old new : R) (result : Result Unit F) (before : Frame I M K) (t : Tree) (read : Parse Tree) (after : Frame I M K)
+    → OnOk result (Takes Holds Is old before new after) → OnOk result (r ≡ q) → IfErr result (λ _. IsUnreported silent r.reported) → Is text (source_alone t) → read ≡ Ok (t, rest_of q) → IsPut silent r.reported Holds text result old before read new after (rest_of r)
+put_so silent Holds Is text q r old new (Ok x) before t read after put same reported there is = (t, is ∙ ap (λ o. Ok (t, rest_of o)) (sym same), λ c fs cs fits holds. put text (source_alone t) c fs cs fits holds there)
+put_so silent Holds Is text q r old new (Err f) before t read after put same reported there is = unreported_misses silent r.reported read reported
 
--- ---- where a scalar stands
+-- ---- where a scalar is
 
--- the bytes between two places of a parser
+-- the bytes between two offsets of a parser
 pub between : (p q : Parser) (bytes : List ℕ) → Advances p q → rest_of p ≡ bytes ++ rest_of q → slice_range p.buf.now p.offset q.offset ≡ bytes
 between p q bytes a e =
     let same = same_size p q a in
     let count : q.offset - p.offset ≡ length bytes = omega (arith, ap length e, length-append bytes (rest_of q), length-drop p.offset p.buf.now, length-drop q.offset q.buf.now, same, q.inside, p.inside) in
     ap₂ (λ n xs. take n xs) count e ∙ take-append_seam bytes (rest_of q)
 
--- where an integer stands that is written as it stands
-pub kept_at : (p q : Parser) (core : List ℕ) (value integer : Num) → Advances p q → rest_of p ≡ core ++ rest_of q → IsStandardNumber core integer → value.scale ≡ integer.scale → value.whole ≡ integer.whole
+-- where an integer is that is written as it is
+pub verbatim_at : (p q : Parser) (core : List ℕ) (value integer : Num) → Advances p q → rest_of p ≡ core ++ rest_of q → IsStandardNumber core integer → value.scale ≡ integer.scale → value.whole ≡ integer.whole
     → core ≡ number_text value → IsIntegerAt p.buf.now p.offset q.offset (number_source value)
-kept_at p q core value integer on joined digits scale whole text =
+verbatim_at p q core value integer on joined digits scale whole text =
     let there = between p q core on joined in
     record {
       value = value;
@@ -107,18 +107,18 @@ abbrev pub positive_of : ShortInteger → Num
 positive_of read = record { form = uint64; scale = 0; whole = pos read.magnitude }
 
 -- an integer in the text
-pub integer_stands : (p q : Parser) (n : Num) → Advances p q → (bytes : List ℕ) × (rest_of p ≡ bytes ++ rest_of q) × IsStandardNumber bytes n → IsSpelledAt p.buf.now p.offset q.offset (number_source n)
-integer_stands p q n a h some = subst (λ bs. IsStandardNumber bs n) (sym (between p q h.0 a h.1)) h.2
+pub integer_holds : (p q : Parser) (n : Num) → Advances p q → (bytes : List ℕ) × (rest_of p ≡ bytes ++ rest_of q) × IsStandardNumber bytes n → IsEncodedAt p.buf.now p.offset q.offset (number_source n)
+integer_holds p q n a h some = subst (λ bs. IsStandardNumber bs n) (sym (between p q h.0 a h.1)) h.2
 
--- nothing is said of where a scalar stands
-pub not_spelled : (text : List ℕ) (at : ℕ) (s : Source) → IsSpelledAt text at at s
-not_spelled text at s h = absurd (omega arith)
+-- nothing is said of where a scalar is
+pub not_encoded : (text : List ℕ) (at : ℕ) (s : Source) → IsEncodedAt text at at s
+not_encoded text at s h = absurd (omega arith)
 
 -- ---- keys
 
 -- a key without escapes, behind its opening quote
-pub key_stands : (p q r : Parser) (body : List ℕ) → 0 < q.offset → Advances p q → Advances q r → IsBehind 34 q → rest_of q ≡ body ++ 34 ∷ rest_of r → slice_range p.buf.now (q.offset - 1) r.offset ≡ in_quotes body
-key_stands p q r body some on a behind e =
+pub key_holds : (p q r : Parser) (body : List ℕ) → 0 < q.offset → Advances p q → Advances q r → IsBehind 34 q → rest_of q ≡ body ++ 34 ∷ rest_of r → slice_range p.buf.now (q.offset - 1) r.offset ≡ in_quotes body
+key_holds p q r body some on a behind e =
     let before : Parser = record q { offset = q.offset - 1; inside = omega (arith, q.inside) } in
     let back : q.offset - 1 + 1 ≡ q.offset = omega (arith, some) in
     let more : rest_of before ≡ 34 ∷ rest_of q =
@@ -127,24 +127,24 @@ key_stands p q r body some on a behind e =
     ap (λ b. slice_range b.now (q.offset - 1) r.offset) (sym on.buf)
     ∙ between before r (34 ∷ body ++ 34 ∷ []) on_before (more ∙ ap (λ xs. 34 ∷ xs) (e ∙ sym (append_assoc body (34 ∷ []) (rest_of r))))
 
--- what is so of a key that stands there
-pub key_begun : {K A : Type 0} (Stands : List ℕ → Type 0) (Begun : List ℕ → K → Type 0) (made : Result K A) → IfOk made (λ key. (bytes : List ℕ) → Stands bytes → Begun bytes key) → (bytes : List ℕ) → Stands bytes → IfOk made (Begun bytes)
-key_begun Stands Begun (Ok key) h bytes stands = h bytes stands
-key_begun Stands Begun (Err e) h bytes stands = tt
+-- what is so of a key that is there
+pub key_begun : {K A : Type 0} (Holds : List ℕ → Type 0) (Begun : List ℕ → K → Type 0) (made : Result K A) → IfOk made (λ key. (bytes : List ℕ) → Holds bytes → Begun bytes key) → (bytes : List ℕ) → Holds bytes → IfOk made (Begun bytes)
+key_begun Holds Begun (Ok key) h bytes holds = h bytes holds
+key_begun Holds Begun (Err e) h bytes holds = tt
 
 -- a key that a handler made of what was parsed
-pub key_kept : {K A F : Type 0} (silent : Bool) (Names : K → Mark × List ℕ → ℕ → Type 0) (made : Result K A) (result : Result K F) (size : ℕ) (p q : Parser) (k : Mark × List ℕ) (read : Parse (Mark × List ℕ)) → size ≡ size_of p → IfOk made (λ key. Names key k p.offset)
-    → IfOk result (λ x. (made ≡ Ok x) × (q ≡ p)) → IfErr result (λ _. q.told ≡ Some OutOfMemory) → read ≡ Ok (k, rest_of p) → Builds silent q.told (AsKey Names size (rest_of q)) result read (rest_of q)
-key_kept silent Names made (Ok key) size p q k read same named kept memory is =
-    let place : p.offset ≡ size - length (rest_of q) = omega (arith, length-drop p.offset p.buf.now, same, p.inside, ap (λ o. length (rest_of o)) kept.1) in
-    (k, subst (λ i. Names key k i) place (subst (λ m. IfOk m (λ x. Names x k p.offset)) kept.0 named), is ∙ ap (λ o. Ok (k, rest_of o)) (sym kept.1))
-key_kept silent Names made (Err f) size p q k read same named kept memory is = memory_misses silent q.told read memory
+pub key_retained : {K A F : Type 0} (silent : Bool) (Names : K → Mark × List ℕ → ℕ → Type 0) (made : Result K A) (result : Result K F) (size : ℕ) (p q : Parser) (k : Mark × List ℕ) (read : Parse (Mark × List ℕ)) → size ≡ size_of p → IfOk made (λ key. Names key k p.offset)
+    → IfOk result (λ x. (made ≡ Ok x) × (q ≡ p)) → IfErr result (λ _. q.reported ≡ Some OutOfMemory) → read ≡ Ok (k, rest_of p) → Builds silent q.reported (AsKey Names size (rest_of q)) result read (rest_of q)
+key_retained silent Names made (Ok key) size p q k read same named verbatim memory is =
+    let offset : p.offset ≡ size - length (rest_of q) = omega (arith, length-drop p.offset p.buf.now, same, p.inside, ap (λ o. length (rest_of o)) verbatim.1) in
+    (k, subst (λ i. Names key k i) offset (subst (λ m. IfOk m (λ x. Names x k p.offset)) verbatim.0 named), is ∙ ap (λ o. Ok (k, rest_of o)) (sym verbatim.1))
+key_retained silent Names made (Err f) size p q k read same named verbatim memory is = memory_misses silent q.reported read memory
 
 -- what is built in an input of one size is built in the same
-pub key_same : {K F : Type 0} (silent : Bool) (told : Option Error) (Names : K → Mark × List ℕ → ℕ → Type 0) (result : Result K F) (size other_size : ℕ) (read other : Parse (Mark × List ℕ)) (rest : List ℕ) → other_size ≡ size → other ≡ read
-    → Builds silent told (AsKey Names size rest) result read rest → Builds silent told (AsKey Names other_size rest) result other rest
-key_same silent told Names result size other_size read other rest sizes same h =
-    subst (λ n. Builds silent told (AsKey Names n rest) result other rest) (sym sizes) (subst (λ q. Builds silent told (AsKey Names size rest) result q rest) (sym same) h)
+pub key_same : {K F : Type 0} (silent : Bool) (reported : Option Error) (Names : K → Mark × List ℕ → ℕ → Type 0) (result : Result K F) (size other_size : ℕ) (read other : Parse (Mark × List ℕ)) (rest : List ℕ) → other_size ≡ size → other ≡ read
+    → Builds silent reported (AsKey Names size rest) result read rest → Builds silent reported (AsKey Names other_size rest) result other rest
+key_same silent reported Names result size other_size read other rest sizes same h =
+    subst (λ n. Builds silent reported (AsKey Names n rest) result other rest) (sym sizes) (subst (λ q. Builds silent reported (AsKey Names size rest) result q rest) (sym same) h)
 
 -- ---- what is parsed at once
 
@@ -192,12 +192,12 @@ extended_at_once size mode bytes n rest is first read =
     on_byte-none 34 bytes (quoted_at size mode 34) (other_scalar_at size mode bytes) begun.0
     ∙ extended_number size mode bytes is begun.1 ∙ ap (λ (r : Parse Num). r >>= λ x. Ok (number x.0, x.1)) read
 
--- what the parser parses where it stood still
+-- what the parser parses where it paused
 pub scalar_still : (p q : Parser) → q ≡ p → scalar_at (size_of p) (mode_of p.mode) (rest_of p) ≡ scalar_at (size_of q) (mode_of q.mode) (rest_of q)
 scalar_still p q same = sym (ap (λ o. scalar_at (size_of o) (mode_of o.mode) (rest_of o)) same)
 
--- a literal as it is spelled
-pub literal_spelled : (l : Literal) (bytes : List ℕ) → bytes ≡ literal_text l → IsSpelled bytes (source_alone (literal_tree l))
-literal_spelled literals.Null bytes e = e
-literal_spelled (literals.Bool true) bytes e = e
-literal_spelled (literals.Bool false) bytes e = e
+-- a literal as it is encoded
+pub literal_encoded : (l : Literal) (bytes : List ℕ) → bytes ≡ literal_text l → IsEncoded bytes (source_alone (literal_tree l))
+literal_encoded literals.Null bytes e = e
+literal_encoded (literals.Bool true) bytes e = e
+literal_encoded (literals.Bool false) bytes e = e

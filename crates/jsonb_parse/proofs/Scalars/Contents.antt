@@ -19,7 +19,7 @@ use Rattle.jsonb_parse.specs.Parser.{PassesContents, rest_of, size_of}
 use Rattle.jsonb_parse.proofs.Scalars.Built.{string_read}
 use Rattle.jsonb_parse.proofs.Steps.Failures.{misses_through}
 
--- the closing quote stands there
+-- the closing quote is there
 pub quote_there : (quote : ℕ) (bytes : List ℕ) (end : ℕ) → quote_end quote bytes ≡ Ok end → get_or bytes end 0 ≡ quote
 quote_there quote bytes end found =
     let long : length (take end bytes) ≡ end = length-take-le end bytes (omega (arith, quote_within quote bytes end found)) in
@@ -35,19 +35,19 @@ module _ (quote : ℕ) (p q : Parser) (body : List ℕ) (c : PassesContents quot
       (string-closed (size_of p) mode quote (rest_of p) (length body) x c.found (ap (body_of mode) (sym c.is) ∙ read) ∙ ap (λ (u : List ℕ). Ok (x, u)) (sym c.rest))
 
   rejected : {V : Type 0} (Sees : V → Source → Type 0) (offset : ℕ) (e : Error) (read : Body (Mark × List ℕ)) → SeesContents Sees offset (Err e) read → DecodesContents offset (Err e) read
-  rejected Sees offset (Syntax code place) read h = h
+  rejected Sees offset (Syntax code index) read h = h
   rejected Sees offset OutOfMemory read h = h
   rejected Sees offset other read h = h
 
   -- and their fault is its fault
-  pub contents_fail : {V : Type 0} (Sees : V → Source → Type 0) (silent : _) (told : Option Error) (e : Error) → told ≡ Some e → SeesContents Sees (p.offset + 1) (Err e) (body_of (mode_of p.mode) body)
-      → Misses silent told (quoted_at (size_of p) (mode_of p.mode) quote (rest_of p))
-  contents_fail Sees silent told e is h =
+  pub contents_fail : {V : Type 0} (Sees : V → Source → Type 0) (silent : _) (reported : Option Error) (e : Error) → reported ≡ Some e → SeesContents Sees (p.offset + 1) (Err e) (body_of (mode_of p.mode) body)
+      → Misses silent reported (quoted_at (size_of p) (mode_of p.mode) quote (rest_of p))
+  contents_fail Sees silent reported e is h =
       let mode = mode_of p.mode in
       let at : size_of p - length (rest_of p) ≡ p.offset = omega (arith, length-drop p.offset p.buf.now, p.inside) in
       let fails : Fails e (string_at (size_of p) mode quote (rest_of p)) =
       body_fails (size_of p) mode quote (rest_of p) (length body) p.offset e c.found at (subst (λ (u : List ℕ). DecodesContents (p.offset + 1) (Err e) (body_of mode u)) c.is (rejected Sees (p.offset + 1) e (body_of mode body) h)) in
-      misses_through silent told (string_at (size_of p) mode quote (rest_of p)) (λ s. Ok (string s.0.0 s.0.1, s.1)) (subst (λ (t : Option Error). Misses silent t (string_at (size_of p) mode quote (rest_of p))) (sym is) fails)
+      misses_through silent reported (string_at (size_of p) mode quote (rest_of p)) (λ s. Ok (string s.0.0 s.0.1, s.1)) (subst (λ (t : Option Error). Misses silent t (string_at (size_of p) mode quote (rest_of p))) (sym is) fails)
 
   -- a backslash is in the text
   pub contents_escaped : Contains p.buf.now 92

@@ -8,7 +8,7 @@ use Rattle.jsonb_spec.specs.Mode.{Mode, standard, extended}
 use Rattle.jsonb_scan.specs.Parsing.{reject}
 use Rattle.jsonb_scan.specs.Parsing.Scalar.{begins_letter, begins_number, begins_single_quote, number_or_fault, number_value_at, other_scalar_at, quoted_at, words_at}
 use Rattle.jsonb_parse.proofs.Steps.Outcomes.{words_number}
-use Rattle.jsonb_parse.proofs.Scalars.Spellings.{IsApart, number_start_apart}
+use Rattle.jsonb_parse.proofs.Scalars.Encodings.{IsApart, number_start_apart}
 use Rattle.jsonb_parse.proofs.Steps.Advancing.{single-false}
 
 -- ---- a digit or a minus comes next

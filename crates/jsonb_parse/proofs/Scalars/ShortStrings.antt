@@ -8,9 +8,9 @@ use Rattle.std.proofs.lemmas.List.{drop_more, length-drop, take_more, length-tak
 use Rattle.std.proofs.lemmas.List.Concat.{flat_map-append}
 use Rattle.jsonb_spec.specs.Mode.{Mode, standard, extended}
 use Rattle.jsonb_spec.specs.Grammar.Quoted.{mark_of}
-use Rattle.jsonb_spec.specs.Grammar.StringBody.{Item, raw, escape, unit, spelling, IsItem, meaning, standard_escape, escaped_byte}
+use Rattle.jsonb_spec.specs.Grammar.StringBody.{Item, raw, escape, unit, encoding, IsItem, meaning, standard_escape, escaped_byte}
 use Rattle.jsonb_spec.specs.Text.StringText.{ArePlain, byte_text}
-use Rattle.jsonb_value.proofs.Strings.Spelling.{item_step-spelling}
+use Rattle.jsonb_value.proofs.Strings.Encoding.{item_step-encoding}
 use Rattle.jsonb_scan.specs.Parsing.String.{body_of, further, quote_end}
 use Rattle.jsonb_scan.proofs.Strings.Ends.{quote_end-here, quote_end-step}
 use Rattle.jsonb_scan.proofs.Strings.Items.{body_complete}
@@ -26,9 +26,9 @@ use Rattle.jsonb_scan.proofs.Strings.Bodies.{string-closed}
 use Rattle.jsonb_spec.specs.Source.{string_source}
 use Rattle.jsonb_spec.specs.Text.{in_quotes}
 use Rattle.jsonb_spec.specs.Tree.{Mark}
-use Rattle.text_common.specs.KeptScalar.{IsKeptAt}
-use Rattle.text_common.specs.declared.kept.Kept.{Kept}
-use Rattle.text_common.specs.declared.kept.Kept.TheVariants as kept
+use Rattle.text_common.specs.VerbatimScalar.{IsVerbatimAt}
+use Rattle.text_common.specs.declared.verbatim.Verbatim.{Verbatim}
+use Rattle.text_common.specs.declared.verbatim.Verbatim.TheVariants as verbatim
 
 -- ---- items
 
@@ -40,19 +40,19 @@ short_join : {a b s t : List ℕ} → IsShort a s → IsShort b t → IsShort (a
 short_join p q = record {
   items = p.items ++ q.items;
   each = all_items p.items q.items p.each q.each;
-  spelled = ap₂ (λ xs ys. xs ++ ys) p.spelled q.spelled ∙ sym (flat_map-append spelling p.items q.items);
+  encoded = ap₂ (λ xs ys. xs ++ ys) p.encoded q.encoded ∙ sym (flat_map-append encoding p.items q.items);
   means = ap₂ (λ xs ys. xs ++ ys) p.means q.means ∙ sym (map-append short_byte p.items q.items);
 }
 
 short_none : IsShort [] []
-short_none = record { items = []; each = tt; spelled = refl; means = refl }
+short_none = record { items = []; each = tt; encoded = refl; means = refl }
 
 short_run : (run : List ℕ) → ArePlain run → IsShort run run
 short_run [] h = short_none
-short_run (b ∷ run) h = short_join {a = b ∷ []} {s = b ∷ []} (record { items = raw b ∷ []; each = (one_plain b run h, tt); spelled = refl; means = refl }) (short_run run (rest_plain b run h))
+short_run (b ∷ run) h = short_join {a = b ∷ []} {s = b ∷ []} (record { items = raw b ∷ []; each = (one_plain b run h, tt); encoded = refl; means = refl }) (short_run run (rest_plain b run h))
 
 short_letter : (letter byte : ℕ) → standard_escape letter ≡ Some byte → IsShort (92 ∷ letter ∷ []) (byte ∷ [])
-short_letter letter byte is = record { items = escape letter byte ∷ []; each = (is, tt); spelled = refl; means = refl }
+short_letter letter byte is = record { items = escape letter byte ∷ []; each = (is, tt); encoded = refl; means = refl }
 
 in_mode : (mode : Mode) (letter byte : ℕ) → standard_escape letter ≡ Some byte → escaped_byte mode letter ≡ Some byte
 in_mode standard letter byte is = is
@@ -112,36 +112,36 @@ front_escape bytes end byte is_same now_same f within backslash is written =
 
 -- ---- where it ends, and what it means
 
-quote_there : (xs : List Item) (more : List ℕ) → AllByRecursion IsShortItem xs → quote_end 34 (flat_map spelling xs ++ 34 ∷ more) ≡ Ok (length (flat_map spelling xs))
+quote_there : (xs : List Item) (more : List ℕ) → AllByRecursion IsShortItem xs → quote_end 34 (flat_map encoding xs ++ 34 ∷ more) ≡ Ok (length (flat_map encoding xs))
 quote_there [] more h = quote_end-here 34 more
 quote_there (raw b ∷ xs) more h =
-    quote_end-step 34 b 0 (flat_map spelling xs ++ 34 ∷ more) (no_mark 34 b (omega arith) h.0) (item_step-spelling standard (raw b) (flat_map spelling xs ++ 34 ∷ more) (item_in_mode standard (raw b) h.0))
-    ∙ ap (further 1) (quote_there xs more h.1) ∙ ap (λ n. Ok n) {x = 1 + length (flat_map spelling xs)} {y = suc (length (flat_map spelling xs))} (omega arith)
+    quote_end-step 34 b 0 (flat_map encoding xs ++ 34 ∷ more) (no_mark 34 b (omega arith) h.0) (item_step-encoding standard (raw b) (flat_map encoding xs ++ 34 ∷ more) (item_in_mode standard (raw b) h.0))
+    ∙ ap (further 1) (quote_there xs more h.1) ∙ ap (λ n. Ok n) {x = 1 + length (flat_map encoding xs)} {y = suc (length (flat_map encoding xs))} (omega arith)
 quote_there (escape letter byte ∷ xs) more h =
-    quote_end-step 34 92 1 (letter ∷ (flat_map spelling xs ++ 34 ∷ more)) (λ e. absurd (omega (arith, e)))
-    (item_step-spelling standard (escape letter byte) (flat_map spelling xs ++ 34 ∷ more) h.0)
-    ∙ ap (further 2) (quote_there xs more h.1) ∙ ap (λ n. Ok n) {x = 2 + length (flat_map spelling xs)} {y = suc (suc (length (flat_map spelling xs)))} (omega arith)
+    quote_end-step 34 92 1 (letter ∷ (flat_map encoding xs ++ 34 ∷ more)) (λ e. absurd (omega (arith, e)))
+    (item_step-encoding standard (escape letter byte) (flat_map encoding xs ++ 34 ∷ more) h.0)
+    ∙ ap (further 2) (quote_there xs more h.1) ∙ ap (λ n. Ok n) {x = 2 + length (flat_map encoding xs)} {y = suc (suc (length (flat_map encoding xs)))} (omega arith)
 quote_there (unit braces digits ∷ xs) more h = absurd h.0
 
 pub short_ends : (bytes : List ℕ) (end : ℕ) (text : List ℕ) → IsShort (take end bytes) text → end < length bytes → get_or bytes end 0 ≡ 34 → quote_end 34 bytes ≡ Ok end
 short_ends bytes end text short within quote =
-    let whole : bytes ≡ flat_map spelling short.items ++ 34 ∷ drop (end + 1) bytes =
-    sym (take-append-drop end bytes) ∙ ap₂ (λ xs ys. xs ++ ys) short.spelled (drop_more bytes end 0 within ∙ ap (λ b. b ∷ drop (end + 1) bytes) quote) in
+    let whole : bytes ≡ flat_map encoding short.items ++ 34 ∷ drop (end + 1) bytes =
+    sym (take-append-drop end bytes) ∙ ap₂ (λ xs ys. xs ++ ys) short.encoded (drop_more bytes end 0 within ∙ ap (λ b. b ∷ drop (end + 1) bytes) quote) in
     ap (quote_end 34) whole ∙ quote_there short.items (drop (end + 1) bytes) short.each
-    ∙ ap (λ n. Ok n) (ap length (sym short.spelled) ∙ length-take-le end bytes (omega (arith, within)))
+    ∙ ap (λ n. Ok n) (ap length (sym short.encoded) ∙ length-take-le end bytes (omega (arith, within)))
 
 pub short_means : (mode : Mode) (body text : List ℕ) (short : IsShort body text) → IsUtf8 body → body_of mode body ≡ Ok (mark_of short.items, text)
 short_means mode body text short utf8 =
     let each = items_in_mode mode short.items short.each in
     let means = meaning_is short.items short.each ∙ sym short.means in
-    body_complete mode body short.items (record { each = each; spelled = short.spelled }) (meaning_utf8 mode short.items each (subst IsUtf8 short.spelled utf8))
+    body_complete mode body short.items (record { each = each; encoded = short.encoded }) (meaning_utf8 mode short.items each (subst IsUtf8 short.encoded utf8))
     ∙ ap (λ t. Ok (mark_of short.items, t)) means
 
 -- ---- what a parser passes
 
-stands_in_quotes : (buf : List ℕ) (offset end to : ℕ) → 0 < offset → get_or buf (offset - 1) 0 ≡ 34 → end < length (drop offset buf) → get_or (drop offset buf) end 0 ≡ 34 → to ≡ offset + end + 1
+holds_in_quotes : (buf : List ℕ) (offset end to : ℕ) → 0 < offset → get_or buf (offset - 1) 0 ≡ 34 → end < length (drop offset buf) → get_or (drop offset buf) end 0 ≡ 34 → to ≡ offset + end + 1
     → slice_range buf (offset - 1) to ≡ in_quotes (take end (drop offset buf))
-stands_in_quotes buf offset end to some opened within closed is =
+holds_in_quotes buf offset end to some opened within closed is =
     let rest = drop offset buf in
     let inside : offset - 1 < length buf = omega (arith, within, length-drop offset buf, some) in
     let next : offset - 1 + 1 ≡ offset = omega (arith, some) in
@@ -149,25 +149,25 @@ stands_in_quotes buf offset end to some opened within closed is =
     let count : to - (offset - 1) ≡ suc (end + 1) = omega (arith, is, some) in
     ap₂ (λ n xs. take n xs) count first ∙ ap (λ xs. 34 ∷ xs) (take_more rest end 0 within ∙ ap (λ b. take end rest ++ b ∷ []) closed)
 
--- what stands there is serialized as it stands where that is told
-abbrev pub same_or_short : Kept → Bool → Type 0
-same_or_short kept.Same is_same = is_same ≡ true
-same_or_short kept.Short is_same = Unit {0}
-same_or_short kept.Integer is_same = ⊥
+-- what is there is serialized as it is where that is reported
+abbrev pub same_or_short : Verbatim → Bool → Type 0
+same_or_short verbatim.Same is_same = is_same ≡ true
+same_or_short verbatim.Short is_same = Unit {0}
+same_or_short verbatim.Integer is_same = ⊥
 
-kept_as : (kind : Kept) (is_same : Bool) (text : List ℕ) (from to : ℕ) (mark : Mark) (body meaning : List ℕ) → same_or_short kind is_same → to ≤ length text → slice_range text from to ≡ in_quotes body
-    → IsShort body meaning → (is_same ≡ true → flat_map byte_text meaning ≡ body) → IsKeptAt kind text from to (string_source mark meaning)
-kept_as kept.Integer is_same text from to mark body meaning told inside stands short same = absurd told
-kept_as kept.Same is_same text from to mark body meaning told inside stands short same = (
-  record { mark = mark; body = body; meaning = meaning; is = refl; inside = inside; stands = stands; short = short },
-  stands ∙ ap in_quotes (sym (same told)),
+verbatim_as : (kind : Verbatim) (is_same : Bool) (text : List ℕ) (from to : ℕ) (mark : Mark) (body meaning : List ℕ) → same_or_short kind is_same → to ≤ length text → slice_range text from to ≡ in_quotes body
+    → IsShort body meaning → (is_same ≡ true → flat_map byte_text meaning ≡ body) → IsVerbatimAt kind text from to (string_source mark meaning)
+verbatim_as verbatim.Integer is_same text from to mark body meaning reported inside holds short same = absurd reported
+verbatim_as verbatim.Same is_same text from to mark body meaning reported inside holds short same = (
+  record { mark = mark; body = body; meaning = meaning; is = refl; inside = inside; holds = holds; short = short },
+  holds ∙ ap in_quotes (sym (same reported)),
 )
-kept_as kept.Short is_same text from to mark body meaning told inside stands short same =
-    record { mark = mark; body = body; meaning = meaning; is = refl; inside = inside; stands = stands; short = short }
+verbatim_as verbatim.Short is_same text from to mark body meaning reported inside holds short same =
+    record { mark = mark; body = body; meaning = meaning; is = refl; inside = inside; holds = holds; short = short }
 
-pub passes_short : (p q : Parser) (kind : Kept) (end : ℕ) (is_same : Bool) → same_or_short kind is_same → IsBehind 34 p → IsShortEnd (rest_of p) end is_same → IsUtf8 (take end (rest_of p)) → q.buf ≡ p.buf → q.offset ≡ p.offset + end + 1
+pub passes_short : (p q : Parser) (kind : Verbatim) (end : ℕ) (is_same : Bool) → same_or_short kind is_same → IsBehind 34 p → IsShortEnd (rest_of p) end is_same → IsUtf8 (take end (rest_of p)) → q.buf ≡ p.buf → q.offset ≡ p.offset + end + 1
     → PassesShort p q kind
-passes_short p q kind end is_same told opened found utf8 buf offset =
+passes_short p q kind end is_same reported opened found utf8 buf offset =
     let mode = mode_of p.mode in
     let rest = rest_of p in
     let body = take end rest in
@@ -181,7 +181,7 @@ passes_short p q kind end is_same told opened found utf8 buf offset =
       text = front.text;
       parses = string_read (size_of p) mode 34 rest (mark, front.text) (rest_of q)
           (string-closed (size_of p) mode 34 rest end (mark, front.text) ends (short_means mode body front.text front.short utf8) ∙ ap (λ xs. Ok ((mark, front.text), xs)) left);
-      stands = kept_as kind is_same p.buf.now (p.offset - 1) q.offset mark body front.text told
+      holds = verbatim_as kind is_same p.buf.now (p.offset - 1) q.offset mark body front.text reported
           (omega (arith, offset, found.within, length-drop p.offset p.buf.now))
-          (stands_in_quotes p.buf.now p.offset end q.offset opened.0 opened.1 found.within found.quote offset) front.short front.same;
+          (holds_in_quotes p.buf.now p.offset end q.offset opened.0 opened.1 found.within found.quote offset) front.short front.same;
     }

@@ -14,7 +14,7 @@ use Rattle.jsonb_parse.specs.Start.{IsStart}
 use Rattle.jsonb_parse.specs.declared.parser.start.Start.TheVariants as variants
 use Rattle.jsonb_scan.proofs.Containers.JoinedParts.{on_byte-none}
 use Rattle.jsonb_parse.proofs.Scalars.FirstBytes.{letter-apart, single-apart}
-use Rattle.jsonb_parse.proofs.Scalars.Spellings.{number_start_apart}
+use Rattle.jsonb_parse.proofs.Scalars.Encodings.{number_start_apart}
 use Rattle.jsonb_parse.proofs.Steps.Advancing.{single-false}
 use Rattle.jsonb_parse.proofs.Steps.Outcomes.{words_number}
 

@@ -17,7 +17,7 @@ use Rattle.jsonb_value.specs.declared.error.Error.TheVariants.{Syntax}
 -- ---- faults
 
 pub fails : {Y : Type 0} (e : Error) (f : Fault) (read : Result Y Fault) → NamesFault e f → read ≡ Err f → Fails e read
-fails (Syntax code place) f read is r = r ∙ ap (λ (g : Fault). Err g) is
+fails (Syntax code offset) f read is r = r ∙ ap (λ (g : Fault). Err g) is
 fails other f read is r = absurd is
 
 -- ---- going on

@@ -1,4 +1,4 @@
--- The end of a part, before which no whitespace stands.
+-- The end of a part, before which no whitespace is.
 use Rattle.std.proofs.Common.{◌≡◌, ℕ, true, false, List, ◌∷◌, Ok, refl, ap, ◌∙◌}
 use Rattle.jsonb_spec.specs.Code.{Code}
 use Rattle.jsonb_spec.specs.Mode.{Mode}

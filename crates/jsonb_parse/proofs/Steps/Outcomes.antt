@@ -17,7 +17,7 @@ use Rattle.jsonb_parse.proofs.Steps.Advancing.{single-false, single-true}
 
 -- a fault of the first step is one of the whole
 pub fails_through : {A B : Type 0} (e : Error) (r : Result A Fault) (f : A → Result B Fault) → Fails e r → Fails e (r >>= f)
-fails_through (Syntax code place) r f h = ap (λ q. q >>= f) h
+fails_through (Syntax code offset) r f h = ap (λ q. q >>= f) h
 fails_through OutOfMemory r f h = tt
 fails_through other r f h = h
 

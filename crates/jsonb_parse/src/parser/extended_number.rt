@@ -3,18 +3,18 @@ ghost use Rattle.std.specs.Prelude.{◌≡◌, ◌+◌, ◌-◌, ◌<◌, true, 
 ghost use Rattle.jsonb_spec.specs.Mode.{extended};
 ghost use Rattle.jsonb_value.specs.View.{number_view};
 ghost use Rattle.jsonb_scan.specs.Answer.{mode_of};
-ghost use Rattle.jsonb_parse.specs.Parser.{KeepsInteger, ParsesInPlace, rest_of};
+ghost use Rattle.jsonb_parse.specs.Parser.{PreservesInteger, ParsesAtOffset, rest_of};
 ghost use Rattle.jsonb_scan.specs.Parsing.Whitespace.{is_break};
 ghost use Rattle.jsonb_scan.specs.Parsing.ExtendedNumber.{extended_number_at};
 
 use super::Parser;
 use jsonb_scan::parser::extended_number::{scan_number, short_number};
-use jsonb_scan::parser::integer::kept_integer;
+use jsonb_scan::parser::integer::verbatim_integer;
 use jsonb_scan::parser::number::byte_at;
 use jsonb_value::error::{Error, ParseErrorCode, Result};
 use jsonb_value::number::Number;
 
-// Whether a byte is whitespace, or what stands behind an element or a member. No number goes on with it.
+// Whether a byte is whitespace, or what is behind an element or a member. No number goes on with it.
 #[inline(always)]
 fn is_separator(byte: u8) -> bool
     ensures { MatchBool result (is_break byte ≡ true) (Unit {0}) }
@@ -26,15 +26,15 @@ impl Parser<'_> {
     // Passes an integer of an extended text that is written by the same bytes again, if that is asked and one comes
     // next, with a separator behind it.
     #[inline(always)]
-    pub(super) fn kept_extended_integer(&mut self, is_asked: bool) -> bool
+    pub(super) fn verbatim_extended_integer(&mut self, is_asked: bool) -> bool
         requires mode { mode_of self.old.mode ≡ extended }
-        ensures { KeepsInteger is_asked result self.old self.new }
+        ensures { PreservesInteger is_asked result self.old self.new }
     {
         if !is_asked {
             return false;
         }
         let bytes = self.rest();
-        let Some(end) = kept_integer(bytes) else {
+        let Some(end) = verbatim_integer(bytes) else {
             return false;
         };
         if !is_separator(byte_at(bytes, end)) {
@@ -46,7 +46,7 @@ impl Parser<'_> {
 
     // Parses the longest number text, and gives its number.
     pub(super) fn parse_extended_number(&mut self) -> Result<Number>
-        ensures { ParsesInPlace number_view (λ size mode. extended_number_at size) result self.old self.new }
+        ensures { ParsesAtOffset number_view (λ size mode. extended_number_at size) result self.old self.new }
     {
         let bytes = self.rest();
         match short_number(bytes) {
@@ -61,13 +61,13 @@ impl Parser<'_> {
     // Parses any number text, also one that `short_number` leaves.
     fn parse_long_number(&mut self, bytes: &[u8]) -> Result<Number>
         requires bytes { bytes.now ≡ rest_of self.old }
-        ensures { ParsesInPlace number_view (λ size mode. extended_number_at size) result self.old self.new }
+        ensures { ParsesAtOffset number_view (λ size mode. extended_number_at size) result self.old self.new }
     {
         let text = match scan_number(bytes) {
             Ok(text) => text,
             Err(fault) => {
-                let place = self.offset + fault.place;
-                return Err(Error::Syntax(fault.code, place));
+                let offset = self.offset + fault.offset;
+                return Err(Error::Syntax(fault.code, offset));
             }
         };
         self.offset += text.end;

@@ -4,7 +4,7 @@ ghost use Rattle.std.specs.Cow.{cow_str_bytes};
 ghost use Rattle.jsonb_spec.specs.Ascii as ascii;
 ghost use Rattle.jsonb_value.specs.View.{mark_view};
 ghost use Rattle.jsonb_parse.specs.Handler.{AsNamed, Begins, Builds};
-ghost use Rattle.jsonb_parse.specs.Parser.{AdvancesOver, IsTextOf, ParsesInPlace, ParsesString, parse_at, rest_of};
+ghost use Rattle.jsonb_parse.specs.Parser.{AdvancesOver, IsTextOf, ParsesAtOffset, ParsesString, parse_at, rest_of};
 ghost use Rattle.jsonb_parse.specs.Stack.{member_start};
 ghost use Rattle.jsonb_scan.specs.Parsing.Whitespace.{skip_whitespace};
 ghost use Rattle.jsonb_scan.specs.Parsing.String.{string_at};
@@ -25,18 +25,18 @@ impl<'a> Parser<'a> {
     #[inline(always)]
     pub(super) fn begin_member<V: Handler<'a>>(
         &mut self,
-        room: &mut V::Room,
+        sink: &mut V::Sink,
         object: &mut OpenObject<V::Members, V::Key>,
         text: &'a str,
     ) -> std::result::Result<V::Key, Failed>
         requires same { IsTextOf text.now self.old }
-        ensures parses { Builds V.silent self.new.told
-            (AsNamed (Begins (V.stands self.old.buf.now) room.old object.old room.new object.new)) result
+        ensures parses { Builds V.silent self.new.reported
+            (AsNamed (Begins (V.holds self.old.buf.now) sink.old object.old sink.new object.new)) result
             (parse_at member_start self.old)
             (rest_of self.new) }
-        ensures advances { AdvancesOver V.base self.old self.new room.old room.new }
+        ensures advances { AdvancesOver V.base self.old self.new sink.old sink.new }
     {
-        let key = self.parse_member_key::<V>(room, object, text)?;
+        let key = self.parse_member_key::<V>(sink, object, text)?;
         if !self.take_after_whitespace(b':') {
             let error = self.fault_at_next(ParseErrorCode::ExpectedColon, 0);
             return Err(self.fail(error));
@@ -51,47 +51,47 @@ impl<'a> Parser<'a> {
     #[inline(always)]
     fn parse_member_key<V: Handler<'a>>(
         &mut self,
-        room: &mut V::Room,
+        sink: &mut V::Sink,
         object: &mut OpenObject<V::Members, V::Key>,
         text: &'a str,
     ) -> std::result::Result<V::Key, Failed>
         requires same { IsTextOf text.now self.old }
         ensures { BeginsWith V.Handler (λ size mode bytes. key_at size mode (skip_whitespace mode bytes)) result
-            self.old self.new room.old room.new object.old object.new }
+            self.old self.new sink.old sink.new object.old object.new }
     {
         if !self.take_after_whitespace(b'"') {
-            return self.other_key::<V>(room, object);
+            return self.other_key::<V>(sink, object);
         }
         let from = self.offset;
         if let Some(cut) = self.cut_string(V::wants().plain, text) {
             if cut.is_plain {
                 let text = Text::Plain(cut.body);
-                let key = V::key(room, object, self.alloc, text, from, self.offset);
+                let key = V::key(sink, object, self.alloc, text, from, self.offset);
                 return self.or_out_of_memory(key);
             }
             let text = Text::Borrowed(cut.body);
-            let key = V::key(room, object, self.alloc, text, from, self.offset);
+            let key = V::key(sink, object, self.alloc, text, from, self.offset);
             return self.or_out_of_memory(key);
         }
-        self.escaped_key::<V>(room, object)
+        self.escaped_key::<V>(sink, object)
     }
 
     // A key in double quotes that has escapes, or is rejected, from the byte after its opening quote on.
     #[inline(never)]
     fn escaped_key<V: Handler<'a>>(
         &mut self,
-        room: &mut V::Room,
+        sink: &mut V::Sink,
         object: &mut OpenObject<V::Members, V::Key>,
     ) -> std::result::Result<V::Key, Failed>
         ensures { BeginsWith V.Handler (λ size mode. string_at size mode ascii.quote) result
-            self.old self.new room.old room.new object.old object.new }
+            self.old self.new sink.old sink.new object.old object.new }
     {
         let from = self.offset;
         let key = match self.parse_quoted(b'"') {
             Ok(key) => Text::Decoded(key),
             Err(error) => return Err(self.fail(error)),
         };
-        let key = V::key(room, object, self.alloc, key, from, self.offset);
+        let key = V::key(sink, object, self.alloc, key, from, self.offset);
         self.or_out_of_memory(key)
     }
 
@@ -99,17 +99,17 @@ impl<'a> Parser<'a> {
     #[inline(never)]
     fn other_key<V: Handler<'a>>(
         &mut self,
-        room: &mut V::Room,
+        sink: &mut V::Sink,
         object: &mut OpenObject<V::Members, V::Key>,
     ) -> std::result::Result<V::Key, Failed>
-        ensures { BeginsWith V.Handler key_at result self.old self.new room.old room.new object.old object.new }
+        ensures { BeginsWith V.Handler key_at result self.old self.new sink.old sink.new object.old object.new }
     {
         let from = self.offset;
         let key = match self.parse_key() {
             Ok(key) => Text::Decoded(key),
             Err(error) => return Err(self.fail(error)),
         };
-        let key = V::key(room, object, self.alloc, key, from, self.offset);
+        let key = V::key(sink, object, self.alloc, key, from, self.offset);
         self.or_out_of_memory(key)
     }
 
@@ -131,7 +131,7 @@ impl<'a> Parser<'a> {
 
     // Parses a key without quotes. It is borrowed.
     fn parse_bare_key(&mut self) -> Result<CowStr<'a>>
-        ensures { ParsesInPlace (λ s. (mark_view s, cow_str_bytes s)) (λ size mode. bare_key_at size) result self.old
+        ensures { ParsesAtOffset (λ s. (mark_view s, cow_str_bytes s)) (λ size mode. bare_key_at size) result self.old
             self.new }
     {
         let Some(byte) = self.peek() else {

@@ -7,13 +7,13 @@ ghost use Rattle.jsonb_scan.specs.Answer.{Fails, mode_of};
 ghost use Rattle.jsonb_spec.specs.Mode.{standard};
 ghost use Rattle.jsonb_spec.specs.Grammar.StandardNumber.{IsStandardNumber};
 ghost use Rattle.jsonb_spec.specs.Tree.{number};
-ghost use Rattle.jsonb_parse.specs.Parser.{Finds, KeepsInteger, ParsesInPlace, rest_of, size_of};
+ghost use Rattle.jsonb_parse.specs.Parser.{Finds, PreservesInteger, ParsesAtOffset, rest_of, size_of};
 ghost use Rattle.jsonb_scan.specs.Parsing.Scalar.{scalar_at};
 ghost use Rattle.jsonb_scan.specs.ShortInteger.{short_view};
 ghost use Rattle.jsonb_scan.specs.Parsing.Number.{ContinuesAfterInteger, digits_from, exponent_from, fraction_from, whole_start, then_from, number_to, standard_number_at};
 
 use super::Parser;
-use jsonb_scan::parser::integer::kept_integer;
+use jsonb_scan::parser::integer::verbatim_integer;
 use jsonb_scan::parser::number::{
     ShortInteger, after_minus, byte_at, continues_after_integer, integer, leading_digits,
     number_end, short_integer,
@@ -25,14 +25,14 @@ impl Parser<'_> {
     // Passes an integer of a standard text that is written by the same bytes again, if that is asked and one comes
     // next.
     #[inline(always)]
-    pub(super) fn kept_integer(&mut self, is_asked: bool) -> bool
+    pub(super) fn verbatim_integer(&mut self, is_asked: bool) -> bool
         requires mode { mode_of self.old.mode ≡ standard }
-        ensures { KeepsInteger is_asked result self.old self.new }
+        ensures { PreservesInteger is_asked result self.old self.new }
     {
         if !is_asked {
             return false;
         }
-        match kept_integer(self.rest()) {
+        match verbatim_integer(self.rest()) {
             Some(end) => {
                 self.offset += end;
                 true
@@ -46,7 +46,7 @@ impl Parser<'_> {
     pub(super) fn short_integer(&mut self) -> Option<ShortInteger>
         requires mode { mode_of self.old.mode ≡ standard }
         ensures finds { Finds (λ read. number (short_view read)) scalar_at result self.old self.new }
-        ensures spelled { IfSome result (λ read. (bytes : List ℕ) × (rest_of self.old ≡ bytes ++ rest_of self.new)
+        ensures encoded { IfSome result (λ read. (bytes : List ℕ) × (rest_of self.old ≡ bytes ++ rest_of self.new)
             × IsStandardNumber bytes (short_view read)) }
         ensures fits { IfSome result (λ read. read.negative ≡ true → read.magnitude < 2 ^ 63) }
     {
@@ -58,7 +58,7 @@ impl Parser<'_> {
     // Parses the longest number text, and gives its number.
     #[inline(never)]
     pub(super) fn parse_standard_number(&mut self) -> Result<Number>
-        ensures { ParsesInPlace number_view (λ size mode. standard_number_at size) result self.old self.new }
+        ensures { ParsesAtOffset number_view (λ size mode. standard_number_at size) result self.old self.new }
     {
         let bytes = self.rest();
         let negative = byte_at(bytes, 0) == b'-';
@@ -82,12 +82,12 @@ impl Parser<'_> {
         }
     }
 
-    // The fault in a number text, at this place of the bytes that are still to be parsed.
-    fn invalid_number(&self, place: usize) -> Error
-        requires { place ≤ length (rest_of self.now) + 2 }
-        ensures { result ≡ Syntax InvalidNumberValue (self.now.offset + place) }
+    // The fault in a number text, at this offset of the bytes that are still to be parsed.
+    fn invalid_number(&self, offset: usize) -> Error
+        requires { offset ≤ length (rest_of self.now) + 2 }
+        ensures { result ≡ Syntax InvalidNumberValue (self.now.offset + offset) }
     {
-        Error::Syntax(ParseErrorCode::InvalidNumberValue, self.offset + place)
+        Error::Syntax(ParseErrorCode::InvalidNumberValue, self.offset + offset)
     }
 
     // The fault at a number text that goes on past its whole part.
@@ -103,7 +103,7 @@ impl Parser<'_> {
     {
         match number_end(bytes, end) {
             Ok(end) => Error::Syntax(ParseErrorCode::NumberNotCarried, self.offset + end),
-            Err(place) => self.invalid_number(place),
+            Err(offset) => self.invalid_number(offset),
         }
     }
 }

@@ -9,9 +9,9 @@ ghost use Rattle.jsonb_parse.specs.Literals.{literal_text, literal_tree};
 ghost use Rattle.jsonb_spec.specs.Tree.{boolean, int64};
 ghost use Rattle.jsonb_spec.specs.Tree.Mark.{plain};
 ghost use Rattle.jsonb_spec.specs.Source.{string_source};
-ghost use Rattle.jsonb_scan.specs.Spelled.{IsSpelledAt};
+ghost use Rattle.jsonb_scan.specs.Encoded.{IsEncodedAt};
 ghost use Rattle.jsonb_spec.specs.Text.StringText.{ArePlain};
-ghost use Rattle.jsonb_parse.specs.Parser.{Advances, Finds, IsAfterQuote, IsBehind, IsTextOf, ParsesInPlace, TakesByte, rest_of, size_of};
+ghost use Rattle.jsonb_parse.specs.Parser.{Advances, Finds, IsAfterQuote, IsBehind, IsTextOf, ParsesAtOffset, TakesByte, rest_of, size_of};
 ghost use Rattle.jsonb_scan.specs.Parsing.{begins};
 ghost use Rattle.jsonb_scan.specs.Parsing.Scalar.{number_value_at, begins_letter, begins_single_quote, fold_letter, letters_at, null_at, number_at, quoted_at, scalar_at, word_at};
 ghost use Rattle.jsonb_parse.specs.Steps.{MakesScalar, Puts, PutsIn};
@@ -24,7 +24,7 @@ use super::text::{Scalar, Text};
 use super::{Mode, Parser};
 use jsonb_value::error::{Error, ParseErrorCode};
 use jsonb_value::number::Number;
-use text_common::kept::Kept;
+use text_common::verbatim::Verbatim;
 
 // A letter as words have it: in extended mode in lower case.
 #[inline(always)]
@@ -62,20 +62,20 @@ fn negative_number(magnitude: u64) -> Number
 }
 
 impl<'a> Parser<'a> {
-    // Puts in a scalar that stands in the text from an index up to here, or one that is kept as it stands there.
+    // Puts in a scalar that is in the text from an index up to here, or one that is held as it is there.
     #[inline(always)]
     pub(super) fn put<V: Handler<'a>, S: Slot<'a, V>>(
         &mut self,
-        room: &mut V::Room,
+        sink: &mut V::Sink,
         container: &mut S::Container,
         slot: S,
         value: V,
         from: usize,
     ) -> Result<(), Failed>
-        ensures { PutsIn V.Handler (IsGiven V.sees V.is_kept value from self.old.offset) result self.old self.new room.old
-            room.new (S.before container.old slot) (S.after container.new) }
+        ensures { PutsIn V.Handler (IsGiven V.sees V.is_verbatim value from self.old.offset) result self.old self.new sink.old
+            sink.new (S.before container.old slot) (S.after container.new) }
     {
-        let put = slot.put(room, container, value, from, self.offset);
+        let put = slot.put(sink, container, value, from, self.offset);
         self.put_result(put)
     }
 
@@ -83,7 +83,7 @@ impl<'a> Parser<'a> {
     #[inline(always)]
     fn put_cut<V: Handler<'a>, S: Slot<'a, V>>(
         &mut self,
-        room: &mut V::Room,
+        sink: &mut V::Sink,
         container: &mut S::Container,
         slot: S,
         cut: Cut<'a>,
@@ -91,22 +91,22 @@ impl<'a> Parser<'a> {
     ) -> Result<(), Failed>
         requires plain { cut.is_plain ≡ true → ArePlain cut.body.now }
         ensures { PutsIn V.Handler
-            (λ text s. (s ≡ string_source plain cut.entry.body.now) × IsSpelledAt text from self.old.offset s)
-            result self.old self.new room.old room.new (S.before container.old slot) (S.after container.new) }
+            (λ text s. (s ≡ string_source plain cut.entry.body.now) × IsEncodedAt text from self.old.offset s)
+            result self.old self.new sink.old sink.new (S.before container.old slot) (S.after container.new) }
     {
         if cut.is_plain {
             let string = Scalar::String(Text::Plain(cut.body));
-            return self.put::<V, S>(room, container, slot, V::scalar(string), from);
+            return self.put::<V, S>(sink, container, slot, V::scalar(string), from);
         }
         let string = Scalar::String(Text::Borrowed(cut.body));
-        self.put::<V, S>(room, container, slot, V::scalar(string), from)
+        self.put::<V, S>(sink, container, slot, V::scalar(string), from)
     }
 
     // Puts in a string in double quotes, from the byte after its opening quote on.
     #[inline(always)]
     pub(super) fn put_quoted<V: Handler<'a>, S: Slot<'a, V>>(
         &mut self,
-        room: &mut V::Room,
+        sink: &mut V::Sink,
         container: &mut S::Container,
         slot: S,
         text: &'a str,
@@ -114,21 +114,21 @@ impl<'a> Parser<'a> {
         requires opened { IsBehind ascii.quote self.old }
         requires same { IsTextOf text.now self.old }
         ensures { Puts V.Handler (λ size mode. quoted_at size mode ascii.quote) result
-            self.old self.new room.old room.new (S.before container.old slot) (S.after container.new) }
+            self.old self.new sink.old sink.new (S.before container.old slot) (S.after container.new) }
     {
         let from = self.offset - 1;
         if let Some(cut) = self.cut_string(V::wants().plain, text) {
-            return self.put_cut::<V, S>(room, container, slot, cut, from);
+            return self.put_cut::<V, S>(sink, container, slot, cut, from);
         }
-        self.put_escaped::<V, S>(room, container, slot, text)
+        self.put_escaped::<V, S>(sink, container, slot, text)
     }
 
-    // The same, where whitespace stands before the string. It stands apart, so that the loop over elements has the code
+    // The same, where whitespace is before the string. It is apart, so that the loop over elements has the code
     // for strings once.
     #[inline(never)]
     fn put_later_quoted<V: Handler<'a>, S: Slot<'a, V>>(
         &mut self,
-        room: &mut V::Room,
+        sink: &mut V::Sink,
         container: &mut S::Container,
         slot: S,
         text: &'a str,
@@ -136,9 +136,9 @@ impl<'a> Parser<'a> {
         requires opened { IsBehind ascii.quote self.old }
         requires same { IsTextOf text.now self.old }
         ensures { Puts V.Handler (λ size mode. quoted_at size mode ascii.quote) result
-            self.old self.new room.old room.new (S.before container.old slot) (S.after container.new) }
+            self.old self.new sink.old sink.new (S.before container.old slot) (S.after container.new) }
     {
-        self.put_quoted::<V, S>(room, container, slot, text)
+        self.put_quoted::<V, S>(sink, container, slot, text)
     }
 
     // Puts in a scalar. Strings and numbers are put in where they are made, since a value that comes from several arms
@@ -146,24 +146,24 @@ impl<'a> Parser<'a> {
     #[inline(always)]
     pub(super) fn put_scalar<V: Handler<'a>, S: Slot<'a, V>>(
         &mut self,
-        room: &mut V::Room,
+        sink: &mut V::Sink,
         container: &mut S::Container,
         slot: S,
         text: &'a str,
     ) -> Result<(), Failed>
         requires same { IsTextOf text.now self.old }
-        ensures { Puts V.Handler scalar_at result self.old self.new room.old room.new (S.before container.old slot)
+        ensures { Puts V.Handler scalar_at result self.old self.new sink.old sink.new (S.before container.old slot)
             (S.after container.new) }
     {
         if self.take_byte(b'"') {
-            return self.put_later_quoted::<V, S>(room, container, slot, text);
+            return self.put_later_quoted::<V, S>(sink, container, slot, text);
         }
         match self.mode {
-            Mode::Standard => self.put_standard_value::<V, S>(room, container, slot, text),
-            Mode::Extended if V::wants().kept => {
-                self.put_extended_value::<V, S>(room, container, slot, text)
+            Mode::Standard => self.put_standard_value::<V, S>(sink, container, slot, text),
+            Mode::Extended if V::wants().verbatim => {
+                self.put_extended_value::<V, S>(sink, container, slot, text)
             }
-            Mode::Extended => self.put_other_scalar::<V, S>(room, container, slot, text),
+            Mode::Extended => self.put_other_scalar::<V, S>(sink, container, slot, text),
         }
     }
 
@@ -172,118 +172,118 @@ impl<'a> Parser<'a> {
     #[inline(always)]
     fn put_standard_value<V: Handler<'a>, S: Slot<'a, V>>(
         &mut self,
-        room: &mut V::Room,
+        sink: &mut V::Sink,
         container: &mut S::Container,
         slot: S,
         text: &'a str,
     ) -> Result<(), Failed>
         requires mode { mode_of self.old.mode ≡ standard }
         requires same { IsTextOf text.now self.old }
-        ensures { Puts V.Handler scalar_at result self.old self.new room.old room.new (S.before container.old slot)
+        ensures { Puts V.Handler scalar_at result self.old self.new sink.old sink.new (S.before container.old slot)
             (S.after container.new) }
     {
         let from = self.offset;
-        if self.kept_integer(V::wants().kept) {
+        if self.verbatim_integer(V::wants().verbatim) {
             return self.put::<V, S>(
-                room,
+                sink,
                 container,
                 slot,
-                V::scalar(Scalar::Kept(Kept::Integer)),
+                V::scalar(Scalar::Verbatim(Verbatim::Integer)),
                 from,
             );
         }
-        self.put_standard_scalar::<V, S>(room, container, slot, text)
+        self.put_standard_scalar::<V, S>(sink, container, slot, text)
     }
 
     // Puts in a scalar of an extended text that is no string in double quotes.
     #[inline(never)]
     fn put_extended_value<V: Handler<'a>, S: Slot<'a, V>>(
         &mut self,
-        room: &mut V::Room,
+        sink: &mut V::Sink,
         container: &mut S::Container,
         slot: S,
         text: &'a str,
     ) -> Result<(), Failed>
         requires mode { mode_of self.old.mode ≡ extended }
         requires same { IsTextOf text.now self.old }
-        ensures { Puts V.Handler scalar_at result self.old self.new room.old room.new (S.before container.old slot)
+        ensures { Puts V.Handler scalar_at result self.old self.new sink.old sink.new (S.before container.old slot)
             (S.after container.new) }
     {
         let from = self.offset;
-        if self.kept_extended_integer(V::wants().kept) {
+        if self.verbatim_extended_integer(V::wants().verbatim) {
             return self.put::<V, S>(
-                room,
+                sink,
                 container,
                 slot,
-                V::scalar(Scalar::Kept(Kept::Integer)),
+                V::scalar(Scalar::Verbatim(Verbatim::Integer)),
                 from,
             );
         }
         if self.may_begin_word() {
-            return self.put_word::<V, S>(room, container, slot, text);
+            return self.put_word::<V, S>(sink, container, slot, text);
         }
-        self.put_other_scalar::<V, S>(room, container, slot, text)
+        self.put_other_scalar::<V, S>(sink, container, slot, text)
     }
 
     // Puts in a scalar of a standard text that is no string. Most numbers are integers of few digits.
     #[inline(always)]
     fn put_standard_scalar<V: Handler<'a>, S: Slot<'a, V>>(
         &mut self,
-        room: &mut V::Room,
+        sink: &mut V::Sink,
         container: &mut S::Container,
         slot: S,
         text: &'a str,
     ) -> Result<(), Failed>
         requires mode { mode_of self.old.mode ≡ standard }
         requires same { IsTextOf text.now self.old }
-        ensures { Puts V.Handler scalar_at result self.old self.new room.old room.new (S.before container.old slot)
+        ensures { Puts V.Handler scalar_at result self.old self.new sink.old sink.new (S.before container.old slot)
             (S.after container.new) }
     {
         let from = self.offset;
         if let Some(read) = self.short_integer() {
             if read.negative {
                 let number = Scalar::Number(negative_number(read.magnitude));
-                return self.put::<V, S>(room, container, slot, V::scalar(number), from);
+                return self.put::<V, S>(sink, container, slot, V::scalar(number), from);
             }
             let number = Scalar::Number(Number::UInt64(read.magnitude));
-            return self.put::<V, S>(room, container, slot, V::scalar(number), from);
+            return self.put::<V, S>(sink, container, slot, V::scalar(number), from);
         }
-        self.put_word::<V, S>(room, container, slot, text)
+        self.put_word::<V, S>(sink, container, slot, text)
     }
 
     // Puts in a scalar that is no string in double quotes. Most words are in small letters.
     #[inline(always)]
     fn put_word<V: Handler<'a>, S: Slot<'a, V>>(
         &mut self,
-        room: &mut V::Room,
+        sink: &mut V::Sink,
         container: &mut S::Container,
         slot: S,
         text: &'a str,
     ) -> Result<(), Failed>
         requires same { IsTextOf text.now self.old }
-        ensures { Puts V.Handler scalar_at result self.old self.new room.old room.new (S.before container.old slot)
+        ensures { Puts V.Handler scalar_at result self.old self.new sink.old sink.new (S.before container.old slot)
             (S.after container.new) }
     {
         let from = self.offset;
         match self.short_literal() {
             Some(Literal::Null) => {
                 let null = V::scalar(Scalar::Null);
-                self.put::<V, S>(room, container, slot, null, from)
+                self.put::<V, S>(sink, container, slot, null, from)
             }
             Some(Literal::Bool(value)) => {
                 let boolean = V::scalar(Scalar::Bool(value));
-                self.put::<V, S>(room, container, slot, boolean, from)
+                self.put::<V, S>(sink, container, slot, boolean, from)
             }
-            None => self.put_other_scalar::<V, S>(room, container, slot, text),
+            None => self.put_other_scalar::<V, S>(sink, container, slot, text),
         }
     }
 
     // Puts in a string in double quotes that has escapes, or is rejected, from the byte after its opening quote on. It
-    // stands apart, since its caller would clear the place of an owned string before each value.
+    // is apart, since its caller would clear the slot of an owned string before each value.
     #[inline(never)]
     fn put_escaped<V: Handler<'a>, S: Slot<'a, V>>(
         &mut self,
-        room: &mut V::Room,
+        sink: &mut V::Sink,
         container: &mut S::Container,
         slot: S,
         text: &'a str,
@@ -291,31 +291,37 @@ impl<'a> Parser<'a> {
         requires opened { IsBehind ascii.quote self.old }
         requires same { IsTextOf text.now self.old }
         ensures { Puts V.Handler (λ size mode. quoted_at size mode ascii.quote) result
-            self.old self.new room.old room.new (S.before container.old slot) (S.after container.new) }
+            self.old self.new sink.old sink.new (S.before container.old slot) (S.after container.new) }
     {
         let from = self.offset - 1;
-        if let Some(kept) = self.short_string(V::wants().kept, text) {
-            return self.put::<V, S>(room, container, slot, V::scalar(Scalar::Kept(kept)), from);
+        if let Some(verbatim) = self.short_string(V::wants().verbatim, text) {
+            return self.put::<V, S>(
+                sink,
+                container,
+                slot,
+                V::scalar(Scalar::Verbatim(verbatim)),
+                from,
+            );
         }
         let value = self.parse_escaped_string::<V>(b'"', text)?;
-        self.put::<V, S>(room, container, slot, value, self.offset)
+        self.put::<V, S>(sink, container, slot, value, self.offset)
     }
 
-    // Puts in any other value that holds no others, or tells its fault.
+    // Puts in any other value that holds no others, or says its fault.
     #[inline(never)]
     fn put_other_scalar<V: Handler<'a>, S: Slot<'a, V>>(
         &mut self,
-        room: &mut V::Room,
+        sink: &mut V::Sink,
         container: &mut S::Container,
         slot: S,
         text: &'a str,
     ) -> Result<(), Failed>
         requires same { IsTextOf text.now self.old }
-        ensures { Puts V.Handler scalar_at result self.old self.new room.old room.new (S.before container.old slot)
+        ensures { Puts V.Handler scalar_at result self.old self.new sink.old sink.new (S.before container.old slot)
             (S.after container.new) }
     {
         let value = self.parse_scalar::<V>(text)?;
-        self.put::<V, S>(room, container, slot, value, self.offset)
+        self.put::<V, S>(sink, container, slot, value, self.offset)
     }
 
     // A value that holds no others, or the fault of what is none.
@@ -338,7 +344,7 @@ impl<'a> Parser<'a> {
         }
     }
 
-    // A word that stands for this boolean.
+    // A word that means this boolean.
     #[inline(always)]
     fn parse_bool<V: Handler<'a>>(&mut self, word: &[u8], value: bool) -> Result<V, Failed>
         ensures { MakesScalar V.Handler (λ size mode. word_at size mode word.now (boolean value)) result self.old
@@ -443,7 +449,7 @@ impl<'a> Parser<'a> {
     #[inline(always)]
     fn short_literal(&mut self) -> Option<Literal>
         ensures finds { Finds literal_tree scalar_at result self.old self.new }
-        ensures spelled { IfSome result (λ l. rest_of self.old ≡ literal_text l ++ rest_of self.new) }
+        ensures encoded { IfSome result (λ l. rest_of self.old ≡ literal_text l ++ rest_of self.new) }
     {
         let rest = self.rest();
         if begins_with(rest, b"null") {
@@ -464,7 +470,7 @@ impl<'a> Parser<'a> {
     // A number, or a word that names none.
     #[inline(always)]
     fn parse_number(&mut self) -> std::result::Result<Number, Error>
-        ensures { ParsesInPlace number_view number_at result self.old self.new }
+        ensures { ParsesAtOffset number_view number_at result self.old self.new }
     {
         match self.mode {
             Mode::Standard => self.parse_standard_number(),

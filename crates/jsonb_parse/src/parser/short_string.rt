@@ -8,9 +8,9 @@ ghost use Rattle.jsonb_parse.specs.ShortString.{IsShortEnd, PassesShort};
 
 use super::Parser;
 use jsonb_value::plain::run_of_sixteen;
-use text_common::kept::{Kept, short_byte};
+use text_common::verbatim::{Verbatim, short_byte};
 
-// Where such a string ends, and whether it is serialized as it stands.
+// Where such a string ends, and whether it is serialized as it is.
 #[derive(Clone, Copy)]
 struct ShortEnd {
     end: usize,
@@ -58,7 +58,7 @@ fn short_end(bytes: &[u8]) -> Option<ShortEnd>
 impl<'a> Parser<'a> {
     // Passes such a string from the byte after its opening quote on, if that is asked and one is found.
     #[inline(always)]
-    pub(super) fn short_string(&mut self, is_asked: bool, text: &'a str) -> Option<Kept>
+    pub(super) fn short_string(&mut self, is_asked: bool, text: &'a str) -> Option<Verbatim>
         requires opened { IsBehind ascii.quote self.old }
         requires same { IsTextOf text.now self.old }
         ensures passes { IfSome result (PassesShort self.old self.new) }
@@ -75,12 +75,12 @@ impl<'a> Parser<'a> {
             return None;
         }
         let body = &text[self.offset..after];
-        // Tells that the body is UTF-8.
+        // Reports that the body is UTF-8.
         let _bytes = body.as_bytes();
         self.offset = after + 1;
         if found.is_same {
-            return Some(Kept::Same);
+            return Some(Verbatim::Same);
         }
-        Some(Kept::Short)
+        Some(Verbatim::Short)
     }
 }

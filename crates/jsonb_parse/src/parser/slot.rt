@@ -9,9 +9,9 @@ use super::frame::{Frame, OpenObject};
 use super::handler::Handler;
 use std::alloc::AllocError;
 
-// A place in an open container for a value that holds no others.
+// A slot in an open container for a value that holds no others.
 pub(super) trait Slot<'a, V: Handler<'a>>: Drop + Sized {
-    // What is kept of the container.
+    // What is held of the container.
     type Container;
 
     // The container that is open, before the value is put in.
@@ -20,19 +20,19 @@ pub(super) trait Slot<'a, V: Handler<'a>>: Drop + Sized {
     // The container with the value in it.
     ghost after: { Self.Container → Frame V.Items V.Members V.Key };
 
-    // Puts in a value that stands in the text between two indices, or one that is kept. False where its key is there
+    // Puts in a value that is in the text between two indices, or one that is held. False where its key is there
     // already, and the handler is silent about it.
     fn put(
         self,
-        room: &mut V::Room,
+        sink: &mut V::Sink,
         container: &mut Self::Container,
         value: V,
         from: usize,
         to: usize,
     ) -> Result<bool, AllocError>
-        ensures put { IfOk result (λ is_new. MatchBool is_new (Takes V.stands (IsGiven V.sees V.is_kept value from to)
-            room.old (before container.old self) room.new (after container.new)) (V.silent ≡ true)) }
-        ensures base { V.base room.new ≡ V.base room.old };
+        ensures put { IfOk result (λ is_new. MatchBool is_new (Takes V.holds (IsGiven V.sees V.is_verbatim value from to)
+            sink.old (before container.old self) sink.new (after container.new)) (V.silent ≡ true)) }
+        ensures base { V.base sink.new ≡ V.base sink.old };
 }
 
 // The next element of an array.
@@ -55,13 +55,13 @@ impl<'a, V: Handler<'a>> Slot<'a, V> for Element {
     #[inline(always)]
     fn put(
         self,
-        room: &mut V::Room,
+        sink: &mut V::Sink,
         items: &mut V::Items,
         value: V,
         from: usize,
         to: usize,
     ) -> Result<bool, AllocError> {
-        match V::push(room, items, value, from, to) {
+        match V::push(sink, items, value, from, to) {
             Ok(()) => Ok(true),
             Err(failed) => Err(failed),
         }
@@ -78,12 +78,12 @@ impl<'a, V: Handler<'a>> Slot<'a, V> for Member<V::Key> {
     #[inline(always)]
     fn put(
         self,
-        room: &mut V::Room,
+        sink: &mut V::Sink,
         object: &mut OpenObject<V::Members, V::Key>,
         value: V,
         from: usize,
         to: usize,
     ) -> Result<bool, AllocError> {
-        V::insert(room, object, self.key, value, from, to)
+        V::insert(sink, object, self.key, value, from, to)
     }
 }

@@ -82,7 +82,7 @@ impl<'a> Parser<'a> {
             return None;
         }
         let body = &text[self.offset..after];
-        // Tells that the body is UTF-8.
+        // Reports that the body is UTF-8.
         let _bytes = body.as_bytes();
         self.offset = after + 1;
         Some(body)
@@ -135,7 +135,7 @@ impl<'a> Parser<'a> {
             return None;
         }
         let body = &text[self.offset..after];
-        // Tells that the body is UTF-8.
+        // Reports that the body is UTF-8.
         let _bytes = body.as_bytes();
         self.offset += end + 1;
         Some(body)
@@ -143,13 +143,13 @@ impl<'a> Parser<'a> {
 
     // A string that can be cut out of the text, from the byte after its opening double quote on.
     #[inline(always)]
-    pub(super) fn cut_string(&mut self, tells_plain: bool, text: &'a str) -> Option<Cut<'a>>
+    pub(super) fn cut_string(&mut self, reports_plain: bool, text: &'a str) -> Option<Cut<'a>>
         requires opened { IsBehind ascii.quote self.old }
         requires same { IsTextOf text.now self.old }
         ensures cuts { CutsString (λ cut. cut.body.now) ascii.quote result self.old self.new }
         ensures plain { IfSome result (λ cut. cut.is_plain ≡ true → ArePlain cut.body.now) }
     {
-        if tells_plain {
+        if reports_plain {
             let body = self.plain_string(text)?;
             return Some(Cut {
                 body,

@@ -2,7 +2,7 @@
 
 use jsonb_value::number::Number;
 use std::borrow::CowStr;
-use text_common::kept::Kept;
+use text_common::verbatim::Verbatim;
 
 /// A string or a key.
 #[derive(Drop)]
@@ -11,7 +11,7 @@ pub enum Text<'a> {
     Plain(&'a str),
     /// It was cut out of the text.
     Borrowed(&'a str),
-    /// Any other, which was decoded or stands in no quotes.
+    /// Any other, which was decoded or is in no quotes.
     Decoded(CowStr<'a>),
 }
 
@@ -22,6 +22,6 @@ pub enum Scalar<'a> {
     Bool(bool),
     Number(Number),
     String(Text<'a>),
-    /// It is put in from where it stands in the text, where the handler wants that.
-    Kept(Kept),
+    /// It is put in from where it is in the text, where the handler wants that.
+    Verbatim(Verbatim),
 }

@@ -3,7 +3,7 @@ use Rattle.jsonb_spec.specs.Proper.{HaveProperParts}
 use Rattle.jsonb_spec.specs.Text.StringText.{quoted_text}
 use Rattle.jsonb_spec.specs.Text.{with_commas, members_have_texts}
 use Rattle.jsonb_value.specs.View.{view, trees_view, members_view}
-use Rattle.jsonb_value.proofs.Appending.Appended.{begun, goes_on, fits, on_ok, on_err, kept_on, appends_then, lacks_first, extended, appends_if}
+use Rattle.jsonb_value.proofs.Appending.Appended.{begun, goes_on, fits, on_ok, on_err, retained_on, appends_then, lacks_first, extended, appends_if}
 use Rattle.jsonb_value.proofs.Appending.Pieces.{texts_left, comma_done, comma_fits, next_text, next_member_text, texts_left_have, first_has_text, next_proper, next_proper_member}
 use Rattle.jsonb_value.proofs.Values.Accessors.{view-Array, view-Object}
 use Rattle.jsonb_value.proofs.Values.Keys.{KeysAscend-members_view}
@@ -31,14 +31,14 @@ append_item_lines-items-preserved t c =
       underway = goes_on c.append.new.buf.items text rest due refl c.in_ok-append.ensures.appends.ok;
       texts = texts_left_have _ _ _ _ c.items.invariant.texts (next_text all c.items.item-index item (search rules) (search rules)) c.in_ok-append.ensures.appends.holds;
       proper = λ others. c.items.invariant.proper (next_proper all c.items.item-index item (search rules) (search rules) c.in_ok-append.ensures.proper others);
-      room = omega arith;
+      space = omega arith;
     }
 
 pub append_item_lines-returns-in_err-append_comma-clause-appends : goal.append_item_lines-returns-in_err-append_comma-clause-appends
 append_item_lines-returns-in_err-append_comma-clause-appends t c =
     let next = next_item c.args.indent c.args.margin c.args.items.now.items c.items.item-index c.item-item.result (search rules) (search rules) in
-    let room = comma_fits c.items.is_first _ _ _ _ [] _ _ next c.items.invariant.underway in
-    record { ok = search rules; holds = search rules; kept = kept_on c.items.invariant.underway c.in_err-append_comma.ensures.appends.kept; full = on_err c.from_residual.result (λ texts. omega (arith, room, c.in_err-append_comma.ensures.appends.full)); capacity = search rules }
+    let space = comma_fits c.items.is_first _ _ _ _ [] _ _ next c.items.invariant.underway in
+    record { ok = search rules; holds = search rules; retained = retained_on c.items.invariant.underway c.in_err-append_comma.ensures.appends.retained; full = on_err c.from_residual.result (λ texts. omega (arith, space, c.in_err-append_comma.ensures.appends.full)); capacity = search rules }
 
 pub append_item_lines-returns-in_err-append_line-clause-appends : goal.append_item_lines-returns-in_err-append_line-clause-appends
 append_item_lines-returns-in_err-append_line-clause-appends t c =
@@ -48,8 +48,8 @@ append_item_lines-returns-in_err-append_line-clause-appends t c =
     let rest = texts_left false (item_lines c.args.indent c.args.margin (trees_view (drop (c.items.item-index + 1) all))) ++ [] in
     let next = next_item c.args.indent c.args.margin all c.items.item-index item (search rules) (search rules) in
     let due = comma_done c.items.is_first _ _ _ _ [] c.append_comma.new.buf.items _ _ next c.items.invariant.underway c.in_ok-append_comma.ensures.appends.ok in
-    let room = line_fits _ _ _ (new_line c.args.margin) text rest due in
-    record { ok = search rules; holds = search rules; kept = kept_on due c.in_err-append_line.ensures.appends.kept; full = on_err c.from_residual-in_err-append_line.result (λ texts. omega (arith, room, c.in_err-append_line.ensures.appends.full)); capacity = search rules }
+    let space = line_fits _ _ _ (new_line c.args.margin) text rest due in
+    record { ok = search rules; holds = search rules; retained = retained_on due c.in_err-append_line.ensures.appends.retained; full = on_err c.from_residual-in_err-append_line.result (λ texts. omega (arith, space, c.in_err-append_line.ensures.appends.full)); capacity = search rules }
 
 pub append_item_lines-returns-in_err-append-clause-appends : goal.append_item_lines-returns-in_err-append-clause-appends
 append_item_lines-returns-in_err-append-clause-appends t c =
@@ -60,9 +60,9 @@ append_item_lines-returns-in_err-append-clause-appends t c =
     let next = next_item c.args.indent c.args.margin all c.items.item-index item (search rules) (search rules) in
     let due = comma_done c.items.is_first _ _ _ _ [] c.append_comma.new.buf.items _ _ next c.items.invariant.underway c.in_ok-append_comma.ensures.appends.ok in
     let due = line_done _ _ _ (new_line c.args.margin) text rest c.append_line.new.buf.items due c.in_ok-append_line.ensures.appends.ok in
-    let room = fits text rest due refl in
+    let space = fits text rest due refl in
     let first = next_text all c.items.item-index item (search rules) (search rules) in
-    record { ok = search rules; holds = search rules; kept = kept_on due c.in_err-append.ensures.appends.kept; full = on_err c.from_residual-in_err-append.result (λ texts. omega (arith, room, c.in_err-append.ensures.appends.full (first_has_text _ _ _ _ c.items.invariant.texts first texts))); capacity = search rules }
+    record { ok = search rules; holds = search rules; retained = retained_on due c.in_err-append.ensures.appends.retained; full = on_err c.from_residual-in_err-append.result (λ texts. omega (arith, space, c.in_err-append.ensures.appends.full (first_has_text _ _ _ _ c.items.invariant.texts first texts))); capacity = search rules }
 
 pub append_member_lines-members-preserved : goal.append_member_lines-members-preserved
 append_member_lines-members-preserved t c =
@@ -78,14 +78,14 @@ append_member_lines-members-preserved t c =
       underway = goes_on c.append.new.buf.items text rest due refl c.in_ok-append.ensures.appends.ok;
       texts = texts_left_have _ _ _ _ c.members.invariant.texts (next_member_text c.members.key-iterator c.next.new.self entry c.in-Some.ensures.steps) c.in_ok-append.ensures.appends.holds;
       proper = λ others. c.members.invariant.proper (next_proper_member c.members.key-iterator c.next.new.self entry c.in-Some.ensures.steps c.in_ok-append_key.ensures.utf8 c.in_ok-append.ensures.proper others);
-      room = omega arith;
+      space = omega arith;
     }
 
 pub append_member_lines-returns-in_err-append_comma-clause-appends : goal.append_member_lines-returns-in_err-append_comma-clause-appends
 append_member_lines-returns-in_err-append_comma-clause-appends t c =
     let next = next_member c.args.indent c.args.margin c.members.key-iterator c.next.new.self (c.in-Some.key.now, c.in-Some.value.now) c.in-Some.ensures.steps in
-    let room = comma_fits c.members.is_first _ _ _ _ [] _ _ next c.members.invariant.underway in
-    record { ok = search rules; holds = search rules; kept = kept_on c.members.invariant.underway c.in_err-append_comma.ensures.appends.kept; full = on_err c.from_residual.result (λ texts. omega (arith, room, c.in_err-append_comma.ensures.appends.full)); capacity = search rules }
+    let space = comma_fits c.members.is_first _ _ _ _ [] _ _ next c.members.invariant.underway in
+    record { ok = search rules; holds = search rules; retained = retained_on c.members.invariant.underway c.in_err-append_comma.ensures.appends.retained; full = on_err c.from_residual.result (λ texts. omega (arith, space, c.in_err-append_comma.ensures.appends.full)); capacity = search rules }
 
 pub append_member_lines-returns-in_err-append_line-clause-appends : goal.append_member_lines-returns-in_err-append_line-clause-appends
 append_member_lines-returns-in_err-append_line-clause-appends t c =
@@ -94,8 +94,8 @@ append_member_lines-returns-in_err-append_line-clause-appends t c =
     let rest = texts_left false (member_lines c.args.indent c.args.margin (members_view c.next.new.self)) ++ [] in
     let next = next_member c.args.indent c.args.margin c.members.key-iterator c.next.new.self (c.in-Some.key.now, c.in-Some.value.now) c.in-Some.ensures.steps in
     let due = comma_done c.members.is_first _ _ _ _ [] c.append_comma.new.buf.items _ _ next c.members.invariant.underway c.in_ok-append_comma.ensures.appends.ok in
-    let room = line_fits _ _ _ (new_line c.args.margin) (key ++ 58 ∷ 32 ∷ text) rest due in
-    record { ok = search rules; holds = search rules; kept = kept_on due c.in_err-append_line.ensures.appends.kept; full = on_err c.from_residual-in_err-append_line.result (λ texts. omega (arith, room, c.in_err-append_line.ensures.appends.full)); capacity = search rules }
+    let space = line_fits _ _ _ (new_line c.args.margin) (key ++ 58 ∷ 32 ∷ text) rest due in
+    record { ok = search rules; holds = search rules; retained = retained_on due c.in_err-append_line.ensures.appends.retained; full = on_err c.from_residual-in_err-append_line.result (λ texts. omega (arith, space, c.in_err-append_line.ensures.appends.full)); capacity = search rules }
 
 pub append_member_lines-returns-in_err-append_key-clause-appends : goal.append_member_lines-returns-in_err-append_key-clause-appends
 append_member_lines-returns-in_err-append_key-clause-appends t c =
@@ -105,8 +105,8 @@ append_member_lines-returns-in_err-append_key-clause-appends t c =
     let next = next_member c.args.indent c.args.margin c.members.key-iterator c.next.new.self (c.in-Some.key.now, c.in-Some.value.now) c.in-Some.ensures.steps in
     let due = comma_done c.members.is_first _ _ _ _ [] c.append_comma.new.buf.items _ _ next c.members.invariant.underway c.in_ok-append_comma.ensures.appends.ok in
     let due = line_done _ _ _ (new_line c.args.margin) (key ++ 58 ∷ 32 ∷ text) rest c.append_line.new.buf.items due c.in_ok-append_line.ensures.appends.ok in
-    let room = fits (key ++ 58 ∷ 32 ∷ []) (text ++ rest) due (key_split key text rest) in
-    record { ok = search rules; holds = search rules; kept = kept_on due c.in_err-append_key.ensures.appends.kept; full = on_err c.from_residual-in_err-append_key.result (λ texts. omega (arith, room, c.in_err-append_key.ensures.appends.full)); capacity = search rules }
+    let space = fits (key ++ 58 ∷ 32 ∷ []) (text ++ rest) due (key_split key text rest) in
+    record { ok = search rules; holds = search rules; retained = retained_on due c.in_err-append_key.ensures.appends.retained; full = on_err c.from_residual-in_err-append_key.result (λ texts. omega (arith, space, c.in_err-append_key.ensures.appends.full)); capacity = search rules }
 
 pub append_member_lines-returns-in_err-append-clause-appends : goal.append_member_lines-returns-in_err-append-clause-appends
 append_member_lines-returns-in_err-append-clause-appends t c =
@@ -117,9 +117,9 @@ append_member_lines-returns-in_err-append-clause-appends t c =
     let due = comma_done c.members.is_first _ _ _ _ [] c.append_comma.new.buf.items _ _ next c.members.invariant.underway c.in_ok-append_comma.ensures.appends.ok in
     let due = line_done _ _ _ (new_line c.args.margin) (key ++ 58 ∷ 32 ∷ text) rest c.append_line.new.buf.items due c.in_ok-append_line.ensures.appends.ok in
     let due = key_done _ _ _ key text rest c.append_key.new.buf.items due c.in_ok-append_key.ensures.appends.ok in
-    let room = fits text rest due refl in
+    let space = fits text rest due refl in
     let first = next_member_text c.members.key-iterator c.next.new.self (c.in-Some.key.now, c.in-Some.value.now) c.in-Some.ensures.steps in
-    record { ok = search rules; holds = search rules; kept = kept_on due c.in_err-append.ensures.appends.kept; full = on_err c.from_residual-in_err-append.result (λ texts. omega (arith, room, c.in_err-append.ensures.appends.full (first_has_text _ _ _ _ c.members.invariant.texts first texts))); capacity = search rules }
+    record { ok = search rules; holds = search rules; retained = retained_on due c.in_err-append.ensures.appends.retained; full = on_err c.from_residual-in_err-append.result (λ texts. omega (arith, space, c.in_err-append.ensures.appends.full (first_has_text _ _ _ _ c.members.invariant.texts first texts))); capacity = search rules }
 
 pub append_member_lines-members-init : goal.append_member_lines-members-init
 append_member_lines-members-init t c =
@@ -130,7 +130,7 @@ append_member_lines-members-init t c =
       underway = goes_on c.args.buf.now.items [] (text c.into_iter-key-iterator.result) (begun c.args.buf.now.items (with_commas (member_lines c.args.indent c.args.margin (members_view all)))) (sym (append-nil _) ∙ ap text (sym whole)) (sym (append-nil c.args.buf.now.items));
       texts = ap (λ es. members_have_texts (members_view es)) (sym whole);
       proper = λ parts. (KeysAscend-members_view all c.iter-key-items.ensures.ordered, subst (λ es. HaveProperParts (members_view es)) whole parts);
-      room = omega arith;
+      space = omega arith;
     }
 
 pub append_item_lines-items-init : goal.append_item_lines-items-init
@@ -141,7 +141,7 @@ append_item_lines-items-init t c =
       underway = goes_on c.args.buf.now.items [] (text ++ []) (begun c.args.buf.now.items text) (sym (append-nil text)) (sym (append-nil c.args.buf.now.items));
       texts = refl;
       proper = λ parts. parts;
-      room = omega arith;
+      space = omega arith;
     }
 
 pub append_items-returns-in_err-inner-clause-appends : goal.append_items-returns-in_err-inner-clause-appends
@@ -149,7 +149,7 @@ append_items-returns-in_err-inner-clause-appends t c =
     let all = c.args.items.now.items in
     let some : length all ≢ 0 = search rules in
     let long = array_long c.args.indent c.args.margin all some in
-    record { ok = search rules; holds = search rules; kept = search rules; full = on_err c.from_residual.result (λ texts. omega (arith, long, c.in_err-inner.ensures.full)); capacity = search rules }
+    record { ok = search rules; holds = search rules; retained = search rules; full = on_err c.from_residual.result (λ texts. omega (arith, long, c.in_err-inner.ensures.full)); capacity = search rules }
 
 pub append_items-returns-in_err-append_line-clause-appends : goal.append_items-returns-in_err-append_line-clause-appends
 append_items-returns-in_err-append_line-clause-appends t c =
@@ -162,7 +162,7 @@ append_items-returns-in_err-append_line-clause-appends t c =
     let r = c.from_residual-in_err-append_line.result in
     let third = c.in_err-append_line.ensures.appends in
     let new = c.append_line.new.buf in
-    let close = lacks_first r c.append_item_lines.new.buf new (new_line c.args.margin) (93 ∷ []) _ refl c.from_residual-in_err-append_line.ensures.0 third.kept third.capacity third.full in
+    let close = lacks_first r c.append_item_lines.new.buf new (new_line c.args.margin) (93 ∷ []) _ refl c.from_residual-in_err-append_line.ensures.0 third.retained third.capacity third.full in
     let rest = appends_then r c.extend_from_slice-2.new.self c.append_item_lines.new.buf new lines _ _ refl second.ok second.capacity close in
     appends_if _ r c.args.buf.now new _ (on_ok r second.holds) (appends_then r c.args.buf.now c.extend_from_slice-2.new.self new (91 ∷ []) _ _ whole first.items first.capacity rest)
 
@@ -188,7 +188,7 @@ append_members-returns-in_err-inner-clause-appends t c =
     let all = c.args.members.now.entries in
     let some : length all ≢ 0 = search rules in
     let long = object_long c.args.indent c.args.margin all some in
-    record { ok = search rules; holds = search rules; kept = search rules; full = on_err c.from_residual.result (λ texts. omega (arith, long, c.in_err-inner.ensures.full)); capacity = search rules }
+    record { ok = search rules; holds = search rules; retained = search rules; full = on_err c.from_residual.result (λ texts. omega (arith, long, c.in_err-inner.ensures.full)); capacity = search rules }
 
 pub append_members-returns-in_err-append_line-clause-appends : goal.append_members-returns-in_err-append_line-clause-appends
 append_members-returns-in_err-append_line-clause-appends t c =
@@ -201,7 +201,7 @@ append_members-returns-in_err-append_line-clause-appends t c =
     let r = c.from_residual-in_err-append_line.result in
     let third = c.in_err-append_line.ensures.appends in
     let new = c.append_line.new.buf in
-    let close = lacks_first r c.append_member_lines.new.buf new (new_line c.args.margin) (125 ∷ []) _ refl c.from_residual-in_err-append_line.ensures.0 third.kept third.capacity third.full in
+    let close = lacks_first r c.append_member_lines.new.buf new (new_line c.args.margin) (125 ∷ []) _ refl c.from_residual-in_err-append_line.ensures.0 third.retained third.capacity third.full in
     let rest = appends_then r c.extend_from_slice-2.new.self c.append_member_lines.new.buf new lines _ _ refl second.ok second.capacity close in
     appends_if _ r c.args.buf.now new _ (on_ok r second.holds) (appends_then r c.args.buf.now c.extend_from_slice-2.new.self new (123 ∷ []) _ _ whole first.items first.capacity rest)
 

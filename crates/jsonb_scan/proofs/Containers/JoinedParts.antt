@@ -86,39 +86,40 @@ ends-whitespace (more_whitespace {piece = piece} {rest = others} b bs) rest h = 
 
 -- ---- parsers
 
--- What is parsed from the front of the bytes is a spelling of a.
-pub record Spelled {A : Type 0} (Spells : List ℕ → A → Type 0) (bytes : List ℕ) (a : A) (rest : List ℕ) : Type 0 where
+-- What is parsed from the front of the bytes is an encoding of a.
+pub record Encoded {A : Type 0} (Encodes : List ℕ → A → Type 0) (bytes : List ℕ) (a : A) (rest : List ℕ) : Type 0 where
   pub core : List ℕ
-  pub spells : Spells core a
+  pub encodes : Encodes core a
   pub whole : bytes ≡ core ++ rest
 
 abbrev pub IsSound : {A : Type 0} → (List ℕ → A → Type 0) → (List ℕ → Parse A) → Type 0
-IsSound {A} Spells read = (bytes : List ℕ) (a : A) (rest : List ℕ) → read bytes ≡ Ok (a, rest) → Spelled Spells bytes a rest
+IsSound {A} Encodes read = (bytes : List ℕ) (a : A) (rest : List ℕ) → read bytes ≡ Ok (a, rest) → Encoded Encodes bytes a rest
 
--- What is parsed, where bytes are left behind it, is a spelling: at the end of the bytes what is passed may be no whitespace.
+-- What is parsed, where bytes are left behind it, is an encoding: at the end of the bytes what is passed may be no
+-- whitespace.
 abbrev pub IsSoundBefore : {A : Type 0} → (List ℕ → A → Type 0) → (List ℕ → Parse A) → Type 0
-IsSoundBefore {A} Spells read = (bytes : List ℕ) (a : A) (rest : List ℕ) → read bytes ≡ Ok (a, rest) → 0 < length rest → Spelled Spells bytes a rest
+IsSoundBefore {A} Encodes read = (bytes : List ℕ) (a : A) (rest : List ℕ) → read bytes ≡ Ok (a, rest) → 0 < length rest → Encoded Encodes bytes a rest
 
--- Each spelling is parsed, where a byte follows that may follow.
-pub record IsComplete {A : Type 0} (Spells : List ℕ → A → Type 0) (read : List ℕ → Parse A) : Type 0 where
-  pub starts : (core : List ℕ) (a : A) → Spells core a → Starts core
-  pub parses : (core : List ℕ) (a : A) (rest : List ℕ) → Spells core a → Ends rest → read (core ++ rest) ≡ Ok (a, rest)
+-- Each encoding is parsed, where a byte follows that may follow.
+pub record IsComplete {A : Type 0} (Encodes : List ℕ → A → Type 0) (read : List ℕ → Parse A) : Type 0 where
+  pub starts : (core : List ℕ) (a : A) → Encodes core a → Starts core
+  pub parses : (core : List ℕ) (a : A) (rest : List ℕ) → Encodes core a → Ends rest → read (core ++ rest) ≡ Ok (a, rest)
 
--- Each spelling is parsed, and what is parsed shows the spelling's meaning by view.
-pub record IsShown {A F : Type 0} (view : F → A) (Spells : List ℕ → A → Type 0) (read : List ℕ → Parse F) : Type 0 where
-  pub starts : (core : List ℕ) (a : A) → Spells core a → Starts core
-  pub parses : (core : List ℕ) (a : A) (rest : List ℕ) → Spells core a → Ends rest → (f : F) × (view f ≡ a) × (read (core ++ rest) ≡ Ok (f, rest))
+-- Each encoding is parsed, and what is parsed shows the encoding's meaning by view.
+pub record IsShown {A F : Type 0} (view : F → A) (Encodes : List ℕ → A → Type 0) (read : List ℕ → Parse F) : Type 0 where
+  pub starts : (core : List ℕ) (a : A) → Encodes core a → Starts core
+  pub parses : (core : List ℕ) (a : A) (rest : List ℕ) → Encodes core a → Ends rest → (f : F) × (view f ≡ a) × (read (core ++ rest) ≡ Ok (f, rest))
 
 -- ---- what is seen by view
 
-module _ {A F : Type 0} (view : F → A) (Spells : List ℕ → A → Type 0) where
+module _ {A F : Type 0} (view : F → A) (Encodes : List ℕ → A → Type 0) where
   abbrev pub SeenBy : List ℕ → F → Type 0
-  SeenBy bytes f = Spells bytes (view f)
+  SeenBy bytes f = Encodes bytes (view f)
 
-  pub padded_seen : {mode : Mode} {bytes : List ℕ} {f : F} (p : IsPadded mode SeenBy bytes f) → IsPadded mode Spells bytes (view f)
+  pub padded_seen : {mode : Mode} {bytes : List ℕ} {f : F} (p : IsPadded mode SeenBy bytes f) → IsPadded mode Encodes bytes (view f)
   padded_seen (padded b s c) = padded b s c
 
-  pub joined_seen : {bytes : List ℕ} {fs : List F} (j : IsJoined SeenBy bytes fs) → IsJoined Spells bytes (map view fs)
+  pub joined_seen : {bytes : List ℕ} {fs : List F} (j : IsJoined SeenBy bytes fs) → IsJoined Encodes bytes (map view fs)
   joined_seen (one_part s) = one_part s
   joined_seen (more_parts s j) = more_parts s (joined_seen j)
 
@@ -130,8 +131,8 @@ starts-append core rest s = record { first = s.first; others = s.others ++ rest;
 pub skip-starts : (mode : Mode) (bytes : List ℕ) → Starts bytes → skip_whitespace mode bytes ≡ bytes
 skip-starts mode bytes s = ap (λ (t : List ℕ). skip_whitespace mode t) s.whole ∙ skip-stop mode s.first s.others (other s.first s.is_start).piece ∙ sym s.whole
 
-module _ {A : Type 0} (mode : Mode) (Spells : List ℕ → A → Type 0) (read : List ℕ → Parse A) where
-  pub padded_sound : IsSound Spells read → IsSoundBefore (IsPadded mode Spells) (padded_at mode read)
+module _ {A : Type 0} (mode : Mode) (Encodes : List ℕ → A → Type 0) (read : List ℕ → Parse A) where
+  pub padded_sound : IsSound Encodes read → IsSoundBefore (IsPadded mode Encodes) (padded_at mode read)
   padded_sound sound bytes a rest e left =
       let b = bind_ok (read (skip_whitespace mode bytes)) (λ (x : A × List ℕ). Ok (x.0, skip_whitespace mode x.1)) (a, rest) e in
       let same = same_read b.0.0 a (skip_whitespace mode b.0.1) rest b.2 in
@@ -143,37 +144,37 @@ module _ {A : Type 0} (mode : Mode) (Spells : List ℕ → A → Type 0) (read :
       ∙ sym (append_assoc front.whitespace (s.core ++ back.whitespace) (skip_whitespace mode b.0.1)) in
       record {
         core = front.whitespace ++ (s.core ++ back.whitespace);
-        spells = subst (λ (v : A). IsPadded mode Spells (front.whitespace ++ (s.core ++ back.whitespace)) v) same.value (padded front.is_whitespace s.spells back.is_whitespace);
+        encodes = subst (λ (v : A). IsPadded mode Encodes (front.whitespace ++ (s.core ++ back.whitespace)) v) same.value (padded front.is_whitespace s.encodes back.is_whitespace);
         whole = subst (λ (t : List ℕ). bytes ≡ (front.whitespace ++ (s.core ++ back.whitespace)) ++ t) same.rest regrouped;
       }
 
-module _ {A : Type 0} (mode : Mode) (Spells : List ℕ → A → Type 0) where
+module _ {A : Type 0} (mode : Mode) (Encodes : List ℕ → A → Type 0) where
   -- the bytes of a padded value after the whitespace before it
   pub record Padded (bytes : List ℕ) (a : A) (rest : List ℕ) : Type 0 where
     pub core : List ℕ
     pub after : List ℕ
-    pub spells : Spells core a
+    pub encodes : Encodes core a
     pub is_whitespace : IsWhitespace mode after
     pub skipped : skip_whitespace mode (bytes ++ rest) ≡ core ++ (after ++ rest)
 
-  pub skip-padded : ((core : List ℕ) (a : A) → Spells core a → Starts core) → (bytes : List ℕ) (a : A) (rest : List ℕ) → IsPadded mode Spells bytes a → Padded bytes a rest
+  pub skip-padded : ((core : List ℕ) (a : A) → Encodes core a → Starts core) → (bytes : List ℕ) (a : A) (rest : List ℕ) → IsPadded mode Encodes bytes a → Padded bytes a rest
   skip-padded starts bytes a rest (padded {before = before} {core = core} {after = after} b s c) =
       record {
         core = core;
         after = after;
-        spells = s;
+        encodes = s;
         is_whitespace = c;
         skipped =
             ap (λ (t : List ℕ). skip_whitespace mode t) (append_assoc before (core ++ after) rest) ∙ skip-whitespace b ((core ++ after) ++ rest)
             ∙ ap (λ (t : List ℕ). skip_whitespace mode t) (append_assoc core after rest) ∙ skip-starts mode (core ++ (after ++ rest)) (starts-append core (after ++ rest) (starts core a s));
       }
 
-module _ {A F : Type 0} (view : F → A) (mode : Mode) (Spells : List ℕ → A → Type 0) (read : List ℕ → Parse F) where
-  pub padded_complete : IsShown view Spells read → (bytes : List ℕ) (a : A) (c : ℕ) (rest : List ℕ) → IsPadded mode Spells bytes a → is_break c ≡ true → is_whitespace_start c ≡ false
+module _ {A F : Type 0} (view : F → A) (mode : Mode) (Encodes : List ℕ → A → Type 0) (read : List ℕ → Parse F) where
+  pub padded_complete : IsShown view Encodes read → (bytes : List ℕ) (a : A) (c : ℕ) (rest : List ℕ) → IsPadded mode Encodes bytes a → is_break c ≡ true → is_whitespace_start c ≡ false
       → (f : F) × (view f ≡ a) × (padded_at mode read (bytes ++ c ∷ rest) ≡ Ok (f, c ∷ rest))
   padded_complete complete bytes a c rest p is_end is_none =
-      let s = skip-padded mode Spells complete.starts bytes a (c ∷ rest) p in
-      let r = complete.parses s.core a (s.after ++ c ∷ rest) s.spells (ends-whitespace s.is_whitespace (c ∷ rest) (ends_at c rest is_end)) in
+      let s = skip-padded mode Encodes complete.starts bytes a (c ∷ rest) p in
+      let r = complete.parses s.core a (s.after ++ c ∷ rest) s.encodes (ends-whitespace s.is_whitespace (c ∷ rest) (ends_at c rest is_end)) in
       let k : skip_whitespace mode (s.after ++ c ∷ rest) ≡ c ∷ rest = skip-whitespace s.is_whitespace (c ∷ rest) ∙ skip-stop mode c rest is_none in (
         r.0,
         r.1,
@@ -209,18 +210,19 @@ on_byte_cases c (b ∷ rest) found other z e =
 
 -- ---- parts joined by commas
 
-pub length-joined : {A : Type 0} {Spells : List ℕ → A → Type 0} {bytes : List ℕ} {parts : List A} → IsJoined Spells bytes parts → length parts ≤ suc (length bytes)
+pub length-joined : {A : Type 0} {Encodes : List ℕ → A → Type 0} {bytes : List ℕ} {parts : List A} → IsJoined Encodes bytes parts → length parts ≤ suc (length bytes)
 length-joined (one_part {bytes = bytes} s) = omega arith
 length-joined (more_parts {first = first} {rest = rest} s j) = let h = length-joined j in omega (arith, h, length-append first (44 ∷ rest))
 
--- What is parsed of a part shows the part by view. Each spelling of a part is parsed up to the comma or the closing byte after it.
-pub record IsPartComplete {A F : Type 0} (view : F → A) (close : ℕ) (Spells : List ℕ → A → Type 0) (part : List ℕ → Parse F) : Type 0 where
-  pub comma : (bytes : List ℕ) (a : A) (rest : List ℕ) → Spells bytes a → (f : F) × (view f ≡ a) × (part (bytes ++ 44 ∷ rest) ≡ Ok (f, 44 ∷ rest))
-  pub last : (bytes : List ℕ) (a : A) (rest : List ℕ) → Spells bytes a → (f : F) × (view f ≡ a) × (part (bytes ++ close ∷ rest) ≡ Ok (f, close ∷ rest))
+-- What is parsed of a part shows the part by view. Each encoding of a part is parsed up to the comma or the closing
+-- byte after it.
+pub record IsPartComplete {A F : Type 0} (view : F → A) (close : ℕ) (Encodes : List ℕ → A → Type 0) (part : List ℕ → Parse F) : Type 0 where
+  pub comma : (bytes : List ℕ) (a : A) (rest : List ℕ) → Encodes bytes a → (f : F) × (view f ≡ a) × (part (bytes ++ 44 ∷ rest) ≡ Ok (f, 44 ∷ rest))
+  pub last : (bytes : List ℕ) (a : A) (rest : List ℕ) → Encodes bytes a → (f : F) × (view f ≡ a) × (part (bytes ++ close ∷ rest) ≡ Ok (f, close ∷ rest))
   pub apart : eqb close 44 ≡ false
 
-module _ {A F : Type 0} (view : F → A) (size : ℕ) (code : Code) (close : ℕ) (Spells : List ℕ → A → Type 0) (part : List ℕ → Parse F) (p : IsPartComplete view close Spells part) where
-  pub joined_complete : {bytes : List ℕ} {parts : List A} → IsJoined Spells bytes parts → (n : ℕ) (rest : List ℕ) → length parts ≤ n
+module _ {A F : Type 0} (view : F → A) (size : ℕ) (code : Code) (close : ℕ) (Encodes : List ℕ → A → Type 0) (part : List ℕ → Parse F) (p : IsPartComplete view close Encodes part) where
+  pub joined_complete : {bytes : List ℕ} {parts : List A} → IsJoined Encodes bytes parts → (n : ℕ) (rest : List ℕ) → length parts ≤ n
       → (fs : List F) × (map view fs ≡ parts) × (joined_at size code close part n (bytes ++ close ∷ rest) ≡ Ok (fs, rest))
   unfolding joined_at
   joined_complete (one_part s) zero rest h = absurd (omega arith)
@@ -243,9 +245,9 @@ module _ {A F : Type 0} (view : F → A) (size : ℕ) (code : Code) (close : ℕ
             ∙ ap (λ (r : Parse (List F)). r >>= λ (x : List F × List ℕ). Ok (f.0 ∷ x.0, x.1)) g.2,
       )
 
-module _ {A : Type 0} (size : ℕ) (code : Code) (close : ℕ) (Spells : List ℕ → A → Type 0) (part : List ℕ → Parse A) where
-  pub joined_sound : IsSoundBefore Spells part → (n : ℕ) (bytes : List ℕ) (parts : List A) (rest : List ℕ) → joined_at size code close part n bytes ≡ Ok (parts, rest)
-      → (body : List ℕ) × IsJoined Spells body parts × (bytes ≡ body ++ close ∷ rest)
+module _ {A : Type 0} (size : ℕ) (code : Code) (close : ℕ) (Encodes : List ℕ → A → Type 0) (part : List ℕ → Parse A) where
+  pub joined_sound : IsSoundBefore Encodes part → (n : ℕ) (bytes : List ℕ) (parts : List A) (rest : List ℕ) → joined_at size code close part n bytes ≡ Ok (parts, rest)
+      → (body : List ℕ) × IsJoined Encodes body parts × (bytes ≡ body ++ close ∷ rest)
   unfolding joined_at
   joined_sound sound zero bytes parts rest e = absurd cc
   joined_sound sound (suc n) bytes parts rest e =
@@ -259,7 +261,7 @@ module _ {A : Type 0} (size : ℕ) (code : Code) (close : ℕ) (Spells : List �
             let h = joined_sound sound n t.0 c.0.0 c.0.1 c.1 in
             let same = same_read (a ∷ c.0.0) parts c.0.1 rest c.2 in (
               s.core ++ 44 ∷ h.0,
-              subst (λ (ps : List A). IsJoined Spells (s.core ++ 44 ∷ h.0) ps) same.value (more_parts s.spells h.1),
+              subst (λ (ps : List A). IsJoined Encodes (s.core ++ 44 ∷ h.0) ps) same.value (more_parts s.encodes h.1),
               s.whole ∙ ap (λ (u : List ℕ). s.core ++ u) (t.1 ∙ ap (λ (u : List ℕ). 44 ∷ u) h.2) ∙ sym (append_assoc s.core (44 ∷ h.0) (close ∷ c.0.1)) ∙ ap (λ (u : List ℕ). (s.core ++ 44 ∷ h.0) ++ close ∷ u) same.rest,
             )
         | inr f ↦
@@ -267,7 +269,7 @@ module _ {A : Type 0} (size : ℕ) (code : Code) (close : ℕ) (Spells : List �
               | inl t ↦
                   let s = sound bytes a middle b.1 (omega (arith, ap length t.1)) in
                   let same = same_read (a ∷ []) parts t.0 rest t.2 in
-                  (s.core, subst (λ (ps : List A). IsJoined Spells s.core ps) same.value (one_part s.spells), s.whole ∙ ap (λ (u : List ℕ). s.core ++ u) (t.1 ∙ ap (λ (u : List ℕ). close ∷ u) same.rest))
+                  (s.core, subst (λ (ps : List A). IsJoined Encodes s.core ps) same.value (one_part s.encodes), s.whole ∙ ap (λ (u : List ℕ). s.core ++ u) (t.1 ∙ ap (λ (u : List ℕ). close ∷ u) same.rest))
               | inr g ↦ absurd (rejected_fails size code 0 middle (parts, rest) g.1)
             ]
       ]

@@ -18,7 +18,8 @@ use Rattle.jsonb_scan.proofs.Numbers.TextParts.{HasParts, parts_of}
 abbrev pub NoneEnds : List ℕ → Type 0
 NoneEnds bytes = (k : ℕ) → k ≤ length bytes → IsStandardText (take k bytes) → ContinuesNumber (slice_index bytes k)
 
--- of the number texts that the bytes begin with none is longer than len, and after each shorter one a byte goes on with a number
+-- of the number texts that the bytes begin with none is longer than len, and after each shorter one a byte goes on with
+-- a number
 abbrev pub IsLongest : List ℕ → ℕ → Type 0
 IsLongest bytes len = (k : ℕ) → k ≤ length bytes → IsStandardText (take k bytes) → (k ≡ len) ⊎ ((k < len) × ContinuesNumber (slice_index bytes k))
 

@@ -109,7 +109,7 @@ point_here bs = point_is bs (front_end bs)
 
 pub point_ordered : (bytes : List ℕ) (start digits end : ℕ) → start ≤ length bytes → IsPointEnd bytes start digits end → (start ≤ digits) × (digits ≤ end) × (end ≤ length bytes)
 point_ordered bytes start digits end within (inl none) = (omega (arith, none.0), omega (arith, none.0, none.1), omega (arith, none.1))
-point_ordered bytes start digits end within (inr (point, place, behind)) = (omega arith, behind.ordered, behind.within)
+point_ordered bytes start digits end within (inr (point, offset, behind)) = (omega arith, behind.ordered, behind.within)
 
 abbrev pub parts_to : List ℕ → ℕ → DecimalParts
 parts_to bs end = record { zeros_start = core_start bs; whole_start = zeros_end bs; whole_end = front_end bs; fraction_start = point_end bs; fraction_end = behind_end bs; end = end }

@@ -21,20 +21,20 @@ use Rattle.jsonb_scan.proofs.Numbers.DecimalStates.{IsLongestDecimal, IsLongestD
 use Rattle.jsonb_value.proofs.Numbers.Fractions.{fraction_digits, fraction_text, precision_of, value_of}
 use Rattle.jsonb_scan.proofs.Numbers.TextParts.{IsUnrepresentableDecimal, HasTextParts, decimal_parts_of}
 
-zeros_from_places : (ds : List ℕ) → ((k : ℕ) → k < length ds → get_or ds k 0 ≡ 48) → ds ≡ replicate (length ds) 48
-zeros_from_places [] h = refl
-zeros_from_places (d ∷ ds) h =
-    ap (λ x. x ∷ ds) (h 0 (omega arith)) ∙ ap (λ r. 48 ∷ r) (zeros_from_places ds (λ k below. h (suc k) (omega arith)))
+zeros_from_offsets : (ds : List ℕ) → ((k : ℕ) → k < length ds → get_or ds k 0 ≡ 48) → ds ≡ replicate (length ds) 48
+zeros_from_offsets [] h = refl
+zeros_from_offsets (d ∷ ds) h =
+    ap (λ x. x ∷ ds) (h 0 (omega arith)) ∙ ap (λ r. 48 ∷ r) (zeros_from_offsets ds (λ k below. h (suc k) (omega arith)))
 
 zeros_text : (bytes : List ℕ) (start end : ℕ) → IsZeroRun bytes start end → slice_range bytes start end ≡ replicate (length (slice_range bytes start end)) 48
 zeros_text bytes start end zeros =
     let long : length (slice_range bytes start end) ≡ end - start = length-between bytes start end zeros.within in
-    zeros_from_places (slice_range bytes start end) (λ k below. get_or-between bytes start end k 0 (omega arith) ∙ zeros.zeros (start + k) (omega arith) (omega arith))
+    zeros_from_offsets (slice_range bytes start end) (λ k below. get_or-between bytes start end k 0 (omega arith) ∙ zeros.zeros (start + k) (omega arith) (omega arith))
 
 no_zero : (bytes : List ℕ) (start end : ℕ) → slice_index bytes start ≢ 48 → slice_index (slice_range bytes start end) 0 ≢ 48
 no_zero bytes start end other zero_byte =
     ⊎_elim
-    (λ some. let place : start + 0 ≡ start = omega arith in other (ap (slice_index bytes) (sym place) ∙ (sym (get_or-between bytes start end 0 0 (omega arith)) ∙ zero_byte)))
+    (λ some. let offset : start + 0 ≡ start = omega arith in other (ap (slice_index bytes) (sym offset) ∙ (sym (get_or-between bytes start end 0 0 (omega arith)) ∙ zero_byte)))
     (λ none. let nothing : end - start ≡ 0 = omega arith in absurd (omega (arith, sym zero_byte ∙ ap (λ n. slice_index (take n (drop start bytes)) 0) nothing))) (cases_lt start end)
 
 -- the parts of the text, with the digits behind the point
@@ -60,12 +60,12 @@ scan_order bytes p scan =
 point_text : (bytes : List ℕ) (start digits end : ℕ) → IsPointEnd bytes start digits end → (f : Option (List ℕ)) × (fraction_text f ≡ slice_range bytes start end) × (fraction_digits f ≡ slice_range bytes digits end)
 point_text bytes start digits end (inl none) =
     (None, sym (range_none bytes start end none.1), sym (range_none bytes digits end (none.1 ∙ sym none.0)))
-point_text bytes start digits end (inr (point, place, behind)) =
-    (Some (slice_range bytes digits end), sym (range_cons bytes start end (omega (arith, behind.ordered)) behind.within ∙ (ap (λ b. b ∷ slice_range bytes (start + 1) end) point ∙ ap (λ i. 46 ∷ slice_range bytes i end) (sym place))), refl)
+point_text bytes start digits end (inr (point, offset, behind)) =
+    (Some (slice_range bytes digits end), sym (range_cons bytes start end (omega (arith, behind.ordered)) behind.within ∙ (ap (λ b. b ∷ slice_range bytes (start + 1) end) point ∙ ap (λ i. 46 ∷ slice_range bytes i end) (sym offset))), refl)
 
 pub behind_digits : (bytes : List ℕ) (start digits end : ℕ) → IsPointEnd bytes start digits end → AllDigits 10 (slice_range bytes digits end)
 behind_digits bytes start digits end (inl none) = subst (AllDigits 10) (sym (range_none bytes digits end (none.1 ∙ sym none.0))) tt
-behind_digits bytes start digits end (inr (point, place, behind)) = run_digits bytes digits end behind
+behind_digits bytes start digits end (inr (point, offset, behind)) = run_digits bytes digits end behind
 
 pub scanned_decimal : (bytes : List ℕ) (p : DecimalParts) → IsDecimalScan bytes p → ScannedDecimal bytes p
 scanned_decimal bytes p scan =
@@ -132,13 +132,13 @@ decimal_text_of : (bytes : List ℕ) (end : ℕ) → IsDecimalScan bytes (parts_
 decimal_text_of bytes end scan =
     let o = scan_order bytes (parts_to bytes end) scan in
     let d = scanned_decimal bytes (parts_to bytes end) scan in
-    let places : length (fraction_digits d.fraction) ≡ scale_at bytes = ap length d.digits ∙ length-between bytes (point_end bytes) (behind_end bytes) (omega (arith, o.exponent, o.within)) in
+    let offsets : length (fraction_digits d.fraction) ≡ scale_at bytes = ap length d.digits ∙ length-between bytes (point_end bytes) (behind_end bytes) (omega (arith, o.exponent, o.within)) in
     record {
       fraction = d.fraction;
       parts = d.parts;
       digits = d.digits;
-      scale = places;
-      precision = omega (arith, length-between bytes (zeros_end bytes) (front_end bytes) (counted_digits bytes).within, places);
+      scale = offsets;
+      precision = omega (arith, length-between bytes (zeros_end bytes) (front_end bytes) (counted_digits bytes).within, offsets);
       ordered = o.exponent;
       within = o.within;
       longest = decimal_longest bytes (parts_to bytes end) scan;

@@ -18,7 +18,8 @@ use Rattle.jsonb_scan.proofs.Numbers.ScanStates.{FractionDone, alive_by, bare_ma
 use Rattle.jsonb_value.proofs.Numbers.Fractions.{fraction_digits, fraction_text}
 use Rattle.jsonb_scan.proofs.Numbers.TextParts.{HasDecimalText, text_parts}
 
--- of the decimal number texts that the bytes begin with none is longer than len, and after each shorter one a byte goes on with a number
+-- of the decimal number texts that the bytes begin with none is longer than len, and after each shorter one a byte goes
+-- on with a number
 abbrev pub IsLongestDecimal : List ℕ → ℕ → Type 0
 IsLongestDecimal bytes len = (k : ℕ) → k ≤ length bytes → IsDecimalText (take k bytes) → (k ≡ len) ⊎ ((k < len) × ContinuesNumber (slice_index bytes k))
 
@@ -169,15 +170,15 @@ pub fault_no_decimal : (bytes : List ℕ) (start digits end : ℕ) → IsDecimal
 fault_no_decimal bytes start digits end is_due within no_digit (inl none) same =
     NoDecimalEnds-from_stop bytes start (state_at DecimalStart bytes start) (record { within = within; state = refl; alive = before_alive (state_at DecimalStart bytes start) is_due.before; stops = is_due.stops no_digit none.2 })
     (λ accepts. absurd (false≢true (sym (before_rejects (state_at DecimalStart bytes start) is_due.before) ∙ accepts)))
-fault_no_decimal bytes start digits end is_due within no_digit (inr (point, place, behind)) same =
+fault_no_decimal bytes start digits end is_due within no_digit (inr (point, offset, behind)) same =
     let there : state_at DecimalStart bytes (start + 1) ≡ BarePoint = state_at-next DecimalStart bytes start (omega (arith, behind.within, behind.ordered)) ∙ (ap (next (state_at DecimalStart bytes start)) point ∙ before_point (state_at DecimalStart bytes start) is_due.before) in
-    let at : end ≡ start + 1 = sym same ∙ place in
+    let at : end ≡ start + 1 = sym same ∙ offset in
     NoDecimalEnds-from_stop bytes (start + 1) BarePoint (record { within = omega (arith, behind.within); state = there; alive = alive_by BarePoint BarePoint refl (omega arith); stops = bare_stops (slice_index bytes (start + 1)) (subst (λ i. ¬ IsInRange 48 57 (slice_index bytes i)) at behind.ends) })
     (λ accepts. absurd (false≢true accepts))
 
 -- the state after a point and its digits
 after_point : (bytes : List ℕ) (start whole digits end : ℕ) → IsDecimalDue bytes start → IsDigitRun bytes start whole → slice_index bytes whole ≡ 46 → digits ≡ whole + 1 → IsDigitRun bytes digits end → (start < whole) ⊎ (digits < end) → state_at DecimalStart bytes end ≡ Fraction
-after_point bytes start whole digits end is_due run_whole point place behind some =
+after_point bytes start whole digits end is_due run_whole point offset behind some =
     let inside : whole < length bytes = omega (arith, behind.within, behind.ordered) in
     ⊎_elim
     (λ has_whole.
@@ -195,8 +196,8 @@ after_point bytes start whole digits end is_due run_whole point place behind som
 
 pub fault_second_point : (bytes : List ℕ) (start whole digits end : ℕ) → IsDecimalDue bytes start → IsDigitRun bytes start whole → IsPointEnd bytes whole digits end → whole < digits → (start < whole) ⊎ (digits < end) → slice_index bytes end ≡ 46 → NoDecimalEnds bytes
 fault_second_point bytes start whole digits end is_due run_whole (inl none) later some again = absurd (omega (arith, none.0))
-fault_second_point bytes start whole digits end is_due run_whole (inr (point, place, behind)) later some again =
-    NoDecimalEnds-from_stop bytes end Fraction (record { within = behind.within; state = after_point bytes start whole digits end is_due run_whole point place behind some; alive = alive_by Fraction Fraction refl (omega arith); stops = ap (next Fraction) again ∙ point_stops_fraction })
+fault_second_point bytes start whole digits end is_due run_whole (inr (point, offset, behind)) later some again =
+    NoDecimalEnds-from_stop bytes end Fraction (record { within = behind.within; state = after_point bytes start whole digits end is_due run_whole point offset behind some; alive = alive_by Fraction Fraction refl (omega arith); stops = ap (next Fraction) again ∙ point_stops_fraction })
     (λ accepts. inr (inl again))
 
 pub decimal_done : (bytes : List ℕ) (start whole digits end : ℕ) → IsDecimalDue bytes start → IsDigitRun bytes start whole → IsPointEnd bytes whole digits end → (start < whole) ⊎ (digits < end) → FractionDone DecimalStart bytes end
@@ -207,10 +208,10 @@ decimal_done bytes start whole digits end is_due run_whole (inl none) some =
       no_digit = subst (λ i. ¬ IsInRange 48 57 (slice_index bytes i)) (sym none.1) run_whole.ends;
       state = inl (inr (ap (state_at DecimalStart bytes) none.1 ∙ whole_digits bytes start whole is_due run_whole has_whole), subst (λ i. slice_index bytes i ≢ 46) (sym none.1) none.2);
     }
-decimal_done bytes start whole digits end is_due run_whole (inr (point, place, behind)) some = record {
+decimal_done bytes start whole digits end is_due run_whole (inr (point, offset, behind)) some = record {
   within = behind.within;
   no_digit = behind.ends;
-  state = inr (after_point bytes start whole digits end is_due run_whole point place behind some);
+  state = inr (after_point bytes start whole digits end is_due run_whole point offset behind some);
 }
 
 pub fault_decimal_mark : (bytes : List ℕ) (start p : ℕ) → FractionDone DecimalStart bytes start → IsBareMark bytes start p → NoDecimalEnds bytes

@@ -55,8 +55,8 @@ value_after-take_le n ds i =
 
 -- one digit more leaves it below the bound
 pub value_after_step : (n : ℕ) (ds : List ℕ) (i bound : ℕ) → AllDigits 10 ds → i < length ds → (n + 1) * 10 ^ length ds ≤ bound → digits_value_after 10 n (take i ds) * 10 + digit_value (get_or ds i 0) < bound
-value_after_step n ds i bound h inside room =
-    omega (arith, value_after_more n ds i inside, value_after-take_le n ds (i + 1), value_after_lt n ds h, room)
+value_after_step n ds i bound h inside space =
+    omega (arith, value_after_more n ds i inside, value_after-take_le n ds (i + 1), value_after_lt n ds h, space)
 
 -- one digit behind a number of so many digits, which 64 bits hold
 pub record AddsBehind (bs : List ℕ) (front i before value digit : ℕ) : Type 0 where

@@ -77,24 +77,24 @@ scanned bs end at =
 
 -- ---- no number text
 
-then_err : (r : End) (f : ℕ → End) (place : ℕ) → then_from r f ≡ Err place → (r ≡ Err place) ⊎ ((middle : ℕ) × (r ≡ Ok middle) × (f middle ≡ Err place))
-then_err (Ok middle) f place at = inr (middle, refl, at)
-then_err (Err other) f place at = inl at
+then_err : (r : End) (f : ℕ → End) (offset : ℕ) → then_from r f ≡ Err offset → (r ≡ Err offset) ⊎ ((middle : ℕ) × (r ≡ Ok middle) × (f middle ≡ Err offset))
+then_err (Ok middle) f offset at = inr (middle, refl, at)
+then_err (Err other) f offset at = inl at
 
-pub none_ends : (bs : List ℕ) (place : ℕ) → standard_end bs ≡ Err place → NoneEnds bs
-none_ends bs place at =
+pub none_ends : (bs : List ℕ) (offset : ℕ) → standard_end bs ≡ Err offset → NoneEnds bs
+none_ends bs offset at =
     ⊎_elim
     (λ none. fault_no_digit bs (whole_start bs) (due bs (whole_start bs) refl (whole_start_within bs)) (whole_start_within bs) (λ digit. omega (arith, none, digits_more bs (whole_start bs) digit)))
     (λ some. ⊎_elim
     (λ needless. fault_needless_zero bs (whole_start bs) (whole_end bs) (due bs (whole_start bs) refl (whole_start_within bs)) (whole_run bs) needless.1 (omega (arith, needless.0)))
     (λ has_whole. ⊎_elim
-    (λ bare. fault_bare_point bs (whole_end bs) (whole_ends bs has_whole) (fraction_fault_is bs (whole_end bs) place (whole_run bs).within bare))
+    (λ bare. fault_bare_point bs (whole_end bs) (whole_ends bs has_whole) (fraction_fault_is bs (whole_end bs) offset (whole_run bs).within bare))
     (λ parts.
     let run = whole_run bs in
     let fraction = fraction_is bs (whole_end bs) parts.0 run.within parts.1 in
     let done = fraction_state bs (whole_end bs) parts.0 run.within run.ends (whole_ends bs has_whole) fraction in
-    fault_bare_mark bs parts.0 (sign_end bs (parts.0 + 1)) done (exponent_fault_is bs parts.0 place done.within parts.2))
-    (then_err (fraction_from bs (whole_end bs)) (exponent_from bs) place (sym (whole_found bs has_whole) ∙ at))) some) (whole_cases bs)
+    fault_bare_mark bs parts.0 (sign_end bs (parts.0 + 1)) done (exponent_fault_is bs parts.0 offset done.within parts.2))
+    (then_err (fraction_from bs (whole_end bs)) (exponent_from bs) offset (sym (whole_found bs has_whole) ∙ at))) some) (whole_cases bs)
 
 -- ---- its number
 

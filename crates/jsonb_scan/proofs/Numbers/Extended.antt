@@ -32,8 +32,8 @@ use Rattle.jsonb_spec.specs.Mode.{extended}
 
 -- ---- decimals
 
-decimal_fault : (bytes : List ℕ) (place : ℕ) → decimal_end bytes ≡ Err place → NoDecimalEnds bytes
-decimal_fault bytes place at = by_case (decimal_case bytes)
+decimal_fault : (bytes : List ℕ) (offset : ℕ) → decimal_end bytes ≡ Err offset → NoDecimalEnds bytes
+decimal_fault bytes offset at = by_case (decimal_case bytes)
   where
     is_due : IsDecimalDue bytes (core_start bytes)
     is_due = decimal_due bytes (core_start bytes) refl (core_within bytes)
@@ -47,7 +47,7 @@ decimal_fault bytes place at = by_case (decimal_case bytes)
         fault_second_point bytes (core_start bytes) (front_end bytes) (point_end bytes) (behind_end bytes) is_due (core_digits bytes) (point_here bytes) point.0 some point.1
     by_case (further some once found) =
         let order = point_ordered bytes (front_end bytes) (point_end bytes) (behind_end bytes) (core_digits bytes).within (point_here bytes) in
-        fault_decimal_mark bytes (behind_end bytes) _ (decimal_done bytes (core_start bytes) (front_end bytes) (point_end bytes) (behind_end bytes) is_due (core_digits bytes) (point_here bytes) some) (exponent_fault_is bytes (behind_end bytes) place order.2 (sym found ∙ at))
+        fault_decimal_mark bytes (behind_end bytes) _ (decimal_done bytes (core_start bytes) (front_end bytes) (point_end bytes) (behind_end bytes) is_due (core_digits bytes) (point_here bytes) some) (exponent_fault_is bytes (behind_end bytes) offset order.2 (sym found ∙ at))
 
 -- neither a word nor a hexadecimal begins here
 record IsDecimalHere (bytes : List ℕ) : Type 0 where
@@ -68,7 +68,7 @@ reads_decimal bytes here = by_end (decimal_end bytes) refl
 
     by_end : (r : End) → decimal_end bytes ≡ r → ScansExtended bytes (decimal_to bytes r)
     by_end (Ok end) at = let t = decimal_text bytes end at in by_number end (decimal_at bytes end) t (decimal_at_end bytes end t)
-    by_end (Err place) at = (inl refl, λ k within text. goes_on_more (slice_index bytes k) (decimal_fault bytes place at k within (only_decimals bytes here.no_word here.no_mark k text)))
+    by_end (Err offset) at = (inl refl, λ k within text. goes_on_more (slice_index bytes k) (decimal_fault bytes offset at k within (only_decimals bytes here.no_word here.no_mark k text)))
 
 -- ---- all kinds
 
@@ -167,12 +167,12 @@ pub record ExtendedRead (bytes : List ℕ) (n : Num) (rest : List ℕ) : Type 0 
   pub longest : NoLongerExtended bytes rest
 
 -- a number text was met whose number is not representable
-pub record ExtendedUnrepresentable (size : ℕ) (bytes : List ℕ) (place : ℕ) : Type 0 where
+pub record ExtendedUnrepresentable (size : ℕ) (bytes : List ℕ) (offset : ℕ) : Type 0 where
   pub text : List ℕ
   pub rest : List ℕ
   pub joined : bytes ≡ text ++ rest
   pub unrepresentable : IsUnrepresentable extended text
-  pub place_is : place ≡ size - length rest
+  pub offset_is : offset ≡ size - length rest
   pub longest : NoLongerExtended bytes rest
 
 -- no number text can end here
@@ -181,7 +181,7 @@ NoExtendedText bytes = (core after : List ℕ) → bytes ≡ core ++ after → I
 
 -- what a fault of parsing says
 pub data ExtendedFault (size : ℕ) (bytes : List ℕ) (f : Fault) : Type 0 where
-  unrepresentable_text : f.code ≡ number_not_carried → ExtendedUnrepresentable size bytes f.place → ExtendedFault size bytes f
+  unrepresentable_text : f.code ≡ number_not_carried → ExtendedUnrepresentable size bytes f.offset → ExtendedFault size bytes f
   no_text : IsNumberCode f.code → NoExtendedText bytes → ExtendedFault size bytes f
 
 -- a byte after a number text that doesn't go on with it
@@ -213,7 +213,7 @@ scanned_answer size bytes (Ok (None, end)) t = unrepresentable_text refl (record
   rest = drop end bytes;
   joined = sym (take-append-drop end bytes);
   unrepresentable = extended_without_number (take end bytes) t.text;
-  place_is = refl;
+  offset_is = refl;
   longest = no_longer bytes end t.within t.longest;
 })
 scanned_answer size bytes (Err f) (code, none) = no_text code (nothing_ends bytes none)

@@ -18,13 +18,14 @@ use Rattle.jsonb_scan.proofs.Numbers.DecimalStates.{decimal_accepted, decimal_du
 use Rattle.std.specs.Str.Parse.{starts_with_minus}
 use Rattle.jsonb_value.proofs.Numbers.Fractions.{fraction_text}
 use Rattle.jsonb_scan.proofs.Numbers.TextParts.{IsExtendedUnrepresentable}
-use Rattle.jsonb_scan.proofs.Scalars.WordLetters.{Spells}
+use Rattle.jsonb_scan.proofs.Scalars.WordLetters.{Encodes}
 
 -- `n` or `i` in either case
 abbrev pub IsWordStart : ℕ → Type 0
 IsWordStart b = (to_ascii_lowercase b ≡ 110) ⊎ (to_ascii_lowercase b ≡ 105)
 
--- of the number texts that the bytes begin with none is longer than len, and after each shorter one a byte goes on with a number
+-- of the number texts that the bytes begin with none is longer than len, and after each shorter one a byte goes on with
+-- a number
 abbrev pub IsLongestExtended : List ℕ → ℕ → Type 0
 IsLongestExtended bytes len = (k : ℕ) → k ≤ length bytes → IsExtendedText (take k bytes) → (k ≡ len) ⊎ ((k < len) × ContinuesNumberExtended (slice_index bytes k))
 
@@ -67,8 +68,8 @@ core_of bytes sign c r joined (inr (inl a)) plus minus = rw (joined, a) record {
 core_of bytes sign c r joined (inr (inr a)) plus minus = rw (joined, a) record { end = refl; byte = refl; minus = refl }
 
 -- the same of a list that begins with such a text
-spelled : (bytes sign : List ℕ) (k c : ℕ) (r : List ℕ) → take k bytes ≡ sign ++ (c ∷ r) → bytes ≡ sign ++ (c ∷ (r ++ drop k bytes))
-spelled bytes sign k c r joined = sym (take-append-drop k bytes) ∙ (ap (λ z. z ++ drop k bytes) joined ∙ append_assoc sign (c ∷ r) (drop k bytes))
+encoded : (bytes sign : List ℕ) (k c : ℕ) (r : List ℕ) → take k bytes ≡ sign ++ (c ∷ r) → bytes ≡ sign ++ (c ∷ (r ++ drop k bytes))
+encoded bytes sign k c r joined = sym (take-append-drop k bytes) ∙ (ap (λ z. z ++ drop k bytes) joined ∙ append_assoc sign (c ∷ r) (drop k bytes))
 
 pub record SignFront (bytes : List ℕ) : Type 0 where
   pub is_sign : IsSign (take (sign_end bytes 0) bytes)
@@ -92,13 +93,13 @@ sign_front (b ∷ bs) =
 pub letter_is : (c : ℕ) → (to_ascii_lowercase c ≡ 110) ⊎ (to_ascii_lowercase c ≡ 105) → 58 ≤ c
 letter_is c h = ⊎_elim (λ small. absurd (⊎_elim (λ e. omega (arith, e, (lowercase_is c).1 (omega (arith, small)))) (λ e. omega (arith, e, (lowercase_is c).1 (omega (arith, small)))) h)) (λ large. omega (arith, large)) (cases_lt c 58)
 
-first_letter : (c : ℕ) (word letters : List ℕ) → Spells (c ∷ word) letters → (l : ℕ) × (ls : List ℕ) × (letters ≡ l ∷ ls) × (to_ascii_lowercase l ≡ c)
-first_letter c word [] spells = absurd (omega (arith, ap length spells))
-first_letter c word (l ∷ ls) spells = (l, ls, refl, ap (λ z. slice_index z 0) spells)
+first_letter : (c : ℕ) (word letters : List ℕ) → Encodes (c ∷ word) letters → (l : ℕ) × (ls : List ℕ) × (letters ≡ l ∷ ls) × (to_ascii_lowercase l ≡ c)
+first_letter c word [] encodes = absurd (omega (arith, ap length encodes))
+first_letter c word (l ∷ ls) encodes = (l, ls, refl, ap (λ z. slice_index z 0) encodes)
 
 pub hexadecimal_core : (bytes : List ℕ) (k : ℕ) → IsHexadecimalText (take k bytes) → (core_byte bytes ≡ 48) × (to_ascii_lowercase (slice_index bytes (sign_end bytes 0 + 1)) ≡ 120)
 hexadecimal_core bytes k (sign, mark, whole, fraction, parts) =
-    let joined = spelled bytes sign k 48 _ parts.joined in
+    let joined = encoded bytes sign k 48 _ parts.joined in
     let core = core_of bytes sign 48 _ joined parts.is_sign (omega arith) (omega arith) in
     (core.byte, ap to_ascii_lowercase (ap (λ i. slice_index bytes (i + 1)) core.end ∙ (ap (λ z. slice_index z (length sign + 1)) joined ∙ get_or-append-add sign (48 ∷ mark ∷ ((whole ++ fraction_text fraction) ++ drop k bytes)) 1 0)) ∙ parts.is_mark)
 
@@ -111,14 +112,14 @@ pub record WordFound (bytes : List ℕ) (k : ℕ) : Type 0 where
   pub long : k ≤ length bytes → k ≡ length sign + length letters
   pub end : sign_end bytes 0 ≡ length sign
   pub minus : starts_with_minus bytes ≡ starts_with_minus sign
-  pub kind : (Spells (codes "infinity") letters × (to_ascii_lowercase (core_byte bytes) ≡ 105)) ⊎ (Spells (codes "nan") letters × (starts_with_minus sign ≡ false) × (to_ascii_lowercase (core_byte bytes) ≡ 110))
+  pub kind : (Encodes (codes "infinity") letters × (to_ascii_lowercase (core_byte bytes) ≡ 105)) ⊎ (Encodes (codes "nan") letters × (starts_with_minus sign ≡ false) × (to_ascii_lowercase (core_byte bytes) ≡ 110))
 
-word_core : (bytes sign letters : List ℕ) (k c : ℕ) (word : List ℕ) → take k bytes ≡ sign ++ letters → IsSign sign → Spells (c ∷ word) letters → (c ≡ 110) ⊎ (c ≡ 105) →
+word_core : (bytes sign letters : List ℕ) (k c : ℕ) (word : List ℕ) → take k bytes ≡ sign ++ letters → IsSign sign → Encodes (c ∷ word) letters → (c ≡ 110) ⊎ (c ≡ 105) →
     (sign_end bytes 0 ≡ length sign) × (starts_with_minus bytes ≡ starts_with_minus sign) × (to_ascii_lowercase (core_byte bytes) ≡ c)
-word_core bytes sign letters k c word joined is_sign spells letter =
-    let f = first_letter c word letters spells in
+word_core bytes sign letters k c word joined is_sign encodes letter =
+    let f = first_letter c word letters encodes in
     let large : 58 ≤ f.0 = letter_is f.0 (⊎_elim (λ e. inl (f.3 ∙ e)) (λ e. inr (f.3 ∙ e)) letter) in
-    let core = core_of bytes sign f.0 (f.1 ++ drop k bytes) (spelled bytes sign k f.0 f.1 (joined ∙ ap (λ z. sign ++ z) f.2)) is_sign (λ e. absurd (omega (arith, e, large))) (λ e. absurd (omega (arith, e, large))) in
+    let core = core_of bytes sign f.0 (f.1 ++ drop k bytes) (encoded bytes sign k f.0 f.1 (joined ∙ ap (λ z. sign ++ z) f.2)) is_sign (λ e. absurd (omega (arith, e, large))) (λ e. absurd (omega (arith, e, large))) in
     (core.end, core.minus, ap to_ascii_lowercase core.byte ∙ f.3)
 
 pub word_found : (bytes : List ℕ) (k : ℕ) → IsWordText (take k bytes) → WordFound bytes k

@@ -36,52 +36,52 @@ fits_is (Some v) ds h = sym (is_below (digits_value 16 ds) (2 ^ 128) h.0)
 some_tested : (n : ℕ) → n ≢ 0 → (n == 0) ≡ false
 some_tested n e = grind (arith, nat_tests)
 
-pub fraction_without_digits : (place n : ℕ) (fits : Bool) (bs : List ℕ) → n ≡ hexadecimal_length bs → n ≡ 0 → invalid place ≡ fraction_scan place fits bs
+pub fraction_without_digits : (offset n : ℕ) (fits : Bool) (bs : List ℕ) → n ≡ hexadecimal_length bs → n ≡ 0 → invalid offset ≡ fraction_scan offset fits bs
 unfolding fraction_scan
-fraction_without_digits place n fits bs e none = rw (← e, is_zero n none) refl
+fraction_without_digits offset n fits bs e none = rw (← e, is_zero n none) refl
 
-pub fraction_after_past : (place n : ℕ) (fits : Bool) (bs : List ℕ) → n ≡ hexadecimal_length bs → n ≢ 0 → fits ≡ false → invalid (place + n) ≡ fraction_scan place fits bs
+pub fraction_after_past : (offset n : ℕ) (fits : Bool) (bs : List ℕ) → n ≡ hexadecimal_length bs → n ≢ 0 → fits ≡ false → invalid (offset + n) ≡ fraction_scan offset fits bs
 unfolding fraction_scan
-fraction_after_past place n fits bs e some past = rw (← e, some_tested n some, past) refl
+fraction_after_past offset n fits bs e some past = rw (← e, some_tested n some, past) refl
 
-pub fraction_not_representable : (place n : ℕ) (fits : Bool) (bs : List ℕ) → n ≡ hexadecimal_length bs → n ≢ 0 → fits ≡ true → digits_value 16 (take n bs) < 2 ^ 128 → without_number (place + n) ≡ fraction_scan place fits bs
+pub fraction_not_representable : (offset n : ℕ) (fits : Bool) (bs : List ℕ) → n ≡ hexadecimal_length bs → n ≢ 0 → fits ≡ true → digits_value 16 (take n bs) < 2 ^ 128 → without_number (offset + n) ≡ fraction_scan offset fits bs
 unfolding fraction_scan
-fraction_not_representable place n fits bs e some whole small = rw (← e, some_tested n some, whole, is_below (digits_value 16 (take n bs)) (2 ^ 128) small) refl
+fraction_not_representable offset n fits bs e some whole small = rw (← e, some_tested n some, whole, is_below (digits_value 16 (take n bs)) (2 ^ 128) small) refl
 
-pub fraction_past : (place n : ℕ) (fits : Bool) (bs : List ℕ) → n ≡ hexadecimal_length bs → n ≢ 0 → fits ≡ true → ¬ (digits_value 16 (take n bs) < 2 ^ 128) → invalid (place + n) ≡ fraction_scan place fits bs
+pub fraction_past : (offset n : ℕ) (fits : Bool) (bs : List ℕ) → n ≡ hexadecimal_length bs → n ≢ 0 → fits ≡ true → ¬ (digits_value 16 (take n bs) < 2 ^ 128) → invalid (offset + n) ≡ fraction_scan offset fits bs
 unfolding fraction_scan
-fraction_past place n fits bs e some whole large = rw (← e, some_tested n some, whole, is_not_below (digits_value 16 (take n bs)) (2 ^ 128) (omega (arith, large))) refl
+fraction_past offset n fits bs e some whole large = rw (← e, some_tested n some, whole, is_not_below (digits_value 16 (take n bs)) (2 ^ 128) (omega (arith, large))) refl
 
-pub hexadecimal_without_digits : (place n : ℕ) (negative : Bool) (bs : List ℕ) → n ≡ hexadecimal_length bs → n ≡ 0 → invalid place ≡ hexadecimal_scan place negative bs
+pub hexadecimal_without_digits : (offset n : ℕ) (negative : Bool) (bs : List ℕ) → n ≡ hexadecimal_length bs → n ≡ 0 → invalid offset ≡ hexadecimal_scan offset negative bs
 unfolding hexadecimal_scan
-hexadecimal_without_digits place n negative bs e none = rw (← e, is_zero n none) refl
+hexadecimal_without_digits offset n negative bs e none = rw (← e, is_zero n none) refl
 
-pub hexadecimal_with_point : (place n : ℕ) (negative fits : Bool) (bs : List ℕ) → n ≡ hexadecimal_length bs → n ≢ 0 → slice_index bs n ≡ 46 → fits ≡ hexadecimal_fits (take n bs) → fraction_scan (place + n + 1) fits (drop (n + 1) bs) ≡ hexadecimal_scan place negative bs
+pub hexadecimal_with_point : (offset n : ℕ) (negative fits : Bool) (bs : List ℕ) → n ≡ hexadecimal_length bs → n ≢ 0 → slice_index bs n ≡ 46 → fits ≡ hexadecimal_fits (take n bs) → fraction_scan (offset + n + 1) fits (drop (n + 1) bs) ≡ hexadecimal_scan offset negative bs
 unfolding hexadecimal_scan
-hexadecimal_with_point place n negative fits bs e some point same = rw (← e, some_tested n some, point, same) refl
+hexadecimal_with_point offset n negative fits bs e some point same = rw (← e, some_tested n some, point, same) refl
 
 point_tested : (b : ℕ) → b ≢ 46 → (b == 46) ≡ false
 point_tested b h = grind (arith, nat_tests)
 
-pub hexadecimal_past : (place n : ℕ) (negative : Bool) (bs : List ℕ) → n ≡ hexadecimal_length bs → n ≢ 0 → slice_index bs n ≢ 46 → ¬ (digits_value 16 (take n bs) < 2 ^ 128) → invalid (place + n) ≡ hexadecimal_scan place negative bs
+pub hexadecimal_past : (offset n : ℕ) (negative : Bool) (bs : List ℕ) → n ≡ hexadecimal_length bs → n ≢ 0 → slice_index bs n ≢ 46 → ¬ (digits_value 16 (take n bs) < 2 ^ 128) → invalid (offset + n) ≡ hexadecimal_scan offset negative bs
 unfolding hexadecimal_scan
-hexadecimal_past place n negative bs e some no_point large = rw (← e, some_tested n some, point_tested (slice_index bs n) no_point, is_not_below (digits_value 16 (take n bs)) (2 ^ 128) (omega (arith, large))) refl
+hexadecimal_past offset n negative bs e some no_point large = rw (← e, some_tested n some, point_tested (slice_index bs n) no_point, is_not_below (digits_value 16 (take n bs)) (2 ^ 128) (omega (arith, large))) refl
 
-pub hexadecimal_whole_at : (place n m : ℕ) (negative : Bool) (r : Option Num) (bs : List ℕ) → n ≡ hexadecimal_length bs → n ≢ 0 → slice_index bs n ≢ 46 → digits_value 16 (take n bs) < 2 ^ 128 → m ≡ digits_value 16 (take n bs) → r ≡ hexadecimal_number negative m → ◌≡◌ {A = Scanned} (Ok (r, place + n)) (hexadecimal_scan place negative bs)
+pub hexadecimal_whole_at : (offset n m : ℕ) (negative : Bool) (r : Option Num) (bs : List ℕ) → n ≡ hexadecimal_length bs → n ≢ 0 → slice_index bs n ≢ 46 → digits_value 16 (take n bs) < 2 ^ 128 → m ≡ digits_value 16 (take n bs) → r ≡ hexadecimal_number negative m → ◌≡◌ {A = Scanned} (Ok (r, offset + n)) (hexadecimal_scan offset negative bs)
 unfolding hexadecimal_scan
-hexadecimal_whole_at place n m negative r bs e some no_point small value number =
+hexadecimal_whole_at offset n m negative r bs e some no_point small value number =
     let there : r ≡ hexadecimal_number negative (digits_value 16 (take n bs)) = number ∙ ap (hexadecimal_number negative) value in
     rw (← e, some_tested n some, point_tested (slice_index bs n) no_point, is_below (digits_value 16 (take n bs)) (2 ^ 128) small, there) refl
 
 -- the same by what was tested of the digits' values
-pub fraction_rejected : (place n : ℕ) (fits : Bool) (r : Option ℕ) (bs : List ℕ) → n ≡ hexadecimal_length bs → n ≢ 0 → SomeIff r (digits_value 16 (take n bs) < 2 ^ 128) (digits_value 16 (take n bs)) → (fits ≡ false) ⊎ ((fits ≡ true) × (r ≡ None)) → invalid (place + n) ≡ fraction_scan place fits bs
-fraction_rejected place n fits r bs e some h (inl past) = fraction_after_past place n fits bs e some past
-fraction_rejected place n fits None bs e some h (inr (whole, none)) = fraction_past place n fits bs e some whole h
-fraction_rejected place n fits (Some v) bs e some h (inr (whole, none)) = absurd (cc)
+pub fraction_rejected : (offset n : ℕ) (fits : Bool) (r : Option ℕ) (bs : List ℕ) → n ≡ hexadecimal_length bs → n ≢ 0 → SomeIff r (digits_value 16 (take n bs) < 2 ^ 128) (digits_value 16 (take n bs)) → (fits ≡ false) ⊎ ((fits ≡ true) × (r ≡ None)) → invalid (offset + n) ≡ fraction_scan offset fits bs
+fraction_rejected offset n fits r bs e some h (inl past) = fraction_after_past offset n fits bs e some past
+fraction_rejected offset n fits None bs e some h (inr (whole, none)) = fraction_past offset n fits bs e some whole h
+fraction_rejected offset n fits (Some v) bs e some h (inr (whole, none)) = absurd (cc)
 
-pub fraction_without_number : (place n : ℕ) (fits : Bool) (r : Option ℕ) (bs : List ℕ) → n ≡ hexadecimal_length bs → n ≢ 0 → SomeIff r (digits_value 16 (take n bs) < 2 ^ 128) (digits_value 16 (take n bs)) → fits ≡ true → (r ≡ None → ⊥) → without_number (place + n) ≡ fraction_scan place fits bs
-fraction_without_number place n fits (Some v) bs e some h whole found = fraction_not_representable place n fits bs e some whole h.0
-fraction_without_number place n fits None bs e some h whole found = absurd (found refl)
+pub fraction_without_number : (offset n : ℕ) (fits : Bool) (r : Option ℕ) (bs : List ℕ) → n ≡ hexadecimal_length bs → n ≢ 0 → SomeIff r (digits_value 16 (take n bs) < 2 ^ 128) (digits_value 16 (take n bs)) → fits ≡ true → (r ≡ None → ⊥) → without_number (offset + n) ≡ fraction_scan offset fits bs
+fraction_without_number offset n fits (Some v) bs e some h whole found = fraction_not_representable offset n fits bs e some whole h.0
+fraction_without_number offset n fits None bs e some h whole found = absurd (found refl)
 
 pub no_value : (r : Option ℕ) → is_some r ≡ false → r ≡ None
 no_value None h = refl

@@ -71,7 +71,7 @@ fractions_end (Some f) (Some g) m after h k stops no_point same =
     let tails : f ++ m ≡ g ++ after = ap (drop 1) same in
     ⊎_elim (λ all. inl (ap Some all.0)) (λ less. inr (omega (arith, less.0), inl less.1)) (runs_end f g m after h k stops tails)
 
--- a byte that is a digit does not stand behind digits that a point follows
+-- a byte that is a digit isn't behind digits that a point follows
 digit_behind : (f : Option (List ℕ)) (m : List ℕ) → digit_value (slice_index (fraction_text f ++ m) 0) < 16 → (f ≡ None) × (digit_value (slice_index m 0) < 16)
 digit_behind None m h = (refl, h)
 digit_behind (Some f) m h = absurd (omega (arith, h))
@@ -85,9 +85,9 @@ pub hexadecimal_ends : (bytes sign : List ℕ) (mark : ℕ) (whole : List ℕ) (
     (k : ℕ) → k ≤ length bytes → IsHexadecimalText (take k bytes) → ((k ≡ scan_length sign whole fraction) × AreGood whole fraction) ⊎ ((k < scan_length sign whole fraction) × ContinuesNumberExtended (slice_index bytes k))
 hexadecimal_ends bytes sign mark whole fraction after scan k within (sign', mark', whole', fraction', parts) =
     let m = drop k bytes in
-    let spelled : sign' ++ (48 ∷ mark' ∷ (whole' ++ (fraction_text fraction' ++ drop k bytes))) ≡ bytes =
+    let encoded : sign' ++ (48 ∷ mark' ∷ (whole' ++ (fraction_text fraction' ++ drop k bytes))) ≡ bytes =
     ap (λ z. sign' ++ (48 ∷ mark' ∷ z)) (sym (append_assoc whole' (fraction_text fraction') (drop k bytes))) ∙ (sym (append_assoc sign' (48 ∷ mark' ∷ (whole' ++ fraction_text fraction')) (drop k bytes)) ∙ (ap (λ z. z ++ drop k bytes) (sym parts.joined) ∙ take-append-drop k bytes)) in
-    let front = same_front sign' sign 48 mark' mark (whole' ++ (fraction_text fraction' ++ drop k bytes)) (whole ++ (fraction_text fraction ++ after)) parts.is_sign scan.is_sign (omega arith) (omega arith) (spelled ∙ scan.joined) in
+    let front = same_front sign' sign 48 mark' mark (whole' ++ (fraction_text fraction' ++ drop k bytes)) (whole ++ (fraction_text fraction ++ after)) parts.is_sign scan.is_sign (omega arith) (omega arith) (encoded ∙ scan.joined) in
     let long : k ≡ length sign' + (2 + (length whole' + length (fraction_text fraction'))) = text_length k bytes sign' mark' whole' (fraction_text fraction') within parts.joined in
     let next_byte : slice_index bytes k ≡ slice_index (drop k bytes) 0 = first_of_rest bytes k in
     ⊎_elim

@@ -26,8 +26,8 @@ module _ (p : ℕ → Bool) (past : p 0 ≡ false) where
 
   pub run_passes : (bs : List ℕ) (start k : ℕ) → start ≤ k → k < start + prefix_len p (drop start bs) → p (slice_index bs k) ≡ true
   run_passes bs start k low high =
-      let place : start + (k - start) ≡ k = omega arith in
-      ap (λ j. p (get_or bs j 0)) (sym place) ∙ ap p (sym (get_or-drop start bs (k - start) 0)) ∙ prefix_len_passes p (drop start bs) (k - start) 0 (omega arith)
+      let offset : start + (k - start) ≡ k = omega arith in
+      ap (λ j. p (get_or bs j 0)) (sym offset) ∙ ap p (sym (get_or-drop start bs (k - start) 0)) ∙ prefix_len_passes p (drop start bs) (k - start) 0 (omega arith)
 
   pub run_ends : (bs : List ℕ) (start : ℕ) → p (slice_index bs (start + prefix_len p (drop start bs))) ≡ false
   run_ends bs start =

@@ -74,8 +74,8 @@ fraction_is bs start end within at =
     (by_digits (digits_length (drop (start + 1) bs))))
     (λ other. inl (ok_same at (no_fraction bs start other), other)) (cases_eq (slice_index bs start) 46)
 
-pub fraction_fault_is : (bs : List ℕ) (start place : ℕ) → start ≤ length bs → fraction_from bs start ≡ Err place → IsBarePoint bs start
-fraction_fault_is bs start place within at =
+pub fraction_fault_is : (bs : List ℕ) (start offset : ℕ) → start ≤ length bs → fraction_from bs start ≡ Err offset → IsBarePoint bs start
+fraction_fault_is bs start offset within at =
     ⊎_elim
     (λ point. ⊎_elim
     (λ none. (point, digits_run bs (start + 1) (start + 1) (omega (arith, inside_of bs start (omega (arith, point)))) (omega (arith, none))))
@@ -105,8 +105,8 @@ exponent_is bs start end within at =
     (by_digits (digits_length (drop (sign_end bs (start + 1)) bs))))
     (λ other. inl (ok_same at (no_exponent bs start other), other)) (mark_or_not (slice_index bs start))
 
-pub exponent_fault_is : (bs : List ℕ) (start place : ℕ) → start ≤ length bs → exponent_from bs start ≡ Err place → IsBareMark bs start (sign_end bs (start + 1))
-exponent_fault_is bs start place within at =
+pub exponent_fault_is : (bs : List ℕ) (start offset : ℕ) → start ≤ length bs → exponent_from bs start ≡ Err offset → IsBareMark bs start (sign_end bs (start + 1))
+exponent_fault_is bs start offset within at =
     ⊎_elim
     (λ mark. ⊎_elim
     (λ none. (mark, refl, digits_run bs (sign_end bs (start + 1)) (sign_end bs (start + 1)) (sign_end_within bs (start + 1) (omega (arith, mark_inside bs start mark))) (omega (arith, none))))

@@ -38,7 +38,7 @@ before_rejects : (s : State) → BeforeWhole s → is_accepting s ≡ false
 before_rejects s (inl e) = ap is_accepting e
 before_rejects s (inr e) = ap is_accepting e
 
--- a state by its number, which tells `Dead` from the others
+-- a state by its number, which distinguishes `Dead` from the others
 abbrev pub number_of : State → ℕ
 number_of Start = 0
 number_of Minus = 1
@@ -180,8 +180,8 @@ mark_done origin bytes start d ends mark at within inside =
     let there : state_at origin bytes (start + 1) ≡ Mark = state_at-next origin bytes start inside ∙ after_fraction_mark (state_at origin bytes start) (slice_index bytes start) ends mark in
     ⊎_elim
     (λ sign.
-    let place : d ≡ start + 1 + 1 = at ∙ ap (λ b. cond b (start + 1 + 1) (start + 1)) sign in
-    let signed : state_at origin bytes d ≡ MarkSign = ap (state_at origin bytes) place ∙ (state_at-next origin bytes (start + 1) (omega arith) ∙ (ap (λ s. next s (slice_index bytes (start + 1))) there ∙ sign_after_mark (slice_index bytes (start + 1)) sign)) in
+    let offset : d ≡ start + 1 + 1 = at ∙ ap (λ b. cond b (start + 1 + 1) (start + 1)) sign in
+    let signed : state_at origin bytes d ≡ MarkSign = ap (state_at origin bytes) offset ∙ (state_at-next origin bytes (start + 1) (omega arith) ∙ (ap (λ s. next s (slice_index bytes (start + 1))) there ∙ sign_after_mark (slice_index bytes (start + 1)) sign)) in
     record {
       digit = λ b h. ap (λ s. next s b) signed ∙ mark_sign_digit b h;
       no_digit = λ h. ap (λ s. next s (slice_index bytes d)) signed ∙ no_digit_stops_sign (slice_index bytes d) h;
@@ -189,9 +189,9 @@ mark_done origin bytes start d ends mark at within inside =
       rejects = ap is_accepting signed;
     })
     (λ no_sign.
-    let place : d ≡ start + 1 = at ∙ ap (λ b. cond b (start + 1 + 1) (start + 1)) no_sign in
-    let marked : state_at origin bytes d ≡ Mark = ap (state_at origin bytes) place ∙ there in
-    let other : (slice_index bytes d == 43 || slice_index bytes d == 45) ≡ false = ap (λ i. slice_index bytes i == 43 || slice_index bytes i == 45) place ∙ no_sign in
+    let offset : d ≡ start + 1 = at ∙ ap (λ b. cond b (start + 1 + 1) (start + 1)) no_sign in
+    let marked : state_at origin bytes d ≡ Mark = ap (state_at origin bytes) offset ∙ there in
+    let other : (slice_index bytes d == 43 || slice_index bytes d == 45) ≡ false = ap (λ i. slice_index bytes i == 43 || slice_index bytes i == 45) offset ∙ no_sign in
     record {
       digit = λ b h. ap (λ s. next s b) marked ∙ mark_digit b h;
       no_digit = λ h. ap (λ s. next s (slice_index bytes d)) marked ∙ no_digit_stops_mark (slice_index bytes d) other h;

@@ -24,9 +24,9 @@ use Rattle.jsonb_scan.proofs.Numbers.TextParts.{HasParts, IsStandardUnrepresenta
 pub range_split : (xs : List ℕ) (a b c : ℕ) → a ≤ b → b ≤ c → slice_range xs a c ≡ slice_range xs a b ++ slice_range xs b c
 range_split xs a b c first second =
     let whole : c - a ≡ (b - a) + (c - b) = omega arith in
-    let place : a + (b - a) ≡ b = omega arith in
+    let offset : a + (b - a) ≡ b = omega arith in
     let front : take (b - a) (take ((b - a) + (c - b)) (drop a xs)) ≡ take (b - a) (drop a xs) = take-take (b - a) ((b - a) + (c - b)) (drop a xs) (omega arith) in
-    let back : drop (b - a) (take ((b - a) + (c - b)) (drop a xs)) ≡ take (c - b) (drop b xs) = drop-take (b - a) (c - b) (drop a xs) ∙ ap (take (c - b)) (drop-drop (b - a) a xs ∙ ap (λ i. drop i xs) place) in
+    let back : drop (b - a) (take ((b - a) + (c - b)) (drop a xs)) ≡ take (c - b) (drop b xs) = drop-take (b - a) (c - b) (drop a xs) ∙ ap (take (c - b)) (drop-drop (b - a) a xs ∙ ap (λ i. drop i xs) offset) in
     ap (λ n. take n (drop a xs)) whole ∙ (sym (take-append-drop (b - a) (take ((b - a) + (c - b)) (drop a xs))) ∙ (ap (λ f. f ++ drop (b - a) (take ((b - a) + (c - b)) (drop a xs))) front ∙ ap (λ r. take (b - a) (drop a xs) ++ r) back))
 
 pub range_cons : (xs : List ℕ) (a c : ℕ) → a < c → c ≤ length xs → slice_range xs a c ≡ slice_index xs a ∷ slice_range xs (a + 1) c
@@ -39,16 +39,16 @@ range_none xs a b none = ap (slice_range xs a) none ∙ between_none xs a
 
 -- ---- digits
 
-AllDigits-from_places : (ds : List ℕ) → ((k : ℕ) → k < length ds → IsInRange 48 57 (get_or ds k 0)) → AllDigits 10 ds
-AllDigits-from_places [] h = tt
-AllDigits-from_places (c ∷ cs) h =
+AllDigits-from_offsets : (ds : List ℕ) → ((k : ℕ) → k < length ds → IsInRange 48 57 (get_or ds k 0)) → AllDigits 10 ds
+AllDigits-from_offsets [] h = tt
+AllDigits-from_offsets (c ∷ cs) h =
     let first : IsInRange 48 57 c = h 0 (omega arith) in
-    (omega (arith, digit_value_digit c first, first), AllDigits-from_places cs (λ k below. h (suc k) (omega arith)))
+    (omega (arith, digit_value_digit c first, first), AllDigits-from_offsets cs (λ k below. h (suc k) (omega arith)))
 
 pub run_digits : (bytes : List ℕ) (start end : ℕ) → IsDigitRun bytes start end → AllDigits 10 (slice_range bytes start end)
 run_digits bytes start end digits =
     let long : length (slice_range bytes start end) ≡ end - start = omega (arith, length-between bytes start end, digits.within, digits.ordered) in
-    AllDigits-from_places (slice_range bytes start end) (λ k below.
+    AllDigits-from_offsets (slice_range bytes start end) (λ k below.
     subst (IsInRange 48 57) (sym (get_or-between bytes start end k 0 (omega arith))) (digits.digits (start + k) (omega arith) (omega arith)))
 
 pub run_numeral : (bytes : List ℕ) (start end : ℕ) → start < end → IsDigitRun bytes start end → IsNumeral 10 (slice_range bytes start end)
@@ -62,8 +62,8 @@ whole_text bytes start end digits some no_zero = record {
   digits = run_numeral bytes start end some digits;
   no_needless_zero = λ zero_byte.
       let same : slice_index (slice_range bytes start end) 0 ≡ slice_index bytes (start + 0) = get_or-between bytes start end 0 0 (omega arith) in
-      let place : start + 0 ≡ start = omega arith in
-      let one : end ≡ start + 1 = no_zero (sym (ap (slice_index bytes) place) ∙ (sym same ∙ zero_byte)) in
+      let offset : start + 0 ≡ start = omega arith in
+      let one : end ≡ start + 1 = no_zero (sym (ap (slice_index bytes) offset) ∙ (sym same ∙ zero_byte)) in
       omega (arith, length-between bytes start end, digits.within, one);
 }
 
@@ -76,8 +76,8 @@ pub sign_part : (bytes : List ℕ) (start d : ℕ) → d ≡ sign_end bytes star
 sign_part bytes start d at inside =
     ⊎_elim
     (λ sign.
-    let place : d ≡ start + 1 = at ∙ ap (λ b. cond b (start + 1) start) sign in
-    let one : slice_range bytes start d ≡ slice_index bytes start ∷ [] = range_cons bytes start d (omega arith) (omega arith) ∙ ap (λ r. slice_index bytes start ∷ r) (range_none bytes (start + 1) d place) in
+    let offset : d ≡ start + 1 = at ∙ ap (λ b. cond b (start + 1) start) sign in
+    let one : slice_range bytes start d ≡ slice_index bytes start ∷ [] = range_cons bytes start d (omega arith) (omega arith) ∙ ap (λ r. slice_index bytes start ∷ r) (range_none bytes (start + 1) d offset) in
     ⊎_elim
     (λ plus. inr (inl (one ∙ ap (λ b. b ∷ []) (let byte : slice_index bytes start ≡ 43 = grind (arith, nat_tests) in byte))))
     (λ no_plus. inr (inr (one ∙ ap (λ b. b ∷ []) (let byte : slice_index bytes start ≡ 45 = grind (arith, nat_tests) in byte))))

@@ -30,16 +30,16 @@ unfolding extended_number_at
 scanned_number idx end buf bs n same found =
     ap (λ xs. scanned_to (length buf) xs (extended_scan xs)) (sym same) ∙ (ap (scanned_to (length buf) bs) found ∙ ap (λ xs. Ok (n, xs)) (ap (drop end) same ∙ drop-drop end idx buf))
 
-pub scanned_missing : (idx end : ℕ) (buf bs : List ℕ) → idx ≤ length buf → bs ≡ drop idx buf → end ≤ length bs → extended_scan bs ≡ Ok (None, end) → extended_number_at (length buf) (drop idx buf) ≡ Err (record { code = number_not_carried; place = idx + end })
+pub scanned_missing : (idx end : ℕ) (buf bs : List ℕ) → idx ≤ length buf → bs ≡ drop idx buf → end ≤ length bs → extended_scan bs ≡ Ok (None, end) → extended_number_at (length buf) (drop idx buf) ≡ Err (record { code = number_not_carried; offset = idx + end })
 unfolding extended_number_at
 scanned_missing idx end buf bs inside same within found =
     let there : length buf - length (drop end bs) ≡ idx + end = omega (arith, length-drop end bs, length-drop idx buf, ap length same, within, inside) in
     ap (λ xs. scanned_to (length buf) xs (extended_scan xs)) (sym same) ∙ (ap (scanned_to (length buf) bs) found ∙ ap (λ p. fault number_not_carried p) there)
 
-pub scanned_fault : (idx place : ℕ) (code : Code) (buf bs : List ℕ) → idx ≤ length buf → bs ≡ drop idx buf → extended_scan bs ≡ Err (code, place) → extended_number_at (length buf) (drop idx buf) ≡ Err (record { code = code; place = idx + place })
+pub scanned_fault : (idx offset : ℕ) (code : Code) (buf bs : List ℕ) → idx ≤ length buf → bs ≡ drop idx buf → extended_scan bs ≡ Err (code, offset) → extended_number_at (length buf) (drop idx buf) ≡ Err (record { code = code; offset = idx + offset })
 unfolding extended_number_at
-scanned_fault idx place code buf bs inside same found =
-    let there : length buf - length bs + place ≡ idx + place = omega (arith, length-drop idx buf, ap length same, inside) in
+scanned_fault idx offset code buf bs inside same found =
+    let there : length buf - length bs + offset ≡ idx + offset = omega (arith, length-drop idx buf, ap length same, inside) in
     ap (λ xs. scanned_to (length buf) xs (extended_scan xs)) (sym same) ∙ (ap (scanned_to (length buf) bs) found ∙ ap (λ p. fault code p) there)
 
 -- ---- where the parts of a decimal end
@@ -163,11 +163,11 @@ front_long bytes e are = length-between bytes e.zeros_end e.front_end (omega (ar
 back_long : (bytes : List ℕ) (e : DecimalEnds) → AreEnds bytes e → length (slice_range bytes e.point_end e.behind_end) ≡ e.behind_end - e.point_end
 back_long bytes e are = length-between bytes e.point_end e.behind_end are.within
 
-pub front_room : (bytes : List ℕ) (e : DecimalEnds) → AreEnds bytes e → e.front_end - e.zeros_end + (e.behind_end - e.point_end) ≤ 38 → 1 * 10 ^ length (slice_range bytes e.zeros_end e.front_end) ≤ 10 ^ 38
-front_room bytes e are few = omega (arith, pow-le-pow_right {n = 10} (omega arith) {i = length (slice_range bytes e.zeros_end e.front_end)} {j = 38} (omega (arith, front_long bytes e are, few)))
+pub front_capacity : (bytes : List ℕ) (e : DecimalEnds) → AreEnds bytes e → e.front_end - e.zeros_end + (e.behind_end - e.point_end) ≤ 38 → 1 * 10 ^ length (slice_range bytes e.zeros_end e.front_end) ≤ 10 ^ 38
+front_capacity bytes e are few = omega (arith, pow-le-pow_right {n = 10} (omega arith) {i = length (slice_range bytes e.zeros_end e.front_end)} {j = 38} (omega (arith, front_long bytes e are, few)))
 
-pub back_room : (bytes : List ℕ) (e : DecimalEnds) (w : ℕ) → AreEnds bytes e → e.front_end - e.zeros_end + (e.behind_end - e.point_end) ≤ 38 → w < (0 + 1) * 10 ^ length (slice_range bytes e.zeros_end e.front_end) → (w + 1) * 10 ^ length (slice_range bytes e.point_end e.behind_end) ≤ 10 ^ 38
-back_room bytes e w are few small =
+pub back_capacity : (bytes : List ℕ) (e : DecimalEnds) (w : ℕ) → AreEnds bytes e → e.front_end - e.zeros_end + (e.behind_end - e.point_end) ≤ 38 → w < (0 + 1) * 10 ^ length (slice_range bytes e.zeros_end e.front_end) → (w + 1) * 10 ^ length (slice_range bytes e.point_end e.behind_end) ≤ 10 ^ 38
+back_capacity bytes e w are few small =
     let n : ℕ = length (slice_range bytes e.zeros_end e.front_end) in
     let k : ℕ = length (slice_range bytes e.point_end e.behind_end) in
     let below : w + 1 ≤ 10 ^ length (slice_range bytes e.zeros_end e.front_end) = omega (arith, small) in

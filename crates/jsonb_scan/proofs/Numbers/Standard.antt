@@ -170,12 +170,12 @@ pub record NumberRead (bytes : List ℕ) (n : Num) (rest : List ℕ) : Type 0 wh
   pub longest : NoLongerText bytes rest
 
 -- a number text was met whose number is not representable
-pub record UnrepresentableRead (size : ℕ) (bytes : List ℕ) (place : ℕ) : Type 0 where
+pub record UnrepresentableRead (size : ℕ) (bytes : List ℕ) (offset : ℕ) : Type 0 where
   pub text : List ℕ
   pub rest : List ℕ
   pub joined : bytes ≡ text ++ rest
   pub unrepresentable : IsUnrepresentable standard text
-  pub place_is : place ≡ size - length rest
+  pub offset_is : offset ≡ size - length rest
   pub longest : NoLongerText bytes rest
 
 -- no number text can end here
@@ -184,7 +184,7 @@ NoNumberEnds bytes = (core after : List ℕ) → bytes ≡ core ++ after → IsS
 
 -- what a fault of parsing says
 pub data FaultRead (size : ℕ) (bytes : List ℕ) (f : Fault) : Type 0 where
-  not_representable : f.code ≡ number_not_carried → UnrepresentableRead size bytes f.place → FaultRead size bytes f
+  not_representable : f.code ≡ number_not_carried → UnrepresentableRead size bytes f.offset → FaultRead size bytes f
   no_number : f.code ≡ invalid_number_value → NoNumberEnds bytes → FaultRead size bytes f
 
 -- a byte after a number text that doesn't go on with it
@@ -216,7 +216,7 @@ representable_answer size end bytes None within longest unrepresentable = not_re
   rest = drop end bytes;
   joined = sym (take-append-drop end bytes);
   unrepresentable = standard_without_number (take end bytes) unrepresentable;
-  place_is = refl;
+  offset_is = refl;
   longest = no_longer bytes end within longest;
 })
 
@@ -224,8 +224,8 @@ answer_by : (size : ℕ) (bytes : List ℕ) (r : End) → standard_end bytes ≡
 answer_by size bytes (Ok end) at =
     let read = read_to size bytes end at in
     subst (IsAnswer size bytes) (sym read.answer) (representable_answer size end bytes (integer_at bytes end) read.within read.longest read.number)
-answer_by size bytes (Err place) at =
-    subst (IsAnswer size bytes) (sym (read_fault size bytes place at)) (no_number refl (nothing_ends bytes (none_ends bytes place at)))
+answer_by size bytes (Err offset) at =
+    subst (IsAnswer size bytes) (sym (read_fault size bytes offset at)) (no_number refl (nothing_ends bytes (none_ends bytes offset at)))
 
 answer_is : (size : ℕ) (bytes : List ℕ) (r : Parse Num) → standard_number_at size bytes ≡ r → IsAnswer size bytes r
 answer_is size bytes r at = subst (IsAnswer size bytes) at (answer_by size bytes (standard_end bytes) refl)
@@ -267,4 +267,4 @@ number_complete size core rest n number ends = by_end (standard_end (core ++ res
         let read = read_to size (core ++ rest) end at in
         let same : length core ≡ end = ⊎_elim (λ e. e) (λ before. absurd (stops_after core rest ends before.1)) (read.longest (length core) within text) in
         read.answer ∙ is_read end (integer_at (core ++ rest) end) same read.number
-    by_end (Err place) at = absurd (stops_after core rest ends (none_ends (core ++ rest) place at (length core) within text))
+    by_end (Err offset) at = absurd (stops_after core rest ends (none_ends (core ++ rest) offset at (length core) within text))

@@ -142,9 +142,9 @@ whole_alone bs has_whole no_point no_mark =
 
 -- ---- the number
 
-pub read_fault : (size : ℕ) (bs : List ℕ) (place : ℕ) → standard_end bs ≡ Err place → standard_number_at size bs ≡ fault invalid_number_value (size - length bs + place)
+pub read_fault : (size : ℕ) (bs : List ℕ) (offset : ℕ) → standard_end bs ≡ Err offset → standard_number_at size bs ≡ fault invalid_number_value (size - length bs + offset)
 unfolding standard_number_at
-read_fault size bs place at = ap (number_to size bs) at
+read_fault size bs offset at = ap (number_to size bs) at
 
 pub read_integer : (size : ℕ) (bs : List ℕ) → standard_end bs ≡ Ok (whole_end bs) → standard_number_at size bs ≡ representable_at size (drop (whole_end bs) bs) (integer_of (has_minus bs) (digits_value 10 (whole_digits bs)))
 unfolding standard_number_at integer_at
@@ -254,7 +254,7 @@ exponent_ge bs start end at =
 -- what then_from joins
 pub then_ok : (r : End) (f : ℕ → End) (end : ℕ) → then_from r f ≡ Ok end → (middle : ℕ) × (r ≡ Ok middle) × (f middle ≡ Ok end)
 then_ok (Ok middle) f end at = (middle, refl, at)
-then_ok (Err place) f end at = absurd (cc)
+then_ok (Err offset) f end at = absurd (cc)
 
 -- a point or a mark after the whole part takes the end on
 past_whole : (bs : List ℕ) (start end : ℕ) → ContinuesAfterInteger (slice_index bs start) → then_from (fraction_from bs start) (exponent_from bs) ≡ Ok end → start < end
@@ -271,14 +271,14 @@ past_whole bs start end (inr mark) at =
 
 -- ---- a parser at an index of its input
 
-invalid_in : (idx place : ℕ) (buf : List ℕ) → idx ≤ length buf → standard_end (drop idx buf) ≡ Err place → standard_number_at (length buf) (drop idx buf) ≡ Err (record { code = invalid_number_value; place = idx + place })
-invalid_in idx place buf inside at =
-    let there : length buf - length (drop idx buf) + place ≡ idx + place = omega (arith, length-drop idx buf) in
-    read_fault (length buf) (drop idx buf) place at ∙ ap (λ p. fault invalid_number_value p) there
+invalid_in : (idx offset : ℕ) (buf : List ℕ) → idx ≤ length buf → standard_end (drop idx buf) ≡ Err offset → standard_number_at (length buf) (drop idx buf) ≡ Err (record { code = invalid_number_value; offset = idx + offset })
+invalid_in idx offset buf inside at =
+    let there : length buf - length (drop idx buf) + offset ≡ idx + offset = omega (arith, length-drop idx buf) in
+    read_fault (length buf) (drop idx buf) offset at ∙ ap (λ p. fault invalid_number_value p) there
 
 -- the fault inside of a number text
-pub invalid_at : (idx place : ℕ) (buf bs : List ℕ) → idx ≤ length buf → bs ≡ drop idx buf → standard_end bs ≡ Err place → standard_number_at (length buf) (drop idx buf) ≡ Err (record { code = invalid_number_value; place = idx + place })
-invalid_at idx place buf bs inside same at = invalid_in idx place buf inside (subst (λ xs. standard_end xs ≡ Err place) same at)
+pub invalid_at : (idx offset : ℕ) (buf bs : List ℕ) → idx ≤ length buf → bs ≡ drop idx buf → standard_end bs ≡ Err offset → standard_number_at (length buf) (drop idx buf) ≡ Err (record { code = invalid_number_value; offset = idx + offset })
+invalid_at idx offset buf bs inside same at = invalid_in idx offset buf inside (subst (λ xs. standard_end xs ≡ Err offset) same at)
 
 -- a number text that goes on past its whole part
 pub read_past : (size end : ℕ) (bs : List ℕ) → HasWhole bs → end ≡ whole_end bs → standard_number_at size bs ≡ number_to size bs (then_from (fraction_from bs end) (exponent_from bs))
@@ -286,14 +286,14 @@ unfolding standard_number_at
 read_past size end bs has_whole at =
     ap (number_to size bs) (whole_found bs has_whole ∙ ap (λ i. then_from (fraction_from bs i) (exponent_from bs)) (sym at))
 
-unrepresentable_in : (idx end last : ℕ) (buf : List ℕ) → idx ≤ length buf → end ≡ whole_end (drop idx buf) → ContinuesAfterInteger (slice_index (drop idx buf) end) → then_from (fraction_from (drop idx buf) end) (exponent_from (drop idx buf)) ≡ Ok last → last ≤ length (drop idx buf) → number_to (length buf) (drop idx buf) (Ok last) ≡ Err (record { code = number_not_carried; place = idx + last })
+unrepresentable_in : (idx end last : ℕ) (buf : List ℕ) → idx ≤ length buf → end ≡ whole_end (drop idx buf) → ContinuesAfterInteger (slice_index (drop idx buf) end) → then_from (fraction_from (drop idx buf) end) (exponent_from (drop idx buf)) ≡ Ok last → last ≤ length (drop idx buf) → number_to (length buf) (drop idx buf) (Ok last) ≡ Err (record { code = number_not_carried; offset = idx + last })
 unfolding integer_at
 unrepresentable_in idx end last buf inside at goes_on found within =
     let later = past_whole (drop idx buf) end last goes_on found in
     let there : length buf - length (drop last (drop idx buf)) ≡ idx + last = omega (arith, length-drop idx buf, length-drop last (drop idx buf), within) in
     rw (differs (whole_end (drop idx buf)) last (λ same. omega (arith, at, later))) (ap (λ p. fault number_not_carried p) there)
 
-pub unrepresentable_at : (idx end last : ℕ) (buf bs : List ℕ) → idx ≤ length buf → bs ≡ drop idx buf → end ≡ whole_end bs → ContinuesAfterInteger (slice_index bs end) → then_from (fraction_from bs end) (exponent_from bs) ≡ Ok last → last ≤ length bs → number_to (length buf) (drop idx buf) (then_from (fraction_from (drop idx buf) end) (exponent_from (drop idx buf))) ≡ Err (record { code = number_not_carried; place = idx + last })
+pub unrepresentable_at : (idx end last : ℕ) (buf bs : List ℕ) → idx ≤ length buf → bs ≡ drop idx buf → end ≡ whole_end bs → ContinuesAfterInteger (slice_index bs end) → then_from (fraction_from bs end) (exponent_from bs) ≡ Ok last → last ≤ length bs → number_to (length buf) (drop idx buf) (then_from (fraction_from (drop idx buf) end) (exponent_from (drop idx buf))) ≡ Err (record { code = number_not_carried; offset = idx + last })
 unrepresentable_at idx end last buf bs inside same at goes_on found within =
     let found_in = subst (λ xs. then_from (fraction_from xs end) (exponent_from xs) ≡ Ok last) same found in
     ap (number_to (length buf) (drop idx buf)) found_in
@@ -341,7 +341,7 @@ pub found_value : (bs ds : List ℕ) (v : Option ℕ) → ds ≡ drop (whole_sta
 found_value bs ds v after value = subst (λ xs. SomeIff v (digits_value 10 (take (digits_length xs) xs) < 2 ^ 64) (digits_value 10 (take (digits_length xs) xs))) after value
 
 -- a whole part whose value no type holds
-pub integer_missing : (idx end : ℕ) (buf bs : List ℕ) → idx ≤ length buf → bs ≡ drop idx buf → HasWhole bs → end ≡ whole_end bs → ¬ ContinuesAfterInteger (slice_index bs end) → integer_of (has_minus bs) (digits_value 10 (whole_digits bs)) ≡ None → standard_number_at (length buf) (drop idx buf) ≡ Err (record { code = number_not_carried; place = idx + end })
+pub integer_missing : (idx end : ℕ) (buf bs : List ℕ) → idx ≤ length buf → bs ≡ drop idx buf → HasWhole bs → end ≡ whole_end bs → ¬ ContinuesAfterInteger (slice_index bs end) → integer_of (has_minus bs) (digits_value 10 (whole_digits bs)) ≡ None → standard_number_at (length buf) (drop idx buf) ≡ Err (record { code = number_not_carried; offset = idx + end })
 integer_missing idx end buf bs inside same has_whole at stops is_none =
     let there : length buf - length (drop (idx + end) buf) ≡ idx + end = omega (arith, length-drop (idx + end) buf, length-drop idx buf, ap length same, digits_within (drop (whole_start bs) bs), length-drop (whole_start bs) bs, has_whole.0, at, inside) in
     integer_read idx end buf bs None same has_whole at stops is_none ∙ ap (λ p. fault number_not_carried p) there

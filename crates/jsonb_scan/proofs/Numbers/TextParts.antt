@@ -67,7 +67,7 @@ plain_parts bytes sign zeros whole fraction p =
       is_exponent = inl refl;
     }
 
--- what stands before an exponent
+-- what is before an exponent
 front_parts : (bytes sign zeros whole : List ℕ) (fraction : Option (List ℕ)) (exponent front : List ℕ) → HasTextParts bytes sign zeros whole fraction exponent → front ≡ sign ++ (zeros ++ (whole ++ fraction_text fraction)) → HasDecimalParts front sign zeros whole fraction
 front_parts bytes sign zeros whole fraction exponent front p is =
     record {

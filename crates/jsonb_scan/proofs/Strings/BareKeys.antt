@@ -73,7 +73,7 @@ key_step-past b e = cond-false (is_key_ascii b) 1 (cond (ltb b 192) 0 (cond (ltb
 record Lead (c : ℕ) : Type 0 where
   byte : ℕ
   rest : List ℕ
-  spelled : encode_utf8 c ≡ byte ∷ rest
+  encoded : encode_utf8 c ≡ byte ∷ rest
   high : 192 ≤ byte
   step : key_step byte ≡ suc (length rest)
 
@@ -109,7 +109,7 @@ lead c past =
     (λ two. record {
       byte = 192 + c / 64;
       rest = next c ∷ [];
-      spelled = encode_past c past ∙ ap (λ b. cond b (two_bytes c) (cond (ltb c 65536) (three_bytes c) (four_bytes c))) (lt-ltb c 2048 two);
+      encoded = encode_past c past ∙ ap (λ b. cond b (two_bytes c) (cond (ltb c 65536) (three_bytes c) (four_bytes c))) (lt-ltb c 2048 two);
       high = omega arith;
       step = step-two (192 + c / 64) (omega arith) (omega (arith, two));
     })
@@ -117,14 +117,14 @@ lead c past =
     (λ three. record {
       byte = 224 + c / 4096;
       rest = next (c / 64) ∷ next c ∷ [];
-      spelled = encode_past c past ∙ ap (λ b. cond b (two_bytes c) (cond (ltb c 65536) (three_bytes c) (four_bytes c))) (le-ltb c 2048 more) ∙ ap (λ b. cond b (three_bytes c) (four_bytes c)) (lt-ltb c 65536 three);
+      encoded = encode_past c past ∙ ap (λ b. cond b (two_bytes c) (cond (ltb c 65536) (three_bytes c) (four_bytes c))) (le-ltb c 2048 more) ∙ ap (λ b. cond b (three_bytes c) (four_bytes c)) (lt-ltb c 65536 three);
       high = omega arith;
       step = step-three (224 + c / 4096) (omega arith) (omega (arith, three));
     })
     (λ four. record {
       byte = 240 + c / 262144;
       rest = next (c / 4096) ∷ next (c / 64) ∷ next c ∷ [];
-      spelled = encode_past c past ∙ ap (λ b. cond b (two_bytes c) (cond (ltb c 65536) (three_bytes c) (four_bytes c))) (le-ltb c 2048 more) ∙ ap (λ b. cond b (three_bytes c) (four_bytes c)) (le-ltb c 65536 four);
+      encoded = encode_past c past ∙ ap (λ b. cond b (two_bytes c) (cond (ltb c 65536) (three_bytes c) (four_bytes c))) (le-ltb c 2048 more) ∙ ap (λ b. cond b (three_bytes c) (four_bytes c)) (le-ltb c 65536 four);
       high = omega arith;
       step = step-four (240 + c / 262144) (omega arith);
     })
@@ -137,8 +137,8 @@ lead c past =
 key_end-past : (c : ℕ) (more : List ℕ) → 128 ≤ c → key_end (encode_utf8 c ++ more) ≡ further (length (encode_utf8 c)) (key_end more)
 key_end-past c more past =
     let l = lead c past in
-    ap (λ (u : List ℕ). key_end (u ++ more)) l.spelled ∙ key_end-step l.byte (length l.rest) (l.rest ++ more) l.step
-    ∙ ap (λ (u : List ℕ). further (suc (length l.rest)) (key_end u)) (drop_at l.rest more (length l.rest) refl) ∙ ap (λ (n : ℕ). further n (key_end more)) (sym (ap length l.spelled))
+    ap (λ (u : List ℕ). key_end (u ++ more)) l.encoded ∙ key_end-step l.byte (length l.rest) (l.rest ++ more) l.step
+    ∙ ap (λ (u : List ℕ). further (suc (length l.rest)) (key_end u)) (drop_at l.rest more (length l.rest) refl) ∙ ap (λ (n : ℕ). further n (key_end more)) (sym (ap length l.encoded))
 
 key_end-ascii : (c : ℕ) (more : List ℕ) → IsKeyAscii c → key_end (encode_utf8 c ++ more) ≡ further (length (encode_utf8 c)) (key_end more)
 key_end-ascii c more is =
@@ -185,7 +185,7 @@ bare_starts bytes k =
     let one = encode_ascii k.first (ascii_low k.first ascii) in record {
       first = k.first;
       others = encode_utf8_all k.others;
-      whole = k.spelled ∙ ap (λ (u : List ℕ). u ++ encode_utf8_all k.others) one;
+      whole = k.encoded ∙ ap (λ (u : List ℕ). u ++ encode_utf8_all k.others) one;
       steps = λ none. omega (arith, none, key_step-ascii k.first (ascii_step k.first ascii));
       no_digit = no_digit_is k.first k.begins;
     })
@@ -193,7 +193,7 @@ bare_starts bytes k =
     let l = lead k.first past in record {
       first = l.byte;
       others = l.rest ++ encode_utf8_all k.others;
-      whole = k.spelled ∙ ap (λ (u : List ℕ). u ++ encode_utf8_all k.others) l.spelled;
+      whole = k.encoded ∙ ap (λ (u : List ℕ). u ++ encode_utf8_all k.others) l.encoded;
       steps = λ none. omega (arith, none, l.step);
       no_digit = no_digit_is l.byte (λ digit. omega (arith, digit.1, l.high));
     })
@@ -204,7 +204,7 @@ scalars_all [] h = refl
 scalars_all (c ∷ cs) h = ap (λ b. b && scalars cs) h.0 ∙ scalars_all cs h.1
 
 key_is_text : (key : List ℕ) → IsBareKey key → IsUtf8 key
-key_is_text key k = (k.first ∷ k.others, (scalars_all (k.first ∷ k.others) k.scalars, sym k.spelled))
+key_is_text key k = (k.first ∷ k.others, (scalars_all (k.first ∷ k.others) k.scalars, sym k.encoded))
 
 pub bare_complete : (size : ℕ) (core rest : List ℕ) (b : ℕ) → IsBareKey core → is_break b ≡ true → bare_key_at size (core ++ b ∷ rest) ≡ Ok ((plain, core), b ∷ rest)
 unfolding bare_key_at
@@ -213,9 +213,9 @@ bare_complete size core rest b k ends =
     let s = bare_starts core k in
     let opened : bytes ≡ s.first ∷ (s.others ++ b ∷ rest) = ap (λ (u : List ℕ). u ++ b ∷ rest) s.whole in
     let found : key_end bytes ≡ Ok (length core) =
-    ap (λ (u : List ℕ). key_end (u ++ b ∷ rest)) k.spelled ∙ key_end-characters (k.first ∷ k.others) (b ∷ rest) k.each
+    ap (λ (u : List ℕ). key_end (u ++ b ∷ rest)) k.encoded ∙ key_end-characters (k.first ∷ k.others) (b ∷ rest) k.each
     ∙ ap (further (length (encode_utf8_all (k.first ∷ k.others)))) (key_end-here b rest (break_stops b ends))
-    ∙ ap (λ (n : ℕ). Ok n) (let same : length (encode_utf8_all (k.first ∷ k.others)) + 0 ≡ length core = omega (arith, ap length k.spelled) in same) in
+    ∙ ap (λ (n : ℕ). Ok n) (let same : length (encode_utf8_all (k.first ∷ k.others)) + 0 ≡ length core = omega (arith, ap length k.encoded) in same) in
     let some : eqb (length core) 0 ≡ false = no_zero (length core) (omega (arith, ap length s.whole)) in
     let at : get_or bytes (length core) 0 ≡ b = get_or_at core b rest 0 (length core) refl in
     let low : leb 128 (get_or bytes (length core) 0) ≡ false = ap (leb 128) at ∙ low_is b (break_low b ends) in
@@ -302,21 +302,21 @@ bare_of b bytes end no_digit found some utf8 = of_characters utf8.0 (all_scalars
     digit_so c d = grind (arith, nat_tests)
 
     of_characters : (cs : List ℕ) → AllByRecursion IsScalar cs → take end (b ∷ bytes) ≡ encode_utf8_all cs → IsBareKey (take end (b ∷ bytes))
-    of_characters cs are_scalars spelled =
+    of_characters cs are_scalars encoded =
         let within = key_found 0 (b ∷ bytes) end found in
         let long : length (take end (b ∷ bytes)) ≡ end = length-take-le end (b ∷ bytes) (omega (arith, within)) in
-        let whole : b ∷ bytes ≡ encode_utf8_all cs ++ drop end (b ∷ bytes) = sym (take-append-drop end (b ∷ bytes)) ∙ ap (λ (u : List ℕ). u ++ drop end (b ∷ bytes)) spelled in
-        let count : end ≡ length (encode_utf8_all cs) = sym long ∙ ap length spelled in
+        let whole : b ∷ bytes ≡ encode_utf8_all cs ++ drop end (b ∷ bytes) = sym (take-append-drop end (b ∷ bytes)) ∙ ap (λ (u : List ℕ). u ++ drop end (b ∷ bytes)) encoded in
+        let count : end ≡ length (encode_utf8_all cs) = sym long ∙ ap length encoded in
         let each = each_found cs (drop end (b ∷ bytes)) (ap key_end (sym whole) ∙ found ∙ ap (λ (n : ℕ). Ok n) count) in
-        by_first cs are_scalars spelled each whole (omega (arith, some_is end some, count))
+        by_first cs are_scalars encoded each whole (omega (arith, some_is end some, count))
       where
         by_first : (us : List ℕ) → AllByRecursion IsScalar us → take end (b ∷ bytes) ≡ encode_utf8_all us → AllByRecursion IsKeyCharacter us → b ∷ bytes ≡ encode_utf8_all us ++ drop end (b ∷ bytes) → 0 < length (encode_utf8_all us) → IsBareKey (take end (b ∷ bytes))
-        by_first [] are spells each whole none = absurd (omega (arith, none))
-        by_first (first ∷ others) are spells each whole more =
+        by_first [] are encodes each whole none = absurd (omega (arith, none))
+        by_first (first ∷ others) are encodes each whole more =
             record {
               first = first;
               others = others;
-              spelled = spells;
+              encoded = encodes;
               scalars = are;
               each = each;
               begins = λ digit. true≢false (sym (digit_so b (subst IsAsciiDigit (sym (first_digit first others (b ∷ bytes) (drop end (b ∷ bytes)) whole digit)) digit)) ∙ no_digit);
@@ -388,16 +388,16 @@ key_within bytes end e = key_found 0 bytes end e
 
 -- ---- what parsing a bare key gives, by where the search stops
 
-pub bare-nothing : (size : ℕ) (bytes : List ℕ) → bytes ≡ [] → bare_key_at size bytes ≡ Err (record { code = invalid_eof; place = size })
+pub bare-nothing : (size : ℕ) (bytes : List ℕ) → bytes ≡ [] → bare_key_at size bytes ≡ Err (record { code = invalid_eof; offset = size })
 unfolding bare_key_at
 bare-nothing size bytes e = ap (bare_key_at size) e
 
-pub bare-digit : (size : ℕ) (bytes : List ℕ) (b : ℕ) (more : List ℕ) (i : ℕ) → bytes ≡ b ∷ more → is_ascii_digit b ≡ true → size - length bytes ≡ i → bare_key_at size bytes ≡ Err (record { code = object_key_invalid_number; place = i + 1 })
+pub bare-digit : (size : ℕ) (bytes : List ℕ) (b : ℕ) (more : List ℕ) (i : ℕ) → bytes ≡ b ∷ more → is_ascii_digit b ≡ true → size - length bytes ≡ i → bare_key_at size bytes ≡ Err (record { code = object_key_invalid_number; offset = i + 1 })
 unfolding bare_key_at
 bare-digit size bytes b more i e digit at =
-    let place : size - length (b ∷ more) + 1 ≡ i + 1 = omega (arith, at, ap length e) in
+    let offset : size - length (b ∷ more) + 1 ≡ i + 1 = omega (arith, at, ap length e) in
     ap (bare_key_at size) e ∙ cond-true (is_ascii_digit b) (fault object_key_invalid_number (size - length (b ∷ more) + 1)) (key_to size (b ∷ more) (key_end (b ∷ more))) digit
-    ∙ ap (λ (k : ℕ). Err (record { code = object_key_invalid_number; place = k })) place
+    ∙ ap (λ (k : ℕ). Err (record { code = object_key_invalid_number; offset = k })) offset
 
 -- bytes whose first one is no digit
 pub record BeginsBare (bytes : List ℕ) : Type 0 where
@@ -413,21 +413,21 @@ bare-on size bytes s =
     ∙ cond-false (is_ascii_digit s.first) (fault object_key_invalid_number (size - length (s.first ∷ s.others) + 1)) (key_to size (s.first ∷ s.others) (key_end (s.first ∷ s.others))) s.no_digit
     ∙ ap (λ (u : List ℕ). key_to size u (key_end u)) (sym s.whole)
 
-pub bare-past : (size : ℕ) (bytes : List ℕ) (at i : ℕ) → BeginsBare bytes → key_end bytes ≡ Err at → size - length bytes ≡ i → bare_key_at size bytes ≡ Err (record { code = invalid_eof; place = i + at })
+pub bare-past : (size : ℕ) (bytes : List ℕ) (at i : ℕ) → BeginsBare bytes → key_end bytes ≡ Err at → size - length bytes ≡ i → bare_key_at size bytes ≡ Err (record { code = invalid_eof; offset = i + at })
 bare-past size bytes at i s none index =
-    bare-on size bytes s ∙ ap (key_to size bytes) none ∙ ap (λ (k : ℕ). Err (record { code = invalid_eof; place = k + at })) index
+    bare-on size bytes s ∙ ap (key_to size bytes) none ∙ ap (λ (k : ℕ). Err (record { code = invalid_eof; offset = k + at })) index
 
 key-stopped : (size : ℕ) (bytes : List ℕ) (end : ℕ) → BeginsBare bytes → key_end bytes ≡ Ok end
     → bare_key_at size bytes ≡ cond (eqb end 0 || leb 128 (get_or bytes end 0)) (fault object_key_invalid_character (size - length bytes + end)) (text_key size bytes end)
 key-stopped size bytes end s found = bare-on size bytes s ∙ ap (key_to size bytes) found
 
 pub bare-character : (size : ℕ) (bytes : List ℕ) (end i : ℕ) → BeginsBare bytes → key_end bytes ≡ Ok end → (end ≡ 0) ⊎ (128 ≤ get_or bytes end 0) → size - length bytes ≡ i
-    → bare_key_at size bytes ≡ Err (record { code = object_key_invalid_character; place = i + end })
+    → bare_key_at size bytes ≡ Err (record { code = object_key_invalid_character; offset = i + end })
 bare-character size bytes end i s found wrong index =
     let test : (eqb end 0 || leb 128 (get_or bytes end 0)) ≡ true =
     ⊎_elim (λ (e : end ≡ 0). ap (λ (n : ℕ). eqb n 0 || leb 128 (get_or bytes end 0)) e) (λ high. ap (λ (t : Bool). eqb end 0 || t) (high_is (get_or bytes end 0) high) ∙ or_so (eqb end 0)) wrong in
     key-stopped size bytes end s found ∙ cond-true (eqb end 0 || leb 128 (get_or bytes end 0)) (fault object_key_invalid_character (size - length bytes + end)) (text_key size bytes end) test
-    ∙ ap (λ (k : ℕ). Err (record { code = object_key_invalid_character; place = k + end })) index
+    ∙ ap (λ (k : ℕ). Err (record { code = object_key_invalid_character; offset = k + end })) index
   where
     high_is : (n : ℕ) → 128 ≤ n → leb 128 n ≡ true
     high_is n h = grind (arith, nat_tests)
@@ -450,9 +450,9 @@ bare-text size bytes end s found some low utf8 =
     ∙ cond-true (is_utf8 (take end bytes)) (Ok ((plain, take end bytes), drop end bytes)) (fault invalid_string_value (size - length bytes + end)) (is_utf8-from_IsUtf8 (take end bytes) utf8)
 
 pub bare-no_text : (size : ℕ) (bytes : List ℕ) (end i : ℕ) → BeginsBare bytes → key_end bytes ≡ Ok end → end ≢ 0 → get_or bytes end 0 < 128 → ¬ (IsUtf8 (take end bytes)) → size - length bytes ≡ i
-    → bare_key_at size bytes ≡ Err (record { code = invalid_string_value; place = i + end })
+    → bare_key_at size bytes ≡ Err (record { code = invalid_string_value; offset = i + end })
 bare-no_text size bytes end i s found some low none index =
     let test : is_utf8 (take end bytes) ≡ false = ⊎_elim (λ t. absurd (none (IsUtf8-from_is_utf8 (take end bytes) t))) (λ f. f) (cases_Bool (is_utf8 (take end bytes))) in
     key-text size bytes end s found some low
     ∙ cond-false (is_utf8 (take end bytes)) (Ok ((plain, take end bytes), drop end bytes)) (fault invalid_string_value (size - length bytes + end)) test
-    ∙ ap (λ (k : ℕ). Err (record { code = invalid_string_value; place = k + end })) index
+    ∙ ap (λ (k : ℕ). Err (record { code = invalid_string_value; offset = k + end })) index

@@ -9,10 +9,10 @@ use Rattle.jsonb_spec.specs.Mode.{Mode}
 use Rattle.jsonb_spec.specs.Tree.{Mark, plain, escaped}
 use Rattle.jsonb_value.specs.Error.CodeView.{code_of}
 use Rattle.jsonb_spec.specs.Code.{invalid_eof, invalid_string_value}
-use Rattle.jsonb_spec.specs.Grammar.StringBody.{Item, raw, escape, unit, spelling, IsItem, IsBody, Decodes, meaning}
+use Rattle.jsonb_spec.specs.Grammar.StringBody.{Item, raw, escape, unit, encoding, IsItem, IsBody, Decodes, meaning}
 use Rattle.jsonb_value.specs.StringStep.{escape_step, item_step}
 use Rattle.jsonb_spec.specs.Grammar.Quoted.{mark_of}
-use Rattle.jsonb_scan.specs.Decoding.{SeesBackslash, SeesNoBackslash, TellsBackslash}
+use Rattle.jsonb_scan.specs.Decoding.{SeesBackslash, SeesNoBackslash, ReportsBackslash}
 use Rattle.jsonb_value.specs.declared.error.Error.{Error}
 use Rattle.jsonb_value.specs.declared.error.Error.TheVariants.{Syntax, OutOfMemory}
 use Rattle.jsonb_scan.specs.StringError.{IsDecodingError}
@@ -20,7 +20,7 @@ use Rattle.jsonb_scan.specs.QuotedString.{DecodesContents}
 use Rattle.jsonb_scan.specs.Answer.{Fails}
 use Rattle.jsonb_scan.specs.Parsing.{fault}
 use Rattle.jsonb_scan.specs.Parsing.String.{body_of, further, quote_from, quote_end, string_of_body, string_up_to, string_at}
-use Rattle.jsonb_scan.proofs.Strings.Decoding.{spelling-raw, items-raw}
+use Rattle.jsonb_scan.proofs.Strings.Decoding.{encoding-raw, items-raw}
 use Rattle.jsonb_scan.proofs.Strings.Items.{body_complete, body_faulty}
 use Rattle.jsonb_scan.proofs.Strings.Ends.{quote_end-step, further-zero, further-further, quote_end-here}
 
@@ -36,7 +36,7 @@ mark_of-raws [] = refl
 mark_of-raws (byte ∷ bytes) = mark_of-raws bytes
 
 raw_body : (mode : Mode) (bytes : List ℕ) → SeesNoBackslash bytes (length bytes) → IsBody mode bytes (map raw bytes)
-raw_body mode bytes none = record { spelled = sym (spelling-raw bytes); each = items-raw mode bytes none }
+raw_body mode bytes none = record { encoded = sym (encoding-raw bytes); each = items-raw mode bytes none }
 
 pub body-raw : (mode : Mode) (bytes : List ℕ) → SeesNoBackslash bytes (length bytes) → IsUtf8 bytes → body_of mode bytes ≡ Ok (plain, bytes)
 body-raw mode bytes none utf8 =
@@ -50,7 +50,7 @@ body-raw_fault mode bytes none no_utf8 =
 
 -- ---- bytes with a backslash
 
-mark_of-escaped : (mode : Mode) (items : List Item) → AllByRecursion (IsItem mode) items → (k : ℕ) → k < length (flat_map spelling items) → get_or (flat_map spelling items) k 0 ≡ 92 → mark_of items ≡ escaped
+mark_of-escaped : (mode : Mode) (items : List Item) → AllByRecursion (IsItem mode) items → (k : ℕ) → k < length (flat_map encoding items) → get_or (flat_map encoding items) k 0 ≡ 92 → mark_of items ≡ escaped
 mark_of-escaped mode [] each k low here = absurd (omega (arith, low))
 mark_of-escaped mode (raw byte ∷ items) each zero low here = absurd (each.0 here)
 mark_of-escaped mode (raw byte ∷ items) each (suc k) low here = mark_of-escaped mode items each.1 k (omega (arith, low)) here
@@ -59,7 +59,7 @@ mark_of-escaped mode (unit braces digits ∷ items) each k low here = refl
 
 pub body-decoded : (mode : Mode) (bytes text : List ℕ) → SeesBackslash bytes (length bytes) → Decodes mode bytes text → body_of mode bytes ≡ Ok (escaped, text)
 body-decoded mode bytes text sees d =
-    let there : SeesBackslash (flat_map spelling d.items) (length (flat_map spelling d.items)) = subst (λ xs. SeesBackslash xs (length xs)) d.body.spelled sees in
+    let there : SeesBackslash (flat_map encoding d.items) (length (flat_map encoding d.items)) = subst (λ xs. SeesBackslash xs (length xs)) d.body.encoded sees in
     body_complete mode bytes d.items d.body (subst IsUtf8 d.meant d.utf8)
     ∙ ap (λ (m : Mark). Ok (m, meaning d.items)) (mark_of-escaped mode d.items d.body.each there.0 there.1 there.2) ∙ ap (λ (t : List ℕ). Ok (escaped, t)) (sym d.meant)
 
@@ -122,29 +122,29 @@ no_end quote bytes at past s =
 
 -- ---- backslashes that were passed
 
-pub tells_run : (bytes : List ℕ) (at stop : ℕ) (seen : Bool) → at ≤ stop → ((k : ℕ) → at ≤ k → k < stop → get_or bytes k 0 ≢ 92) → TellsBackslash bytes at seen → TellsBackslash bytes stop seen
-tells_run bytes at stop true forward clear sees = (sees.0, omega (arith, sees.1), sees.2)
-tells_run bytes at stop false forward clear sees = λ k low. ⊎_elim (λ before. sees k before) (λ after. clear k after low) (cases_lt k at)
+pub reports_run : (bytes : List ℕ) (at stop : ℕ) (seen : Bool) → at ≤ stop → ((k : ℕ) → at ≤ k → k < stop → get_or bytes k 0 ≢ 92) → ReportsBackslash bytes at seen → ReportsBackslash bytes stop seen
+reports_run bytes at stop true forward clear sees = (sees.0, omega (arith, sees.1), sees.2)
+reports_run bytes at stop false forward clear sees = λ k low. ⊎_elim (λ before. sees k before) (λ after. clear k after low) (cases_lt k at)
 
 -- the same of the first bytes alone
-pub tells_taken : (bytes : List ℕ) (end : ℕ) (seen : Bool) → end ≤ length bytes → TellsBackslash bytes end seen → TellsBackslash (take end bytes) (length (take end bytes)) seen
-tells_taken bytes end true within sees =
+pub reports_taken : (bytes : List ℕ) (end : ℕ) (seen : Bool) → end ≤ length bytes → ReportsBackslash bytes end seen → ReportsBackslash (take end bytes) (length (take end bytes)) seen
+reports_taken bytes end true within sees =
     let long = length-take-le end bytes within in
     let low : sees.0 < end = sees.1 in
     (sees.0, omega (arith, sees.1, long), get_or-take end bytes sees.0 0 low ∙ sees.2)
-tells_taken bytes end false within sees = λ k low here.
+reports_taken bytes end false within sees = λ k low here.
     let long = length-take-le end bytes within in
     let inside : k < end = omega (arith, low, long) in
     sees k inside (sym (get_or-take end bytes k 0 inside) ∙ here)
 
--- a backslash among the first bytes from a place on
+-- a backslash among the first bytes from an offset on
 pub contains_after : (buf : List ℕ) (from count : ℕ) → SeesBackslash (drop from buf) count → count ≤ length (drop from buf) → Contains buf 92
 contains_after buf from count sees within =
     let at = from + sees.0 in
     let inside : at < length buf = omega (arith, sees.1, within, length-drop from buf) in
     (at, inside, get_or_default buf at 92 0 inside ∙ sym (get_or-drop from buf sees.0 0) ∙ sees.2)
 
--- what a search for a quote or a backslash from a place on passes over
+-- what a search for a quote or a backslash from an offset on passes over
 pub clear_from : (quote : ℕ) (bytes : List ℕ) (at stop : ℕ) → ((k : ℕ) → 0 ≤ k → k < stop - at → ¬ (is_byte2 quote 92 (get_or (drop at bytes) k 0) ≡ true)) → (k : ℕ) → at ≤ k → k < stop → (get_or bytes k 0 ≢ quote) × (get_or bytes k 0 ≢ 92)
 clear_from quote bytes at stop none k low high =
     let same : get_or (drop at bytes) (k - at) 0 ≡ get_or bytes k 0 = get_or-drop at bytes (k - at) 0 ∙ ap (λ n. get_or bytes n 0) (let e : at + (k - at) ≡ k = omega arith in e) in
@@ -175,14 +175,14 @@ string-unclosed size mode quote bytes at none = ap (string_up_to size mode bytes
 
 -- what a decoder rejects is what parsing the body rejects
 pub reads_rejected : (mode : Mode) (bytes : List ℕ) (before after : ℕ) (e : Error) → IsDecodingError mode bytes before after e → DecodesContents before (Err e) (body_of mode bytes)
-reads_rejected mode bytes before after (Syntax code place) r = (r.0, body_faulty mode bytes (code_of code) r.0 r.1, r.3 ∙ r.2)
+reads_rejected mode bytes before after (Syntax code offset) r = (r.0, body_faulty mode bytes (code_of code) r.0 r.1, r.3 ∙ r.2)
 reads_rejected mode bytes before after OutOfMemory r = tt
 reads_rejected mode bytes before after other r = r
 
 pub body_fails : (size : ℕ) (mode : Mode) (quote : ℕ) (bytes : List ℕ) (end idx : ℕ) (e : Error) → quote_end quote bytes ≡ Ok end → size - length bytes ≡ idx → DecodesContents (idx + 1) (Err e) (body_of mode (take end bytes)) → Fails e (string_at size mode quote bytes)
 unfolding string_at
-body_fails size mode quote bytes end idx (Syntax code place) found at r =
-    let same : size - length bytes + 1 + r.0 ≡ place = omega (arith, at, r.2) in
+body_fails size mode quote bytes end idx (Syntax code offset) found at r =
+    let same : size - length bytes + 1 + r.0 ≡ offset = omega (arith, at, r.2) in
     ap (string_up_to size mode bytes) found ∙ ap (string_of_body size bytes end) r.1 ∙ ap (λ (p : ℕ). fault (code_of code) p) same
 body_fails size mode quote bytes end idx OutOfMemory found at r = tt
 body_fails size mode quote bytes end idx other found at r = r

@@ -14,23 +14,23 @@ within byte some [] k e = absurd (omega (arith, some, e))
 within byte some (b ∷ bytes) zero e = omega arith
 within byte some (b ∷ bytes) (suc k) e = let below = within byte some bytes k e in omega (arith, below)
 
-set_tells : (b byte : ℕ) (t : Bool) → eqb b byte ≡ t → (cond {A = ℕ} t 1 0 ≡ 1) ↔ (b ≡ byte)
-set_tells b byte true e = (λ h. eqb-true b byte e, λ h. refl)
-set_tells b byte false e = (λ h. absurd (omega (arith, h)), λ h. absurd (true≢false (sym (eq-eqb b byte h) ∙ e)))
+set_reports : (b byte : ℕ) (t : Bool) → eqb b byte ≡ t → (cond {A = ℕ} t 1 0 ≡ 1) ↔ (b ≡ byte)
+set_reports b byte true e = (λ h. eqb-true b byte e, λ h. refl)
+set_reports b byte false e = (λ h. absurd (omega (arith, h)), λ h. absurd (true≢false (sym (eq-eqb b byte h) ∙ e)))
 
 -- what a bit of the mask of the first bytes says
-pub told : (byte : ℕ) → 0 < byte → (bytes : List ℕ) (m : ℕ) → 16 ≤ length bytes → m ≡ mask_l (map (λ b. eqb b byte) (take 16 bytes)) → (k : ℕ) → (bit_at m k ≡ 1) ↔ ((k < 16) × (get_or bytes k 0 ≡ byte))
-told byte some bytes m long is k =
+pub reported : (byte : ℕ) → 0 < byte → (bytes : List ℕ) (m : ℕ) → 16 ≤ length bytes → m ≡ mask_l (map (λ b. eqb b byte) (take 16 bytes)) → (k : ℕ) → (bit_at m k ≡ 1) ↔ ((k < 16) × (get_or bytes k 0 ≡ byte))
+reported byte some bytes m long is k =
     let lanes = take 16 bytes in
     let no : eqb 0 byte ≡ false = ne_eqb 0 byte (λ e. absurd (omega (arith, some, e))) in
     let bit : bit_at m k ≡ cond (eqb (get_or lanes k 0) byte) 1 0 =
     ap (λ n. bit_at n k) is ∙ bit_mask_l (map (λ b. eqb b byte) lanes) k ∙ ap (λ (d : Bool). cond {A = ℕ} (get_or (map (λ b. eqb b byte) lanes) k d) 1 0) (sym no) ∙ ap (λ (t : Bool). cond {A = ℕ} t 1 0) (get_or-map (λ b. eqb b byte) lanes k 0) in
-    let tells = set_tells (get_or lanes k 0) byte _ refl in (
+    let reports = set_reports (get_or lanes k 0) byte _ refl in (
       λ h.
-          let here = tells.0 (sym bit ∙ h) in
+          let here = reports.0 (sym bit ∙ h) in
           let low : k < 16 = omega (arith, within byte some lanes k here, length-take-le 16 bytes long) in
           (low, sym (get_or-take 16 bytes k 0 low) ∙ here),
-      λ both. bit ∙ tells.1 (get_or-take 16 bytes k 0 both.0 ∙ both.1),
+      λ both. bit ∙ reports.1 (get_or-take 16 bytes k 0 both.0 ∙ both.1),
     )
 
 pub mask_bound : (byte : ℕ) (bytes : List ℕ) (m : ℕ) → 16 ≤ length bytes → m ≡ mask_l (map (λ b. eqb b byte) (take 16 bytes)) → m < 2 ^ 16
@@ -57,8 +57,8 @@ pub clear_more : (bytes others : List ℕ) (count : ℕ) → others ≡ drop 16 
 clear_more bytes others count is none later k low here = ⊎_elim
     (λ before. none k before here)
     (λ after.
-    let place : 16 + (k - 16) ≡ k = omega (arith, after) in
-    later (k - 16) (omega (arith, low, after)) (ap (λ xs. get_or xs (k - 16) 0) is ∙ get_or-drop 16 bytes (k - 16) 0 ∙ ap (λ n. get_or bytes n 0) place ∙ here))
+    let offset : 16 + (k - 16) ≡ k = omega (arith, after) in
+    later (k - 16) (omega (arith, low, after)) (ap (λ xs. get_or xs (k - 16) 0) is ∙ get_or-drop 16 bytes (k - 16) 0 ∙ ap (λ n. get_or bytes n 0) offset ∙ here))
     (cases_lt k 16)
 
 pub next_more : (bytes others : List ℕ) (count : ℕ) → others ≡ drop 16 bytes → get_or others count 0 ≡ get_or bytes (16 + count) 0

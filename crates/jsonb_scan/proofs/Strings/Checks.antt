@@ -1,4 +1,4 @@
--- What a check of contents tells of them.
+-- What a check of contents says of them.
 use Rattle.std.proofs.Common.{Err, ◌+◌, Bool, true, false, MatchBool, ◌∷◌, ⊎_elim, Some, get_or, List, [], ◌≡◌, ℕ, ◌≤◌, ◌<◌, ◌++◌, length, take, drop, Ok, sym, ap, ◌∙◌, subst, arith, refl, length-append}
 use Rattle.std.proofs.lemmas.Str.{IsUtf8-nil}
 use Rattle.std.proofs.lemmas.List.{append-nil, get_or-take, length-take-le, take-append-drop, take-append-le, take-take}
@@ -6,7 +6,7 @@ use Rattle.std.specs.List.{flat_map}
 use Rattle.std.specs.Str.{IsUtf8}
 use Rattle.jsonb_spec.specs.Mode.{Mode, standard, extended}
 use Rattle.jsonb_spec.specs.Tree.{escaped}
-use Rattle.jsonb_spec.specs.Grammar.StringBody.{Item, spelling, escaped_byte}
+use Rattle.jsonb_spec.specs.Grammar.StringBody.{Item, encoding, escaped_byte}
 use Rattle.jsonb_scan.specs.Decoding.{DecodesUpTo, IsDecodedUpTo, IsShortLetter, SeesBackslash, SeesNoBackslash}
 use Rattle.jsonb_scan.specs.QuotedString.{decoded_text, meaning_of_body}
 use Rattle.jsonb_scan.specs.Parsing.String.{Body, body_of, items_within}
@@ -18,14 +18,14 @@ use Rattle.jsonb_scan.proofs.Strings.Utf8.{meaning_utf8}
 pub decoded_text-is : (mode : Mode) (bytes text : List ℕ) → DecodesUpTo mode bytes [] text → decoded_text mode bytes ≡ text
 unfolding decoded_text
 decoded_text-is mode bytes text p =
-    let spelled : bytes ≡ flat_map spelling p.items = p.spelled ∙ append-nil (flat_map spelling p.items) in
-    let enough : length (flat_map spelling p.items) ≤ length bytes = omega (arith, ap length spelled) in
-    ap meaning_of_body (ap (items_within (length bytes) mode) spelled ∙ items_complete mode (length bytes) p.items p.each enough) ∙ sym (meaning-all mode bytes text p)
+    let encoded : bytes ≡ flat_map encoding p.items = p.encoded ∙ append-nil (flat_map encoding p.items) in
+    let enough : length (flat_map encoding p.items) ≤ length bytes = omega (arith, ap length encoded) in
+    ap meaning_of_body (ap (items_within (length bytes) mode) encoded ∙ items_complete mode (length bytes) p.items p.each enough) ∙ sym (meaning-all mode bytes text p)
 
 text_utf8 : (mode : Mode) (bytes text : List ℕ) → DecodesUpTo mode bytes [] text → IsUtf8 bytes → IsUtf8 text
 text_utf8 mode bytes text p utf8 =
-    let spelled : bytes ≡ flat_map spelling p.items = p.spelled ∙ append-nil (flat_map spelling p.items) in
-    subst IsUtf8 (sym (meaning-all mode bytes text p)) (meaning_utf8 mode p.items p.each (subst IsUtf8 spelled utf8))
+    let encoded : bytes ≡ flat_map encoding p.items = p.encoded ∙ append-nil (flat_map encoding p.items) in
+    subst IsUtf8 (sym (meaning-all mode bytes text p)) (meaning_utf8 mode p.items p.each (subst IsUtf8 encoded utf8))
 
 -- contents that are items, and UTF-8
 pub body_checked : (mode : Mode) (bytes : List ℕ) → SeesBackslash bytes (length bytes) → IsUtf8 bytes → IsDecodedUpTo mode bytes [] → body_of mode bytes ≡ Ok (escaped, decoded_text mode bytes)
@@ -42,12 +42,12 @@ decoded_utf8 mode bytes utf8 = by_items (items_within (length bytes) mode bytes)
     by_items (Err f) is = IsUtf8-nil
     by_items (Ok items) is =
         let body = items_sound mode (length bytes) bytes items (omega arith) is in
-        meaning_utf8 mode items body.each (subst IsUtf8 body.spelled utf8)
+        meaning_utf8 mode items body.each (subst IsUtf8 body.encoded utf8)
 
 -- ---- steps of the check
 
 pub up_to_start : (mode : Mode) (bytes : List ℕ) → IsDecodedUpTo mode bytes bytes
-up_to_start mode bytes = record { text = []; decodes = record { items = []; each = tt; spelled = refl; meant = λ tail h. refl; short = omega arith } }
+up_to_start mode bytes = record { text = []; decodes = record { items = []; each = tt; encoded = refl; meant = λ tail h. refl; short = omega arith } }
 
 pub up_to_then : (mode : Mode) (a b c : List ℕ) → IsDecodedUpTo mode a b → IsDecodedUpTo mode b c → IsDecodedUpTo mode a c
 up_to_then mode a b c p q = record { text = p.text ++ q.text; decodes = decoded_then mode a b c p.text q.text p.decodes q.decodes }

@@ -7,7 +7,7 @@ use Rattle.std.specs.List.{flat_map, AllByRecursion}
 use Rattle.jsonb_spec.specs.Mode.{Mode}
 use Rattle.jsonb_spec.specs.Code.{Code}
 use Rattle.jsonb_spec.specs.Code.{invalid_hex, invalid_escaped, invalid_string_value, unexpected_end_of_hex_escape}
-use Rattle.jsonb_spec.specs.Grammar.StringBody.{Item, raw, escape, unit, after_u, spelling, IsItem, IsBody, Decodes, escaped_byte, alone, together, meaning}
+use Rattle.jsonb_spec.specs.Grammar.StringBody.{Item, raw, escape, unit, after_u, encoding, IsItem, IsBody, Decodes, escaped_byte, alone, together, meaning}
 use Rattle.jsonb_spec.specs.Grammar.StringFault.{IsFirstNonDigit, bad_digit, cut_escape, unknown_escape, bad_unit, IsFaultyBody}
 use Rattle.jsonb_scan.specs.Decoding.{AreContents, SeesNoBackslash}
 use Rattle.jsonb_scan.specs.Decoding.{SplitsUnit, ParsesUnit, DecodesUpTo, Adds, StopsInUnit, StopsAtEscape}
@@ -21,24 +21,24 @@ pub decoded_then : (mode : Mode) (a b c t u : List ℕ) → DecodesUpTo mode a b
 decoded_then mode a b c t u p q = record {
   items = p.items ++ q.items;
   each = each-append mode p.items q.items p.each q.each;
-  spelled = p.spelled ∙ ap (λ rest. flat_map spelling p.items ++ rest) q.spelled ∙ sym (append_assoc (flat_map spelling p.items) (flat_map spelling q.items) c)
-      ∙ ap (λ front. front ++ c) (sym (flat_map-append spelling p.items q.items));
+  encoded = p.encoded ∙ ap (λ rest. flat_map encoding p.items ++ rest) q.encoded ∙ sym (append_assoc (flat_map encoding p.items) (flat_map encoding q.items) c)
+      ∙ ap (λ front. front ++ c) (sym (flat_map-append encoding p.items q.items));
   meant = λ tail h.
       ap meaning (append_assoc p.items q.items tail)
-      ∙ p.meant (q.items ++ tail) (q.spelled ∙ ap (λ rest. flat_map spelling q.items ++ rest) h ∙ sym (flat_map-append spelling q.items tail))
+      ∙ p.meant (q.items ++ tail) (q.encoded ∙ ap (λ rest. flat_map encoding q.items ++ rest) h ∙ sym (flat_map-append encoding q.items tail))
       ∙ ap (λ rest. t ++ rest) (q.meant tail h) ∙ sym (append_assoc t u (meaning tail));
   short = omega (arith, p.short, q.short, length-append t u);
 }
 
 pub decoded_escape : (mode : Mode) (letter byte : ℕ) (rest : List ℕ) → escaped_byte mode letter ≡ Some byte → DecodesUpTo mode (92 ∷ letter ∷ rest) rest (byte ∷ [])
-decoded_escape mode letter byte rest is = record { items = escape letter byte ∷ []; each = (is, tt); spelled = refl; meant = λ tail h. meaning-escape letter byte tail; short = omega arith }
+decoded_escape mode letter byte rest is = record { items = escape letter byte ∷ []; each = (is, tt); encoded = refl; meant = λ tail h. meaning-escape letter byte tail; short = omega arith }
 
 pub sees_rest : (byte : ℕ) (bytes : List ℕ) → SeesNoBackslash (byte ∷ bytes) (length (byte ∷ bytes)) → SeesNoBackslash bytes (length bytes)
 sees_rest byte bytes none k low = none (suc k) (omega arith)
 
-pub spelling-raw : (bytes : List ℕ) → flat_map spelling (map raw bytes) ≡ bytes
-spelling-raw [] = refl
-spelling-raw (byte ∷ bytes) = ap (λ rest. byte ∷ rest) (spelling-raw bytes)
+pub encoding-raw : (bytes : List ℕ) → flat_map encoding (map raw bytes) ≡ bytes
+encoding-raw [] = refl
+encoding-raw (byte ∷ bytes) = ap (λ rest. byte ∷ rest) (encoding-raw bytes)
 
 pub items-raw : (mode : Mode) (bytes : List ℕ) → SeesNoBackslash bytes (length bytes) → AllByRecursion (IsItem mode) (map raw bytes)
 items-raw mode [] none = tt
@@ -52,14 +52,14 @@ pub decoded_run : (mode : Mode) (run rest : List ℕ) → SeesNoBackslash run (l
 decoded_run mode run rest none = record {
   items = map raw run;
   each = items-raw mode run none;
-  spelled = ap (λ front. front ++ rest) (sym (spelling-raw run));
+  encoded = ap (λ front. front ++ rest) (sym (encoding-raw run));
   meant = λ tail h. meaning-raws_then run tail;
   short = omega (arith, length-append run rest);
 }
 
 -- a unit's bytes, as those of a list of one item
-spelled_unit : (braces : Bool) (bytes digits rest : List ℕ) → bytes ≡ after_u braces digits ++ rest → 92 ∷ 117 ∷ bytes ≡ flat_map spelling (unit braces digits ∷ []) ++ rest
-spelled_unit braces bytes digits rest split = ap (λ more. 92 ∷ 117 ∷ more) (split ∙ ap (λ front. front ++ rest) (sym (append-nil (after_u braces digits))))
+encoded_unit : (braces : Bool) (bytes digits rest : List ℕ) → bytes ≡ after_u braces digits ++ rest → 92 ∷ 117 ∷ bytes ≡ flat_map encoding (unit braces digits ∷ []) ++ rest
+encoded_unit braces bytes digits rest split = ap (λ more. 92 ∷ 117 ∷ more) (split ∙ ap (λ front. front ++ rest) (sym (append-nil (after_u braces digits))))
 
 longer_unit : (braces : Bool) (bytes digits rest : List ℕ) → bytes ≡ after_u braces digits ++ rest → length digits ≡ 4 → 4 + length rest ≤ length bytes
 longer_unit braces bytes digits rest split four = omega (arith, ap length split, length-append (after_u braces digits) rest, length-after_u braces digits four)
@@ -69,7 +69,7 @@ decoded_alone mode bytes digits rest value r ends =
     let s = r.splits in record {
       items = unit s.braces digits ∷ [];
       each = ((s.four, r.each), tt);
-      spelled = spelled_unit s.braces bytes digits rest s.split;
+      encoded = encoded_unit s.braces bytes digits rest s.split;
       meant = λ tail h. ⊎_elim
           (λ low. meaning-alone s.braces digits tail (ap is_high_surrogate (sym r.is) ∙ low))
           (λ none. meaning-last s.braces digits tail (λ more e. none more (h ∙ e)))
@@ -83,7 +83,7 @@ decoded_together mode bytes first between next rest value other r high q =
     let t = q.splits in record {
       items = unit s.braces first ∷ unit t.braces next ∷ [];
       each = ((s.four, r.each), ((t.four, q.each), tt));
-      spelled = ap (λ more. 92 ∷ 117 ∷ more)
+      encoded = ap (λ more. 92 ∷ 117 ∷ more)
           (s.split ∙ ap (λ more. after_u s.braces first ++ 92 ∷ 117 ∷ more) (t.split ∙ ap (λ front. front ++ rest) (sym (append-nil (after_u t.braces next))))
           ∙ sym (append_assoc (after_u s.braces first) (92 ∷ 117 ∷ (after_u t.braces next ++ [])) rest));
       meant = λ tail h. meaning-together s.braces t.braces first next tail (ap is_high_surrogate (sym r.is) ∙ high);
@@ -112,21 +112,21 @@ first_byte bytes rest byte first split is = split ∙ ap (λ b. b ∷ rest) (sym
 pub stops_cut : (mode : Mode) (bytes : List ℕ) → bytes ≡ [] → StopsAtEscape mode (92 ∷ bytes) unexpected_end_of_hex_escape 0
 stops_cut mode bytes none = record {
   read = 1;
-  cut = record { items = []; each = tt; rest = 92 ∷ bytes; spelled = refl; steps = 1; bad = cut_escape (ap (λ more. 92 ∷ more) none) refl refl; count = refl };
+  cut = record { items = []; each = tt; rest = 92 ∷ bytes; encoded = refl; steps = 1; bad = cut_escape (ap (λ more. 92 ∷ more) none) refl refl; count = refl };
   count = omega (arith, ap length none);
 }
 
 pub stops_unknown : (mode : Mode) (letter : ℕ) (bytes rest : List ℕ) → bytes ≡ letter ∷ rest → letter ≢ 117 → escaped_byte mode letter ≡ None → StopsAtEscape mode (92 ∷ bytes) (invalid_escaped letter) (length rest)
 stops_unknown mode letter bytes rest is other none = record {
   read = 2;
-  cut = record { items = []; each = tt; rest = 92 ∷ bytes; spelled = refl; steps = 2; bad = unknown_escape letter rest (ap (λ more. 92 ∷ more) is) other none refl refl; count = refl };
+  cut = record { items = []; each = tt; rest = 92 ∷ bytes; encoded = refl; steps = 2; bad = unknown_escape letter rest (ap (λ more. 92 ∷ more) is) other none refl refl; count = refl };
   count = omega (arith, ap length is);
 }
 
 pub stops_first : (mode : Mode) (bytes : List ℕ) (code : Code) (left : ℕ) → StopsInUnit bytes code left → StopsAtEscape mode (92 ∷ 117 ∷ bytes) code left
 stops_first mode bytes code left stop = record {
   read = 2 + stop.steps;
-  cut = record { items = []; each = tt; rest = 92 ∷ 117 ∷ bytes; spelled = refl; steps = 2 + stop.steps; bad = bad_unit bytes stop.steps refl stop.bad refl; count = omega arith };
+  cut = record { items = []; each = tt; rest = 92 ∷ 117 ∷ bytes; encoded = refl; steps = 2 + stop.steps; bad = bad_unit bytes stop.steps refl stop.bad refl; count = omega arith };
   count = omega (arith, stop.count);
 }
 
@@ -134,21 +134,21 @@ pub stops_next : (mode : Mode) (bytes first between : List ℕ) (value : ℕ) (c
 stops_next mode bytes first between value code left r stop =
     let s = r.splits in
     let items = unit s.braces first ∷ [] in
-    let spelled = spelled_unit s.braces bytes first (92 ∷ 117 ∷ between) s.split in record {
-      read = length (flat_map spelling items) + (2 + stop.steps);
-      cut = record { items = items; each = ((s.four, r.each), tt); rest = 92 ∷ 117 ∷ between; spelled = spelled; steps = 2 + stop.steps; bad = bad_unit between stop.steps refl stop.bad refl; count = refl };
-      count = omega (arith, stop.count, ap length spelled, length-append (flat_map spelling items) (92 ∷ 117 ∷ between));
+    let encoded = encoded_unit s.braces bytes first (92 ∷ 117 ∷ between) s.split in record {
+      read = length (flat_map encoding items) + (2 + stop.steps);
+      cut = record { items = items; each = ((s.four, r.each), tt); rest = 92 ∷ 117 ∷ between; encoded = encoded; steps = 2 + stop.steps; bad = bad_unit between stop.steps refl stop.bad refl; count = refl };
+      count = omega (arith, stop.count, ap length encoded, length-append (flat_map encoding items) (92 ∷ 117 ∷ between));
     }
 
 pub stops_after : (mode : Mode) (a b t : List ℕ) (code : Code) (left : ℕ) → DecodesUpTo mode a b t → StopsAtEscape mode b code left → StopsAtEscape mode a code left
 stops_after mode a b t code left p stop =
     let q = stop.cut in
-    let spelled : a ≡ flat_map spelling (p.items ++ q.items) ++ q.rest =
-    p.spelled ∙ ap (λ rest. flat_map spelling p.items ++ rest) q.spelled ∙ sym (append_assoc (flat_map spelling p.items) (flat_map spelling q.items) q.rest)
-    ∙ ap (λ front. front ++ q.rest) (sym (flat_map-append spelling p.items q.items)) in record {
-      read = length (flat_map spelling (p.items ++ q.items)) + q.steps;
-      cut = record { items = p.items ++ q.items; each = each-append mode p.items q.items p.each q.each; rest = q.rest; spelled = spelled; steps = q.steps; bad = q.bad; count = refl };
-      count = omega (arith, stop.count, q.count, ap length q.spelled, length-append (flat_map spelling q.items) q.rest, ap length spelled, length-append (flat_map spelling (p.items ++ q.items)) q.rest, ap length p.spelled, length-append (flat_map spelling p.items) b);
+    let encoded : a ≡ flat_map encoding (p.items ++ q.items) ++ q.rest =
+    p.encoded ∙ ap (λ rest. flat_map encoding p.items ++ rest) q.encoded ∙ sym (append_assoc (flat_map encoding p.items) (flat_map encoding q.items) q.rest)
+    ∙ ap (λ front. front ++ q.rest) (sym (flat_map-append encoding p.items q.items)) in record {
+      read = length (flat_map encoding (p.items ++ q.items)) + q.steps;
+      cut = record { items = p.items ++ q.items; each = each-append mode p.items q.items p.each q.each; rest = q.rest; encoded = encoded; steps = q.steps; bad = q.bad; count = refl };
+      count = omega (arith, stop.count, q.count, ap length q.encoded, length-append (flat_map encoding q.items) q.rest, ap length encoded, length-append (flat_map encoding (p.items ++ q.items)) q.rest, ap length p.encoded, length-append (flat_map encoding p.items) b);
     }
 
 -- what is left of contents is contents
@@ -169,7 +169,7 @@ unfolding meaning
 meaning-all mode bytes text p = sym (append-nil text) ∙ sym (p.meant [] refl) ∙ ap meaning (append-nil p.items)
 
 whole : (mode : Mode) (bytes text : List ℕ) (p : DecodesUpTo mode bytes [] text) → IsBody mode bytes p.items
-whole mode bytes text p = record { spelled = p.spelled ∙ append-nil (flat_map spelling p.items); each = p.each }
+whole mode bytes text p = record { encoded = p.encoded ∙ append-nil (flat_map encoding p.items); each = p.each }
 
 pub decodes_all : (mode : Mode) (bytes text : List ℕ) → DecodesUpTo mode bytes [] text → IsUtf8 text → Decodes mode bytes text
 decodes_all mode bytes text p utf8 = record { items = p.items; body = whole mode bytes text p; meant = meaning-all mode bytes text p; utf8 = utf8 }

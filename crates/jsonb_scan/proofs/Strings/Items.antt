@@ -10,10 +10,10 @@ use Rattle.std.specs.List.{flat_map, AllByRecursion}
 use Rattle.jsonb_spec.specs.Mode.{Mode}
 use Rattle.jsonb_spec.specs.Tree.{Mark}
 use Rattle.jsonb_spec.specs.Code.{Code, invalid_string_value, invalid_escaped, invalid_hex, unexpected_end_of_hex_escape}
-use Rattle.jsonb_spec.specs.Grammar.StringBody.{Item, raw, escape, unit, after_u, spelling, IsItem, IsHexDigit, IsBody, escaped_byte, meaning}
+use Rattle.jsonb_spec.specs.Grammar.StringBody.{Item, raw, escape, unit, after_u, encoding, IsItem, IsHexDigit, IsBody, escaped_byte, meaning}
 use Rattle.jsonb_spec.specs.Grammar.StringFault.{IsUnitCut, BadUnit, cut_unit, bad_digit, BadEscape, cut_escape, unknown_escape, bad_unit, IsCutShort, IsNoText, IsFaultyBody}
 use Rattle.jsonb_spec.specs.Grammar.Quoted.{mark_of}
-use Rattle.jsonb_value.proofs.Strings.Spelling.{escape_is_not_u, spelling_not_empty}
+use Rattle.jsonb_value.proofs.Strings.Encoding.{escape_is_not_u, encoding_not_empty}
 use Rattle.jsonb_scan.specs.Decoding.{AreContents}
 use Rattle.jsonb_scan.specs.Parsing.String.{Body, non_digit, checked_unit, unit_of, unit_at, known_escape, escape_at, item_at, onto, then_items, items_within, meaning_of, body_of}
 use Rattle.jsonb_scan.proofs.Steps.Tests.{chosen}
@@ -49,7 +49,7 @@ digits_from_none (b ∷ bytes) e =
 pub record BeginsWith (mode : Mode) (bytes : List ℕ) (item : Item) : Type 0 where
   pub is_item : IsItem mode item
   pub rest : List ℕ
-  pub whole : bytes ≡ spelling item ++ rest
+  pub whole : bytes ≡ encoding item ++ rest
 
 unit_read : (mode : Mode) (braces : Bool) (bytes digits rest : List ℕ) (x : Item) → bytes ≡ after_u braces digits ++ rest → length digits ≡ 4 → unit_of braces digits ≡ Ok x → BeginsWith mode (92 ∷ 117 ∷ bytes) x
 unit_read mode braces bytes digits rest x split four e = by_test (non_digit digits) refl e
@@ -185,7 +185,7 @@ first_item : Mode → List ℕ → Body Item
 first_item mode [] = Ok (raw 0)
 first_item mode (b ∷ bytes) = item_at mode b bytes
 
-item_complete : (mode : Mode) (x : Item) (more : List ℕ) → IsItem mode x → first_item mode (spelling x ++ more) ≡ Ok x
+item_complete : (mode : Mode) (x : Item) (more : List ℕ) → IsItem mode x → first_item mode (encoding x ++ more) ≡ Ok x
 unfolding first_item
 item_complete mode (raw byte) more is = item-raw mode byte more is
 item_complete mode (escape letter byte) more is = item-backslash mode (letter ∷ more) ∙ escape-letter mode letter more (escape_is_not_u mode letter byte is) ∙ ap (known_escape letter) is
@@ -242,30 +242,30 @@ same_pair {A} {B} a c b d e =
     (ap (λ (x : A × B). x.0) p, ap (λ (x : A × B). x.1) p)
 
 -- a body's items, by its first one
-items-first : (n : ℕ) (mode : Mode) (bytes : List ℕ) → bytes ≢ [] → items_within (suc n) mode bytes ≡ then_items (first_item mode bytes) (λ item. items_within n mode (drop (length (spelling item)) bytes))
+items-first : (n : ℕ) (mode : Mode) (bytes : List ℕ) → bytes ≢ [] → items_within (suc n) mode bytes ≡ then_items (first_item mode bytes) (λ item. items_within n mode (drop (length (encoding item)) bytes))
 unfolding items_within first_item
 items-first n mode [] some = absurd (some refl)
 items-first n mode (b ∷ bytes) some = refl
 
-pub length-spelling : (x : Item) → 1 ≤ length (spelling x)
-length-spelling (raw byte) = omega arith
-length-spelling (escape letter byte) = omega arith
-length-spelling (unit braces digits) = omega arith
+pub length-encoding : (x : Item) → 1 ≤ length (encoding x)
+length-encoding (raw byte) = omega arith
+length-encoding (escape letter byte) = omega arith
+length-encoding (unit braces digits) = omega arith
 
-items-step : (n : ℕ) (mode : Mode) (x : Item) (more : List ℕ) → IsItem mode x → items_within (suc n) mode (spelling x ++ more) ≡ onto x (items_within n mode more)
+items-step : (n : ℕ) (mode : Mode) (x : Item) (more : List ℕ) → IsItem mode x → items_within (suc n) mode (encoding x ++ more) ≡ onto x (items_within n mode more)
 items-step n mode x more is =
-    items-first n mode (spelling x ++ more) (spelling_not_empty x more)
-    ∙ ap (λ (r : Body Item). then_items r (λ item. items_within n mode (drop (length (spelling item)) (spelling x ++ more)))) (item_complete mode x more is)
-    ∙ ap (λ (rest : List ℕ). onto x (items_within n mode rest)) (drop_at (spelling x) more (length (spelling x)) refl)
+    items-first n mode (encoding x ++ more) (encoding_not_empty x more)
+    ∙ ap (λ (r : Body Item). then_items r (λ item. items_within n mode (drop (length (encoding item)) (encoding x ++ more)))) (item_complete mode x more is)
+    ∙ ap (λ (rest : List ℕ). onto x (items_within n mode rest)) (drop_at (encoding x) more (length (encoding x)) refl)
 
 -- each body's items are parsed
-pub items_complete : (mode : Mode) (n : ℕ) (items : List Item) → AllByRecursion (IsItem mode) items → length (flat_map spelling items) ≤ n → items_within n mode (flat_map spelling items) ≡ Ok items
+pub items_complete : (mode : Mode) (n : ℕ) (items : List Item) → AllByRecursion (IsItem mode) items → length (flat_map encoding items) ≤ n → items_within n mode (flat_map encoding items) ≡ Ok items
 unfolding items_within
 items_complete mode n [] each enough = refl
-items_complete mode zero (x ∷ items) each enough = absurd (omega (arith, enough, length-append (spelling x) (flat_map spelling items), length-spelling x))
+items_complete mode zero (x ∷ items) each enough = absurd (omega (arith, enough, length-append (encoding x) (flat_map encoding items), length-encoding x))
 items_complete mode (suc n) (x ∷ items) each enough =
-    items-step n mode x (flat_map spelling items) each.0
-    ∙ ap (onto x) (items_complete mode n items each.1 (omega (arith, enough, length-append (spelling x) (flat_map spelling items), length-spelling x)))
+    items-step n mode x (flat_map encoding items) each.0
+    ∙ ap (onto x) (items_complete mode n items each.1 (omega (arith, enough, length-append (encoding x) (flat_map encoding items), length-encoding x)))
 
 bad_some : (mode : Mode) (bytes : List ℕ) (code : Code) (read : ℕ) → BadEscape mode bytes code read → bytes ≢ []
 bad_some mode bytes code read (cut_escape is is_code is_read) e = cc
@@ -273,43 +273,43 @@ bad_some mode bytes code read (unknown_escape letter rest is other none is_code 
 bad_some mode bytes code read (bad_unit rest steps is bad is_read) e = cc
 
 -- the fault of bytes that are cut short is found
-items-cut : (mode : Mode) (n : ℕ) (items : List Item) (rest : List ℕ) (code : Code) (steps : ℕ) → AllByRecursion (IsItem mode) items → BadEscape mode rest code steps → length (flat_map spelling items ++ rest) ≤ n
-    → items_within n mode (flat_map spelling items ++ rest) ≡ Err (code, length (flat_map spelling items) + steps)
+items-cut : (mode : Mode) (n : ℕ) (items : List Item) (rest : List ℕ) (code : Code) (steps : ℕ) → AllByRecursion (IsItem mode) items → BadEscape mode rest code steps → length (flat_map encoding items ++ rest) ≤ n
+    → items_within n mode (flat_map encoding items ++ rest) ≡ Err (code, length (flat_map encoding items) + steps)
 items-cut mode zero items rest code steps each bad enough =
-    absurd (some rest (bad_some mode rest code steps bad) (omega (arith, enough, length-append (flat_map spelling items) rest)))
+    absurd (some rest (bad_some mode rest code steps bad) (omega (arith, enough, length-append (flat_map encoding items) rest)))
   where
     some : (xs : List ℕ) → xs ≢ [] → length xs ≢ 0
     some [] other e = other refl
     some (x ∷ xs) other e = omega (arith, e)
 items-cut mode (suc n) [] rest code steps each bad enough =
-    let count : steps ≡ length (flat_map spelling []) + steps = omega arith in
-    items-first n mode rest (bad_some mode rest code steps bad) ∙ ap (λ (r : Body Item). then_items r (λ item. items_within n mode (drop (length (spelling item)) rest))) (item-bad mode rest code steps bad)
+    let count : steps ≡ length (flat_map encoding []) + steps = omega arith in
+    items-first n mode rest (bad_some mode rest code steps bad) ∙ ap (λ (r : Body Item). then_items r (λ item. items_within n mode (drop (length (encoding item)) rest))) (item-bad mode rest code steps bad)
     ∙ ap (λ (k : ℕ). Err (code, k)) count
 items-cut mode (suc n) (x ∷ items) rest code steps each bad enough =
-    let count : length (spelling x) + (length (flat_map spelling items) + steps) ≡ length (flat_map spelling (x ∷ items)) + steps = omega (arith, length-append (spelling x) (flat_map spelling items)) in
-    ap (items_within (suc n) mode) (append_assoc (spelling x) (flat_map spelling items) rest)
-    ∙ items-step n mode x (flat_map spelling items ++ rest) each.0
-    ∙ ap (onto x) (items-cut mode n items rest code steps each.1 bad (omega (arith, enough, ap length (append_assoc (spelling x) (flat_map spelling items) rest), length-append (spelling x) (flat_map spelling items ++ rest), length-spelling x)))
+    let count : length (encoding x) + (length (flat_map encoding items) + steps) ≡ length (flat_map encoding (x ∷ items)) + steps = omega (arith, length-append (encoding x) (flat_map encoding items)) in
+    ap (items_within (suc n) mode) (append_assoc (encoding x) (flat_map encoding items) rest)
+    ∙ items-step n mode x (flat_map encoding items ++ rest) each.0
+    ∙ ap (onto x) (items-cut mode n items rest code steps each.1 bad (omega (arith, enough, ap length (append_assoc (encoding x) (flat_map encoding items) rest), length-append (encoding x) (flat_map encoding items ++ rest), length-encoding x)))
     ∙ ap (λ (k : ℕ). Err (code, k)) count
 
 -- an item before the items of a body
 body_onto : (mode : Mode) (bytes : List ℕ) (x : Item) (b : BeginsWith mode bytes x) (items : List Item) (s : Body (List Item)) → ((xs : List Item) → s ≡ Ok xs → IsBody mode b.rest xs) → onto x s ≡ Ok items → IsBody mode bytes items
-body_onto mode bytes x b items (Err f) others e = absurd (let never : ◌≡◌ {A = Body (List Item)} (Err (f.0, length (spelling x) + f.1)) (Ok items) = e in cc)
+body_onto mode bytes x b items (Err f) others e = absurd (let never : ◌≡◌ {A = Body (List Item)} (Err (f.0, length (encoding x) + f.1)) (Ok items) = e in cc)
 body_onto mode bytes x b items (Ok xs) others e =
     let whole : x ∷ xs ≡ items = let both : ◌≡◌ {A = Body (List Item)} (Ok (x ∷ xs)) (Ok items) = e in cc in
     let rest = others xs refl in
-    subst (λ (ys : List Item). IsBody mode bytes ys) whole (record { spelled = b.whole ∙ ap (λ (u : List ℕ). spelling x ++ u) rest.spelled; each = (b.is_item, rest.each) })
+    subst (λ (ys : List Item). IsBody mode bytes ys) whole (record { encoded = b.whole ∙ ap (λ (u : List ℕ). encoding x ++ u) rest.encoded; each = (b.is_item, rest.each) })
 
-left_after : (mode : Mode) (bytes : List ℕ) (x : Item) (b : BeginsWith mode bytes x) → drop (length (spelling x)) bytes ≡ b.rest
-left_after mode bytes x b = ap (drop (length (spelling x))) b.whole ∙ drop_at (spelling x) b.rest (length (spelling x)) refl
+left_after : (mode : Mode) (bytes : List ℕ) (x : Item) (b : BeginsWith mode bytes x) → drop (length (encoding x)) bytes ≡ b.rest
+left_after mode bytes x b = ap (drop (length (encoding x))) b.whole ∙ drop_at (encoding x) b.rest (length (encoding x)) refl
 
 -- the first item, and then others
 sound_first : (mode : Mode) (n b : ℕ) (bytes : List ℕ) (items : List Item) (r : Body Item) → item_at mode b bytes ≡ r → ((x : Item) (first : BeginsWith mode (b ∷ bytes) x) (xs : List Item) → items_within n mode first.rest ≡ Ok xs → IsBody mode first.rest xs)
-    → then_items r (λ item. items_within n mode (drop (length (spelling item)) (b ∷ bytes))) ≡ Ok items → IsBody mode (b ∷ bytes) items
+    → then_items r (λ item. items_within n mode (drop (length (encoding item)) (b ∷ bytes))) ≡ Ok items → IsBody mode (b ∷ bytes) items
 sound_first mode n b bytes items (Err f) is others h = absurd (let never : ◌≡◌ {A = Body (List Item)} (Err f) (Ok items) = h in cc)
 sound_first mode n b bytes items (Ok x) is others h =
     let first = item_sound mode b bytes x is in
-    body_onto mode (b ∷ bytes) x first items (items_within n mode (drop (length (spelling x)) (b ∷ bytes)))
+    body_onto mode (b ∷ bytes) x first items (items_within n mode (drop (length (encoding x)) (b ∷ bytes)))
     (λ xs same. others x first xs (ap (items_within n mode) (sym (left_after mode (b ∷ bytes) x first)) ∙ same)) h
 
 -- what is parsed are the items of a body
@@ -317,11 +317,11 @@ pub items_sound : (mode : Mode) (n : ℕ) (bytes : List ℕ) (items : List Item)
 unfolding items_within
 items_sound mode n [] items enough e =
     let same : [] ≡ items = let both : ◌≡◌ {A = Body (List Item)} (Ok []) (Ok items) = e in cc in
-    subst (λ (xs : List Item). IsBody mode [] xs) same (record { spelled = refl; each = tt })
+    subst (λ (xs : List Item). IsBody mode [] xs) same (record { encoded = refl; each = tt })
 items_sound mode zero (b ∷ bytes) items enough e = absurd (omega (arith, enough))
 items_sound mode (suc n) (b ∷ bytes) items enough e =
     sound_first mode n b bytes items (item_at mode b bytes) refl
-    (λ x first xs same. items_sound mode n first.rest xs (omega (arith, enough, ap length first.whole, length-append (spelling x) first.rest, length-spelling x)) same) e
+    (λ x first xs same. items_sound mode n first.rest xs (omega (arith, enough, ap length first.whole, length-append (encoding x) first.rest, length-encoding x)) same) e
 
 -- ---- the meaning
 
@@ -336,8 +336,8 @@ pub record Means (mode : Mode) (bytes : List ℕ) (mark : Mark) (text : List ℕ
 pub body_complete : (mode : Mode) (bytes : List ℕ) (items : List Item) → IsBody mode bytes items → IsUtf8 (meaning items) → body_of mode bytes ≡ Ok (mark_of items, meaning items)
 unfolding body_of
 body_complete mode bytes items body utf8 =
-    let enough : length (flat_map spelling items) ≤ length bytes = omega (arith, ap length body.spelled) in
-    let read : items_within (length bytes) mode bytes ≡ Ok items = ap (items_within (length bytes) mode) body.spelled ∙ items_complete mode (length bytes) items body.each enough in
+    let enough : length (flat_map encoding items) ≤ length bytes = omega (arith, ap length body.encoded) in
+    let read : items_within (length bytes) mode bytes ≡ Ok items = ap (items_within (length bytes) mode) body.encoded ∙ items_complete mode (length bytes) items body.each enough in
     ap (meaning_of bytes) read ∙ cond-true (is_utf8 (meaning items)) (Ok (mark_of items, meaning items)) (Err (invalid_string_value, length bytes)) (is_utf8-from_IsUtf8 (meaning items) utf8)
 
 no_utf8 : (text : List ℕ) → ¬ (IsUtf8 text) → is_utf8 text ≡ false
@@ -348,12 +348,12 @@ unfolding body_of
 body_faulty mode bytes code read fault =
     ⊎_elim
     (λ (cut : IsCutShort mode bytes code read).
-    let enough : length (flat_map spelling cut.items ++ cut.rest) ≤ length bytes = omega (arith, ap length cut.spelled) in
-    ap (meaning_of bytes) (ap (items_within (length bytes) mode) cut.spelled ∙ items-cut mode (length bytes) cut.items cut.rest code cut.steps cut.each cut.bad enough)
+    let enough : length (flat_map encoding cut.items ++ cut.rest) ≤ length bytes = omega (arith, ap length cut.encoded) in
+    ap (meaning_of bytes) (ap (items_within (length bytes) mode) cut.encoded ∙ items-cut mode (length bytes) cut.items cut.rest code cut.steps cut.each cut.bad enough)
     ∙ ap (λ (k : ℕ). Err (code, k)) (sym cut.count))
     (λ (none : IsNoText mode bytes code read).
-    let enough : length (flat_map spelling none.items) ≤ length bytes = omega (arith, ap length none.body.spelled) in
-    ap (meaning_of bytes) (ap (items_within (length bytes) mode) none.body.spelled ∙ items_complete mode (length bytes) none.items none.body.each enough)
+    let enough : length (flat_map encoding none.items) ≤ length bytes = omega (arith, ap length none.body.encoded) in
+    ap (meaning_of bytes) (ap (items_within (length bytes) mode) none.body.encoded ∙ items_complete mode (length bytes) none.items none.body.each enough)
     ∙ cond-false (is_utf8 (meaning none.items)) (Ok (mark_of none.items, meaning none.items)) (Err (invalid_string_value, length bytes)) (no_utf8 (meaning none.items) none.not_utf8)
     ∙ ap (λ (c : Code). Err (c, length bytes)) (sym none.invalid) ∙ ap (λ (k : ℕ). Err (code, k)) (sym none.count))
     fault

@@ -10,8 +10,8 @@ use Rattle.std.specs.Char.{encode_utf8}
 use Rattle.std.specs.List.{flat_map, AllByRecursion}
 use Rattle.std.specs.Str.{IsAscii, IsUtf8}
 use Rattle.jsonb_spec.specs.Mode.{Mode, standard, extended}
-use Rattle.jsonb_spec.specs.Grammar.StringBody.{Item, raw, escape, unit, after_u, spelling, IsItem, IsHexDigit, escaped_byte, alone, together, meaning}
-use Rattle.jsonb_value.proofs.Strings.Units.{alone-kept, alone-character, together-kept, together-character, unit_digits}
+use Rattle.jsonb_spec.specs.Grammar.StringBody.{Item, raw, escape, unit, after_u, encoding, IsItem, IsHexDigit, escaped_byte, alone, together, meaning}
+use Rattle.jsonb_value.proofs.Strings.Units.{alone-retained, alone-character, together-retained, together-character, unit_digits}
 use Rattle.std.specs.Char.Utf16.{is_high_surrogate, is_low_surrogate, surrogate_pair_char}
 use Rattle.std.specs.Str.Parse.{digits_value}
 
@@ -108,13 +108,13 @@ small_scalar value small none = grind (arith, nat_tests)
 paired_scalar : (high low : ℕ) → is_high_surrogate high ≡ true → is_low_surrogate low ≡ true → scalar (surrogate_pair_char high low) ≡ true
 paired_scalar high low p q = grind (arith, nat_tests)
 
-kept_onto : (digits rest : List ℕ) → All IsHexDigit digits → IsUtf8 rest → IsUtf8 (spelling (unit false digits) ++ rest)
-kept_onto digits rest each utf8 = ascii_onto 92 (117 ∷ (digits ++ rest)) (omega arith) (ascii_onto 117 (digits ++ rest) (omega arith) (digits_onto digits rest each utf8))
+verbatim_onto : (digits rest : List ℕ) → All IsHexDigit digits → IsUtf8 rest → IsUtf8 (encoding (unit false digits) ++ rest)
+verbatim_onto digits rest each utf8 = ascii_onto 92 (117 ∷ (digits ++ rest)) (omega arith) (ascii_onto 117 (digits ++ rest) (omega arith) (digits_onto digits rest each utf8))
 
 alone_onto : (digits rest : List ℕ) → length digits ≡ 4 → All IsHexDigit digits → IsUtf8 rest → IsUtf8 (alone digits ++ rest)
 alone_onto digits rest four each utf8 =
     ⊎_elim
-    (λ half. subst (λ xs. IsUtf8 (xs ++ rest)) (sym (alone-kept digits half)) (kept_onto digits rest each utf8))
+    (λ half. subst (λ xs. IsUtf8 (xs ++ rest)) (sym (alone-retained digits half)) (verbatim_onto digits rest each utf8))
     (λ whole. subst (λ xs. IsUtf8 (xs ++ rest)) (sym (alone-character digits whole)) (IsUtf8-append (encode_utf8 (digits_value 16 digits)) rest (IsUtf8-encode (digits_value 16 digits) (small_scalar (digits_value 16 digits) (unit_small digits four each) whole)) utf8))
     (cases_Bool (is_high_surrogate (digits_value 16 digits) || is_low_surrogate (digits_value 16 digits)))
 
@@ -122,7 +122,7 @@ together_onto : (first next rest : List ℕ) → is_high_surrogate (digits_value
 together_onto first next rest high each others utf8 =
     ⊎_elim
     (λ low. subst (λ xs. IsUtf8 (xs ++ rest)) (sym (together-character first next low)) (IsUtf8-append (encode_utf8 (surrogate_pair_char (digits_value 16 first) (digits_value 16 next))) rest (IsUtf8-encode (surrogate_pair_char (digits_value 16 first) (digits_value 16 next)) (paired_scalar (digits_value 16 first) (digits_value 16 next) high low)) utf8))
-    (λ other. subst (λ xs. IsUtf8 (xs ++ rest)) (sym (together-kept first next other)) (subst IsUtf8 (sym (append_assoc (spelling (unit false first)) (spelling (unit false next)) rest)) (kept_onto first (spelling (unit false next) ++ rest) each (kept_onto next rest others utf8))))
+    (λ other. subst (λ xs. IsUtf8 (xs ++ rest)) (sym (together-retained first next other)) (subst IsUtf8 (sym (append_assoc (encoding (unit false first)) (encoding (unit false next)) rest)) (verbatim_onto first (encoding (unit false next) ++ rest) each (verbatim_onto next rest others utf8))))
     (cases_Bool (is_low_surrogate (digits_value 16 next)))
 
 -- ---- all items
@@ -151,22 +151,22 @@ two_units p q run first next rest text others one two utf8 behind both = by_high
     by_high false low = one_unit p run first (92 ∷ 117 ∷ (after_u q next ++ rest)) others one.0 one.1 utf8 both
 
 -- the items behind a run of raw bytes
-pub run_utf8 : (mode : Mode) (run : List ℕ) (items : List Item) → AllByRecursion (IsItem mode) items → IsUtf8 (run ++ flat_map spelling items) → IsUtf8 (run ++ meaning items)
+pub run_utf8 : (mode : Mode) (run : List ℕ) (items : List Item) → AllByRecursion (IsItem mode) items → IsUtf8 (run ++ flat_map encoding items) → IsUtf8 (run ++ meaning items)
 unfolding meaning
 run_utf8 mode run [] each utf8 = utf8
 run_utf8 mode run (raw byte ∷ items) each utf8 =
-    subst IsUtf8 (append_assoc run (byte ∷ []) (meaning items)) (run_utf8 mode (run ++ byte ∷ []) items each.1 (subst IsUtf8 (sym (append_assoc run (byte ∷ []) (flat_map spelling items))) utf8))
+    subst IsUtf8 (append_assoc run (byte ∷ []) (meaning items)) (run_utf8 mode (run ++ byte ∷ []) items each.1 (subst IsUtf8 (sym (append_assoc run (byte ∷ []) (flat_map encoding items))) utf8))
 run_utf8 mode run (escape letter byte ∷ items) each utf8 =
     let low = escape_low mode letter byte each.0 in
-    let rest = ascii_off letter (flat_map spelling items) low.0 (ascii_off 92 (letter ∷ flat_map spelling items) (omega arith) (from_ascii run (letter ∷ flat_map spelling items) 92 (omega arith) utf8)) in
-    IsUtf8-append run (byte ∷ meaning items) (before_ascii run (letter ∷ flat_map spelling items) 92 (omega arith) utf8) (ascii_onto byte (meaning items) low.1 (run_utf8 mode [] items each.1 rest))
+    let rest = ascii_off letter (flat_map encoding items) low.0 (ascii_off 92 (letter ∷ flat_map encoding items) (omega arith) (from_ascii run (letter ∷ flat_map encoding items) 92 (omega arith) utf8)) in
+    IsUtf8-append run (byte ∷ meaning items) (before_ascii run (letter ∷ flat_map encoding items) 92 (omega arith) utf8) (ascii_onto byte (meaning items) low.1 (run_utf8 mode [] items each.1 rest))
 run_utf8 mode run (unit p first ∷ []) each utf8 = one_unit p run first [] [] each.0.0 each.0.1 utf8 (λ h. h)
 run_utf8 mode run (unit p first ∷ raw byte ∷ items) each utf8 =
-    one_unit p run first (flat_map spelling (raw byte ∷ items)) (meaning (raw byte ∷ items)) each.0.0 each.0.1 utf8 (run_utf8 mode [] (raw byte ∷ items) each.1)
+    one_unit p run first (flat_map encoding (raw byte ∷ items)) (meaning (raw byte ∷ items)) each.0.0 each.0.1 utf8 (run_utf8 mode [] (raw byte ∷ items) each.1)
 run_utf8 mode run (unit p first ∷ escape letter byte ∷ items) each utf8 =
-    one_unit p run first (flat_map spelling (escape letter byte ∷ items)) (meaning (escape letter byte ∷ items)) each.0.0 each.0.1 utf8 (run_utf8 mode [] (escape letter byte ∷ items) each.1)
+    one_unit p run first (flat_map encoding (escape letter byte ∷ items)) (meaning (escape letter byte ∷ items)) each.0.0 each.0.1 utf8 (run_utf8 mode [] (escape letter byte ∷ items) each.1)
 run_utf8 mode run (unit p first ∷ unit q next ∷ items) each utf8 =
-    two_units p q run first next (flat_map spelling items) (meaning items) (meaning (unit q next ∷ items)) each.0 each.1.0 utf8 (run_utf8 mode [] items each.1.1) (run_utf8 mode [] (unit q next ∷ items) each.1)
+    two_units p q run first next (flat_map encoding items) (meaning items) (meaning (unit q next ∷ items)) each.0 each.1.0 utf8 (run_utf8 mode [] items each.1.1) (run_utf8 mode [] (unit q next ∷ items) each.1)
 
-pub meaning_utf8 : (mode : Mode) (items : List Item) → AllByRecursion (IsItem mode) items → IsUtf8 (flat_map spelling items) → IsUtf8 (meaning items)
+pub meaning_utf8 : (mode : Mode) (items : List Item) → AllByRecursion (IsItem mode) items → IsUtf8 (flat_map encoding items) → IsUtf8 (meaning items)
 meaning_utf8 mode items each utf8 = run_utf8 mode [] items each utf8

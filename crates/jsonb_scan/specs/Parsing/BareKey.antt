@@ -22,8 +22,8 @@ abbrev pub key_chosen : ℕ → Result ℕ ℕ → Result ℕ ℕ
 key_chosen zero later = Ok 0
 key_chosen (suc passed) later = later
 
--- How many bytes stand before the first one that begins no character of a key, where this many bytes of a character are
--- still to be passed. Where there is none, the number tells where the search stands at the end, which may be past the
+-- How many bytes are before the first one that begins no character of a key, where this many bytes of a character are
+-- still to be passed. Where there is none, the number says where the search is at the end, which may be past the
 -- bytes.
 unfoldable pub key_from : ℕ → List ℕ → Result ℕ ℕ
 key_from passed [] = Err passed

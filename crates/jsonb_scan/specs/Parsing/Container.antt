@@ -57,11 +57,11 @@ array_at size mode value bytes =
 -- ---- objects
 
 abbrev pub found_at : Mark × List ℕ → ℕ → Source × List ℕ → Parse Found
-found_at key place x = Ok (found_member key x.0 place, x.1)
+found_at key offset x = Ok (found_member key x.0 offset, x.1)
 
 abbrev pub after_key : ℕ → Mode → (List ℕ → Parse Source) → Mark × List ℕ → ℕ → List ℕ → Parse Found
-after_key size mode value key place bytes =
-    on_byte ascii.colon bytes (λ rest. padded_at mode value rest >>= found_at key place)
+after_key size mode value key offset bytes =
+    on_byte ascii.colon bytes (λ rest. padded_at mode value rest >>= found_at key offset)
     (reject size expected_colon 0 bytes)
 
 abbrev pub member_at : ℕ → Mode → (List ℕ → Parse Source) → List ℕ → Parse Found
@@ -71,7 +71,7 @@ member_at size mode value bytes =
 
 abbrev pub object_or_fault : Option Spot → List Found → List ℕ → Parse Source
 object_or_fault None fs rest = Ok (object_source_of fs, rest)
-object_or_fault (Some s) fs rest = fault (object_duplicate_key s.key) s.place
+object_or_fault (Some s) fs rest = fault (object_duplicate_key s.key) s.offset
 
 abbrev pub members_at : ℕ → Mode → (List ℕ → Parse Source) → List ℕ → Parse Source
 members_at size mode value bytes =

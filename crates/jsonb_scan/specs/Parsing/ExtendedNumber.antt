@@ -11,7 +11,7 @@ use Rattle.jsonb_spec.specs.Tree.{Num}
 use Rattle.jsonb_scan.specs.Parsing.{Parse, fault}
 use Rattle.jsonb_scan.specs.Parsing.Number.{End, ContinuesAfterInteger, sign_end, digits_from, exponent_from, representable_at, is_number_start}
 
--- A number text's number, if a form holds it, and the index after the text; or the fault and its place.
+-- A number text's number, if a form holds it, and the index after the text; or the fault and its offset.
 abbrev pub Scanned : Type 0
 Scanned = Result (Option Num × ℕ) (Code × ℕ)
 
@@ -59,7 +59,7 @@ point_end bytes = point_from bytes (front_end bytes)
 abbrev pub behind_end : List ℕ → ℕ
 behind_end bytes = behind_from bytes (front_end bytes)
 
--- how many digits stand behind the point
+-- how many digits are behind the point
 abbrev pub scale_at : List ℕ → ℕ
 scale_at bytes = behind_end bytes - point_end bytes
 
@@ -67,7 +67,7 @@ scale_at bytes = behind_end bytes - point_end bytes
 abbrev pub precision_at : List ℕ → ℕ
 precision_at bytes = front_end bytes - zeros_end bytes + scale_at bytes
 
--- whether no digit stands before and behind the point
+-- whether no digit is before and behind the point
 abbrev pub lacks_digits : List ℕ → Bool
 lacks_digits bytes = front_end bytes - core_start bytes + scale_at bytes == 0
 
@@ -97,7 +97,7 @@ decimal_at bytes end =
 
 abbrev pub decimal_to : List ℕ → End → Scanned
 decimal_to bytes (Ok end) = Ok (decimal_at bytes end, end)
-decimal_to bytes (Err place) = Err (invalid_number_value, place)
+decimal_to bytes (Err offset) = Err (invalid_number_value, offset)
 
 -- the decimal that the bytes begin with
 unfoldable pub decimal_scan : List ℕ → Scanned
@@ -107,7 +107,7 @@ decimal_scan bytes = decimal_to bytes (decimal_end bytes)
 
 -- a fault inside a number text
 abbrev pub invalid : ℕ → Scanned
-invalid place = Err (invalid_number_value, place)
+invalid offset = Err (invalid_number_value, offset)
 
 -- how many hexadecimal digits the bytes begin with
 unfoldable pub hexadecimal_length : List ℕ → ℕ
@@ -122,48 +122,49 @@ abbrev pub hexadecimal_whole : ℕ → Bool → List ℕ → Scanned
 hexadecimal_whole end negative ds = if hexadecimal_fits ds
     then Ok (hexadecimal_number negative (digits_value 16 ds), end) else Err (invalid_number_value, end)
 
--- the bytes after the point of a hexadecimal, the first of which has this place, after digits that 128 bits hold or not
+-- the bytes after the point of a hexadecimal, the first of which has this offset, after digits that 128 bits hold or
+-- not
 unfoldable pub fraction_scan : ℕ → Bool → List ℕ → Scanned
-fraction_scan place whole_fits bytes =
-    if hexadecimal_length bytes == 0 then Err (invalid_number_value, place)
+fraction_scan offset whole_fits bytes =
+    if hexadecimal_length bytes == 0 then Err (invalid_number_value, offset)
     else (if whole_fits && hexadecimal_fits (take (hexadecimal_length bytes) bytes)
-    then Ok (None, place + hexadecimal_length bytes) else Err (invalid_number_value, place + hexadecimal_length bytes))
+    then Ok (None, offset + hexadecimal_length bytes) else Err (invalid_number_value, offset + hexadecimal_length bytes))
 
--- the bytes after the x of a hexadecimal, the first of which has this place
+-- the bytes after the x of a hexadecimal, the first of which has this offset
 unfoldable pub hexadecimal_scan : ℕ → Bool → List ℕ → Scanned
-hexadecimal_scan place negative bytes =
-    if hexadecimal_length bytes == 0 then Err (invalid_number_value, place)
+hexadecimal_scan offset negative bytes =
+    if hexadecimal_length bytes == 0 then Err (invalid_number_value, offset)
     else (if slice_index bytes (hexadecimal_length bytes) == ascii.point
-    then fraction_scan (place + hexadecimal_length bytes + 1)
+    then fraction_scan (offset + hexadecimal_length bytes + 1)
     (hexadecimal_fits (take (hexadecimal_length bytes) bytes)) (drop (hexadecimal_length bytes + 1) bytes)
-    else hexadecimal_whole (place + hexadecimal_length bytes) negative (take (hexadecimal_length bytes) bytes))
+    else hexadecimal_whole (offset + hexadecimal_length bytes) negative (take (hexadecimal_length bytes) bytes))
 
 -- ---- words
 
--- the index after the word's letters, each in either case; the first of the bytes has this place
-unfoldable pub spelled_from : ℕ → List ℕ → List ℕ → Result ℕ (Code × ℕ)
-spelled_from place [] bytes = Ok place
-spelled_from place (c ∷ word) [] = Err (invalid_eof, place)
-spelled_from place (c ∷ word) (b ∷ bytes) = if to_ascii_lowercase b == c then spelled_from (place + 1) word bytes
-    else Err (expected_some_ident, place + 1)
+-- the index after the word's letters, each in either case; the first of the bytes has this offset
+unfoldable pub encoded_from : ℕ → List ℕ → List ℕ → Result ℕ (Code × ℕ)
+encoded_from offset [] bytes = Ok offset
+encoded_from offset (c ∷ word) [] = Err (invalid_eof, offset)
+encoded_from offset (c ∷ word) (b ∷ bytes) = if to_ascii_lowercase b == c then encoded_from (offset + 1) word bytes
+    else Err (expected_some_ident, offset + 1)
 
 -- a word that names no finite number
 abbrev pub unrepresentable_word : Result ℕ (Code × ℕ) → Scanned
 unrepresentable_word (Ok end) = Ok (None, end)
 unrepresentable_word (Err f) = Err f
 
--- a word that is rejected where it is spelled
+-- a word that is rejected where it is encoded
 abbrev pub invalid_word : Result ℕ (Code × ℕ) → Scanned
 invalid_word (Ok end) = Err (invalid_number_value, end)
 invalid_word (Err f) = Err f
 
 -- a word from its first letter on, after a minus or not
 unfoldable pub word_scan : ℕ → Bool → List ℕ → Scanned
-word_scan place negative bytes =
+word_scan offset negative bytes =
     if to_ascii_lowercase (slice_index bytes 0) == ascii.lower_n
-    then (if negative then invalid_word (spelled_from place (codes "nan") bytes)
-    else unrepresentable_word (spelled_from place (codes "nan") bytes))
-    else unrepresentable_word (spelled_from place (codes "infinity") bytes)
+    then (if negative then invalid_word (encoded_from offset (codes "nan") bytes)
+    else unrepresentable_word (encoded_from offset (codes "nan") bytes))
+    else unrepresentable_word (encoded_from offset (codes "infinity") bytes)
 
 -- ---- all of them
 
@@ -171,12 +172,12 @@ word_scan place negative bytes =
 abbrev pub is_word_start : ℕ → Bool
 is_word_start b = (to_ascii_lowercase b == ascii.lower_n) || (to_ascii_lowercase b == ascii.lower_i)
 
--- whether a zero and an x stand here
+-- whether a zero and an x are here
 abbrev pub hexadecimal_starts : List ℕ → ℕ → Bool
 hexadecimal_starts bytes start = (slice_index bytes start == ascii.digit_zero)
     && (to_ascii_lowercase (slice_index bytes (start + 1)) == ascii.lower_x)
 
--- whether a zero and an x stand after the sign
+-- whether a zero and an x are after the sign
 abbrev pub is_hexadecimal_start : List ℕ → Bool
 is_hexadecimal_start bytes = hexadecimal_starts bytes (core_start bytes)
 

@@ -12,14 +12,14 @@ use Rattle.jsonb_scan.specs.Parsing.{Parse, fault}
 
 -- ---- where a number text ends
 
--- the index after a text, or the place of a fault
+-- the index after a text, or the offset of a fault
 abbrev pub End : Type 0
 End = Result ℕ ℕ
 
 -- the end, and what is parsed from there on
 abbrev pub then_from : End → (ℕ → End) → End
 then_from (Ok end) f = f end
-then_from (Err place) f = Err place
+then_from (Err offset) f = Err offset
 
 -- how many digits the bytes begin with
 unfoldable pub digits_length : List ℕ → ℕ
@@ -95,7 +95,7 @@ representable_at size rest None = fault number_not_carried (size - length rest)
 
 abbrev pub number_to : ℕ → List ℕ → End → Parse Num
 number_to size bytes (Ok end) = representable_at size (drop end bytes) (integer_at bytes end)
-number_to size bytes (Err place) = fault invalid_number_value (size - length bytes + place)
+number_to size bytes (Err offset) = fault invalid_number_value (size - length bytes + offset)
 
 -- the number of the longest standard number text that the bytes begin with
 unfoldable pub standard_number_at : ℕ → List ℕ → Parse Num

@@ -33,7 +33,7 @@ letters_at size mode [] bytes = Ok bytes
 letters_at size mode (c ∷ cs) bytes =
     on_letter mode c bytes (letters_at size mode cs) (reject size expected_some_ident 1 bytes)
 
--- a word and what it stands for
+-- a word and what it means
 abbrev pub word_at : ℕ → Mode → List ℕ → Tree → List ℕ → Parse Tree
 word_at size mode word t bytes = letters_at size mode word bytes >>= λ rest. Ok (t, rest)
 

@@ -6,7 +6,7 @@ use Rattle.jsonb_spec.specs.Ascii as ascii
 use Rattle.jsonb_spec.specs.Mode.{Mode}
 use Rattle.jsonb_spec.specs.Tree.{Mark}
 use Rattle.jsonb_spec.specs.Code.{Code, invalid_eof, invalid_string_value, invalid_escaped, invalid_hex, unexpected_end_of_hex_escape}
-use Rattle.jsonb_spec.specs.Grammar.StringBody.{Item, raw, escape, unit, after_u, spelling, escaped_byte, meaning}
+use Rattle.jsonb_spec.specs.Grammar.StringBody.{Item, raw, escape, unit, after_u, encoding, escaped_byte, meaning}
 use Rattle.jsonb_value.specs.StringStep.{item_step}
 use Rattle.jsonb_spec.specs.Grammar.Quoted.{mark_of}
 use Rattle.jsonb_scan.specs.Parsing.{Parse, fault}
@@ -54,7 +54,7 @@ item_at mode byte bytes = if byte == ascii.backslash then escape_at mode bytes e
 
 abbrev pub onto : Item → Body (List Item) → Body (List Item)
 onto item (Ok items) = Ok (item ∷ items)
-onto item (Err f) = Err (f.0, length (spelling item) + f.1)
+onto item (Err f) = Err (f.0, length (encoding item) + f.1)
 
 abbrev pub then_items : Body Item → (Item → Body (List Item)) → Body (List Item)
 then_items (Ok item) others = onto item (others item)
@@ -65,7 +65,7 @@ unfoldable pub items_within : ℕ → Mode → List ℕ → Body (List Item)
 items_within n mode [] = Ok []
 items_within zero mode (b ∷ bytes) = Ok []
 items_within (suc n) mode (b ∷ bytes) =
-    then_items (item_at mode b bytes) (λ item. items_within n mode (drop (length (spelling item)) (b ∷ bytes)))
+    then_items (item_at mode b bytes) (λ item. items_within n mode (drop (length (encoding item)) (b ∷ bytes)))
 
 -- the meaning of the items, where it is text
 abbrev pub meaning_of : List ℕ → Body (List Item) → Body (Mark × List ℕ)
@@ -84,8 +84,8 @@ abbrev pub further : ℕ → Result ℕ ℕ → Result ℕ ℕ
 further n (Ok end) = Ok (n + end)
 further n (Err at) = Err (n + at)
 
--- How many bytes stand before the closing quote, where this many bytes of an item are still to be passed. Where there
--- is no closing quote, the number tells where the search stands at the end, which may be past the bytes.
+-- How many bytes are before the closing quote, where this many bytes of an item are still to be passed. Where there
+-- is no closing quote, the number says where the search is at the end, which may be past the bytes.
 unfoldable pub quote_from : ℕ → ℕ → List ℕ → Result ℕ ℕ
 quote_from quote passed [] = Err passed
 quote_from quote (suc passed) (b ∷ bytes) = further 1 (quote_from quote passed bytes)

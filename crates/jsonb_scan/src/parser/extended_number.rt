@@ -1,7 +1,7 @@
 //! The numbers of extended texts: decimals, hexadecimals, `nan` and `infinity`.
 ghost use Rattle.std.specs.Prelude.{◌≡◌, ◌+◌, ◌-◌, ◌*◌, ◌≤◌, ◌<◌, ◌^◌, length, Err, None, IfOk, IfErr};
 ghost use Rattle.jsonb_scan.specs.Parsing.Number.{sign_end};
-ghost use Rattle.jsonb_scan.specs.Parsing.ExtendedNumber.{spelled_from, word_scan, is_word_start, extended_scan, invalid};
+ghost use Rattle.jsonb_scan.specs.Parsing.ExtendedNumber.{encoded_from, word_scan, is_word_start, extended_scan, invalid};
 ghost use Rattle.jsonb_scan.specs.ScannedNumber.{scanned_view, letters_view};
 
 mod decimal;
@@ -27,67 +27,67 @@ pub struct NumberText {
 #[derive(Drop)]
 pub struct NumberFault {
     pub code: ParseErrorCode,
-    pub place: usize,
+    pub offset: usize,
 }
 
 // The most digits of a number that is representable.
 const MOST_DIGITS: usize = 38;
 
-// The fault inside of a number text, at this place.
-fn invalid(place: usize) -> std::result::Result<NumberText, NumberFault>
-    ensures scan { scanned_view result ≡ invalid place }
-    ensures near { IfErr result (λ fault. fault.place ≡ place) }
-    ensures no_text { IfOk result (λ text. text.end ≡ place) }
+// The fault inside of a number text, at this offset.
+fn invalid(offset: usize) -> std::result::Result<NumberText, NumberFault>
+    ensures scan { scanned_view result ≡ invalid offset }
+    ensures near { IfErr result (λ fault. fault.offset ≡ offset) }
+    ensures no_text { IfOk result (λ text. text.end ≡ offset) }
 {
     Err(NumberFault {
         code: ParseErrorCode::InvalidNumberValue,
-        place,
+        offset,
     })
 }
 
-// The index after the letters of a word, each in either case; the first has this place.
-fn word_end(bytes: &[u8], place: usize, word: &[u8]) -> std::result::Result<usize, NumberFault>
-    requires { place + length bytes.now < 2 ^ 63 }
-    ensures scan { letters_view result ≡ spelled_from place word.now bytes.now }
-    ensures within { IfOk result (λ end. end ≤ place + length bytes.now) }
-    ensures near { IfErr result (λ fault. fault.place ≤ place + length bytes.now) }
+// The index after the letters of a word, each in either case; the first has this offset.
+fn word_end(bytes: &[u8], offset: usize, word: &[u8]) -> std::result::Result<usize, NumberFault>
+    requires { offset + length bytes.now < 2 ^ 63 }
+    ensures scan { letters_view result ≡ encoded_from offset word.now bytes.now }
+    ensures within { IfOk result (λ end. end ≤ offset + length bytes.now) }
+    ensures near { IfErr result (λ fault. fault.offset ≤ offset + length bytes.now) }
 {
     let mut index = 0;
     'letters: for letter in word {
         if index == bytes.len() {
             return Err(NumberFault {
                 code: ParseErrorCode::InvalidEOF,
-                place: place + index,
+                offset: offset + index,
             });
         }
         if bytes[index].to_ascii_lowercase() != *letter {
             return Err(NumberFault {
                 code: ParseErrorCode::ExpectedSomeIdent,
-                place: place + index + 1,
+                offset: offset + index + 1,
             });
         }
         index += 1;
     }
-    Ok(place + index)
+    Ok(offset + index)
 }
 
-// A word whose first letter has this place: no number, but a text that is not representable, or a fault.
+// A word whose first letter has this offset: no number, but a text that is not representable, or a fault.
 #[cold]
 fn scan_word(
     bytes: &[u8],
-    place: usize,
+    offset: usize,
     negative: bool,
 ) -> std::result::Result<NumberText, NumberFault>
-    requires { place + length bytes.now < 2 ^ 63 }
-    ensures scan { scanned_view result ≡ word_scan place negative bytes.now }
-    ensures within { IfOk result (λ text. text.end ≤ place + length bytes.now) }
-    ensures near { IfErr result (λ fault. fault.place ≤ place + length bytes.now) }
+    requires { offset + length bytes.now < 2 ^ 63 }
+    ensures scan { scanned_view result ≡ word_scan offset negative bytes.now }
+    ensures within { IfOk result (λ text. text.end ≤ offset + length bytes.now) }
+    ensures near { IfErr result (λ fault. fault.offset ≤ offset + length bytes.now) }
 {
     if byte_at(bytes, 0).to_ascii_lowercase() != b'n' {
-        let end = word_end(bytes, place, b"infinity")?;
+        let end = word_end(bytes, offset, b"infinity")?;
         return Ok(NumberText { number: None, end });
     }
-    let end = word_end(bytes, place, b"nan")?;
+    let end = word_end(bytes, offset, b"nan")?;
     if negative {
         return invalid(end);
     }
@@ -108,7 +108,7 @@ fn begins_word(byte: u8) -> bool
 pub fn scan_number(bytes: &[u8]) -> std::result::Result<NumberText, NumberFault>
     ensures scan { scanned_view result ≡ extended_scan bytes.now }
     ensures within { IfOk result (λ text. text.end ≤ length bytes.now) }
-    ensures near { IfErr result (λ fault. fault.place ≤ length bytes.now) }
+    ensures near { IfErr result (λ fault. fault.offset ≤ length bytes.now) }
 {
     let start = sign_end(bytes, 0);
     let negative = byte_at(bytes, 0) == b'-';

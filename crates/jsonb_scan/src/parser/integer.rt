@@ -1,9 +1,9 @@
-//! Integers of standard texts that are serialized as they stand.
+//! Integers of standard texts that are serialized as they are.
 ghost use Rattle.std.specs.Prelude.{◌≡◌, ◌⊎◌, MatchBool, ◌+◌, ◌≤◌, ◌<◌, ℕ, IfSome, drop, if◌then◌else◌, ◌==◌, length, slice_index, true};
 ghost use Rattle.std.specs.Char.{is_ascii_digit};
 ghost use Rattle.std.specs.Int.{w64, trailing_zeros};
 ghost use Rattle.jsonb_scan.specs.Parsing.Number.{digits_length, is_number_start};
-ghost use Rattle.jsonb_scan.specs.ShortInteger.{IsKeptInteger};
+ghost use Rattle.jsonb_scan.specs.ShortInteger.{IsVerbatimInteger};
 ghost use Rattle.jsonb_spec.specs.Ascii as ascii;
 
 use super::number::{after_minus, byte_at, continues_number, digits_within, short_digits};
@@ -75,8 +75,8 @@ fn may_begin(digit: u8, len: usize) -> bool
 /// The length of the integer that the bytes of a standard text begin with, where it has at most 19 bytes, and is
 /// written by the same bytes again: no 0 with a minus is.
 #[inline(always)]
-pub fn kept_integer(bytes: &[u8]) -> Option<usize>
-    ensures found { IfSome result (IsKeptInteger bytes.now) }
+pub fn verbatim_integer(bytes: &[u8]) -> Option<usize>
+    ensures found { IfSome result (IsVerbatimInteger bytes.now) }
     ensures first { IfSome result (λ _. is_number_start (slice_index bytes.now 0) ≡ true) }
     ensures within { IfSome result (λ end. end ≤ length bytes.now) }
 {

@@ -78,7 +78,7 @@ pub fn leading_digits(bytes: &[u8]) -> Digits
     }
 }
 
-// What a digit stands for, and more than 9 for a byte that is none. It is as wide as a number, so that a digit is
+// What a digit means, and more than 9 for a byte that is none. It is as wide as a number, so that a digit is
 // widened once.
 #[inline(always)]
 fn digit_of(byte: u8) -> u64
@@ -193,19 +193,19 @@ pub fn short_integer(bytes: &[u8]) -> Option<ShortInteger>
     })
 }
 
-/// Whether a byte goes on with a number after its whole part, or stands behind a fraction as if it did.
+/// Whether a byte goes on with a number after its whole part, or is behind a fraction as if it did.
 pub fn continues_after_integer(byte: u8) -> bool
     ensures { MatchBool result (ContinuesAfterInteger byte) (¬ ContinuesAfterInteger byte) }
 {
     matches!(byte, b'.' | b'e' | b'E')
 }
 
-// The index after a fraction, if one is there; else the place of the fault.
+// The index after a fraction, if one is there; else the offset of the fault.
 fn fraction_end(bytes: &[u8], start: usize) -> std::result::Result<usize, usize>
     requires { start ≤ length bytes.now }
     ensures end { result ≡ fraction_from bytes.now start }
     ensures within { IfOk result (λ end. end ≤ length bytes.now) }
-    ensures near { IfErr result (λ place. place ≤ length bytes.now + 2) }
+    ensures near { IfErr result (λ offset. offset ≤ length bytes.now + 2) }
 {
     if byte_at(bytes, start) != b'.' {
         return Ok(start);
@@ -230,12 +230,12 @@ pub(super) fn sign_end(bytes: &[u8], start: usize) -> usize
     }
 }
 
-// The index after an exponent, if one is there; else the place of the fault.
+// The index after an exponent, if one is there; else the offset of the fault.
 pub(super) fn exponent_end(bytes: &[u8], start: usize) -> std::result::Result<usize, usize>
     requires { start ≤ length bytes.now }
     ensures end { result ≡ exponent_from bytes.now start }
     ensures within { IfOk result (λ end. end ≤ length bytes.now) }
-    ensures near { IfErr result (λ place. place ≤ length bytes.now) }
+    ensures near { IfErr result (λ offset. offset ≤ length bytes.now) }
 {
     let mark = byte_at(bytes, start);
     if mark != b'e' && mark != b'E' {
@@ -246,14 +246,14 @@ pub(super) fn exponent_end(bytes: &[u8], start: usize) -> std::result::Result<us
     if end == digits { Err(digits) } else { Ok(end) }
 }
 
-/// The index after a number text with a fraction or an exponent; else the place of the fault.
+/// The index after a number text with a fraction or an exponent; else the offset of the fault.
 #[cold]
 pub fn number_end(bytes: &[u8], whole_end: usize) -> std::result::Result<usize, usize>
     requires { whole_end ≤ length bytes.now }
     ensures end { result
         ≡ then_from (fraction_from bytes.now whole_end) (exponent_from bytes.now) }
     ensures within { IfOk result (λ end. end ≤ length bytes.now) }
-    ensures near { IfErr result (λ place. place ≤ length bytes.now + 2) }
+    ensures near { IfErr result (λ offset. offset ≤ length bytes.now + 2) }
 {
     let fraction_end = fraction_end(bytes, whole_end)?;
     exponent_end(bytes, fraction_end)

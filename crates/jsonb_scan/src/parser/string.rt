@@ -2,9 +2,9 @@
 ghost use Rattle.std.specs.Prelude.{◌≡◌, ◌≢◌, ◌==◌, IfSome, IfNone, ℕ, ◌+◌, ◌<◌, ◌≤◌, ◌^◌, length, slice_index, Err, true};
 ghost use Rattle.jsonb_spec.specs.Ascii as ascii;
 ghost use Rattle.jsonb_value.specs.StringStep.{escape_step};
-ghost use Rattle.jsonb_scan.specs.Decoding.{TellsBackslash};
+ghost use Rattle.jsonb_scan.specs.Decoding.{ReportsBackslash};
 ghost use Rattle.jsonb_scan.specs.Answer.{mode_of};
-ghost use Rattle.jsonb_scan.specs.QuotedString.{EndsString, IsClear, IsQuoteOrBackslash, KnowsMarks, DecodesContents, TellsMarks};
+ghost use Rattle.jsonb_scan.specs.QuotedString.{EndsString, IsClear, IsQuoteOrBackslash, KnowsMarks, DecodesContents, ReportsMarks};
 ghost use Rattle.jsonb_scan.specs.Parsing.String.{body_of};
 
 use super::Mode;
@@ -19,7 +19,7 @@ use std::simd::prelude::*;
 /// Where the search for the end of a string stops, counted from the byte after the opening quote.
 #[derive(Clone, Copy)]
 pub enum StringEnd {
-    // At the closing quote; and whether a backslash stands before it.
+    // At the closing quote; and whether a backslash is before it.
     Closed { end: usize, escaped: bool },
     // There is no closing quote. The index may pass the end of the bytes.
     Unclosed { at: usize },
@@ -111,7 +111,7 @@ fn near_mark(bytes: &[u8], quote: u8, at: usize) -> Option<usize>
 #[inline(always)]
 fn load_marks(bytes: &[u8], quote: u8, at: usize) -> u64
     requires { at + 32 ≤ length bytes.now }
-    ensures { TellsMarks quote bytes.now at (at + 32) result }
+    ensures { ReportsMarks quote bytes.now at (at + 32) result }
 {
     let lanes = load(bytes, at);
     let quotes = equal_to(lanes, quote);
@@ -193,8 +193,8 @@ pub fn decode_contents<'a>(
     escaped: bool,
     idx: usize,
 ) -> Result<CowStr<'a>>
-    requires escaped { TellsBackslash body.now (length body.now) escaped }
-    requires room { idx + length body.now < 2 ^ 64 }
+    requires escaped { ReportsBackslash body.now (length body.now) escaped }
+    requires space { idx + length body.now < 2 ^ 64 }
     ensures parses { DecodesContents idx result (body_of (mode_of mode) body.now) }
     ensures memory { result ≡ Err Error.OutOfMemory → escaped ≡ true }
 {

@@ -10,7 +10,7 @@ use super::vector::{both, equal_to, load, lowest, top_bits};
 use memchr::memchr2;
 use std::simd::prelude::*;
 
-// Bit k is set where a star and a slash stand from byte `at + k` on, among the next 32 bytes.
+// Bit k is set where a star and a slash are from byte `at + k` on, among the next 32 bytes.
 #[inline(always)]
 fn block_ends(bytes: &[u8], at: usize) -> u64
     requires { at + 33 ≤ length bytes.now }

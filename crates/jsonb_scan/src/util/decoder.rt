@@ -10,19 +10,19 @@ ghost use Rattle.jsonb_scan.specs.Decoding.{Adds, AreContents, DecodesUpTo, Stop
 ghost use Rattle.jsonb_scan.specs.QuotedString.{decoded_text};
 
 mod check;
-mod room;
 mod run;
+mod space;
 mod unit;
 
 use crate::parser::Mode;
 pub use check::check_contents;
 use jsonb_value::error::{Error, ParseErrorCode, Result};
-use room::{give_back, write_byte};
 use run::copy_run;
+use space::{give_back, write_byte};
 use std::alloc::Global;
 use unit::units;
 
-// What keeps bytes from being decoded, and how many of them are left then.
+// What prevents bytes from being decoded, and how many of them are left then.
 #[derive(Drop)]
 struct DecodingFault {
     code: ParseErrorCode,
@@ -36,7 +36,7 @@ struct Decoded<'a> {
     len: usize,
 }
 
-// The byte that a backslash and this letter stand for.
+// The byte that a backslash and this letter mean.
 #[inline(always)]
 fn escaped_byte(letter: u8, mode: Mode) -> Option<u8>
     ensures { result ≡ escaped_byte (mode_of mode) letter }
@@ -56,7 +56,7 @@ fn escaped_byte(letter: u8, mode: Mode) -> Option<u8>
     }
 }
 
-// Decodes the escape whose backslash stands before the bytes.
+// Decodes the escape whose backslash is before the bytes.
 #[inline(always)]
 fn escape<'a>(
     bytes: &'a [u8],
@@ -68,7 +68,7 @@ fn escape<'a>(
     ensures ok { IfOk result (λ done. Adds (mode_of mode)
         (ascii.backslash ∷ bytes.now) done.rest.now (take len text.old) (take done.len text.new)) }
     ensures shorter { IfOk result (λ done. length done.rest.now ≤ length bytes.now) }
-    ensures room { IfOk result (λ done. done.len + length done.rest.now ≤ len + 1 + length bytes.now) }
+    ensures space { IfOk result (λ done. done.len + length done.rest.now ≤ len + 1 + length bytes.now) }
     ensures within { IfOk result (λ done. done.len ≤ length text.new) }
     ensures err { IfErr result (λ fault. StopsAtEscape (mode_of mode) (ascii.backslash ∷ bytes.now) (code_of fault.code)
         fault.left) }
@@ -94,8 +94,8 @@ fn escape<'a>(
     Ok(Decoded { rest, len })
 }
 
-// Decodes a whole body into a text that has room for its length behind the bytes that are decoded, and returns how many
-// are decoded then.
+// Decodes a whole body into a text that has space for its length behind the bytes that are decoded, and returns how
+// many are decoded then.
 #[inline(always)]
 fn decode(
     bytes: &[u8],
@@ -107,7 +107,7 @@ fn decode(
     ensures ok { IfOk result (λ end. Adds (mode_of mode) bytes.now [] (take len text.old) (take end text.new)) }
     ensures within { IfOk result (λ end. end ≤ length text.new) }
     ensures err { IfErr result (λ fault. StopsAtEscape (mode_of mode) bytes.now (code_of fault.code) fault.left) }
-    ensures kept { take len text.new ≡ take len text.old }
+    ensures retained { take len text.new ≡ take len text.old }
     ensures size { length text.new ≡ length text.old }
 {
     let mut done = Decoded { rest: bytes, len };
@@ -120,8 +120,8 @@ fn decode(
     Ok(done.len)
 }
 
-/// Decodes the escape whose backslash stands before the bytes, and returns how many bytes of the text it is, and what
-/// follows it. There is none where no escape of this mode begins the bytes; contents of a string have no such place.
+/// Decodes the escape whose backslash is before the bytes, and returns how many bytes of the text it is, and what
+/// follows it. There is none where no escape of this mode begins the bytes; contents of a string have no such offset.
 pub fn decode_escape<'a>(bytes: &'a [u8], mode: Mode, text: &mut [u8]) -> Option<(usize, &'a [u8])>
     requires { 12 ≤ length text.old }
     ensures some { IfSome result (λ done. DecodesUpTo (mode_of mode) (ascii.backslash ∷ bytes.now) done.1.now
@@ -137,7 +137,7 @@ pub fn decode_escape<'a>(bytes: &'a [u8], mode: Mode, text: &mut [u8]) -> Option
     Some((done.len, done.rest))
 }
 
-/// Decodes the contents of a string into a text that has room for their length behind its first `len` bytes, and
+/// Decodes the contents of a string into a text that has space for their length behind its first `len` bytes, and
 /// returns how many bytes it has then. There is none where the contents are malformed.
 pub fn decode_behind(bytes: &[u8], mode: Mode, text: &mut [u8], len: usize) -> Option<usize>
     requires { len + length bytes.now ≤ length text.old }
@@ -145,7 +145,7 @@ pub fn decode_behind(bytes: &[u8], mode: Mode, text: &mut [u8], len: usize) -> O
         (mode_of mode) bytes.now) }
     ensures none { IfNone result (¬ (AreContents (mode_of mode) bytes.now)) }
     ensures within { IfSome result (λ end. end ≤ length text.new) }
-    ensures kept { take len text.new ≡ take len text.old }
+    ensures retained { take len text.new ≡ take len text.old }
     ensures size { length text.new ≡ length text.old }
 {
     let Ok(end) = decode(bytes, mode, text, len) else {
@@ -185,7 +185,7 @@ pub(crate) fn unescape(alloc: Global, bytes: &[u8], mode: Mode, idx: &mut usize)
 
 /// Decodes the contents of a JSON string: the bytes between its quotes. An escape is one of `\"`, `\\`, `\/`, `\b`,
 /// `\f`, `\n`, `\r`, `\t`, `\u` and four hexadecimal digits, or the same with the digits in braces; a high surrogate
-/// and the low one right after it are one character, and a lone surrogate is kept verbatim. Every other byte means
+/// and the low one right after it are one character, and a lone surrogate is held verbatim. Every other byte means
 /// itself. No result depends on `len`: the capacity is the length of `data`, which is always enough.
 ///
 /// `idx` is moved by the length of `data` on success, and past the fault on an error, whose offset is the new `idx`.

@@ -8,7 +8,7 @@ use Rattle.std.specs.Str.Parse.{digits_value}
 use Rattle.jsonb_spec.specs.Ascii as ascii
 use Rattle.jsonb_spec.specs.Mode.{Mode, standard, extended}
 
--- One item of a body: a byte that stands for itself; a backslash and a letter, which stand for a byte; or `\u` and
+-- One item of a body: a byte that means itself; a backslash and a letter, which mean a byte; or `\u` and
 -- four hexadecimal digits, in braces or not.
 pub data Item : Type 0 where
   raw : ℕ → Item
@@ -21,12 +21,12 @@ after_u false digits = digits
 after_u true digits = ascii.open_brace ∷ digits ++ ascii.close_brace ∷ []
 
 -- an item's bytes
-abbrev pub spelling : Item → List ℕ
-spelling (raw byte) = byte ∷ []
-spelling (escape letter byte) = ascii.backslash ∷ letter ∷ []
-spelling (unit braces digits) = ascii.backslash ∷ ascii.lower_u ∷ after_u braces digits
+abbrev pub encoding : Item → List ℕ
+encoding (raw byte) = byte ∷ []
+encoding (escape letter byte) = ascii.backslash ∷ letter ∷ []
+encoding (unit braces digits) = ascii.backslash ∷ ascii.lower_u ∷ after_u braces digits
 
--- The byte that a backslash and this letter stand for in both modes: `"`, `\` and `/` stand for themselves, and b, f,
+-- The byte that a backslash and this letter mean in both modes: `"`, `\` and `/` mean themselves, and b, f,
 -- n, r and t for a backspace, a form feed, a line feed, a carriage return and a tab.
 abbrev pub standard_escape : ℕ → Option ℕ
 standard_escape letter =
@@ -40,7 +40,7 @@ standard_escape letter =
     else if letter == ascii.lower_t then Some ascii.tab
     else None
 
--- what a backslash and this letter stand for: in extended mode the single quote stands for itself too
+-- what a backslash and this letter mean: in extended mode the single quote means itself too
 abbrev pub escaped_byte : Mode → ℕ → Option ℕ
 escaped_byte standard letter = standard_escape letter
 escaped_byte extended letter =
@@ -57,18 +57,18 @@ IsItem mode (escape letter byte) = escaped_byte mode letter ≡ Some byte
 IsItem mode (unit braces digits) = (length digits ≡ 4) × All IsHexDigit digits
 
 -- A unit alone: its character, or where it is half of a surrogate pair the unit as text: six characters, with its
--- digits as they were spelled.
+-- digits as they were encoded.
 unfoldable pub alone : List ℕ → List ℕ
 alone digits =
     if is_high_surrogate (digits_value 16 digits) || is_low_surrogate (digits_value 16 digits)
-    then spelling (unit false digits) else encode_utf8 (digits_value 16 digits)
+    then encoding (unit false digits) else encode_utf8 (digits_value 16 digits)
 
 -- a high unit and the unit right after it: the character of the pair, or both as text where the second isn't low
 unfoldable pub together : List ℕ → List ℕ → List ℕ
 together high next =
     if is_low_surrogate (digits_value 16 next)
     then encode_utf8 (surrogate_pair_char (digits_value 16 high) (digits_value 16 next))
-    else spelling (unit false high) ++ spelling (unit false next)
+    else encoding (unit false high) ++ encoding (unit false next)
 
 -- The bytes that items mean. Units are taken from the left, and a high one takes a unit right after it with it.
 unfoldable pub meaning : List Item → List ℕ
@@ -80,9 +80,9 @@ meaning (unit p first ∷ unit q next ∷ items) =
     else alone first ++ meaning (unit q next ∷ items)
 meaning (unit p first ∷ items) = alone first ++ meaning items
 
--- these items are a body, and it is spelled by these bytes
+-- these items are a body, and it is encoded by these bytes
 pub record IsBody (mode : Mode) (bytes : List ℕ) (items : List Item) : Type 0 where
-  pub spelled : bytes ≡ flat_map spelling items
+  pub encoded : bytes ≡ flat_map encoding items
   pub each : AllByRecursion (IsItem mode) items
 
 -- the bytes are a body that means this text

@@ -5,7 +5,7 @@ use Rattle.std.specs.Str.{IsUtf8}
 use Rattle.jsonb_spec.specs.Ascii as ascii
 use Rattle.jsonb_spec.specs.Mode.{Mode}
 use Rattle.jsonb_spec.specs.Code.{Code, invalid_string_value, invalid_escaped, invalid_hex, unexpected_end_of_hex_escape}
-use Rattle.jsonb_spec.specs.Grammar.StringBody.{Item, after_u, spelling, IsItem, IsHexDigit, IsBody, escaped_byte, meaning}
+use Rattle.jsonb_spec.specs.Grammar.StringBody.{Item, after_u, encoding, IsItem, IsHexDigit, IsBody, escaped_byte, meaning}
 
 -- Fewer than four bytes; or an opening brace, and five bytes on no closing brace.
 abbrev pub IsUnitCut : List ℕ → Type 0
@@ -41,10 +41,10 @@ pub record IsCutShort (mode : Mode) (bytes : List ℕ) (code : Code) (read : ℕ
   pub items : List Item
   pub each : AllByRecursion (IsItem mode) items
   pub rest : List ℕ
-  pub spelled : bytes ≡ flat_map spelling items ++ rest
+  pub encoded : bytes ≡ flat_map encoding items ++ rest
   pub steps : ℕ
   pub bad : BadEscape mode rest code steps
-  pub count : read ≡ length (flat_map spelling items) + steps
+  pub count : read ≡ length (flat_map encoding items) + steps
 
 -- The bytes are a body but that its meaning is no text. All of them are read.
 pub record IsNoText (mode : Mode) (bytes : List ℕ) (code : Code) (read : ℕ) : Type 0 where

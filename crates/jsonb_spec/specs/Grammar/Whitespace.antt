@@ -12,12 +12,12 @@ EndsLine byte = (byte ≡ ascii.line_feed) ⊎ (byte ≡ ascii.carriage_return)
 abbrev pub IsOneLine : List ℕ → Type 0
 IsOneLine bytes = AllByRecursion (λ byte. ¬ (EndsLine byte)) bytes
 
--- a star and a slash, in a row, stand nowhere in the bytes
+-- a star and a slash, in a row, are nowhere in the bytes
 abbrev pub LacksCommentEnd : List ℕ → Type 0
 LacksCommentEnd bytes = (before after : List ℕ) → bytes ≢ before ++ ascii.star ∷ ascii.slash ∷ after
 
 -- One piece of whitespace: a space, a tab, a line feed, a form feed or a carriage return (RFC 8259, section 2, has
--- these but the form feed); or the last four and the tab spelled by a backslash and letters. Extended mode has comments
+-- these but the form feed); or the last four and the tab encoded by a backslash and letters. Extended mode has comments
 -- too.
 pub data IsWhitespacePiece (mode : Mode) : List ℕ → Type 0 where
   space : IsWhitespacePiece mode (ascii.space ∷ [])

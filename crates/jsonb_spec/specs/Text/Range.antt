@@ -47,7 +47,7 @@ IsIntegerForm decimal128 = ⊥
 abbrev pub IsIntegral : Num → Type 0
 IsIntegral n = IsIntegerForm n.form
 
--- The tree is in range: it is JSON, at most 512 arrays and objects stand inside of each other, and numbers have few
+-- The tree is in range: it is JSON, at most 512 arrays and objects are inside of each other, and numbers have few
 -- digits.
 abbrev pub IsInRange : Tree → Type 0
 IsInRange t = IsWithin HasFewDigits t max_depth

@@ -11,14 +11,14 @@ use Rattle.jsonb_spec.specs.Text.IntervalText.{amount_text, microseconds_text, c
 use Rattle.jsonb_spec.specs.Text.NumberText.{zero_padded}
 
 -- a text that fits is not cut
-cut_to-whole : (room : ℕ) (text : List ℕ) → length text ≤ room → cut_to room text ≡ text
+cut_to-whole : (space : ℕ) (text : List ℕ) → length text ≤ space → cut_to space text ≡ text
 unfolding cut_to
-cut_to-whole room text h = grind (arith, nat_tests)
+cut_to-whole space text h = grind (arith, nat_tests)
 
--- a part that fits stands after the text, whichever of the two cases of `and_str` it is
+-- a part that fits is after the text, whichever of the two cases of `and_str` it is
 pub appended_whole : (n : ℕ) (old part now : List ℕ) → (length old + length part < n → now ≡ old ++ cut_to (length part) part) → (n ≤ length old + length part → now ≡ cut_to n (old ++ part))
     → length old + length part ≤ n → now ≡ old ++ part
-appended_whole n old part now within to_end room =
+appended_whole n old part now within to_end space =
     elim (eqb_tells (length old + length part) n) [
       | inl w ↦ to_end (omega arith) ∙ cut_to-whole n (old ++ part) (omega (arith, length-append old part))
       | inr w ↦ within (omega arith) ∙ ap (λ p. old ++ p) (cut_to-whole (length part) part (omega arith))
@@ -63,7 +63,7 @@ pub beside_no_amount : (before : List ℕ) (a : ℤ) (name : List ℕ) → unsig
 unfolding amount_text
 beside_no_amount before a name h = beside-none before _ (cond-true (unsigned_abs a == 0) _ _ (eq-eqb (unsigned_abs a) 0 h))
 
--- what stands after a unit's name: nothing after one, and an s after more
+-- what is after a unit's name: nothing after one, and an s after more
 abbrev pub ending : ℕ → List ℕ
 ending n = if n == 1 then [] else 115 ∷ []
 

@@ -31,7 +31,7 @@ comma_done is_first old now text part close new parts others next u more =
     (ap (λ ts. texts_left is_first ts ++ close) next ∙ ap (λ ts. ts ++ close) (texts_left-comma is_first part others) ∙ append_assoc comma (part ++ rest) close ∙ ap (λ ts. comma ++ ts) (append_assoc part rest close))
     more
 
--- the whole text has room for the comma
+-- the whole text has space for the comma
 pub comma_fits : (is_first : Bool) (old now text part close : List ℕ) (parts others : List (List ℕ)) → parts ≡ part ∷ others → IsUnderway old now text (texts_left is_first parts ++ close)
     → length now + length (comma_before is_first) ≤ length old + length text
 comma_fits is_first old now text part close parts others next u =
@@ -47,13 +47,13 @@ pub key_done : (old now text key value rest new : List ℕ) → IsUnderway old n
 key_done old now text key value rest new u more =
     goes_on new (key ++ 58 ∷ []) (value ++ rest) u (key_split key value rest) more
 
--- an item's text stands first in what is left
+-- an item's text is first in what is left
 pub next_item : (vs : List Value) (i : ℕ) (v : Value) → i < length vs → v ≡ get_or vs i v → item_texts (trees_view (drop i vs)) ≡ tree_text (view v) ∷ item_texts (trees_view (drop (i + 1) vs))
 next_item vs i v h e =
     ap (λ us. item_texts (trees_view us)) (drop-cons vs i v h)
     ∙ (λ j. tree_text (view (sym e j)) ∷ item_texts (trees_view (drop (sym (add-one i) j) vs)))
 
--- a member's text stands first in what is left
+-- a member's text is first in what is left
 pub next_member : (es others : List Entry) (e : Entry) → es ≡ e ∷ others
     → member_texts (members_view es) ≡ (quoted_text (string_bytes e.0) ++ 58 ∷ tree_text (view e.1)) ∷ member_texts (members_view others)
 next_member es others e next = ap (λ fs. member_texts (members_view fs)) next

@@ -1,4 +1,4 @@
--- What stands behind a point, and the digits of a decimal that count.
+-- What is behind a point, and the digits of a decimal that count.
 use Rattle.std.proofs.Common.{List, [], ◌∷◌, ℕ, ◌+◌, ◌++◌, length, Option, ℤ}
 use Rattle.std.specs.Option.{unwrap_or, option_map_or}
 use Rattle.std.specs.Str.Parse.{digits_value, starts_with_minus}

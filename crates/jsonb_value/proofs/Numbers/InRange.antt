@@ -18,7 +18,7 @@ use Rattle.jsonb_value.proofs.Numbers.DecimalTexts.{reads_back_as_decimal}
 use Rattle.jsonb_value.proofs.Numbers.Nearest.{unsigned_abs-signed}
 use Rattle.jsonb_value.proofs.Trees.OneText.{IsShort}
 use Rattle.jsonb_value.proofs.Numbers.IntegersReadBack.{signed_reads_back, unsigned_reads_back}
-use Rattle.jsonb_value.proofs.Trees.TextsReadBack.{SpellsSameNumber}
+use Rattle.jsonb_value.proofs.Trees.TextsReadBack.{EncodesSameNumber}
 use Rattle.jsonb_value.proofs.Numbers.Fractions.{fraction_digits, precision_of}
 
 signed_short : (z : ℤ) → FitsSigned w64 z → unsigned_abs z < 10 ^ 38
@@ -67,7 +67,7 @@ standard_text uint64 scale whole p w = unsigned_text whole p.1
 standard_text decimal64 scale whole p w = absurd w
 standard_text decimal128 scale whole p w = absurd w
 
-pub integer_reads_back : (n : Num) → IsProperNumber n → IsIntegral n → SpellsSameNumber standard (number_text n) n
+pub integer_reads_back : (n : Num) → IsProperNumber n → IsIntegral n → EncodesSameNumber standard (number_text n) n
 integer_reads_back n p w =
     let none = integral_unscaled n p w in
     record {
@@ -77,7 +77,7 @@ integer_reads_back n p w =
       wholes = refl;
     }
 
-pub extended_reads_back : (n : Num) → IsProperNumber n → HasFewDigits n → SpellsSameNumber extended (number_text n) n
+pub extended_reads_back : (n : Num) → IsProperNumber n → HasFewDigits n → EncodesSameNumber extended (number_text n) n
 extended_reads_back n p w =
     let r = reads_back_as_decimal n w in
     record { read = r.0; is_number = inl r.1; scales = r.2; wholes = r.3 }

@@ -29,7 +29,7 @@ pointed_inside scale ds some inside =
     let tested : eqb scale 0 ≡ false = grind (arith, nat_tests) in
     rw (same, tested) refl
 
--- the digits all stand behind the point
+-- the digits all are behind the point
 pub pointed_before : (scale : ℕ) (ds : List ℕ) → 0 < scale → length ds ≤ scale → with_point scale (zero_padded (scale + 1) ds) ≡ 48 ∷ 46 ∷ (replicate (scale - length ds) 48 ++ ds)
 unfolding with_point zero_padded
 pointed_before scale ds some behind =

@@ -1,10 +1,10 @@
--- The order that is computed is the order spelled out.
+-- The order that is computed is the order written out.
 use Rattle.std.proofs.Common.{◌≡◌, inl, inr, ◌↔◌, ℕ, zero, suc, ◌<◌, ◌<ℤ◌, List, [], ◌∷◌, Ordering, Less, Equal, Greater, refl, sym, ap, ◌∙◌, subst, arith, nat_cmp, slice_get}
 use Rattle.std.specs.Cmp.{int_ranks, int_cmp_is, ranks, nat_cmp_is, tied_itself}
 use Rattle.std.specs.Cmp.Lexicographic.{slice_cmp, nat_list_cmp_total}
 use Rattle.std.specs.Ordering.{int_cmp, ordering_then, MatchOrdering}
 use Rattle.jsonb_spec.specs.Order.{bytes_cmp, rank, tree_cmp, Below, Same}
-use Rattle.jsonb_spec.specs.Order.ByContent.{SameAt, BelowAt, SameByPlaces, BelowByPlaces, BelowBytes, BelowPair, SamePair, items_of, pairs_of, whole_at_scale, AsLists, IsByContent}
+use Rattle.jsonb_spec.specs.Order.ByContent.{SameAt, BelowAt, SameByIndex, BelowByIndex, BelowBytes, BelowPair, SamePair, items_of, pairs_of, whole_at_scale, AsLists, IsByContent}
 use Rattle.jsonb_value.specs.Order.Laws.{trees_cmp-list, members_cmp-list, entry_cmp, then_equal, tree_cmp-parts}
 use Rattle.jsonb_spec.specs.Tree.{Tree, string, array, object, binary, date, timestamp, timestamp_tz, interval}
 
@@ -37,66 +37,66 @@ first_below Greater s e = cc e
 
 module _ {X : Type 0} (R : X → X → Ordering) (below same : X → X → Type 0) (d : Decides R below same) where
   -- one more item before
-  later : (x y : X) (xs ys : List X) → same x y → BelowByPlaces below same xs ys → BelowByPlaces below same (x ∷ xs) (y ∷ ys)
-  later x y xs ys e b = record { place = suc b.place; before = before; here = b.here }
+  later : (x y : X) (xs ys : List X) → same x y → BelowByIndex below same xs ys → BelowByIndex below same (x ∷ xs) (y ∷ ys)
+  later x y xs ys e b = record { index = suc b.index; before = before; here = b.here }
     where
-      before : (i : ℕ) → i < suc b.place → SameAt same (slice_get (x ∷ xs) i) (slice_get (y ∷ ys) i)
+      before : (i : ℕ) → i < suc b.index → SameAt same (slice_get (x ∷ xs) i) (slice_get (y ∷ ys) i)
       before zero h = e
       before (suc i) h = b.before i (omega arith)
 
-  by_first : (x y : X) (xs ys : List X) (r : Ordering) → R x y ≡ r → (slice_cmp R xs ys ≡ Less → BelowByPlaces below same xs ys) → ordering_then r (slice_cmp R xs ys) ≡ Less → BelowByPlaces below same (x ∷ xs) (y ∷ ys)
-  by_first x y xs ys Less e more l = record { place = 0; before = λ i h. absurd (omega arith); here = (d.is_below x y).0 e }
+  by_first : (x y : X) (xs ys : List X) (r : Ordering) → R x y ≡ r → (slice_cmp R xs ys ≡ Less → BelowByIndex below same xs ys) → ordering_then r (slice_cmp R xs ys) ≡ Less → BelowByIndex below same (x ∷ xs) (y ∷ ys)
+  by_first x y xs ys Less e more l = record { index = 0; before = λ i h. absurd (omega arith); here = (d.is_below x y).0 e }
   by_first x y xs ys Equal e more l = later x y xs ys ((d.is_same x y).0 e) (more l)
   by_first x y xs ys Greater e more l = cc l
 
-  below_to : (xs ys : List X) → slice_cmp R xs ys ≡ Less → BelowByPlaces below same xs ys
+  below_to : (xs ys : List X) → slice_cmp R xs ys ≡ Less → BelowByIndex below same xs ys
   below_to [] [] l = cc l
-  below_to [] (y ∷ ys) l = record { place = 0; before = λ i h. absurd (omega arith); here = tt }
+  below_to [] (y ∷ ys) l = record { index = 0; before = λ i h. absurd (omega arith); here = tt }
   below_to (x ∷ xs) [] l = cc l
   below_to (x ∷ xs) (y ∷ ys) l = by_first x y xs ys (R x y) refl (below_to xs ys) l
 
-  below_from_place : (n : ℕ) (xs ys : List X) → ((i : ℕ) → i < n → SameAt same (slice_get xs i) (slice_get ys i)) → BelowAt below (slice_get xs n) (slice_get ys n) → slice_cmp R xs ys ≡ Less
-  below_from_place zero [] [] before here = absurd here
-  below_from_place zero [] (y ∷ ys) before here = refl
-  below_from_place zero (x ∷ xs) [] before here = absurd here
-  below_from_place zero (x ∷ xs) (y ∷ ys) before here = ap (λ r. ordering_then r (slice_cmp R xs ys)) ((d.is_below x y).1 here)
-  below_from_place (suc n) [] [] before here = absurd here
-  below_from_place (suc n) [] (y ∷ ys) before here = absurd (before 0 (omega arith))
-  below_from_place (suc n) (x ∷ xs) [] before here = absurd here
-  below_from_place (suc n) (x ∷ xs) (y ∷ ys) before here =
-      ap (λ r. ordering_then r (slice_cmp R xs ys)) ((d.is_same x y).1 (before 0 (omega arith))) ∙ below_from_place n xs ys (λ i h. before (suc i) (omega arith)) here
+  below_from_index : (n : ℕ) (xs ys : List X) → ((i : ℕ) → i < n → SameAt same (slice_get xs i) (slice_get ys i)) → BelowAt below (slice_get xs n) (slice_get ys n) → slice_cmp R xs ys ≡ Less
+  below_from_index zero [] [] before here = absurd here
+  below_from_index zero [] (y ∷ ys) before here = refl
+  below_from_index zero (x ∷ xs) [] before here = absurd here
+  below_from_index zero (x ∷ xs) (y ∷ ys) before here = ap (λ r. ordering_then r (slice_cmp R xs ys)) ((d.is_below x y).1 here)
+  below_from_index (suc n) [] [] before here = absurd here
+  below_from_index (suc n) [] (y ∷ ys) before here = absurd (before 0 (omega arith))
+  below_from_index (suc n) (x ∷ xs) [] before here = absurd here
+  below_from_index (suc n) (x ∷ xs) (y ∷ ys) before here =
+      ap (λ r. ordering_then r (slice_cmp R xs ys)) ((d.is_same x y).1 (before 0 (omega arith))) ∙ below_from_index n xs ys (λ i h. before (suc i) (omega arith)) here
 
-  same_to : (xs ys : List X) → slice_cmp R xs ys ≡ Equal → SameByPlaces same xs ys
+  same_to : (xs ys : List X) → slice_cmp R xs ys ≡ Equal → SameByIndex same xs ys
   same_to [] [] e i = tt
   same_to [] (y ∷ ys) e i = cc e
   same_to (x ∷ xs) [] e i = cc e
   same_to (x ∷ xs) (y ∷ ys) e zero = (d.is_same x y).0 (both_tie (R x y) (slice_cmp R xs ys) e).0
   same_to (x ∷ xs) (y ∷ ys) e (suc i) = same_to xs ys (both_tie (R x y) (slice_cmp R xs ys) e).1 i
 
-  same_from : (xs ys : List X) → SameByPlaces same xs ys → slice_cmp R xs ys ≡ Equal
+  same_from : (xs ys : List X) → SameByIndex same xs ys → slice_cmp R xs ys ≡ Equal
   same_from [] [] h = refl
   same_from [] (y ∷ ys) h = absurd (h 0)
   same_from (x ∷ xs) [] h = absurd (h 0)
   same_from (x ∷ xs) (y ∷ ys) h = ap (λ r. ordering_then r (slice_cmp R xs ys)) ((d.is_same x y).1 (h 0)) ∙ same_from xs ys (λ i. h (suc i))
 
-  pub lists_decide : Decides (slice_cmp R) (BelowByPlaces below same) (SameByPlaces same)
+  pub lists_decide : Decides (slice_cmp R) (BelowByIndex below same) (SameByIndex same)
   lists_decide = record {
-    is_below = λ xs ys. (below_to xs ys, λ b. below_from_place b.place xs ys b.before b.here);
+    is_below = λ xs ys. (below_to xs ys, λ b. below_from_index b.index xs ys b.before b.here);
     is_same = λ xs ys. (same_to xs ys, same_from xs ys);
   }
 
-bytes_decide : Decides bytes_cmp BelowBytes (SameByPlaces ◌≡◌)
+bytes_decide : Decides bytes_cmp BelowBytes (SameByIndex ◌≡◌)
 bytes_decide = lists_decide nat_cmp ◌<◌ ◌≡◌ nat_decides
 
--- bytes that agree at each place are the same bytes
-all_places : (xs ys : List ℕ) → SameByPlaces ◌≡◌ xs ys → xs ≡ ys
-all_places [] [] h = refl
-all_places [] (y ∷ ys) h = absurd (h 0)
-all_places (x ∷ xs) [] h = absurd (h 0)
-all_places (x ∷ xs) (y ∷ ys) h = λ i. h 0 i ∷ all_places xs ys (λ i. h (suc i)) i
+-- bytes that agree at each index are the same bytes
+all_indexes : (xs ys : List ℕ) → SameByIndex ◌≡◌ xs ys → xs ≡ ys
+all_indexes [] [] h = refl
+all_indexes [] (y ∷ ys) h = absurd (h 0)
+all_indexes (x ∷ xs) [] h = absurd (h 0)
+all_indexes (x ∷ xs) (y ∷ ys) h = λ i. h 0 i ∷ all_indexes xs ys (λ i. h (suc i)) i
 
 pub same_bytes : (k l : List ℕ) → (bytes_cmp k l ≡ Equal) ↔ (k ≡ l)
-same_bytes k l = (λ e. all_places k l ((bytes_decide.is_same k l).0 e), λ e. ap (bytes_cmp k) (sym e) ∙ tied_itself nat_list_cmp_total k)
+same_bytes k l = (λ e. all_indexes k l ((bytes_decide.is_same k l).0 e), λ e. ap (bytes_cmp k) (sym e) ∙ tied_itself nat_list_cmp_total k)
 
 -- what a comparison of keys and then of trees says
 pair_below : (k l : List ℕ) (t u : Tree) (r : Ordering) → bytes_cmp k l ≡ r → ordering_then r (tree_cmp t u) ≡ Less → BelowPair Below (k, t) (l, u)

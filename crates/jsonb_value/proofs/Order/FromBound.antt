@@ -47,7 +47,7 @@ all_within : (start : Bound (String Global)) (k : String Global) → lets_in sta
 all_within start k h [] p = refl
 all_within start k h (e ∷ es) p = let_in start e es (stays start k e.0 h p.0) ∙ ap (λ more. e ∷ more) (all_within start k h es p.1)
 
--- past a key stand all whose keys are past it
+-- past a key are all whose keys are past it
 past_key : (k : String Global) (es : List Entry) → ArePast k es → from_bound (Excluded k) es ≡ es
 past_key k [] p = refl
 past_key k (e ∷ es) p = let_in (Excluded k) e es (ap (λ r. is_lt r && true) p.0) ∙ ap (λ more. e ∷ more) (past_key k es p.1)
@@ -102,7 +102,7 @@ ends_whole start (x ∷ es) s = ⊎_elim
     (x ∷ taken, ap (λ l. x ∷ l) is ∙ ap (λ more. x ∷ taken ++ more) (sym (left_out start x es b))))
     (cases_Bool (lets_in start x.0))
 
--- what an iterator over what stands within a bound gives first
+-- what an iterator over what is within a bound gives first
 pub next_of : {A : Type 0} (f : A → Entry) (r : Option A) (start : Bound (String Global)) (es shown after : List Entry) → IsStrictlySortedBy string_cmp (keys_of es) → shown ≡ from_bound start es
     → MatchOption r ((shown ≡ []) × (after ≡ [])) (λ a. shown ≡ f a ∷ after)
     → MatchOption r (from_bound start es ≡ []) (λ a. from_bound start es ≡ f a ∷ from_bound (Excluded (f a).0) es)

@@ -7,7 +7,7 @@ use Rattle.std.specs.Bool.{nat_lt}
 use Rattle.std.specs.Ordering.{nat_cmp, ordering_then, MatchOrdering}
 use Rattle.std.specs.declared.cmp.Ordering.{Ordering}
 use Rattle.std.specs.declared.cmp.Ordering.TheVariants.{Less, Equal, Greater}
-use Rattle.jsonb_spec.specs.SortKey.{digits_within, digit_count, place_key, invert_if}
+use Rattle.jsonb_spec.specs.SortKey.{digits_within, digit_count, exponent_key, invert_if}
 use Rattle.jsonb_value.proofs.SortKeys.Comparing.{Compares, same_bytes, is_less, is_greater, ranks, nat_cmp-scaled}
 use Rattle.jsonb_value.proofs.SortKeys.Digits.{signed_order, signed_equal, turned_below, turned_above, turned_same, ten}
 
@@ -71,22 +71,22 @@ digit_count-is m k p q small =
     let other = no_fewer m (k + 1) (digit_count m) here counted in
     omega arith
 
--- ---- the place of the first digit
+-- ---- the exponent of the first digit
 
-pub near : (x : ℕ) → x < 225 → place_key x ≡ 129 ∷ x ∷ []
-unfolding place_key
+pub near : (x : ℕ) → x < 225 → exponent_key x ≡ 129 ∷ x ∷ []
+unfolding exponent_key
 near x l = cond-true (nat_lt x 225) _ _ (lt-ltb x 225 l)
 
-pub far : (x : ℕ) → 225 ≤ x → place_key x ≡ (x - 95) ∷ []
-unfolding place_key
+pub far : (x : ℕ) → 225 ≤ x → exponent_key x ≡ (x - 95) ∷ []
+unfolding exponent_key
 far x l = cond-false (nat_lt x 225) _ _ (le-ltb x 225 l)
 
-abbrev PlacesCompare : Bool → ℕ → ℕ → Ordering → Type 0
-PlacesCompare negative x y r =
-    Compares (map (invert_if negative) (place_key x)) (map (invert_if negative) (place_key y)) (signed_order negative r)
+abbrev IndexesCompare : Bool → ℕ → ℕ → Ordering → Type 0
+IndexesCompare negative x y r =
+    Compares (map (invert_if negative) (exponent_key x)) (map (invert_if negative) (exponent_key y)) (signed_order negative r)
 
-places_below : (negative : Bool) (x y : ℕ) → x < y → y < 351 → PlacesCompare negative x y Less
-places_below negative x y l small =
+indexes_below : (negative : Bool) (x y : ℕ) → x < y → y < 351 → IndexesCompare negative x y Less
+indexes_below negative x y l small =
     elim (cases_lt y 225) [
       | inl k ↦
           rw (near x (omega arith), near y k)
@@ -98,8 +98,8 @@ places_below negative x y l small =
           ]
     ]
 
-places_above : (negative : Bool) (x y : ℕ) → y < x → x < 351 → PlacesCompare negative x y Greater
-places_above negative x y l small =
+indexes_above : (negative : Bool) (x y : ℕ) → y < x → x < 351 → IndexesCompare negative x y Greater
+indexes_above negative x y l small =
     elim (cases_lt x 225) [
       | inl k ↦
           rw (near x k, near y (omega arith))
@@ -111,34 +111,34 @@ places_above negative x y l small =
           ]
     ]
 
-places_same : (negative : Bool) (x y : ℕ) → x ≡ y → PlacesCompare negative x y Equal
-places_same negative x y e =
-    rw (e, signed_equal negative) (same_bytes (map (invert_if negative) (place_key y)))
+indexes_same : (negative : Bool) (x y : ℕ) → x ≡ y → IndexesCompare negative x y Equal
+indexes_same negative x y e =
+    rw (e, signed_equal negative) (same_bytes (map (invert_if negative) (exponent_key y)))
 
-places_by : (negative : Bool) (x y : ℕ) → x < 351 → y < 351 → (r : Ordering) → MatchOrdering r (x < y) (x ≡ y) (y < x) → PlacesCompare negative x y r
-places_by negative x y p q Less l = places_below negative x y l q
-places_by negative x y p q Equal l = places_same negative x y l
-places_by negative x y p q Greater l = places_above negative x y l p
+indexes_by : (negative : Bool) (x y : ℕ) → x < 351 → y < 351 → (r : Ordering) → MatchOrdering r (x < y) (x ≡ y) (y < x) → IndexesCompare negative x y r
+indexes_by negative x y p q Less l = indexes_below negative x y l q
+indexes_by negative x y p q Equal l = indexes_same negative x y l
+indexes_by negative x y p q Greater l = indexes_above negative x y l p
 
-pub places_compare : (negative : Bool) (x y : ℕ) → x < 351 → y < 351 → PlacesCompare negative x y (nat_cmp x y)
-places_compare negative x y p q = places_by negative x y p q (nat_cmp x y) (ranks x y)
+pub indexes_compare : (negative : Bool) (x y : ℕ) → x < 351 → y < 351 → IndexesCompare negative x y (nat_cmp x y)
+indexes_compare negative x y p q = indexes_by negative x y p q (nat_cmp x y) (ranks x y)
 
--- the first byte of a place
-pub record Placed (x : ℕ) : Type 0 where
+-- the first byte of an exponent
+pub record Located (x : ℕ) : Type 0 where
   pub head : ℕ
   pub tail : List ℕ
-  pub is : place_key x ≡ head ∷ tail
+  pub is : exponent_key x ≡ head ∷ tail
   pub low : 128 < head
   pub high : head < 200
 
-pub placed : (x : ℕ) → x < 295 → Placed x
-placed x small =
+pub located : (x : ℕ) → x < 295 → Located x
+located x small =
     elim (cases_lt x 225) [
       | inl l ↦ record { head = 129; tail = x ∷ []; is = near x l; low = omega arith; high = omega arith }
       | inr l ↦ record { head = x - 95; tail = []; is = far x l; low = omega arith; high = omega arith }
     ]
 
--- ---- numbers by the places of their first digits, and where these are the same by their digits
+-- ---- numbers by the exponents of their first digits, and where these are the same by their digits
 
 farther : (a b m n s t : ℕ) → HasDigits m a → HasDigits n b → a + t < b + s → m * 10 ^ t < n * 10 ^ s
 farther a b m n s t p q l =
@@ -155,14 +155,14 @@ as_far a b m n s t e =
     nat_cmp-scaled (m * 10 ^ b) (n * 10 ^ a) (10 ^ t) (ten t) ∙ (λ i. nat_cmp (left i) (right i))
     ∙ sym (nat_cmp-scaled (m * 10 ^ t) (n * 10 ^ s) (10 ^ b) (ten b))
 
-by_places : (a b m n s t : ℕ) → s < 256 → t < 256 → HasDigits m a → HasDigits n b → (r : Ordering)
+by_indexes : (a b m n s t : ℕ) → s < 256 → t < 256 → HasDigits m a → HasDigits n b → (r : Ordering)
     → MatchOrdering r (a + 255 - s < b + 255 - t) (a + 255 - s ≡ b + 255 - t) (b + 255 - t < a + 255 - s)
     → ordering_then r (nat_cmp (m * 10 ^ b) (n * 10 ^ a)) ≡ nat_cmp (m * 10 ^ t) (n * 10 ^ s)
-by_places a b m n s t p q x y Less l = sym (is_less _ _ (farther a b m n s t x y (omega arith)))
-by_places a b m n s t p q x y Equal l = as_far a b m n s t (omega arith)
-by_places a b m n s t p q x y Greater l = sym (is_greater _ _ (farther b a n m t s y x (omega arith)))
+by_indexes a b m n s t p q x y Less l = sym (is_less _ _ (farther a b m n s t x y (omega arith)))
+by_indexes a b m n s t p q x y Equal l = as_far a b m n s t (omega arith)
+by_indexes a b m n s t p q x y Greater l = sym (is_greater _ _ (farther b a n m t s y x (omega arith)))
 
-pub places_and_digits : (a b m n s t : ℕ) → s < 256 → t < 256 → HasDigits m a → HasDigits n b
+pub exponents_and_digits : (a b m n s t : ℕ) → s < 256 → t < 256 → HasDigits m a → HasDigits n b
     → ordering_then (nat_cmp (a + 255 - s) (b + 255 - t)) (nat_cmp (m * 10 ^ b) (n * 10 ^ a)) ≡ nat_cmp (m * 10 ^ t) (n * 10 ^ s)
-places_and_digits a b m n s t p q x y =
-    by_places a b m n s t p q x y (nat_cmp (a + 255 - s) (b + 255 - t)) (ranks (a + 255 - s) (b + 255 - t))
+exponents_and_digits a b m n s t p q x y =
+    by_indexes a b m n s t p q x y (nat_cmp (a + 255 - s) (b + 255 - t)) (ranks (a + 255 - s) (b + 255 - t))

@@ -152,7 +152,7 @@ by_pairs negative a b m n p q rest =
     rw (crossed a b m n)
     (first_pairs negative a b m n p q rest (nat_cmp (m / 10 ^ a) (n / 10 ^ b)) (ranks (m / 10 ^ a) (n / 10 ^ b)))
 
--- ---- a single digit stands for a pair with 0
+-- ---- a single digit means a pair with 0
 
 nothing_left : (m : ℕ) → m % 10 ^ 0 ≡ 0
 nothing_left m = omega (arith, mod_below m (10 ^ 0) (ten 0))

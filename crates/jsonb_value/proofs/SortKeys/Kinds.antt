@@ -22,7 +22,7 @@ small_whole decimal128 whole h = omega (arith, ints)
 pub is_small : (n : Num) → IsProperNumber n → IsSmall n
 is_small n h = record { scale = small_scale n.form n.scale h.0; whole = small_whole n.form n.whole h.1 }
 
--- the first byte of a number's key stands between those of the kinds below and above
+-- the first byte of a number's key is between those of the kinds below and above
 pub record NumberBegins (n : Num) : Type 0 where
   pub head : ℕ
   pub tail : List ℕ

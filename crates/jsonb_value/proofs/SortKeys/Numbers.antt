@@ -11,10 +11,10 @@ use Rattle.std.specs.declared.cmp.Ordering.{Ordering}
 use Rattle.std.specs.declared.cmp.Ordering.TheVariants.{Less, Equal, Greater}
 use borrow.Author.Differences.{product_is}
 use Rattle.jsonb_spec.specs.Order.{num_cmp, decimal_cmp}
-use Rattle.jsonb_spec.specs.SortKey.{magnitude_key, number_key, place_key, digits_key, digit_count, invert_if}
+use Rattle.jsonb_spec.specs.SortKey.{magnitude_key, number_key, exponent_key, digits_key, digit_count, invert_if}
 use Rattle.jsonb_spec.specs.Tree.{Num}
 use Rattle.jsonb_value.proofs.SortKeys.Comparing.{Compares, ranks, same_bytes, byte_below, byte_above, then_compares}
-use Rattle.jsonb_value.proofs.SortKeys.Counts.{digits_counted, digit_count-le, places_compare, placed, places_and_digits}
+use Rattle.jsonb_value.proofs.SortKeys.Counts.{digits_counted, digit_count-le, indexes_compare, located, exponents_and_digits}
 use Rattle.jsonb_value.proofs.SortKeys.Digits.{signed_order, digits_compare, ten, mul-pos}
 use Rattle.jsonb_value.proofs.Numbers.Pointed.{is_negative-pos}
 
@@ -36,11 +36,11 @@ magnitudes negative s t m n p q o k u v =
     let b = digit_count n in
     let x = digits_counted m o u in
     let y = digits_counted n k v in
-    let places = places_compare negative (a + 255 - s) (b + 255 - t) (omega (arith, digit_count-le m)) (omega (arith, digit_count-le n)) in
+    let exponents = indexes_compare negative (a + 255 - s) (b + 255 - t) (omega (arith, digit_count-le m)) (omega (arith, digit_count-le n)) in
     let digits = digits_compare negative a b m n x.below y.below o k in
-    let both = then_compares _ _ _ _ _ _ places digits in
-    let order = signed_then negative (nat_cmp (a + 255 - s) (b + 255 - t)) (nat_cmp (m * 10 ^ b) (n * 10 ^ a)) ∙ ap (signed_order negative) (places_and_digits a b m n s t p q x y) in
-    rw (map-append f (place_key (a + 255 - s)) (digits_key a m), map-append f (place_key (b + 255 - t)) (digits_key b n), ← order) both
+    let both = then_compares _ _ _ _ _ _ exponents digits in
+    let order = signed_then negative (nat_cmp (a + 255 - s) (b + 255 - t)) (nat_cmp (m * 10 ^ b) (n * 10 ^ a)) ∙ ap (signed_order negative) (exponents_and_digits a b m n s t p q x y) in
+    rw (map-append f (exponent_key (a + 255 - s)) (digits_key a m), map-append f (exponent_key (b + 255 - t)) (digits_key b n), ← order) both
 
 -- the first byte of a number's key
 pub record Headed (m s : ℕ) : Type 0 where
@@ -53,11 +53,11 @@ pub record Headed (m s : ℕ) : Type 0 where
 headed : (m s : ℕ) → 0 < m → m < 10 ^ 39 → s < 256 → Headed m s
 unfolding magnitude_key
 headed m s o u p =
-    let x = placed (digit_count m + 255 - s) (omega (arith, digit_count-le m)) in
+    let x = located (digit_count m + 255 - s) (omega (arith, digit_count-le m)) in
     record {
       head = x.head;
       tail = x.tail ++ digits_key (digit_count m) m;
-      is = ap (λ place. place ++ digits_key (digit_count m) m) x.is;
+      is = ap (λ exponent. exponent ++ digits_key (digit_count m) m) x.is;
       low = x.low;
       high = x.high;
     }
@@ -172,9 +172,9 @@ pub numbers_compare : (m n : Num) → IsSmall m → IsSmall n → Compares (numb
 numbers_compare m n p q = by_signs m n p q m.whole n.whole refl refl
 
 -- the key of a number above 0 in its two parts
-pub magnitude_split : (negative : Bool) (scale m count place : ℕ) → count ≡ digit_count m → place ≡ count + 255 - scale
-    → map (invert_if negative) (magnitude_key scale m) ≡ map (invert_if negative) (place_key place) ++ map (invert_if negative) (digits_key count m)
+pub magnitude_split : (negative : Bool) (scale m count exponent : ℕ) → count ≡ digit_count m → exponent ≡ count + 255 - scale
+    → map (invert_if negative) (magnitude_key scale m) ≡ map (invert_if negative) (exponent_key exponent) ++ map (invert_if negative) (digits_key count m)
 unfolding magnitude_key
-magnitude_split negative scale m count place e f =
-    map-append (invert_if negative) (place_key (digit_count m + 255 - scale)) (digits_key (digit_count m) m)
-    ∙ (λ i. map (invert_if negative) (place_key (sym (f ∙ ap (λ n. n + 255 - scale) e) i)) ++ map (invert_if negative) (digits_key (sym e i) m))
+magnitude_split negative scale m count exponent e f =
+    map-append (invert_if negative) (exponent_key (digit_count m + 255 - scale)) (digits_key (digit_count m) m)
+    ∙ (λ i. map (invert_if negative) (exponent_key (sym (f ∙ ap (λ n. n + 255 - scale) e) i)) ++ map (invert_if negative) (digits_key (sym e i) m))

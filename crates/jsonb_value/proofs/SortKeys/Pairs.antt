@@ -5,13 +5,13 @@ use Rattle.std.proofs.Math.Nat.{div-div-eq-div-mul, pow-suc, pow-zero}
 use Rattle.std.proofs.lemmas.Bool.{cases_eq}
 use Rattle.std.proofs.lemmas.List.{drop-set, drop_all, length-set}
 use Rattle.std.proofs.lemmas.Nat.{div-add-mod', mod_below, mod-mul-add, div-mul-add}
-use Rattle.jsonb_spec.specs.SortKey.{digit_count, digits_key, magnitude_key, place_key, invert_if}
+use Rattle.jsonb_spec.specs.SortKey.{digit_count, digits_key, magnitude_key, exponent_key, invert_if}
 use Rattle.jsonb_value.proofs.SortKeys.Counts.{near, far}
 use Rattle.jsonb_value.proofs.SortKeys.Numbers.{magnitude_split}
 use Rattle.jsonb_value.proofs.SortKeys.Digits.{hundred, last_pair, more_pairs, mul-pos, ten}
 
--- The last `count` digits of m stand in the row from `start` on. `front` is the number before them, and `more` is 1
--- where they are not all zeros, of which a single byte stands there.
+-- The last `count` digits of m are in the row from `start` on. `front` is the number before them, and `more` is 1
+-- where they are not all zeros, of which a single byte is there.
 pub record AreWritten (negative : Bool) (m count start front more : ℕ) (row : List ℕ) : Type 0 where
   pub bytes : drop start row ≡ map (invert_if negative) (digits_key count (m % 10 ^ count))
   pub before : front ≡ m / 10 ^ count
@@ -44,7 +44,7 @@ begin_digits negative m count last front more byte row long digits to from befor
   some = λ h. elim (cases_eq last 0) [ inl z ↦ absurd (h (none z)) | inr z ↦ (one z, λ y. z (from y)) ];
 }
 
--- ---- a pair before the digits that stand there
+-- ---- a pair before the digits that are there
 
 -- the last digits with one pair more
 parts : (m c : ℕ) → m % 10 ^ suc (suc c) ≡ (m / 10 ^ c % 100) * 10 ^ c + m % 10 ^ c
@@ -74,7 +74,7 @@ some_pair m c p e = absurd (omega (arith, parts m c, mul-pos (m / 10 ^ c % 100) 
 some_others : (m c : ℕ) → m % 10 ^ c ≢ 0 → m % 10 ^ suc (suc c) ≢ 0
 some_others m c r e = absurd (omega (arith, parts m c))
 
-module _ (negative : Bool) (m c start front more byte next : ℕ) (row : List ℕ) (long : length row ≡ 12) (some_room : 1 ≤ start) (within : start ≤ 11)
+module _ (negative : Bool) (m c start front more byte next : ℕ) (row : List ℕ) (long : length row ≡ 12) (some_capacity : 1 ≤ start) (within : start ≤ 11)
     (w : AreWritten negative m c start front more row) (e : byte ≡ invert_if negative (2 * (front % 100) + more))
     (one : front % 100 ≢ 0 → next ≡ 1) (same : front % 100 ≡ 0 → next ≡ more) where
   pair_is : front % 100 ≡ m / 10 ^ c % 100
@@ -112,27 +112,27 @@ module _ (negative : Bool) (m c start front more byte next : ℕ) (row : List �
     some = some_by (cases_eq (front % 100) 0);
   }
 
--- ---- the place before the digits
+-- ---- the exponent before the digits
 
-pub far_place : (negative : Bool) (place end byte : ℕ) (row : List ℕ) → length row ≡ 12 → 1 ≤ end → end ≤ 12 → 225 ≤ place
-    → byte ≡ invert_if negative (place - 95)
-    → drop (end - 1) (slice_set row (end - 1) byte) ≡ map (invert_if negative) (place_key place) ++ drop end row
-far_place negative place end byte row long low high l e =
+pub far_exponent : (negative : Bool) (exponent end byte : ℕ) (row : List ℕ) → length row ≡ 12 → 1 ≤ end → end ≤ 12 → 225 ≤ exponent
+    → byte ≡ invert_if negative (exponent - 95)
+    → drop (end - 1) (slice_set row (end - 1) byte) ≡ map (invert_if negative) (exponent_key exponent) ++ drop end row
+far_exponent negative exponent end byte row long low high l e =
     drop-set row (end - 1) byte (omega arith)
     ∙ ap (λ n. byte ∷ drop n row) {x = end - 1 + 1} {y = end} (omega arith)
-    ∙ ap (λ b. b ∷ drop end row) e ∙ sym (ap (λ key. map (invert_if negative) key ++ drop end row) (far place l))
+    ∙ ap (λ b. b ∷ drop end row) e ∙ sym (ap (λ key. map (invert_if negative) key ++ drop end row) (far exponent l))
 
-pub near_place : (negative : Bool) (place end byte sign : ℕ) (row : List ℕ) → length row ≡ 12 → 2 ≤ end → end ≤ 12 → place < 225
-    → byte ≡ invert_if negative place → sign ≡ invert_if negative 129
-    → drop (end - 2) (slice_set (slice_set row (end - 1) byte) (end - 2) sign) ≡ map (invert_if negative) (place_key place) ++ drop end row
-near_place negative place end byte sign row long low high l e s =
+pub near_exponent : (negative : Bool) (exponent end byte sign : ℕ) (row : List ℕ) → length row ≡ 12 → 2 ≤ end → end ≤ 12 → exponent < 225
+    → byte ≡ invert_if negative exponent → sign ≡ invert_if negative 129
+    → drop (end - 2) (slice_set (slice_set row (end - 1) byte) (end - 2) sign) ≡ map (invert_if negative) (exponent_key exponent) ++ drop end row
+near_exponent negative exponent end byte sign row long low high l e s =
     let first : drop (end - 1) (slice_set row (end - 1) byte) ≡ byte ∷ drop end row =
     drop-set row (end - 1) byte (omega arith) ∙ ap (λ n. byte ∷ drop n row) {x = end - 1 + 1} {y = end} (omega arith) in
     drop-set (slice_set row (end - 1) byte) (end - 2) sign (omega (arith, length-set row (end - 1) byte))
     ∙ ap (λ n. sign ∷ drop n (slice_set row (end - 1) byte)) {x = end - 2 + 1} {y = end - 1} (omega arith)
     ∙ ap (λ bytes. sign ∷ bytes) first
     ∙ (λ i. s i ∷ e i ∷ drop end row)
-    ∙ sym (ap (λ key. map (invert_if negative) key ++ drop end row) (near place l))
+    ∙ sym (ap (λ key. map (invert_if negative) key ++ drop end row) (near exponent l))
 
 -- what isn't written at once has two digits or more
 pub two_or_more : (count m : ℕ) → m < 10 ^ count → ((count ≤ 20) × (18446744073709551616 ≤ m)) ⊎ (20 < count) → 2 ≤ count
@@ -148,9 +148,9 @@ pub small_key : (negative : Bool) (scale m count digits first second : ℕ) → 
     → first ≡ invert_if negative (count + 160 - scale) → second ≡ invert_if negative digits
     → ◌≡◌ {A = List ℕ} (first ∷ second ∷ []) (map (invert_if negative) (magnitude_key scale m))
 small_key negative scale m count digits first second near some is key e f =
-    let place : count + 255 - scale - 95 ≡ count + 160 - scale = omega arith in
-    let head : first ∷ [] ≡ map (invert_if negative) (place_key (count + 255 - scale)) =
-    ap (λ b. b ∷ []) (e ∙ ap (invert_if negative) (sym place)) ∙ sym (ap (map (invert_if negative)) (far (count + 255 - scale) (omega arith))) in
+    let exponent : count + 255 - scale - 95 ≡ count + 160 - scale = omega arith in
+    let head : first ∷ [] ≡ map (invert_if negative) (exponent_key (count + 255 - scale)) =
+    ap (λ b. b ∷ []) (e ∙ ap (invert_if negative) (sym exponent)) ∙ sym (ap (map (invert_if negative)) (far (count + 255 - scale) (omega arith))) in
     let tail : second ∷ [] ≡ map (invert_if negative) (digits_key count m) =
     ap (λ b. b ∷ []) f ∙ ap (map (invert_if negative)) (key ∙ ap (λ n. digits_key n m) (sym is)) in
     ap₂ (λ front back. front ++ back) head tail

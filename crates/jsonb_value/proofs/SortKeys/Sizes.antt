@@ -11,7 +11,7 @@ use Rattle.std.specs.Int.{is_negative}
 use Rattle.std.specs.List.{flat_map, sum_by}
 use Rattle.jsonb_spec.specs.Order.ByContent.{items_of, pairs_of}
 use Rattle.jsonb_spec.specs.Proper.{FitsWhole, IsProperNumber}
-use Rattle.jsonb_spec.specs.SortKey.{byte_key, digit_count, digits_key, items_key, key_of, magnitude_key, members_key, number_key, place_key, text_key, invert_if}
+use Rattle.jsonb_spec.specs.SortKey.{byte_key, digit_count, digits_key, items_key, key_of, magnitude_key, members_key, number_key, exponent_key, text_key, invert_if}
 use Rattle.jsonb_spec.specs.SortKey.Size.{exponent_len, member_len, most_pairs, zero_count}
 use Rattle.jsonb_spec.specs.Tree.{Form, int64, uint64, decimal64, decimal128, Mark, Num, string, array, object, Trees, no_trees, more_trees, Members, no_members, more_members}
 use Rattle.jsonb_value.proofs.SortKeys.Counts.{HasDigits, digits_counted, far, near, power_le}
@@ -30,10 +30,10 @@ digits_len (suc (suc count)) m = elim (cases_eq (m % 10 ^ count) 0) [
   | inr some ↦ omega (arith, ap length (more_pairs count m some), digits_len count (m % 10 ^ count))
 ]
 
-place_len : (place : ℕ) → length (place_key place) ≤ 2
-place_len place = elim (cases_lt place 225) [
-  | inl low ↦ omega (arith, ap length (near place low))
-  | inr high ↦ omega (arith, ap length (far place high))
+exponent_size : (exponent : ℕ) → length (exponent_key exponent) ≤ 2
+exponent_size exponent = elim (cases_lt exponent 225) [
+  | inl low ↦ omega (arith, ap length (near exponent low))
+  | inr high ↦ omega (arith, ap length (far exponent high))
 ]
 
 -- a number of `counted` digits has no more than a bound says
@@ -55,9 +55,9 @@ few_zeros m scale counted has large = elim (cases_lt (counted + 30) scale) [
   | inr within ↦ within
 ]
 
-exponent_within : (n : Num) (counted : ℕ) → HasDigits (unsigned_abs n.whole) counted → length (place_key (counted + 255 - n.scale)) ≤ exponent_len n
+exponent_within : (n : Num) (counted : ℕ) → HasDigits (unsigned_abs n.whole) counted → length (exponent_key (counted + 255 - n.scale)) ≤ exponent_len n
 exponent_within n counted has = elim (cases_lt (unsigned_abs n.whole * 10 ^ 31) (10 ^ n.scale)) [
-  | inl small ↦ omega (arith, place_len (counted + 255 - n.scale), cond-true {A = ℕ} (nat_lt (unsigned_abs n.whole * 10 ^ 31) (10 ^ n.scale)) 2 1 (lt-ltb (unsigned_abs n.whole * 10 ^ 31) (10 ^ n.scale) small))
+  | inl small ↦ omega (arith, exponent_size (counted + 255 - n.scale), cond-true {A = ℕ} (nat_lt (unsigned_abs n.whole * 10 ^ 31) (10 ^ n.scale)) 2 1 (lt-ltb (unsigned_abs n.whole * 10 ^ 31) (10 ^ n.scale) small))
   | inr large ↦
       let zeros = few_zeros (unsigned_abs n.whole) n.scale counted has large in
       omega (arith, ap length (far (counted + 255 - n.scale) (omega (arith, zeros))), cond-false {A = ℕ} (nat_lt (unsigned_abs n.whole * 10 ^ 31) (10 ^ n.scale)) 2 1 (le-ltb (unsigned_abs n.whole * 10 ^ 31) (10 ^ n.scale) large))
@@ -70,9 +70,9 @@ exponent_some n = by_size (nat_lt (unsigned_abs n.whole * 10 ^ 31) (10 ^ n.scale
     by_size true = omega arith
     by_size false = omega arith
 
-magnitude_len : (scale m : ℕ) → length (magnitude_key scale m) ≡ length (place_key (digit_count m + 255 - scale)) + length (digits_key (digit_count m) m)
+magnitude_len : (scale m : ℕ) → length (magnitude_key scale m) ≡ length (exponent_key (digit_count m + 255 - scale)) + length (digits_key (digit_count m) m)
 unfolding magnitude_key
-magnitude_len scale m = length-append (place_key (digit_count m + 255 - scale)) (digits_key (digit_count m) m)
+magnitude_len scale m = length-append (exponent_key (digit_count m + 255 - scale)) (digits_key (digit_count m) m)
 
 some_key : (n : Num) → unsigned_abs n.whole ≢ 0 → length (number_key n) ≡ length (magnitude_key n.scale (unsigned_abs n.whole))
 unfolding number_key

@@ -7,7 +7,7 @@ use Rattle.jsonb_spec.specs.Order.{bytes_cmp}
 use Rattle.jsonb_spec.specs.SortKey.{byte_key, text_key}
 use Rattle.jsonb_value.proofs.SortKeys.Comparing.{Compares, is_less, is_greater, then_assoc}
 
--- a byte that is not 0 stands as it is
+-- a byte that is not 0 is as it is
 pub text_key-other : (b : ℕ) (t : List ℕ) → text_key (suc b ∷ t) ≡ suc b ∷ text_key t
 text_key-other b t =
     append_assoc (byte_key (suc b)) (flat_map byte_key t) (0 ∷ 1 ∷ [])

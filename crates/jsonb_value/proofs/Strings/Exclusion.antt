@@ -5,13 +5,13 @@ use Rattle.std.specs.Str.{IsUtf8}
 use Rattle.std.specs.List.{flat_map, AllByRecursion}
 use Rattle.jsonb_spec.specs.Mode.{Mode}
 use Rattle.jsonb_spec.specs.Code.{Code}
-use Rattle.jsonb_spec.specs.Grammar.StringBody.{Item, raw, escape, unit, after_u, spelling, IsItem, IsHexDigit, IsBody, Decodes, escaped_byte, meaning}
+use Rattle.jsonb_spec.specs.Grammar.StringBody.{Item, raw, escape, unit, after_u, encoding, IsItem, IsHexDigit, IsBody, Decodes, escaped_byte, meaning}
 use Rattle.jsonb_spec.specs.Grammar.StringFault.{IsFirstNonDigit, BadUnit, cut_unit, bad_digit, BadEscape, cut_escape, unknown_escape, bad_unit, IsCutShort, IsFaultyBody}
 use Rattle.jsonb_value.proofs.Strings.Units.{length-after_u}
-use Rattle.jsonb_value.proofs.Strings.Spelling.{same_items, same_front, escape_is_not_u}
+use Rattle.jsonb_value.proofs.Strings.Encoding.{same_items, same_front, escape_is_not_u}
 
 pub decodes_one : (mode : Mode) (bytes s t : List ℕ) → Decodes mode bytes s → Decodes mode bytes t → s ≡ t
-decodes_one mode bytes s t p q = p.meant ∙ ap meaning (same_items mode p.items q.items p.body.each q.body.each (sym p.body.spelled ∙ q.body.spelled)) ∙ sym q.meant
+decodes_one mode bytes s t p q = p.meant ∙ ap meaning (same_items mode p.items q.items p.body.each q.body.each (sym p.body.encoded ∙ q.body.encoded)) ∙ sym q.meant
 
 -- the four bytes after `\u`, in braces or not
 same_digits : (p q : Bool) (d f r s : List ℕ) → length d ≡ 4 → length f ≡ 4 → (p ≡ false → get_or d 0 0 ≢ 123) → (q ≡ false → get_or f 0 0 ≢ 123) → after_u p d ++ r ≡ after_u q f ++ s → d ≡ f
@@ -39,7 +39,7 @@ non_digit digits byte f all =
     let here : get_or digits (length f.digits) 0 ≡ byte = ap (λ xs. get_or xs (length f.digits) 0) f.split ∙ get_or_at f.digits byte f.more 0 (length f.digits) refl in
     f.here (subst IsHexDigit here (all (length f.digits) 0 (omega (arith, ap length f.split, length-append f.digits (byte ∷ f.more)))))
 
--- no unit stands where one is bad
+-- no unit is where one is bad
 unit_excluded : (mode : Mode) (bytes : List ℕ) (code : Code) (read : ℕ) (braces : Bool) (digits more : List ℕ) → BadUnit bytes code read → IsItem mode (unit braces digits) → bytes ≢ after_u braces digits ++ more
 unit_excluded mode bytes code read braces digits more (bad_digit p d r byte is four first non is_code is_read) item e =
     let same : d ≡ digits = same_digits p braces d digits r more four item.0 first (bare mode braces digits item) (sym is ∙ e) in
@@ -55,8 +55,8 @@ unit_excluded mode bytes code read braces digits more (cut_unit cut is_code is_r
     unclosed true item e brace unclosed' =
         unclosed' (ap (λ xs. get_or xs 5 0) (e ∙ append_assoc (123 ∷ digits) (125 ∷ []) more) ∙ get_or_at (123 ∷ digits) 125 more 0 5 (omega (arith, item.0)))
 
--- no item stands where an escape is bad
-item_excluded : (mode : Mode) (bytes : List ℕ) (code : Code) (read : ℕ) (item : Item) (more : List ℕ) → BadEscape mode bytes code read → IsItem mode item → bytes ≢ spelling item ++ more
+-- no item is where an escape is bad
+item_excluded : (mode : Mode) (bytes : List ℕ) (code : Code) (read : ℕ) (item : Item) (more : List ℕ) → BadEscape mode bytes code read → IsItem mode item → bytes ≢ encoding item ++ more
 item_excluded mode bytes code read (raw b) more (cut_escape is is_code is_read) item e = item (let first : b ≡ 92 = cc in first)
 item_excluded mode bytes code read (raw b) more (unknown_escape letter rest is other none is_code is_read) item e = item (let first : b ≡ 92 = cc in first)
 item_excluded mode bytes code read (raw b) more (bad_unit rest steps is bad is_read) item e = item (let first : b ≡ 92 = cc in first)
@@ -71,21 +71,21 @@ item_excluded mode bytes code read (unit h d) more (bad_unit rest steps is bad i
 
 pub cut_short_excludes : (mode : Mode) (bytes : List ℕ) (code : Code) (read : ℕ) (items : List Item) → IsCutShort mode bytes code read → ¬ (IsBody mode bytes items)
 cut_short_excludes mode bytes code read items cut body =
-    let front = same_front mode cut.items items cut.rest cut.each body.each (sym cut.spelled ∙ body.spelled) in
-    no_first front.tail front.each front.spelled
+    let front = same_front mode cut.items items cut.rest cut.each body.each (sym cut.encoded ∙ body.encoded) in
+    no_first front.tail front.each front.encoded
   where
     no_rest : BadEscape mode cut.rest code cut.steps → cut.rest ≢ []
     no_rest (cut_escape is is_code is_read) e = cc
     no_rest (unknown_escape letter rest is other none is_code is_read) e = cc
     no_rest (bad_unit rest steps is bad is_read) e = cc
 
-    no_first : (tail : List Item) → AllByRecursion (IsItem mode) tail → cut.rest ≡ flat_map spelling tail → ⊥
-    no_first [] each spelled = no_rest cut.bad spelled
-    no_first (x ∷ xs) each spelled = item_excluded mode cut.rest code cut.steps x (flat_map spelling xs) cut.bad each.0 spelled
+    no_first : (tail : List Item) → AllByRecursion (IsItem mode) tail → cut.rest ≡ flat_map encoding tail → ⊥
+    no_first [] each encoded = no_rest cut.bad encoded
+    no_first (x ∷ xs) each encoded = item_excluded mode cut.rest code cut.steps x (flat_map encoding xs) cut.bad each.0 encoded
 
 pub fault_excludes : (mode : Mode) (bytes : List ℕ) (code : Code) (read : ℕ) (text : List ℕ) → IsFaultyBody mode bytes code read → ¬ (Decodes mode bytes text)
 fault_excludes mode bytes code read text fault d =
     ⊎_elim
     (λ cut. cut_short_excludes mode bytes code read d.items cut d.body)
-    (λ none. none.not_utf8 (subst IsUtf8 (d.meant ∙ ap meaning (same_items mode d.items none.items d.body.each none.body.each (sym d.body.spelled ∙ none.body.spelled))) d.utf8))
+    (λ none. none.not_utf8 (subst IsUtf8 (d.meant ∙ ap meaning (same_items mode d.items none.items d.body.each none.body.each (sym d.body.encoded ∙ none.body.encoded))) d.utf8))
     fault

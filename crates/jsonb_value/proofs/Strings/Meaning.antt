@@ -2,7 +2,7 @@
 use Rattle.std.proofs.Common.{List, [], ◌∷◌, ◌≡◌, ◌≢◌, ℕ, ◌++◌, Bool, true, false, cond, ap, refl}
 use Rattle.std.specs.List.{flat_map, AllByRecursion}
 use Rattle.jsonb_spec.specs.Mode.{Mode}
-use Rattle.jsonb_spec.specs.Grammar.StringBody.{Item, raw, escape, unit, after_u, spelling, IsItem, alone, together, meaning}
+use Rattle.jsonb_spec.specs.Grammar.StringBody.{Item, raw, escape, unit, after_u, encoding, IsItem, alone, together, meaning}
 use Rattle.std.specs.Char.Utf16.{is_high_surrogate}
 use Rattle.std.specs.Str.Parse.{digits_value}
 
@@ -30,9 +30,9 @@ meaning-alone p digits (escape letter byte ∷ tail) low = refl
 meaning-alone p digits (unit q next ∷ tail) low = ap (λ b. cond b (together digits next ++ meaning tail) (alone digits ++ meaning (unit q next ∷ tail))) low
 
 -- no unit is next
-pub meaning-last : (p : Bool) (digits : List ℕ) (tail : List Item) → ((rest : List ℕ) → flat_map spelling tail ≢ 92 ∷ 117 ∷ rest) → meaning (unit p digits ∷ tail) ≡ alone digits ++ meaning tail
+pub meaning-last : (p : Bool) (digits : List ℕ) (tail : List Item) → ((rest : List ℕ) → flat_map encoding tail ≢ 92 ∷ 117 ∷ rest) → meaning (unit p digits ∷ tail) ≡ alone digits ++ meaning tail
 unfolding meaning
 meaning-last p digits [] none = refl
 meaning-last p digits (raw byte ∷ tail) none = refl
 meaning-last p digits (escape letter byte ∷ tail) none = refl
-meaning-last p digits (unit q next ∷ tail) none = absurd (none (after_u q next ++ flat_map spelling tail) refl)
+meaning-last p digits (unit q next ∷ tail) none = absurd (none (after_u q next ++ flat_map encoding tail) refl)

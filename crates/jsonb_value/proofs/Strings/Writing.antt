@@ -9,7 +9,7 @@ use Rattle.std.specs.Char.{digit_char, digit_value, encode_utf8}
 use Rattle.std.specs.List.{flat_map, AllByRecursion}
 use Rattle.jsonb_spec.specs.Mode.{Mode}
 use Rattle.jsonb_spec.specs.Mode.{standard, extended}
-use Rattle.jsonb_spec.specs.Grammar.StringBody.{Item, raw, escape, unit, spelling, escaped_byte, IsItem, IsHexDigit, alone, meaning}
+use Rattle.jsonb_spec.specs.Grammar.StringBody.{Item, raw, escape, unit, encoding, escaped_byte, IsItem, IsHexDigit, alone, meaning}
 use Rattle.jsonb_spec.specs.Grammar.Quoted.{mark_of, Quoted}
 use Rattle.jsonb_spec.specs.Tree.{Mark}
 use Rattle.jsonb_spec.specs.Text.StringText.{control_text, byte_text, quoted_text}
@@ -45,8 +45,8 @@ by_cases P byte quote backslash feed return tab control other =
     pick (P byte) (eqb byte 9) _ _ _ _ (at 9 _ _ tab) (λ no_tab.
     pick (P byte) (ltb byte 32) _ _ _ _ (λ low. control (ltb-true byte 32 low)) (λ high. other (eqb-false byte 34 no_quote) (eqb-false byte 92 no_backslash)))))))
 
-pub spelling-item_of : (byte : ℕ) → spelling (item_of byte) ≡ byte_text byte
-spelling-item_of byte = by_cases (λ b item text. spelling item ≡ text) byte refl refl refl refl refl (λ low. refl) (λ no_quote no_backslash. refl)
+pub encoding-item_of : (byte : ℕ) → encoding (item_of byte) ≡ byte_text byte
+encoding-item_of byte = by_cases (λ b item text. encoding item ≡ text) byte refl refl refl refl refl (λ low. refl) (λ no_quote no_backslash. refl)
 
 escapes_as : (mode : Mode) → (escaped_byte mode 34 ≡ Some 34) × (escaped_byte mode 92 ≡ Some 92) × (escaped_byte mode 110 ≡ Some 10) × (escaped_byte mode 114 ≡ Some 13) × (escaped_byte mode 116 ≡ Some 9)
 escapes_as standard = (refl, refl, refl, refl, refl)
@@ -97,9 +97,9 @@ meaning-item_of byte tail =
 
 -- ---- a whole text
 
-spelling-items_of : (text : List ℕ) → flat_map byte_text text ≡ flat_map spelling (map item_of text)
-spelling-items_of [] = refl
-spelling-items_of (byte ∷ text) = ap (λ front. front ++ flat_map byte_text text) (sym (spelling-item_of byte)) ∙ ap (λ rest. spelling (item_of byte) ++ rest) (spelling-items_of text)
+encoding-items_of : (text : List ℕ) → flat_map byte_text text ≡ flat_map encoding (map item_of text)
+encoding-items_of [] = refl
+encoding-items_of (byte ∷ text) = ap (λ front. front ++ flat_map byte_text text) (sym (encoding-item_of byte)) ∙ ap (λ rest. encoding (item_of byte) ++ rest) (encoding-items_of text)
 
 each-items_of : (mode : Mode) (text : List ℕ) → AllByRecursion (IsItem mode) (map item_of text)
 each-items_of mode [] = tt
@@ -120,10 +120,10 @@ reads_back mode text utf8 = (
   mark_of (map item_of text),
   record {
     body = flat_map byte_text text;
-    spelled = refl;
+    encoded = refl;
     decodes = record {
       items = map item_of text;
-      body = record { spelled = spelling-items_of text; each = each-items_of mode text };
+      body = record { encoded = encoding-items_of text; each = each-items_of mode text };
       meant = sym (meaning-items_of text);
       utf8 = utf8;
     };

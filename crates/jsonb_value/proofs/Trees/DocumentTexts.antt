@@ -36,15 +36,15 @@ members-put_all : (es : List Member) (ms : Members) → AllByRecursion (λ e. ha
 members-put_all [] ms all h = h
 members-put_all (e ∷ es) ms all h = members-put_all es (put e.0 e.1 ms) all.1 (members-put e.0 e.1 ms all.0 h)
 
-pub joined-all : {A : Type 0} (P : A → Type 0) (Spells : List ℕ → A → Type 0) → ((bytes : List ℕ) (a : A) → Spells bytes a → P a) → (bytes : List ℕ) (parts : List A) → IsJoined Spells bytes parts → AllByRecursion P parts
-joined-all P Spells each bytes parts (one_part s) = (each _ _ s, tt)
-joined-all P Spells each bytes parts (more_parts s more) = (each _ _ s, joined-all P Spells each _ _ more)
+pub joined-all : {A : Type 0} (P : A → Type 0) (Encodes : List ℕ → A → Type 0) → ((bytes : List ℕ) (a : A) → Encodes bytes a → P a) → (bytes : List ℕ) (parts : List A) → IsJoined Encodes bytes parts → AllByRecursion P parts
+joined-all P Encodes each bytes parts (one_part s) = (each _ _ s, tt)
+joined-all P Encodes each bytes parts (more_parts s more) = (each _ _ s, joined-all P Encodes each _ _ more)
 
 -- ---- the grammar
 
--- each tree that bytes spell has a text
+-- each tree that bytes encode has a text
 abbrev HaveTexts : (List ℕ → Tree → Type 0) → Type 0
-HaveTexts Spells = (bytes : List ℕ) (t : Tree) → Spells bytes t → has_text t ≡ true
+HaveTexts Encodes = (bytes : List ℕ) (t : Tree) → Encodes bytes t → has_text t ≡ true
 
 scalar_has_text : (mode : Mode) → HaveTexts (IsScalar mode)
 scalar_has_text mode bytes t (literal_value (null_word w)) = refl

@@ -66,7 +66,7 @@ module _ (mode : Mode) (IsIn : Num → Type 0) (is_in : (bytes : List ℕ) (n : 
   Holds depth t = IsWithin IsIn t depth × IsProper t
 
   abbrev pub HoldsOf : ℕ → (List ℕ → Tree → Type 0) → Type 0
-  HoldsOf depth Spells = (bytes : List ℕ) (t : Tree) → Spells bytes t → Holds depth t
+  HoldsOf depth Encodes = (bytes : List ℕ) (t : Tree) → Encodes bytes t → Holds depth t
 
   abbrev HoldsOfMember : ℕ → Member → Type 0
   HoldsOfMember depth m = IsUtf8 m.0 × Holds depth m.1
@@ -110,7 +110,7 @@ module _ (mode : Mode) (IsIn : Num → Type 0) (is_in : (bytes : List ℕ) (n : 
 
   key_utf8 : (bytes : List ℕ) (key : Mark × List ℕ) → IsKey mode bytes key → IsUtf8 key.1
   key_utf8 bytes key (quoted_key q s) = s.decodes.utf8
-  key_utf8 bytes key (bare_key e k) = subst IsUtf8 (sym k.spelled) (characters_utf8 (k.first ∷ k.others) k.scalars)
+  key_utf8 bytes key (bare_key e k) = subst IsUtf8 (sym k.encoded) (characters_utf8 (k.first ∷ k.others) k.scalars)
 
   padded_key_utf8 : (bytes : List ℕ) (key : Mark × List ℕ) → IsPadded mode (IsKey mode) bytes key → IsUtf8 key.1
   padded_key_utf8 bytes key (padded before k after) = key_utf8 _ _ k

@@ -22,7 +22,7 @@ same_number_text m n v w same =
     let scales : m.scale ≡ n.scale = v ∙ sym w in
     λ i. text_of_parts (scales i) (wholes i)
 
--- the kinds of JSON stand above the others
+-- the kinds of JSON are above the others
 is_json : (t : Tree) (depth : ℕ) → IsWithin IsUnscaled t depth → 4 < rank t
 is_json null depth w = omega arith
 is_json (boolean b) depth w = omega arith

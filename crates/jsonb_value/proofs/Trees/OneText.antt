@@ -9,14 +9,14 @@ use Rattle.jsonb_spec.specs.Mode.{standard}
 use Rattle.jsonb_value.specs.Order.NumberLaws.{num_cmp_total}
 use Rattle.jsonb_spec.specs.Order.{decimal_cmp, num_cmp, bytes_cmp, tree_cmp, trees_cmp, members_cmp}
 use Rattle.jsonb_spec.specs.Text.Range.{IsWithin, AreWithin, HaveWithin}
-use Rattle.jsonb_spec.specs.Grammar.StringBody.{Item, raw, escape, unit, after_u, spelling}
+use Rattle.jsonb_spec.specs.Grammar.StringBody.{Item, raw, escape, unit, after_u, encoding}
 use Rattle.jsonb_spec.specs.Text.StringText.{byte_text, quoted_text}
 use Rattle.jsonb_spec.specs.Text.{tree_text, with_commas, item_texts, member_texts}
 use Rattle.jsonb_spec.specs.Tree.{Num, Tree, null, boolean, string, number, array, object, Trees, no_trees, more_trees, Members, no_members, more_members}
 use Rattle.jsonb_value.proofs.Numbers.Texts.{IsNumberByte, Begins, number_first, same_number_before}
 use Rattle.jsonb_value.proofs.Trees.Runs.{BeginsOther, heads, tails}
-use Rattle.jsonb_value.proofs.Strings.Spelling.{same_first}
-use Rattle.jsonb_value.proofs.Strings.Writing.{item_of, spelling-item_of, item-item_of, inside-item_of, one_byte}
+use Rattle.jsonb_value.proofs.Strings.Encoding.{same_first}
+use Rattle.jsonb_value.proofs.Strings.Writing.{item_of, encoding-item_of, item-item_of, inside-item_of, one_byte}
 
 -- ---- what is the same
 
@@ -31,18 +31,18 @@ both_equal r s p q = (λ i. ordering_then (p i) s) ∙ q
 
 -- ---- strings
 
-no_quote : (item : Item) (rest s : List ℕ) → item ≢ raw 34 → spelling item ++ rest ≢ 34 ∷ s
+no_quote : (item : Item) (rest s : List ℕ) → item ≢ raw 34 → encoding item ++ rest ≢ 34 ∷ s
 no_quote (raw byte) rest s inside e = inside (ap raw (heads byte 34 rest s e))
 no_quote (escape letter byte) rest s inside e = absurd (omega (arith, heads 92 34 (letter ∷ rest) s e))
 no_quote (unit braces digits) rest s inside e = absurd (omega (arith, heads 92 34 (117 ∷ (after_u braces digits ++ rest)) s e))
 
 byte_is_no_quote : (byte : ℕ) (rest s : List ℕ) → byte_text byte ++ rest ≢ 34 ∷ s
-byte_is_no_quote byte rest s e = no_quote (item_of byte) rest s (inside-item_of byte) (ap (λ text. text ++ rest) (spelling-item_of byte) ∙ e)
+byte_is_no_quote byte rest s e = no_quote (item_of byte) rest s (inside-item_of byte) (ap (λ text. text ++ rest) (encoding-item_of byte) ∙ e)
 
 same_byte : (b c : ℕ) (r s : List ℕ) → byte_text b ++ r ≡ byte_text c ++ s → (b ≡ c) × (r ≡ s)
 same_byte b c r s e =
     let parts = same_first standard (item_of b) (item_of c) r s (item-item_of standard b) (item-item_of standard c)
-    (ap (λ text. text ++ r) (spelling-item_of b) ∙ e ∙ ap (λ text. text ++ s) (sym (spelling-item_of c))) in
+    (ap (λ text. text ++ r) (encoding-item_of b) ∙ e ∙ ap (λ text. text ++ s) (sym (encoding-item_of c))) in
     (one_byte b c parts.0, parts.1)
 
 same_body : (xs ys r s : List ℕ) → flat_map byte_text xs ++ (34 ∷ r) ≡ flat_map byte_text ys ++ (34 ∷ s) → (xs ≡ ys) × (r ≡ s)

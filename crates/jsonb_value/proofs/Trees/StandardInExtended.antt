@@ -30,7 +30,7 @@ use Rattle.jsonb_value.proofs.Numbers.InRange.{decimals}
 use Rattle.jsonb_value.proofs.Numbers.Texts.{IsDigit, Begins, begun, digit_bytes}
 use Rattle.jsonb_value.proofs.Trees.OneText.{same_numbers, same_bytes, both_equal, IsTextByte}
 use Rattle.jsonb_value.proofs.Trees.Runs.{heads}
-use Rattle.jsonb_value.proofs.Trees.TextsReadBack.{SpellsSameNumber, no_whitespace_alone}
+use Rattle.jsonb_value.proofs.Trees.TextsReadBack.{EncodesSameNumber, no_whitespace_alone}
 
 -- the modes differ
 two_modes : {A : Type 0} → standard ≡ extended → A
@@ -142,9 +142,9 @@ integer_value : (negative : Bool) (value : ℕ) (n : Num) → IsInteger negative
 integer_value false value n is = (is.0, ap (λ (m : Num). m.scale) is.1, ap (λ (m : Num). m.whole) is.1)
 integer_value true value n is = (negative_small value is.0, ap (λ (m : Num). m.scale) is.1, ap (λ (m : Num). m.whole) is.1)
 
--- an integer text is a decimal text, whose zeros stand apart from its other digits
+-- an integer text is a decimal text, whose zeros are apart from its other digits
 decimal_parts : (bytes : List ℕ) (negative : Bool) (whole zeros digits : List ℕ) (n : Num) → bytes ≡ sign_text negative ++ whole → whole ≡ zeros ++ digits → zeros ≡ replicate (length zeros) 48 → AllDigits 10 digits → slice_index digits 0 ≢ 48
-    → 0 < length zeros + length digits → length digits ≤ 38 → n.scale ≡ 0 → n.whole ≡ signed_by negative (digits_value 10 digits) → SpellsSameNumber extended bytes n
+    → 0 < length zeros + length digits → length digits ≤ 38 → n.scale ≡ 0 → n.whole ≡ signed_by negative (digits_value 10 digits) → EncodesSameNumber extended bytes n
 decimal_parts bytes negative whole zeros digits n joined split are_zeros each first some few scaled value =
     let sign = sign_text negative in
     let s = sign_is negative in
@@ -170,7 +170,7 @@ decimal_parts bytes negative whole zeros digits n joined split are_zeros each fi
       wholes = (λ i. signed_by (s.1 i) (digits_value 10 (append-nil digits i))) ∙ sym value;
     }
 
-standard_is_decimal : (bytes : List ℕ) (n : Num) → IsStandardNumber bytes n → SpellsSameNumber extended bytes n
+standard_is_decimal : (bytes : List ℕ) (n : Num) → IsStandardNumber bytes n → EncodesSameNumber extended bytes n
 standard_is_decimal bytes n (negative, whole, joined, is_whole, is) =
     let v = integer_value negative (digits_value 10 whole) n is in
     ⊎_elim
@@ -201,10 +201,10 @@ wider_items (item ∷ items) each = (wider_item item each.0, wider_items items e
 wider_quoted : (quote : ℕ) (bytes text : List ℕ) (mark : Mark) → Quoted standard quote bytes text mark → Quoted extended quote bytes text mark
 wider_quoted quote bytes text mark q = record {
   body = q.body;
-  spelled = q.spelled;
+  encoded = q.encoded;
   decodes = record {
     items = q.decodes.items;
-    body = record { spelled = q.decodes.body.spelled; each = wider_items q.decodes.items q.decodes.body.each };
+    body = record { encoded = q.decodes.body.encoded; each = wider_items q.decodes.items q.decodes.body.each };
     meant = q.decodes.meant;
     utf8 = q.decodes.utf8;
   };
@@ -226,26 +226,26 @@ wider_literal bytes t (false_word w) = false_word (ap (map to_ascii_lowercase) w
 
 -- ---- values
 
--- the bytes spell a tree that is the same
-record SpellSame (Spells : List ℕ → Tree → Type 0) (bytes : List ℕ) (t : Tree) : Type 0 where
+-- the bytes encode a tree that is the same
+record EncodeSame (Encodes : List ℕ → Tree → Type 0) (bytes : List ℕ) (t : Tree) : Type 0 where
   tree : Tree
-  is : Spells bytes tree
+  is : Encodes bytes tree
   same : tree_cmp tree t ≡ Equal
 
 same_tree : (t : Tree) → tree_cmp t t ≡ Equal
 same_tree t = tied_itself tree_cmp_total t
 
-wider_scalar : (bytes : List ℕ) (t : Tree) → IsScalar standard bytes t → SpellSame (IsScalar extended) bytes t
+wider_scalar : (bytes : List ℕ) (t : Tree) → IsScalar standard bytes t → EncodeSame (IsScalar extended) bytes t
 wider_scalar bytes t (literal_value l) = record { tree = t; is = literal_value (wider_literal bytes t l); same = same_tree t }
 wider_scalar bytes t (string_value {quote = quote} {text = text} {mark = mark} q s) = record { tree = t; is = string_value (inl q) (wider_quoted quote bytes text mark s); same = same_tree t }
 wider_scalar bytes t (number_value {n = n} is) =
     let r = standard_is_decimal bytes n is in
     record { tree = number r.read; is = number_value r.is_number; same = same_numbers r.read n r.scales r.wholes }
 
--- a value's spelling begins as its text does
-spelled_first : (negative : Bool) (whole : List ℕ) → IsWhole whole → Begins IsTextByte (sign_text negative ++ whole)
-spelled_first true whole w = record { first = 45; rest = whole; joined = refl; is = (omega arith, omega arith, omega arith, omega arith, omega arith, omega arith) }
-spelled_first false whole w =
+-- a value's encoding begins as its text does
+encoded_first : (negative : Bool) (whole : List ℕ) → IsWhole whole → Begins IsTextByte (sign_text negative ++ whole)
+encoded_first true whole w = record { first = 45; rest = whole; joined = refl; is = (omega arith, omega arith, omega arith, omega arith, omega arith, omega arith) }
+encoded_first false whole w =
     let b = begun IsDigit whole w.digits.0 (digit_bytes whole w.digits.1) in
     record { first = b.first; rest = b.rest; joined = b.joined; is = (omega (arith, b.is), omega (arith, b.is), omega (arith, b.is), omega (arith, b.is), omega (arith, b.is), omega (arith, b.is)) }
 
@@ -262,9 +262,9 @@ quote_byte quote e = (omega (arith, e), omega (arith, e), omega (arith, e), omeg
 
 scalar_first : (bytes : List ℕ) (t : Tree) → IsScalar standard bytes t → Begins IsTextByte bytes
 scalar_first bytes t (literal_value l) = literal_first bytes t l
-scalar_first bytes t (string_value {quote = quote} q s) = first_is quote (s.body ++ quote ∷ []) bytes s.spelled (quote_byte quote q)
+scalar_first bytes t (string_value {quote = quote} q s) = first_is quote (s.body ++ quote ∷ []) bytes s.encoded (quote_byte quote q)
 scalar_first bytes t (number_value {n = n} (negative, whole, joined, is_whole, is)) =
-    subst (Begins IsTextByte) (sym joined) (spelled_first negative whole is_whole)
+    subst (Begins IsTextByte) (sym joined) (encoded_first negative whole is_whole)
 
 value_first : (depth : ℕ) (bytes : List ℕ) (t : Tree) → Derives standard depth bytes t → Begins IsTextByte bytes
 value_first zero bytes t d = scalar_first bytes t d
@@ -322,13 +322,13 @@ same_keys (e ∷ es) (f ∷ fs) h = let others = same_keys es fs h.2 in λ i. sy
 
 -- ---- containers, where the values inside of them are extended ones too
 
-module _ (Value Other : List ℕ → Tree → Type 0) (wider : (bytes : List ℕ) (t : Tree) → Value bytes t → SpellSame Other bytes t) (first : (bytes : List ℕ) (t : Tree) → Value bytes t → Begins IsTextByte bytes) where
-  wider_padded : (bytes : List ℕ) (t : Tree) → IsPadded standard Value bytes t → SpellSame (IsPadded extended Other) bytes t
+module _ (Value Other : List ℕ → Tree → Type 0) (wider : (bytes : List ℕ) (t : Tree) → Value bytes t → EncodeSame Other bytes t) (first : (bytes : List ℕ) (t : Tree) → Value bytes t → Begins IsTextByte bytes) where
+  wider_padded : (bytes : List ℕ) (t : Tree) → IsPadded standard Value bytes t → EncodeSame (IsPadded extended Other) bytes t
   wider_padded bytes t (padded {before = before} {core = core} {after = after} b v a) =
       let w = wider core t v in
       record { tree = w.tree; is = padded (wider_whitespace before b) w.is (wider_whitespace after a); same = w.same }
 
-  wider_element : (bytes : List ℕ) (t : Tree) → IsElement standard Value bytes t → SpellSame (IsElement extended Other) bytes t
+  wider_element : (bytes : List ℕ) (t : Tree) → IsElement standard Value bytes t → EncodeSame (IsElement extended Other) bytes t
   wider_element bytes t (whole_element p) = let w = wider_padded bytes t p in record { tree = w.tree; is = whole_element w.is; same = w.same }
   wider_element bytes t (empty_element m b) = two_modes m
 
@@ -382,7 +382,7 @@ module _ (Value Other : List ℕ → Tree → Type 0) (wider : (bytes : List ℕ
       let more = wider_members rest ns others in
       record { members = (m.0, w.tree) ∷ more.members; joined = more_parts w.is more.joined; same = (refl, w.same, more.same) }
 
-  wider_value : (bytes : List ℕ) (t : Tree) → IsValue standard Value bytes t → SpellSame (IsValue extended Other) bytes t
+  wider_value : (bytes : List ℕ) (t : Tree) → IsValue standard Value bytes t → EncodeSame (IsValue extended Other) bytes t
   wider_value bytes t (scalar s) = let w = wider_scalar bytes t s in record { tree = w.tree; is = scalar w.is; same = w.same }
   wider_value bytes t (empty_array {whitespace = whitespace} b) = record { tree = t; is = empty_array (wider_whitespace whitespace b); same = refl }
   wider_value bytes t (full_array {body = body} {ts = ts} items some) =
@@ -393,7 +393,7 @@ module _ (Value Other : List ℕ → Tree → Type 0) (wider : (bytes : List ℕ
       let w = wider_members body ms members in
       record { tree = object (put_all w.members no_members); is = full_object w.joined (subst AreDistinct (same_keys w.members ms w.same) distinct); same = put_all_same w.members ms no_members no_members w.same refl }
 
-wider_derived : (depth : ℕ) (bytes : List ℕ) (t : Tree) → Derives standard depth bytes t → SpellSame (Derives extended depth) bytes t
+wider_derived : (depth : ℕ) (bytes : List ℕ) (t : Tree) → Derives standard depth bytes t → EncodeSame (Derives extended depth) bytes t
 wider_derived zero bytes t d = wider_scalar bytes t d
 wider_derived (suc depth) bytes t d = wider_value (Derives standard depth) (Derives extended depth) (wider_derived depth) (value_first depth) bytes t d
 

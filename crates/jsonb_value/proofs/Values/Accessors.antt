@@ -70,7 +70,7 @@ item_within [] i v within = absurd (omega (arith, within))
 item_within (w ∷ vs) zero v within = refl
 item_within (w ∷ vs) (suc i) v within = item_within vs i v (omega (arith, within))
 
--- what is lent of an array's place is the item there
+-- what is lent of an array's slot is the item there
 pub item_lent : (vs : List Value) (i : ℕ) (r : Option (Bor Value)) → IsItemAt vs i r → option_map (λ v. view v.now) r ≡ item_at (trees_view vs) i
 item_lent vs i None h = sym (item_past vs i h.3)
 item_lent vs i (Some v) h = ap (λ w. Some (view w)) h.1 ∙ sym (item_within vs i v.now h.3.0)

@@ -1,10 +1,10 @@
--- The code that a `ParseErrorCode` stands for.
+-- The code that a `ParseErrorCode` means.
 use Rattle.std.specs.Prelude.{string_bytes}
 use Rattle.jsonb_spec.specs.Code.{Code, control_character_while_parsing_string, depth_limit_exceeded, expected_array_comma_or_end, expected_colon, expected_object_comma_or_end, expected_some_ident, expected_some_value, invalid_eof, invalid_escaped, invalid_hex, invalid_lone_leading_surrogate_in_hex_escape, invalid_number_value, invalid_string_value, invalid_surrogate_in_hex_escape, key_must_be_a_string, number_not_carried, object_duplicate_key, object_key_invalid_character, object_key_invalid_number, unexpected_end_of_hex_escape, unexpected_trailing_characters}
 use Rattle.jsonb_value.specs.declared.error.ParseErrorCode.{ParseErrorCode}
 use Rattle.jsonb_value.specs.declared.error.ParseErrorCode.TheVariants as variants
 
--- the code that a `ParseErrorCode` stands for
+-- the code that a `ParseErrorCode` means
 abbrev pub code_of : ParseErrorCode → Code
 code_of variants.InvalidEOF = invalid_eof
 code_of variants.InvalidNumberValue = invalid_number_value

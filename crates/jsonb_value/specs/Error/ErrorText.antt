@@ -10,7 +10,7 @@ use Rattle.jsonb_value.specs.Error.CodeView.{code_of}
 abbrev pub hexadecimal : ℕ → List ℕ
 hexadecimal n = digits 16 true n
 
--- what is wrong with a text, in words: a byte or a unit stands there in hexadecimal, a key as it is
+-- what is wrong with a text, in words: a byte or a unit is there in hexadecimal, a key as it is
 abbrev pub code_text : Code → List ℕ
 code_text invalid_eof = codes "EOF while parsing a value"
 code_text invalid_number_value = codes "invalid number"
@@ -57,5 +57,5 @@ error_text variants.InvalidObject = codes "InvalidObject"
 error_text variants.ObjectDuplicateKey = codes "ObjectDuplicateKey"
 error_text variants.UnexpectedType = codes "UnexpectedType"
 error_text (variants.Message message) = string_bytes message
-error_text (variants.Syntax code place) = code_text (code_of code) ++ codes ", pos " ++ decimal place
+error_text (variants.Syntax code offset) = code_text (code_of code) ++ codes ", pos " ++ decimal offset
 error_text variants.OutOfMemory = codes "OutOfMemory"

@@ -31,10 +31,10 @@ pub data ErrorView : Type 0 where
 -- it holds no text, so that a copy takes no memory
 abbrev pub HoldsNoText : ErrorView → Type 0
 HoldsNoText (message text) = ⊥
-HoldsNoText (syntax code place) = NamesNoKey code
+HoldsNoText (syntax code offset) = NamesNoKey code
 HoldsNoText error = ⊤
 
--- what an `Error` stands for
+-- what an `Error` means
 abbrev pub error_view : Error → ErrorView
 error_view variants.InvalidUtf8 = invalid_utf8
 error_view variants.InvalidEOF = invalid_eof
@@ -54,5 +54,5 @@ error_view variants.InvalidObject = invalid_object
 error_view variants.ObjectDuplicateKey = object_duplicate_key
 error_view variants.UnexpectedType = unexpected_type
 error_view (variants.Message text) = message (string_bytes text)
-error_view (variants.Syntax code place) = syntax (code_of code) place
+error_view (variants.Syntax code offset) = syntax (code_of code) offset
 error_view variants.OutOfMemory = out_of_memory

@@ -20,7 +20,7 @@ use std::fmt;
 use std::fmt::InlineText;
 
 // More than the text of any interval takes.
-const ROOM: usize = 160;
+const CAPACITY: usize = 160;
 
 const MICROS_A_SECOND: u64 = 1_000_000;
 
@@ -30,7 +30,7 @@ const MICROS_AN_HOUR: u64 = 60 * MICROS_A_MINUTE;
 
 const HEXADECIMAL_DIGITS: &[u8; 16] = b"0123456789ABCDEF";
 
-type IntervalText = InlineText<ROOM>;
+type IntervalText = InlineText<CAPACITY>;
 
 // The text and the part after it.
 fn and(text: IntervalText, part: &str) -> IntervalText
@@ -55,7 +55,7 @@ fn and_space(text: IntervalText) -> IntervalText
 // The text and the number's digits, after zeros that make them `least` digits.
 fn and_digits(text: IntervalText, number: u64, least: usize) -> IntervalText
     requires few { least ≤ 6 }
-    requires room { length (inline_text text) + 20 ≤ 160 }
+    requires space { length (inline_text text) + 20 ≤ 160 }
     ensures text { inline_text result ≡ inline_text text ++ zero_padded least (decimal number) }
     ensures length { length (inline_text result) ≤ length (inline_text text) + 20 }
 {
@@ -68,7 +68,7 @@ fn and_digits(text: IntervalText, number: u64, least: usize) -> IntervalText
 // The text and an amount of the unit, which is left out where it is 0.
 fn and_amount(text: IntervalText, amount: i32, unit: &str) -> IntervalText
     requires short { length unit.now ≤ 5 }
-    requires room { length (inline_text text) + 20 ≤ 160 }
+    requires space { length (inline_text text) + 20 ≤ 160 }
     ensures text { inline_text result ≡ beside (inline_text text) (amount_text amount unit.now) }
     ensures length { length (inline_text result) ≤ length (inline_text text) + 20 }
 {

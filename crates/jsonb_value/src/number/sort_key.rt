@@ -1,7 +1,7 @@
 //! The sort key of a number: its sign, its exponent, and its digits.
 ghost use Rattle.std.specs.Prelude.{◌≡◌, ◌*◌, ◌/◌, ◌%◌, ◌^◌, ◌<◌, ◌≤◌, ◌++◌, ◌↔◌, ◌-◌, ◌∷◌, [], map, drop};
 ghost use Rattle.jsonb_spec.specs.Proper.{IsProperNumber};
-ghost use Rattle.jsonb_spec.specs.SortKey.{digit_count, place_key, digits_key, magnitude_key, number_key, invert_if};
+ghost use Rattle.jsonb_spec.specs.SortKey.{digit_count, exponent_key, digits_key, magnitude_key, number_key, invert_if};
 ghost use Rattle.jsonb_spec.specs.Text.Appending.{Appends};
 ghost use Rattle.jsonb_value.specs.View.{number_view};
 
@@ -46,7 +46,7 @@ fn append_two(first: u8, second: u8, buf: &mut Vec<u8>) -> Appended
     buf.extend_from_slice(&[first, second])
 }
 
-// Appends what stands in a row of bytes from `start` on.
+// Appends what is in a row of bytes from `start` on.
 #[inline(always)]
 fn append_row(row: &[u8; 12], start: usize, buf: &mut Vec<u8>) -> Appended
     requires { start ≤ 12 }
@@ -85,8 +85,8 @@ fn append_small(negative: bool, scale: u8, magnitude: u64, buf: &mut Vec<u8>) ->
     ensures appends { Appends result buf.old buf.new (map (invert_if negative) (magnitude_key scale magnitude)) }
 {
     let (count, digits) = small_digits(magnitude);
-    let place = invert_if(negative, count + 0xA0 - scale);
-    append_two(place, invert_if(negative, digits), buf)
+    let exponent = invert_if(negative, count + 0xA0 - scale);
+    append_two(exponent, invert_if(negative, digits), buf)
 }
 
 // How many digits a number below 100 has, and their byte.
@@ -113,7 +113,7 @@ fn append_short(negative: bool, scale: u8, magnitude: u64, buf: &mut Vec<u8>) ->
     let count = short_digit_count(magnitude);
     let mut row = [0; 12];
     let digits = write_digits(negative, count, magnitude, &mut row);
-    let start = write_place(negative, count + 255 - u32::from(scale), digits, &mut row);
+    let start = write_exponent(negative, count + 255 - u32::from(scale), digits, &mut row);
     append_row(&row, start, buf)
 }
 
@@ -124,7 +124,7 @@ fn append_long(negative: bool, scale: u8, magnitude: u128, buf: &mut Vec<u8>) ->
     ensures appends { Appends result buf.old buf.new (map (invert_if negative) (magnitude_key scale magnitude)) }
 {
     let count = digit_count(magnitude);
-    append_place(negative, count + 255 - u32::from(scale), buf)?;
+    append_exponent(negative, count + 255 - u32::from(scale), buf)?;
     append_digits(negative, count, magnitude, buf)
 }
 
@@ -151,30 +151,30 @@ fn short_digit_count(magnitude: u64) -> u32
     magnitude.ilog10() + 1
 }
 
-// Writes the place of the first digit before what stands in the row from `end` on, and answers where it begins.
+// Writes the exponent of the first digit before what is in the row from `end` on, and answers where it begins.
 #[inline(always)]
-fn write_place(negative: bool, place: u32, end: usize, row: &mut [u8; 12]) -> usize
-    requires small { place < 295 }
-    requires room { (2 ≤ end) × (end ≤ 12) }
-    ensures bytes { drop result row.new ≡ map (invert_if negative) (place_key place) ++ drop end row.old }
+fn write_exponent(negative: bool, exponent: u32, end: usize, row: &mut [u8; 12]) -> usize
+    requires small { exponent < 295 }
+    requires space { (2 ≤ end) × (end ≤ 12) }
+    ensures bytes { drop result row.new ≡ map (invert_if negative) (exponent_key exponent) ++ drop end row.old }
     ensures within { result ≤ 12 }
 {
-    if place < 225 {
-        row[end - 1] = invert_if(negative, place as u8);
-        row[end - 2] = invert_if(negative, kind::FAR_PLACE);
+    if exponent < 225 {
+        row[end - 1] = invert_if(negative, exponent as u8);
+        row[end - 2] = invert_if(negative, kind::FAR_EXPONENT);
         return end - 2;
     }
-    row[end - 1] = invert_if(negative, (place - 95) as u8);
+    row[end - 1] = invert_if(negative, (exponent - 95) as u8);
     end - 1
 }
 
-// Appends the place of the first digit.
-fn append_place(negative: bool, place: u32, buf: &mut Vec<u8>) -> Appended
-    requires { place < 295 }
-    ensures appends { Appends result buf.old buf.new (map (invert_if negative) (place_key place)) }
+// Appends the exponent of the first digit.
+fn append_exponent(negative: bool, exponent: u32, buf: &mut Vec<u8>) -> Appended
+    requires { exponent < 295 }
+    ensures appends { Appends result buf.old buf.new (map (invert_if negative) (exponent_key exponent)) }
 {
     let mut row = [0; 12];
-    let start = write_place(negative, place, 12, &mut row);
+    let start = write_exponent(negative, exponent, 12, &mut row);
     append_row(&row, start, buf)
 }
 
@@ -202,7 +202,7 @@ fn write_digits(negative: bool, count: u32, magnitude: u64, row: &mut [u8; 12]) 
     requires few { count ≤ 20 }
     requires below { magnitude < 10 ^ count }
     ensures bytes { drop result row.new ≡ map (invert_if negative) (digits_key count magnitude) }
-    ensures room { (2 ≤ result) × (result ≤ 12) }
+    ensures space { (2 ≤ result) × (result ≤ 12) }
 {
     let (last, mut front) = split_last(count, magnitude);
     let mut more = 0u8;

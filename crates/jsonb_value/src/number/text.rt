@@ -89,8 +89,8 @@ fn decimal_parts(scale: u8, negative: bool, digits: &str) -> TextParts<'_>
     ensures short { length (bytes_of_parts result) ≤ 258 }
 {
     let sign = sign_of(negative);
-    let places = scale as usize;
-    if places == 0 {
+    let exponents = scale as usize;
+    if exponents == 0 {
         return TextParts {
             sign,
             front: digits,
@@ -99,8 +99,8 @@ fn decimal_parts(scale: u8, negative: bool, digits: &str) -> TextParts<'_>
             back: "",
         };
     }
-    if places < digits.len() {
-        let (front, back) = digits.split_at(digits.len() - places);
+    if exponents < digits.len() {
+        let (front, back) = digits.split_at(digits.len() - exponents);
         return TextParts {
             sign,
             front,
@@ -113,7 +113,7 @@ fn decimal_parts(scale: u8, negative: bool, digits: &str) -> TextParts<'_>
         sign,
         front: "0",
         point: ".",
-        zeros: places - digits.len(),
+        zeros: exponents - digits.len(),
         back: digits,
     }
 }

@@ -36,9 +36,9 @@ pub const ARRAY: u8 = 0xD2;
 /// Null.
 pub const NULL: u8 = 0xD3;
 
-/// In a number: what stands before the place of its first digit, where that has a byte of its own. More than 30 zeros
+/// In a number: what is before the exponent of its first digit, where that has a byte of its own. More than 30 zeros
 /// follow the point then.
-pub const FAR_PLACE: u8 = 0x81;
+pub const FAR_EXPONENT: u8 = 0x81;
 
 /// A zero, which ends the items of an array, and twice the members of an object; a text ends with it and `TEXT_END`.
 pub const TERMINATOR: u8 = 0x00;

@@ -56,7 +56,7 @@ fn copy_text<'a>(text: &CowStr<'a>) -> Result<CowStr<'a>, AllocError>
     }
 }
 
-// Scalars have arms of their own, so that each is written into its place and nowhere before.
+// Scalars have arms of their own, so that each is written into its slot and nowhere before.
 #[cycle(copy)]
 fn copy_items<'a>(items: &Vec<Value<'a>>) -> Result<Vec<Value<'a>>, AllocError>
     ensures { IfOk result (λ v. trees_view v.items ≡ trees_view items.now.items) }

@@ -51,7 +51,7 @@ fn take_members_apart(mut members: Object) {
     members.destroy_empty();
 }
 
-// Whether more than so many arrays and objects stand in one another. Inlined into the loops, so that only containers
+// Whether more than so many arrays and objects are in one another. Inlined into the loops, so that only containers
 // are calls there.
 #[inline(always)]
 #[cycle(nests_deeper)]

@@ -21,7 +21,7 @@ impl<'a> Value<'a> {
     /// The value as it was, if it is no string.
     pub fn into_string(self) -> Result<CowStr<'a>, Value<'a>>
         ensures ok { IfOk result (λ text. self.entry ≡ Value.String text) }
-        ensures kept { IfErr result (λ value. value ≡ self.entry) }
+        ensures retained { IfErr result (λ value. value ≡ self.entry) }
         ensures none { IfErr result (λ _. as_string (view self.entry) ≡ None) }
     {
         match self {
@@ -43,7 +43,7 @@ impl<'a> Value<'a> {
     /// The value as it was, if it is no array.
     pub fn into_array(self) -> Result<Vec<Value<'a>>, Value<'a>>
         ensures ok { IfOk result (λ items. self.entry ≡ Value.Array items) }
-        ensures kept { IfErr result (λ value. value ≡ self.entry) }
+        ensures retained { IfErr result (λ value. value ≡ self.entry) }
         ensures none { IfErr result (λ _. as_array (view self.entry) ≡ None) }
     {
         match self {
@@ -65,7 +65,7 @@ impl<'a> Value<'a> {
     /// The value as it was, if it is no object.
     pub fn into_object(self) -> Result<Object<'a>, Value<'a>>
         ensures ok { IfOk result (λ members. self.entry ≡ Value.Object members) }
-        ensures kept { IfErr result (λ value. value ≡ self.entry) }
+        ensures retained { IfErr result (λ value. value ≡ self.entry) }
         ensures none { IfErr result (λ _. as_object (view self.entry) ≡ None) }
     {
         match self {

@@ -62,7 +62,7 @@ pub fn order_is_total()
     ensures by_content { IsByContent Below Same }
 {}
 
-// Where the value's kind stands among the kinds.
+// Where the value's kind is among the kinds.
 pub(super) fn rank(value: &Value) -> u8
     ensures { result ≡ rank (view value.now) }
 {
@@ -81,7 +81,7 @@ pub(super) fn rank(value: &Value) -> u8
     }
 }
 
-// Objects that stand in so many others are compared key by key, which takes less machine stack.
+// Objects that are in so many others are compared key by key, which takes less machine stack.
 const MANY_OBJECTS: u32 = 128;
 
 // Inlined into the loops, so that only containers are calls there. So many objects may still be open round others that
@@ -156,7 +156,7 @@ fn compare_members<'a>(left: &Object<'a>, right: &Object<'a>, levels: u32) -> Or
     }
 }
 
-// The order of the members of two objects that stand deep, where most objects have one member.
+// The order of the members of two objects that are deep, where most objects have one member.
 #[inline(never)]
 #[cycle(compare)]
 fn compare_deep<'a>(left: &Object<'a>, right: &Object<'a>) -> Ordering

@@ -20,7 +20,7 @@ impl<'a> Value<'a> {
     /// Machine stack grows with the depth of the value.
     ///
     /// ```
-    /// let value: Value<'static> = jsonb::parse_value(rt.alloc(), b"['kept']")?.to_owned_value(rt.alloc())?;
+    /// let value: Value<'static> = jsonb::parse_value(rt.alloc(), b"['held']")?.to_owned_value(rt.alloc())?;
     /// assert_eq!(rt; value.array_length(), Some(1));
     /// ```
     ///

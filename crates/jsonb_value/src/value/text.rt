@@ -102,7 +102,7 @@ fn text_error(value: &Value<'_>) -> Error
     }
 }
 
-// Whether no date and no time stands in the value. Inlined into the loops, so that only containers are calls there.
+// Whether no date and no time is in the value. Inlined into the loops, so that only containers are calls there.
 #[inline(always)]
 #[cycle(has_text)]
 fn has_text<'a>(value: &Value<'a>) -> bool

@@ -1,4 +1,4 @@
--- The room for a sort key while an object is open: its members, their keys and their values.
+-- The sink for a sort key while an object is open: its members, their keys and their values.
 use Rattle.std.proofs.Common.{◌≡◌, ℕ, ◌+◌, true, false, List, [], ◌∷◌, ◌++◌, map, length, take, Vec, Global, refl, sym, ap, ap₂, subst, ◌∙◌, arith, append_assoc, append-nil, length-append}
 use Rattle.std.proofs.lemmas.List.{length-take-le}
 use Rattle.std.specs.Str.{IsUtf8}
@@ -6,14 +6,14 @@ use Rattle.jsonb_spec.specs.SortKey.{text_key}
 use Rattle.jsonb_spec.specs.Tree.{Mark}
 use Rattle.jsonb_scan.specs.Open.{Open, members_so_far}
 use Rattle.jsonb_spec.specs.Source.{Found, Source, found_member}
-use Rattle.jsonb_write.specs.KeyRoom.{Begins, Held, HeldFits, IsRoomWith, KeyStands, Writes, base_of, key_layout, members}
+use Rattle.jsonb_write.specs.KeySink.{Begins, Held, HeldFits, IsSinkWith, KeyHolds, Writes, base_of, key_layout, members}
 use Rattle.jsonb_write.specs.Members.{member_key, others_joined, source_key}
 use Rattle.jsonb_write.specs.OpenMembers.{AreOf, next_start}
 use Rattle.jsonb_write.specs.OpenMembers.{Begins as Begun}
 use Rattle.jsonb_spec.specs.Text.StringText.{ArePlain}
 use Rattle.jsonb_write.specs.OpenKey.{keys_joined, open_key}
-use Rattle.jsonb_write.specs.declared.key.KeyRoom.{KeyRoom}
-use Rattle.jsonb_write.proofs.Keys.KeyRooms.{goes_on}
+use Rattle.jsonb_write.specs.declared.key.KeySink.{KeySink}
+use Rattle.jsonb_write.proofs.Keys.KeySinks.{goes_on}
 use Rattle.jsonb_write.proofs.Keys.OpenKeys.{member_joined}
 use Rattle.jsonb_write.proofs.OpenMembers as opened
 use Rattle.jsonb_write.proofs.Objects.Closing.{all_joined}
@@ -31,7 +31,7 @@ next_start-is start fs = behind_others start fs ∙ ap (λ keys. start + length 
 
 -- ---- bytes and members
 
-pub begins : {key : List ℕ} {place start : ℕ} {s t : KeyRoom} → t.out ≡ s.out → t.base ≡ s.base → Begun key place start s.members t.members → Begins [] key place start s t
+pub begins : {key : List ℕ} {offset start : ℕ} {s t : KeySink} → t.out ≡ s.out → t.base ≡ s.base → Begun key offset start s.members t.members → Begins [] key offset start s t
 begins {s = s} out base m =
     record {
       base = base;
@@ -40,7 +40,7 @@ begins {s = s} out base m =
       members = m;
     }
 
-pub begins_wrote : {a b key : List ℕ} {place start : ℕ} {r s t : KeyRoom} → Begins a key place start r s → Writes b s t → Begins (a ++ b) key place start r t
+pub begins_wrote : {a b key : List ℕ} {offset start : ℕ} {r s t : KeySink} → Begins a key offset start r s → Writes b s t → Begins (a ++ b) key offset start r t
 begins_wrote {a = a} {b = b} {r = r} m w =
     record {
       base = w.base ∙ m.base;
@@ -50,22 +50,22 @@ begins_wrote {a = a} {b = b} {r = r} m w =
     }
 
 -- a key in the text, without escapes
-pub text_kept : {there key : List ℕ} {s t : KeyRoom} → there ≡ key → ArePlain key → (ArePlain there → Writes (text_key there) s t) → Writes (text_key key) s t
-text_kept {s = s} {t = t} same plain wrote = subst (λ bytes. Writes (text_key bytes) s t) same (wrote (subst ArePlain (sym same) plain))
+pub text_verbatim : {there key : List ℕ} {s t : KeySink} → there ≡ key → ArePlain key → (ArePlain there → Writes (text_key there) s t) → Writes (text_key key) s t
+text_verbatim {s = s} {t = t} same plain wrote = subst (λ bytes. Writes (text_key bytes) s t) same (wrote (subst ArePlain (sym same) plain))
 
 -- ---- steps
 
 -- an object with no members
-pub object_begun : {text : List ℕ} {r s : KeyRoom} {held : List Held} {cs : List Open} (key : Mark × List ℕ) (place : ℕ) → KeyStands text r true held cs → Writes (209 ∷ []) r s → KeyStands text s false (members (length s.members.entries.items) ∷ held) (members_so_far [] key place ∷ cs)
-object_begun {r = r} {cs = cs} key place room w =
-    goes_on room w refl (opened.none_in (key_layout r.base) key place cs)
-    (ap length w.members.entries ∙ opened.counted room.members, room.fits)
+pub object_begun : {text : List ℕ} {r s : KeySink} {held : List Held} {cs : List Open} (key : Mark × List ℕ) (offset : ℕ) → KeyHolds text r true held cs → Writes (209 ∷ []) r s → KeyHolds text s false (members (length s.members.entries.items) ∷ held) (members_so_far [] key offset ∷ cs)
+object_begun {r = r} {cs = cs} key offset sink w =
+    goes_on sink w refl (opened.none_in (key_layout r.base) key offset cs)
+    (ap length w.members.entries ∙ opened.counted sink.members, sink.fits)
 
 -- a key behind the members before it
-pub key_stands : {text : List ℕ} {r s : KeyRoom} {first : ℕ} {held : List Held} {fs : List Found} {before : Mark × List ℕ} {place : ℕ} {cs : List Open} (mark : Mark) (key : List ℕ) (after start : ℕ)
-    → KeyStands text r false (members first ∷ held) (members_so_far fs before place ∷ cs) → start ≡ length r.out.items → Begins (text_key key) key after start r s → IsUtf8 key
-    → KeyStands text s true (members first ∷ held) (members_so_far fs (mark, key) after ∷ cs)
-key_stands {text = text} {r = r} {s = s} {first = first} {held = held} {fs = fs} {cs = cs} mark key after start room at m utf8 =
+pub key_holds : {text : List ℕ} {r s : KeySink} {first : ℕ} {held : List Held} {fs : List Found} {before : Mark × List ℕ} {offset : ℕ} {cs : List Open} (mark : Mark) (key : List ℕ) (after start : ℕ)
+    → KeyHolds text r false (members first ∷ held) (members_so_far fs before offset ∷ cs) → start ≡ length r.out.items → Begins (text_key key) key after start r s → IsUtf8 key
+    → KeyHolds text s true (members first ∷ held) (members_so_far fs (mark, key) after ∷ cs)
+key_holds {text = text} {r = r} {s = s} {first = first} {held = held} {fs = fs} {cs = cs} mark key after start sink at m utf8 =
     let from = r.base + length (open_key true cs) + 1 in
     let based : length (base_of r) ≡ r.base = length-take-le r.base r.out.items r.based in
     let keys = keys_joined (map member_key fs) in
@@ -75,24 +75,24 @@ key_stands {text = text} {r = r} {s = s} {first = first} {held = held} {fs = fs}
       at,
       based,
       next_start-is from fs,
-      ap length room.bytes,
+      ap length sink.bytes,
       length-append (base_of r) (open_key true cs ++ 209 ∷ keys),
       length-append (open_key true cs) (209 ∷ keys),
     ) in
-    let begun = opened.key_begun mark key after start room.members starts m.members utf8 in
+    let begun = opened.key_begun mark key after start sink.members starts m.members utf8 in
     record {
       bytes =
-          m.written ∙ ap (λ xs. xs ++ text_key key) room.bytes ∙ append_assoc (base_of r) (open_key true cs ++ 209 ∷ keys) (text_key key)
+          m.written ∙ ap (λ xs. xs ++ text_key key) sink.bytes ∙ append_assoc (base_of r) (open_key true cs ++ 209 ∷ keys) (text_key key)
           ∙ ap₂ (λ b n. b ++ n) (sym m.before) (append_assoc (open_key true cs) (209 ∷ keys) (text_key key));
       members = subst (λ b. AreOf (key_layout b) text s.members true (members_so_far fs (mark, key) after ∷ cs)) (sym m.base) begun;
-      fits = subst (λ b. HeldFits (key_layout b) (members first ∷ held) (members_so_far fs (mark, key) after ∷ cs)) (sym m.base) room.fits;
+      fits = subst (λ b. HeldFits (key_layout b) (members first ∷ held) (members_so_far fs (mark, key) after ∷ cs)) (sym m.base) sink.fits;
     }
 
 -- a value behind its key
-pub value_stands : {text bytes written : List ℕ} {r t : KeyRoom} {first : ℕ} {held : List Held} {fs : List Found} {key : Mark × List ℕ} {place : ℕ} {cs : List Open} (s : Source) (next : Mark × List ℕ) (other : ℕ)
-    → IsRoomWith text r written true (members first ∷ held) (members_so_far fs key place ∷ cs) → Writes bytes r t → written ++ bytes ≡ open_key true (members_so_far fs key place ∷ cs) ++ source_key s
-    → KeyStands text t false (members first ∷ held) (members_so_far (fs ++ found_member key s place ∷ []) next other ∷ cs)
-value_stands {r = r} {fs = fs} {key = key} {place = place} {cs = cs} s next other room w is =
-    goes_on room w (is ∙ member_joined fs (found_member key s place) (open_key true cs))
-    (opened.filled_in (key_layout r.base) fs key next s place other cs)
-    room.fits
+pub value_holds : {text bytes written : List ℕ} {r t : KeySink} {first : ℕ} {held : List Held} {fs : List Found} {key : Mark × List ℕ} {offset : ℕ} {cs : List Open} (s : Source) (next : Mark × List ℕ) (other : ℕ)
+    → IsSinkWith text r written true (members first ∷ held) (members_so_far fs key offset ∷ cs) → Writes bytes r t → written ++ bytes ≡ open_key true (members_so_far fs key offset ∷ cs) ++ source_key s
+    → KeyHolds text t false (members first ∷ held) (members_so_far (fs ++ found_member key s offset ∷ []) next other ∷ cs)
+value_holds {r = r} {fs = fs} {key = key} {offset = offset} {cs = cs} s next other sink w is =
+    goes_on sink w (is ∙ member_joined fs (found_member key s offset) (open_key true cs))
+    (opened.filled_in (key_layout r.base) fs key next s offset other cs)
+    sink.fits

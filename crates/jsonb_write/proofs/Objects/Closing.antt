@@ -23,7 +23,7 @@ strict [] h e = tt
 strict (s ∷ []) h e = tt
 strict (s ∷ t ∷ ts) h e =
     let a = apart s t ts e in
-    (below (key_cmp s.key t.key) (nat_cmp s.place t.place) h.0.0 a.0, strict (t ∷ ts) h.1 a.1)
+    (below (key_cmp s.key t.key) (nat_cmp s.offset t.offset) h.0.0 a.0, strict (t ∷ ts) h.1 a.1)
 
 pub sort_ascends : (fs : List Found) → first_repeat (map spot_of fs) ≡ None → SpotsAscend (map spot_of (sort_by spot_of fs))
 unfolding first_repeat

@@ -1,5 +1,5 @@
 use Rattle.std.proofs.Common.{arith}
-use Rattle.error_path.proofs.Spelling.{key_step}
+use Rattle.error_path.proofs.Encoding.{key_step}
 use Rattle.error_path.proofs.path.append_key.Goals as goal
 
 pub bytes-preserved : goal.bytes-preserved

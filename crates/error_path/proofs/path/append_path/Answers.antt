@@ -1,5 +1,5 @@
 use Rattle.std.proofs.Common.{arith}
-use Rattle.error_path.proofs.Spelling.{keys_step}
+use Rattle.error_path.proofs.Encoding.{keys_step}
 use Rattle.error_path.proofs.path.append_path.Goals as goal
 
 pub keys-preserved : goal.keys-preserved

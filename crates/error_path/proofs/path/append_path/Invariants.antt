@@ -1,6 +1,6 @@
 use Rattle.std.proofs.Common.{◌≡◌, ◌++◌, take, map, string_bytes}
-use Rattle.jsonb_path.specs.Path.{spelled_keys}
+use Rattle.jsonb_path.specs.Path.{encoded_keys}
 use Rattle.error_path.proofs.path.append_path.Given as goal
 
 abbrev pub invariant-keys : goal.invariant-keys
-invariant-keys l = l.path.items ≡ l.fn.path.items ++ spelled_keys (map string_bytes (take l.key-index l.keys))
+invariant-keys l = l.path.items ≡ l.fn.path.items ++ encoded_keys (map string_bytes (take l.key-index l.keys))

@@ -1,6 +1,6 @@
 use Rattle.std.proofs.Common.{map, string_bytes, ap, ◌∙◌, ◌++◌}
-use Rattle.jsonb_path.specs.Path.{spelled_keys}
-use Rattle.error_path.proofs.Spelling.{texts_of}
+use Rattle.jsonb_path.specs.Path.{encoded_keys}
+use Rattle.error_path.proofs.Encoding.{texts_of}
 use Rattle.error_path.proofs.path.error_path.Goals as goal
 
 pub returns : goal.returns
@@ -9,7 +9,7 @@ returns c = record {
     map string_bytes c.in_ok-keys.keys.items,
     record {
       texts = texts_of c.in_ok-keys.keys.items;
-      spelled = c.in_ok-append_path.ensures ∙ ap (λ bs. bs ++ spelled_keys (map string_bytes c.deref-2.result.now)) c.new-path.ensures.items ∙ ap (λ ks. spelled_keys (map string_bytes ks)) c.deref-2.ensures.value;
+      encoded = c.in_ok-append_path.ensures ∙ ap (λ bs. bs ++ encoded_keys (map string_bytes c.deref-2.result.now)) c.new-path.ensures.items ∙ ap (λ ks. encoded_keys (map string_bytes ks)) c.deref-2.ensures.value;
     },
   );
 }

@@ -5,13 +5,13 @@ use Rattle.jsonb_value.specs.View.{view}
 use Rattle.jsonb_spec.specs.Text.{text_of}
 use Rattle.example_codec.specs.Values.{AppendsFrame}
 use Rattle.example_codec.proofs.Encoded.{decodes_again}
-use Rattle.example_codec.proofs.Errors.{no_room, failed_growth}
+use Rattle.example_codec.proofs.Errors.{no_capacity, failed_growth}
 use Rattle.example_codec.proofs.values.encode.Goals as goal
 
 pub returns-then-is_err-clause-full : goal.returns-then-is_err-clause-full
 returns-then-is_err-clause-full c = λ same.
     let full = failed_growth c.extend_from_slice.result c.extend_from_slice.ensures.full (sym c.if-is_err.ensures.value) in
-    no_room (text_of (view c.args.value.now)) (vec_capacity c.args.out.now) (vec_len c.args.out.now) (omega (arith, full))
+    no_capacity (text_of (view c.args.value.now)) (vec_capacity c.args.out.now) (vec_len c.args.out.now) (omega (arith, full))
 
 pub returns-clause-decodes : goal.returns-clause-decodes
 returns-clause-decodes c = λ range bytes rest same.

@@ -1,5 +1,5 @@
-use Rattle.jsonb.proofs.Documents.Spellings.{derived_unique, document_unique}
-use Rattle.jsonb.proofs.Containers.LongerSpellings.{both_numbers}
+use Rattle.jsonb.proofs.Documents.Encodings.{derived_unique, document_unique}
+use Rattle.jsonb.proofs.Containers.LongerEncodings.{both_numbers}
 use Rattle.jsonb.proofs.laws.grammar_is_unambiguous.Goals as goal
 
 pub returns-clause-tree : goal.returns-clause-tree

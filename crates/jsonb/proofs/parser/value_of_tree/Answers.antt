@@ -8,8 +8,8 @@ use Rattle.jsonb.proofs.Documents.Markers.{document_opened}
 use Rattle.jsonb_parse.proofs.Steps.Outcomes.{rejected_container}
 use Rattle.jsonb.proofs.parser.value_of_tree.Goals as goal
 
-fault_told : (c : goal.In-Some) → Fails c.in-Some.error (source_of (mode_of c.args.mode) c.args.buf.now)
-fault_told c = subst (λ told. Misses true told (source_of (mode_of c.args.mode) c.args.buf.now)) c.in-Some.is c.requires.misses
+fault_reported : (c : goal.In-Some) → Fails c.in-Some.error (source_of (mode_of c.args.mode) c.args.buf.now)
+fault_reported c = subst (λ reported. Misses true reported (source_of (mode_of c.args.mode) c.args.buf.now)) c.in-Some.is c.requires.misses
 
 pub returns-in_ok-parse-in-None : goal.returns-in_ok-parse-in-None
 returns-in_ok-parse-in-None c = record {
@@ -19,6 +19,6 @@ returns-in_ok-parse-in-None c = record {
 
 pub returns-in-Some : goal.returns-in-Some
 returns-in-Some c = record {
-  parses = gives_all (mode_of c.args.mode) view c.args.buf.now (Err c.in-Some.error) (gives_tree (mode_of c.args.mode) c.args.buf.now (Err c.in-Some.error) (fault_told c)) (search rules);
-  follows = gives_as_specified (mode_of c.args.mode) view c.args.buf.now (Err c.in-Some.error) (gives_tree (mode_of c.args.mode) c.args.buf.now (Err c.in-Some.error) (fault_told c));
+  parses = gives_all (mode_of c.args.mode) view c.args.buf.now (Err c.in-Some.error) (gives_tree (mode_of c.args.mode) c.args.buf.now (Err c.in-Some.error) (fault_reported c)) (search rules);
+  follows = gives_as_specified (mode_of c.args.mode) view c.args.buf.now (Err c.in-Some.error) (gives_tree (mode_of c.args.mode) c.args.buf.now (Err c.in-Some.error) (fault_reported c));
 }

@@ -1,4 +1,4 @@
-//! A `JsonAst` tells each fault, and keeps its members in a vector until the object ends.
+//! A `JsonAst` reports each fault, and holds its members in a vector until the object ends.
 ghost use Rattle.std.specs.Prelude.{◌≡◌, List, [], map, true, false};
 ghost use Rattle.std.specs.Cow.{cow_str_bytes};
 ghost use Rattle.jsonb_value.specs.View.{mark_view};
@@ -6,7 +6,7 @@ ghost use Rattle.jsonb.specs.FrameContents.{Completes, FramesHold};
 ghost use Rattle.jsonb.specs.Source.{found_of, source_view};
 ghost use Rattle.jsonb_spec.specs.Source.{object_source, source_members_of};
 
-use super::value::{make_room, push_scalar};
+use super::value::{grow, push_scalar};
 use crate::parser::members::{Member, settle_members};
 use crate::parser::{JsonAst, Mode};
 use jsonb_parse::{Failed, Handler, OpenObject, Scalar, Text, Wants};
@@ -17,7 +17,7 @@ use std::borrow::CowStr;
 use std::mem;
 
 impl<'a> Handler<'a> for JsonAst<'a> {
-    type Room = ();
+    type Sink = ();
 
     type Items = Vec<JsonAst<'a>>;
 
@@ -27,30 +27,30 @@ impl<'a> Handler<'a> for JsonAst<'a> {
 
     ghost sees = { λ v s. source_view v ≡ s };
 
-    // Nothing is kept.
-    ghost is_kept = { λ k v. ⊥ };
+    // Nothing is held.
+    ghost is_verbatim = { λ k v. ⊥ };
 
-    ghost stands = { λ text room due fs cs. FramesHold (λ v s. source_view v ≡ s) (λ key k place. ((mark_view key.0, cow_str_bytes key.0) ≡ k) × (key.1 ≡ place)) (λ ms found. map found_of ms.items ≡ found) due fs cs };
+    ghost holds = { λ text sink due fs cs. FramesHold (λ v s. source_view v ≡ s) (λ key k offset. ((mark_view key.0, cow_str_bytes key.0) ≡ k) × (key.1 ≡ offset)) (λ ms found. map found_of ms.items ≡ found) due fs cs };
 
-    ghost completes = { λ text room f s fs cs. Completes (λ v s. source_view v ≡ s) (λ ms s. object_source (source_members_of (map found_of ms.items)) ≡ s) f s × FramesHold (λ v s. source_view v ≡ s) (λ key k place. ((mark_view key.0, cow_str_bytes key.0) ≡ k) × (key.1 ≡ place)) (λ ms found. map found_of ms.items ≡ found) true fs cs };
+    ghost completes = { λ text sink f s fs cs. Completes (λ v s. source_view v ≡ s) (λ ms s. object_source (source_members_of (map found_of ms.items)) ≡ s) f s × FramesHold (λ v s. source_view v ≡ s) (λ key k offset. ((mark_view key.0, cow_str_bytes key.0) ≡ k) × (key.1 ≡ offset)) (λ ms found. map found_of ms.items ≡ found) true fs cs };
 
-    ghost filled = { λ text room v s fs cs. (source_view v ≡ s) × FramesHold (λ v s. source_view v ≡ s) (λ key k place. ((mark_view key.0, cow_str_bytes key.0) ≡ k) × (key.1 ≡ place)) (λ ms found. map found_of ms.items ≡ found) true fs cs };
+    ghost filled = { λ text sink v s fs cs. (source_view v ≡ s) × FramesHold (λ v s. source_view v ≡ s) (λ key k offset. ((mark_view key.0, cow_str_bytes key.0) ≡ k) × (key.1 ≡ offset)) (λ ms found. map found_of ms.items ≡ found) true fs cs };
 
-    ghost base = { λ room. [] };
+    ghost base = { λ sink. [] };
 
     ghost silent = { false };
 
     ghost writes = { false };
 
-    ghost keeps = { false };
+    ghost preserves = { false };
 
     #[inline(always)]
     fn wants() -> Wants
-        ensures { result.kept ≡ false }
+        ensures { result.verbatim ≡ false }
     {
         Wants {
             plain: false,
-            kept: false,
+            verbatim: false,
         }
     }
 
@@ -63,7 +63,7 @@ impl<'a> Handler<'a> for JsonAst<'a> {
             Scalar::String(Text::Plain(text)) => JsonAst::String(CowStr::Borrowed(text)),
             Scalar::String(Text::Borrowed(text)) => JsonAst::String(CowStr::Borrowed(text)),
             Scalar::String(Text::Decoded(text)) => JsonAst::String(text),
-            Scalar::Kept(_) => JsonAst::Null,
+            Scalar::Verbatim(_) => JsonAst::Null,
         }
     }
 
@@ -79,23 +79,23 @@ impl<'a> Handler<'a> for JsonAst<'a> {
     }
 
     #[inline(always)]
-    fn root(room: &mut (), value: &Self) -> Result<(), AllocError> {
+    fn root(sink: &mut (), value: &Self) -> Result<(), AllocError> {
         Ok(())
     }
 
     #[inline(always)]
-    fn items(room: &mut (), alloc: Global, at: usize) -> Result<Vec<Self>, AllocError> {
+    fn items(sink: &mut (), alloc: Global, at: usize) -> Result<Vec<Self>, AllocError> {
         Ok(Vec::new(alloc))
     }
 
     #[inline(always)]
-    fn next_item(room: &mut (), items: &mut Vec<Self>) -> Result<(), AllocError> {
+    fn next_item(sink: &mut (), items: &mut Vec<Self>) -> Result<(), AllocError> {
         Ok(())
     }
 
     #[inline(always)]
     fn push(
-        room: &mut (),
+        sink: &mut (),
         items: &mut Vec<Self>,
         value: Self,
         from: usize,
@@ -106,28 +106,28 @@ impl<'a> Handler<'a> for JsonAst<'a> {
 
     #[inline(always)]
     fn push_inner(
-        room: &mut (),
+        sink: &mut (),
         items: &mut Vec<Self>,
         value: Self,
         is_last: bool,
     ) -> Result<(), AllocError> {
-        make_room(items, is_last);
+        grow(items, is_last);
         push_scalar(items, value)
     }
 
     #[inline(always)]
-    fn end_items(room: &mut (), items: &mut Vec<Self>, at: usize) -> Result<(), AllocError> {
+    fn end_items(sink: &mut (), items: &mut Vec<Self>, at: usize) -> Result<(), AllocError> {
         Ok(())
     }
 
     #[inline(always)]
-    fn array(room: &(), items: Vec<Self>) -> Self {
+    fn array(sink: &(), items: Vec<Self>) -> Self {
         JsonAst::Array(items)
     }
 
     #[inline(always)]
     fn members(
-        room: &mut (),
+        sink: &mut (),
         alloc: Global,
         at: usize,
     ) -> Result<OpenObject<Vec<Member<'a>>, (CowStr<'a>, usize)>, AllocError> {
@@ -139,7 +139,7 @@ impl<'a> Handler<'a> for JsonAst<'a> {
 
     #[inline(always)]
     fn key(
-        room: &mut (),
+        sink: &mut (),
         object: &mut OpenObject<Vec<Member<'a>>, (CowStr<'a>, usize)>,
         alloc: Global,
         text: Text<'a>,
@@ -155,7 +155,7 @@ impl<'a> Handler<'a> for JsonAst<'a> {
 
     #[inline(always)]
     fn insert(
-        room: &mut (),
+        sink: &mut (),
         object: &mut OpenObject<Vec<Member<'a>>, (CowStr<'a>, usize)>,
         key: (CowStr<'a>, usize),
         value: Self,
@@ -169,7 +169,7 @@ impl<'a> Handler<'a> for JsonAst<'a> {
 
     #[inline(always)]
     fn insert_inner(
-        room: &mut (),
+        sink: &mut (),
         object: &mut OpenObject<Vec<Member<'a>>, (CowStr<'a>, usize)>,
         alloc: Global,
         value: Self,
@@ -181,21 +181,21 @@ impl<'a> Handler<'a> for JsonAst<'a> {
 
     #[inline(always)]
     fn finish(
-        room: &mut (),
+        sink: &mut (),
         alloc: Global,
         members: &mut Vec<Member<'a>>,
-        told: &mut Option<Error>,
+        reported: &mut Option<Error>,
         at: usize,
     ) -> Result<(), Failed> {
         if let Err(error) = settle_members(alloc, members) {
-            *told = Some(error);
+            *reported = Some(error);
             return Err(Failed);
         }
         Ok(())
     }
 
     #[inline(always)]
-    fn object(room: &(), members: Vec<Member<'a>>) -> Self {
+    fn object(sink: &(), members: Vec<Member<'a>>) -> Self {
         JsonAst::Object(members)
     }
 

@@ -1,17 +1,17 @@
-//! Nothing is made of a text that is only checked. The keys of the objects that are open are kept, so that one that
-//! comes twice is told.
+//! Nothing is made of a text that is only checked. The keys of the objects that are open are held, so that one that
+//! comes twice is reported.
 ghost use Rattle.std.specs.Prelude.{◌≡◌, ℕ, List, [], false, map, true};
 ghost use Rattle.jsonb_value.specs.View.{number_view};
 ghost use Rattle.jsonb.specs.Held.{IsAnyValue, key_held};
 ghost use Rattle.jsonb_spec.specs.Source.{boolean_source, null_source, number_source};
-ghost use Rattle.jsonb_write.specs.CheckRoom.{CheckFilled, CheckStands};
+ghost use Rattle.jsonb_write.specs.CheckSink.{CheckFilled, CheckHolds};
 
-use super::repeat::tell_repeat;
+use super::repeat::report_repeat;
 use crate::parser::Mode;
 use jsonb_parse::{Failed, Handler, OpenObject, Scalar, Text, Wants};
 use jsonb_scan::util::check_contents;
 use jsonb_value::error::Error;
-use jsonb_write::check::CheckRoom;
+use jsonb_write::check::CheckSink;
 use std::alloc::{AllocError, Global};
 
 // A value of the text.
@@ -19,41 +19,41 @@ use std::alloc::{AllocError, Global};
 pub(in crate::parser) struct CheckedPart;
 
 impl<'a> Handler<'a> for CheckedPart {
-    type Room = CheckRoom<'a>;
+    type Sink = CheckSink<'a>;
 
-    // Nothing is kept of an array.
+    // Nothing is held of an array.
     type Items = ();
 
-    // The index of the object's first member among those of the room.
+    // The index of the object's first member among those of the sink.
     type Members = usize;
 
     type Key = ();
 
     ghost sees = { IsAnyValue };
 
-    ghost is_kept = { λ k v. Unit {0} };
+    ghost is_verbatim = { λ k v. Unit {0} };
 
-    ghost stands = { λ text room due fs cs. CheckStands text room due (map key_held fs) cs };
+    ghost holds = { λ text sink due fs cs. CheckHolds text sink due (map key_held fs) cs };
 
-    ghost completes = { λ text room f s fs cs. CheckFilled text room (map key_held fs) cs };
+    ghost completes = { λ text sink f s fs cs. CheckFilled text sink (map key_held fs) cs };
 
-    ghost filled = { λ text room v s fs cs. CheckFilled text room (map key_held fs) cs };
+    ghost filled = { λ text sink v s fs cs. CheckFilled text sink (map key_held fs) cs };
 
-    ghost base = { λ room. [] };
+    ghost base = { λ sink. [] };
 
     ghost silent = { false };
 
     ghost writes = { false };
 
-    ghost keeps = { true };
+    ghost preserves = { true };
 
     #[inline(always)]
     fn wants() -> Wants
-        ensures { result.kept ≡ true }
+        ensures { result.verbatim ≡ true }
     {
         Wants {
             plain: false,
-            kept: true,
+            verbatim: true,
         }
     }
 
@@ -74,23 +74,23 @@ impl<'a> Handler<'a> for CheckedPart {
     }
 
     #[inline(always)]
-    fn root(room: &mut CheckRoom<'a>, value: &Self) -> Result<(), AllocError> {
+    fn root(sink: &mut CheckSink<'a>, value: &Self) -> Result<(), AllocError> {
         Ok(())
     }
 
     #[inline(always)]
-    fn items(room: &mut CheckRoom<'a>, alloc: Global, at: usize) -> Result<(), AllocError> {
+    fn items(sink: &mut CheckSink<'a>, alloc: Global, at: usize) -> Result<(), AllocError> {
         Ok(())
     }
 
     #[inline(always)]
-    fn next_item(room: &mut CheckRoom<'a>, items: &mut ()) -> Result<(), AllocError> {
+    fn next_item(sink: &mut CheckSink<'a>, items: &mut ()) -> Result<(), AllocError> {
         Ok(())
     }
 
     #[inline(always)]
     fn push(
-        room: &mut CheckRoom<'a>,
+        sink: &mut CheckSink<'a>,
         items: &mut (),
         value: Self,
         from: usize,
@@ -101,7 +101,7 @@ impl<'a> Handler<'a> for CheckedPart {
 
     #[inline(always)]
     fn push_inner(
-        room: &mut CheckRoom<'a>,
+        sink: &mut CheckSink<'a>,
         items: &mut (),
         value: Self,
         is_last: bool,
@@ -110,28 +110,28 @@ impl<'a> Handler<'a> for CheckedPart {
     }
 
     #[inline(always)]
-    fn end_items(room: &mut CheckRoom<'a>, items: &mut (), at: usize) -> Result<(), AllocError> {
+    fn end_items(sink: &mut CheckSink<'a>, items: &mut (), at: usize) -> Result<(), AllocError> {
         Ok(())
     }
 
     #[inline(always)]
-    fn array(room: &CheckRoom<'a>, items: ()) -> Self {
+    fn array(sink: &CheckSink<'a>, items: ()) -> Self {
         CheckedPart
     }
 
     #[inline(always)]
     fn members(
-        room: &mut CheckRoom<'a>,
+        sink: &mut CheckSink<'a>,
         alloc: Global,
         at: usize,
     ) -> Result<OpenObject<usize, ()>, AllocError> {
-        let members = room.begin_object();
+        let members = sink.begin_object();
         Ok(OpenObject { members, key: () })
     }
 
     #[inline(always)]
     fn key(
-        room: &mut CheckRoom<'a>,
+        sink: &mut CheckSink<'a>,
         object: &mut OpenObject<usize, ()>,
         alloc: Global,
         text: Text<'a>,
@@ -139,15 +139,15 @@ impl<'a> Handler<'a> for CheckedPart {
         after: usize,
     ) -> Result<(), AllocError> {
         match text {
-            Text::Plain(text) => room.borrowed_key(object.members, text, from, after),
-            Text::Borrowed(text) => room.borrowed_key(object.members, text, from, after),
-            Text::Decoded(text) => room.key(object.members, text, after),
+            Text::Plain(text) => sink.borrowed_key(object.members, text, from, after),
+            Text::Borrowed(text) => sink.borrowed_key(object.members, text, from, after),
+            Text::Decoded(text) => sink.key(object.members, text, after),
         }
     }
 
     #[inline(always)]
     fn insert(
-        room: &mut CheckRoom<'a>,
+        sink: &mut CheckSink<'a>,
         object: &mut OpenObject<usize, ()>,
         key: (),
         value: Self,
@@ -159,7 +159,7 @@ impl<'a> Handler<'a> for CheckedPart {
 
     #[inline(always)]
     fn insert_inner(
-        room: &mut CheckRoom<'a>,
+        sink: &mut CheckSink<'a>,
         object: &mut OpenObject<usize, ()>,
         alloc: Global,
         value: Self,
@@ -169,28 +169,28 @@ impl<'a> Handler<'a> for CheckedPart {
 
     #[inline(always)]
     fn finish(
-        room: &mut CheckRoom<'a>,
+        sink: &mut CheckSink<'a>,
         alloc: Global,
         members: &mut usize,
-        told: &mut Option<Error>,
+        reported: &mut Option<Error>,
         at: usize,
     ) -> Result<(), Failed> {
         let first = *members;
-        match room.end_object(first) {
+        match sink.end_object(first) {
             Ok(None) => Ok(()),
             Ok(Some(index)) => {
-                tell_repeat(&room.members, alloc, first, index, told);
+                report_repeat(&sink.members, alloc, first, index, reported);
                 Err(Failed)
             }
             Err(_) => {
-                *told = Some(Error::OutOfMemory);
+                *reported = Some(Error::OutOfMemory);
                 Err(Failed)
             }
         }
     }
 
     #[inline(always)]
-    fn object(room: &CheckRoom<'a>, members: usize) -> Self {
+    fn object(sink: &CheckSink<'a>, members: usize) -> Self {
         CheckedPart
     }
 

@@ -3,30 +3,30 @@ ghost use Rattle.std.specs.Prelude.{ℕ, List, false};
 ghost use Rattle.jsonb_parse.specs.Handler.{Misses};
 ghost use Rattle.jsonb_parse.specs.Stack.{object_end};
 ghost use Rattle.jsonb_spec.specs.Source.{Found};
-ghost use Rattle.jsonb_write.specs.OpenMembers.{TellsRepeatOf};
+ghost use Rattle.jsonb_write.specs.OpenMembers.{ReportsRepeatOf};
 
 use jsonb_value::error::{Error, ParseErrorCode};
 use jsonb_write::open_members::OpenMembers;
 use std::alloc::Global;
 
-// Tells the least key that comes twice, and where it comes the second time.
+// Reports the least key that comes twice, and where it comes the second time.
 #[cold]
 #[inline(never)]
-pub(super) fn tell_repeat(
+pub(super) fn report_repeat(
     members: &OpenMembers,
     alloc: Global,
     first: usize,
     index: usize,
-    told: &mut Option<Error>,
+    reported: &mut Option<Error>,
 )
-    ensures { (fs : List Found) → (rest : List ℕ) → TellsRepeatOf members.now first fs index
-        → Misses false told.new (object_end fs rest) }
+    ensures { (fs : List Found) → (rest : List ℕ) → ReportsRepeatOf members.now first fs index
+        → Misses false reported.new (object_end fs rest) }
 {
-    let Some((key, place)) = members.repeated(first, index) else {
+    let Some((key, offset)) = members.repeated(first, index) else {
         return;
     };
-    *told = match String::from_str(alloc, key) {
-        Ok(key) => Some(Error::Syntax(ParseErrorCode::ObjectDuplicateKey(key), place)),
+    *reported = match String::from_str(alloc, key) {
+        Ok(key) => Some(Error::Syntax(ParseErrorCode::ObjectDuplicateKey(key), offset)),
         Err(_) => Some(Error::OutOfMemory),
     };
 }

@@ -4,11 +4,11 @@ ghost use Rattle.std.specs.Prelude.{◌≡◌, ℕ, List, None, OnOk, Some, map,
 ghost use Rattle.jsonb.specs.Held.{IsScalarAt, held_by};
 ghost use Rattle.jsonb_scan.specs.Open.{Open};
 ghost use Rattle.jsonb_spec.specs.Source.{Source};
-ghost use Rattle.jsonb_write.specs.TextRoom.{SeesPart};
+ghost use Rattle.jsonb_write.specs.TextSink.{SeesPart};
 
-use super::repeat::tell_repeat;
+use super::repeat::report_repeat;
 use crate::parser::Mode;
-use jsonb_parse::{Failed, Handler, Kept, OpenObject, Scalar, Text, Wants};
+use jsonb_parse::{Failed, Handler, OpenObject, Scalar, Text, Verbatim, Wants};
 use jsonb_value::error::Error;
 use jsonb_write::sink::Sink;
 use jsonb_write::text::Part;
@@ -20,8 +20,8 @@ use std::marker::PhantomData;
 #[derive(Drop)]
 pub(in crate::parser) struct SinkPart<'a, S> {
     part: Part<'a>,
-    // It is put in from where it stands in the text.
-    kept: Option<Kept>,
+    // It is put in from where it is in the text.
+    verbatim: Option<Verbatim>,
     sink: PhantomData<S>,
 }
 
@@ -30,11 +30,11 @@ impl<'a, S: Sink<'a>> SinkPart<'a, S> {
     #[inline(always)]
     fn of(part: Part<'a>) -> SinkPart<'a, S>
         ensures part { result.part ≡ part.entry }
-        ensures kept { result.kept ≡ None }
+        ensures retained { result.verbatim ≡ None }
     {
         SinkPart {
             part,
-            kept: None,
+            verbatim: None,
             sink: PhantomData,
         }
     }
@@ -43,19 +43,19 @@ impl<'a, S: Sink<'a>> SinkPart<'a, S> {
     #[inline(always)]
     fn fill(&self, sink: &mut S, from: usize, to: usize) -> Result<(), AllocError>
         ensures filled { OnOk result ((text : List ℕ) → (s : Source) → (held : List S.Held) → (cs : List Open)
-            → S.stands text sink.old true held cs → IsScalarAt self.now.part self.now.kept from to text s
+            → S.holds text sink.old true held cs → IsScalarAt self.now.part self.now.verbatim from to text s
             → S.filled text sink.new s held cs) }
         ensures base { S.base sink.new ≡ S.base sink.old }
     {
-        match self.kept {
-            Some(kept) => sink.fill_kept(kept, from, to),
+        match self.verbatim {
+            Some(verbatim) => sink.fill_verbatim(verbatim, from, to),
             None => sink.fill(&self.part, from, to),
         }
     }
 }
 
 impl<'a, S: Sink<'a>> Handler<'a> for SinkPart<'a, S> {
-    type Room = S;
+    type Sink = S;
 
     type Items = S::Items;
 
@@ -63,15 +63,15 @@ impl<'a, S: Sink<'a>> Handler<'a> for SinkPart<'a, S> {
 
     type Key = ();
 
-    ghost sees = { λ v s. (v.kept ≡ None) × SeesPart v.part s };
+    ghost sees = { λ v s. (v.verbatim ≡ None) × SeesPart v.part s };
 
-    ghost is_kept = { λ k v. v.kept ≡ Some k };
+    ghost is_verbatim = { λ k v. v.verbatim ≡ Some k };
 
-    ghost stands = { λ text room due fs cs. S.stands text room due (map (held_by S.array S.object) fs) cs };
+    ghost holds = { λ text sink due fs cs. S.holds text sink due (map (held_by S.array S.object) fs) cs };
 
-    ghost completes = { λ text room f s fs cs. S.filled text room s (map (held_by S.array S.object) fs) cs };
+    ghost completes = { λ text sink f s fs cs. S.filled text sink s (map (held_by S.array S.object) fs) cs };
 
-    ghost filled = { λ text room v s fs cs. S.filled text room s (map (held_by S.array S.object) fs) cs };
+    ghost filled = { λ text sink v s fs cs. S.filled text sink s (map (held_by S.array S.object) fs) cs };
 
     ghost base = { S.base };
 
@@ -79,22 +79,22 @@ impl<'a, S: Sink<'a>> Handler<'a> for SinkPart<'a, S> {
 
     ghost writes = { true };
 
-    ghost keeps = { true };
+    ghost preserves = { true };
 
     #[inline(always)]
     fn wants() -> Wants
-        ensures { result.kept ≡ true }
+        ensures { result.verbatim ≡ true }
     {
         Wants {
             plain: true,
-            kept: true,
+            verbatim: true,
         }
     }
 
     #[inline(always)]
     fn scalar(value: Scalar<'a>) -> Self {
-        let kept = match value {
-            Scalar::Kept(kept) => Some(kept),
+        let verbatim = match value {
+            Scalar::Verbatim(verbatim) => Some(verbatim),
             _ => None,
         };
         let part = match value {
@@ -104,11 +104,11 @@ impl<'a, S: Sink<'a>> Handler<'a> for SinkPart<'a, S> {
             Scalar::String(Text::Plain(text)) => Part::Plain(text),
             Scalar::String(Text::Borrowed(text)) => Part::String(CowStr::Borrowed(text)),
             Scalar::String(Text::Decoded(text)) => Part::String(text),
-            Scalar::Kept(_) => Part::Null,
+            Scalar::Verbatim(_) => Part::Null,
         };
         SinkPart {
             part,
-            kept,
+            verbatim,
             sink: PhantomData,
         }
     }
@@ -230,22 +230,22 @@ impl<'a, S: Sink<'a>> Handler<'a> for SinkPart<'a, S> {
         sink: &mut S,
         alloc: Global,
         members: &mut S::Members,
-        told: &mut Option<Error>,
+        reported: &mut Option<Error>,
         at: usize,
     ) -> Result<(), Failed> {
         if sink.moved_much() {
-            *told = None;
+            *reported = None;
             return Err(Failed);
         }
         match sink.end_object(members, at) {
             Ok(None) => Ok(()),
             Ok(Some(index)) => {
                 let first = S::first_member(members);
-                tell_repeat(sink.open_members(), alloc, first, index, told);
+                report_repeat(sink.open_members(), alloc, first, index, reported);
                 Err(Failed)
             }
             Err(_) => {
-                *told = Some(Error::OutOfMemory);
+                *reported = Some(Error::OutOfMemory);
                 Err(Failed)
             }
         }

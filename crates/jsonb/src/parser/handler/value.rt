@@ -25,7 +25,7 @@ pub(in crate::parser) struct ValuePart<'a> {
 }
 
 impl<'a> Handler<'a> for ValuePart<'a> {
-    type Room = ();
+    type Sink = ();
 
     type Items = Vec<Value<'a>>;
 
@@ -35,30 +35,30 @@ impl<'a> Handler<'a> for ValuePart<'a> {
 
     ghost sees = { λ v s. view v.value ≡ tree_of_source s };
 
-    // Nothing is kept.
-    ghost is_kept = { λ k v. ⊥ };
+    // Nothing is held.
+    ghost is_verbatim = { λ k v. ⊥ };
 
-    ghost stands = { λ text room due fs cs. FramesHold (λ v s. view v ≡ tree_of_source s) (λ key k place. string_bytes key ≡ k.1) (λ ms found. MapHolds found ms.entries) due fs cs };
+    ghost holds = { λ text sink due fs cs. FramesHold (λ v s. view v ≡ tree_of_source s) (λ key k offset. string_bytes key ≡ k.1) (λ ms found. MapHolds found ms.entries) due fs cs };
 
-    ghost completes = { λ text room f s fs cs. Completes (λ v s. view v ≡ tree_of_source s) (λ ms s. object (members_view ms.entries) ≡ tree_of_source s) f s × FramesHold (λ v s. view v ≡ tree_of_source s) (λ key k place. string_bytes key ≡ k.1) (λ ms found. MapHolds found ms.entries) true fs cs };
+    ghost completes = { λ text sink f s fs cs. Completes (λ v s. view v ≡ tree_of_source s) (λ ms s. object (members_view ms.entries) ≡ tree_of_source s) f s × FramesHold (λ v s. view v ≡ tree_of_source s) (λ key k offset. string_bytes key ≡ k.1) (λ ms found. MapHolds found ms.entries) true fs cs };
 
-    ghost filled = { λ text room v s fs cs. (view v.value ≡ tree_of_source s) × FramesHold (λ v s. view v ≡ tree_of_source s) (λ key k place. string_bytes key ≡ k.1) (λ ms found. MapHolds found ms.entries) true fs cs };
+    ghost filled = { λ text sink v s fs cs. (view v.value ≡ tree_of_source s) × FramesHold (λ v s. view v ≡ tree_of_source s) (λ key k offset. string_bytes key ≡ k.1) (λ ms found. MapHolds found ms.entries) true fs cs };
 
-    ghost base = { λ room. [] };
+    ghost base = { λ sink. [] };
 
     ghost silent = { true };
 
     ghost writes = { false };
 
-    ghost keeps = { false };
+    ghost preserves = { false };
 
     #[inline(always)]
     fn wants() -> Wants
-        ensures { result.kept ≡ false }
+        ensures { result.verbatim ≡ false }
     {
         Wants {
             plain: false,
-            kept: false,
+            verbatim: false,
         }
     }
 
@@ -71,7 +71,7 @@ impl<'a> Handler<'a> for ValuePart<'a> {
             Scalar::String(Text::Plain(text)) => Value::String(CowStr::Borrowed(text)),
             Scalar::String(Text::Borrowed(text)) => Value::String(CowStr::Borrowed(text)),
             Scalar::String(Text::Decoded(text)) => Value::String(text),
-            Scalar::Kept(_) => Value::Null,
+            Scalar::Verbatim(_) => Value::Null,
         };
         ValuePart { value }
     }
@@ -90,23 +90,23 @@ impl<'a> Handler<'a> for ValuePart<'a> {
     }
 
     #[inline(always)]
-    fn root(room: &mut (), value: &Self) -> Result<(), AllocError> {
+    fn root(sink: &mut (), value: &Self) -> Result<(), AllocError> {
         Ok(())
     }
 
     #[inline(always)]
-    fn items(room: &mut (), alloc: Global, at: usize) -> Result<Vec<Value<'a>>, AllocError> {
+    fn items(sink: &mut (), alloc: Global, at: usize) -> Result<Vec<Value<'a>>, AllocError> {
         Ok(Vec::new(alloc))
     }
 
     #[inline(always)]
-    fn next_item(room: &mut (), items: &mut Vec<Value<'a>>) -> Result<(), AllocError> {
+    fn next_item(sink: &mut (), items: &mut Vec<Value<'a>>) -> Result<(), AllocError> {
         Ok(())
     }
 
     #[inline(always)]
     fn push(
-        room: &mut (),
+        sink: &mut (),
         items: &mut Vec<Value<'a>>,
         value: Self,
         from: usize,
@@ -117,12 +117,12 @@ impl<'a> Handler<'a> for ValuePart<'a> {
 
     #[inline(always)]
     fn push_inner(
-        room: &mut (),
+        sink: &mut (),
         items: &mut Vec<Value<'a>>,
         value: Self,
         is_last: bool,
     ) -> Result<(), AllocError> {
-        make_room(items, is_last);
+        grow(items, is_last);
         if let Err(rejected) = items.push(value.value) {
             rejected.value.dismantle();
             return Err(AllocError);
@@ -131,13 +131,13 @@ impl<'a> Handler<'a> for ValuePart<'a> {
     }
 
     #[inline(always)]
-    fn end_items(room: &mut (), items: &mut Vec<Value<'a>>, at: usize) -> Result<(), AllocError> {
+    fn end_items(sink: &mut (), items: &mut Vec<Value<'a>>, at: usize) -> Result<(), AllocError> {
         give_back(items);
         Ok(())
     }
 
     #[inline(always)]
-    fn array(room: &(), items: Vec<Value<'a>>) -> Self {
+    fn array(sink: &(), items: Vec<Value<'a>>) -> Self {
         ValuePart {
             value: Value::Array(items),
         }
@@ -145,7 +145,7 @@ impl<'a> Handler<'a> for ValuePart<'a> {
 
     #[inline(always)]
     fn members(
-        room: &mut (),
+        sink: &mut (),
         alloc: Global,
         at: usize,
     ) -> Result<OpenObject<Object<'a>, String>, AllocError> {
@@ -157,7 +157,7 @@ impl<'a> Handler<'a> for ValuePart<'a> {
 
     #[inline(always)]
     fn key(
-        room: &mut (),
+        sink: &mut (),
         object: &mut OpenObject<Object<'a>, String>,
         alloc: Global,
         text: Text<'a>,
@@ -173,7 +173,7 @@ impl<'a> Handler<'a> for ValuePart<'a> {
 
     #[inline(always)]
     fn insert(
-        room: &mut (),
+        sink: &mut (),
         object: &mut OpenObject<Object<'a>, String>,
         key: String,
         value: Self,
@@ -185,7 +185,7 @@ impl<'a> Handler<'a> for ValuePart<'a> {
 
     #[inline(always)]
     fn insert_inner(
-        room: &mut (),
+        sink: &mut (),
         object: &mut OpenObject<Object<'a>, String>,
         alloc: Global,
         value: Self,
@@ -196,17 +196,17 @@ impl<'a> Handler<'a> for ValuePart<'a> {
 
     #[inline(always)]
     fn finish(
-        room: &mut (),
+        sink: &mut (),
         alloc: Global,
         members: &mut Object<'a>,
-        told: &mut Option<Error>,
+        reported: &mut Option<Error>,
         at: usize,
     ) -> Result<(), Failed> {
         Ok(())
     }
 
     #[inline(always)]
-    fn object(room: &(), members: Object<'a>) -> Self {
+    fn object(sink: &(), members: Object<'a>) -> Self {
         ValuePart {
             value: Value::Object(members),
         }
@@ -218,8 +218,8 @@ impl<'a> Handler<'a> for ValuePart<'a> {
     }
 }
 
-// Pushes a scalar, unless memory runs out. Room is made first: a push that may fail would give the value back, and the
-// place for that is cleared before each value.
+// Pushes a scalar, unless memory runs out. Space is made first: a push that may fail would give the value back, and the
+// slot for that is cleared before each value.
 #[inline(always)]
 pub(in crate::parser) fn push_scalar<V: Drop>(
     items: &mut Vec<V>,
@@ -232,9 +232,9 @@ pub(in crate::parser) fn push_scalar<V: Drop>(
     Ok(())
 }
 
-// Makes room for a value, and for no other, where it is the array's only one. Arrays in arrays often have but one.
+// Makes space for a value, and for no other, where it is the array's only one. Arrays in arrays often have but one.
 #[inline(always)]
-pub(in crate::parser) fn make_room<V: Drop>(items: &mut Vec<V>, is_last: bool)
+pub(in crate::parser) fn grow<V: Drop>(items: &mut Vec<V>, is_last: bool)
     ensures { items.new.items ≡ items.old.items }
 {
     if is_last && items.capacity() == 0 {
@@ -242,10 +242,10 @@ pub(in crate::parser) fn make_room<V: Drop>(items: &mut Vec<V>, is_last: bool)
     }
 }
 
-// An array that was parsed keeps room for so many values more than it has, and no more.
+// An array that was parsed holds space for so many values more than it has, and no more.
 const SPARE: usize = 15;
 
-// Gives back room that nothing needs, where there is enough of it to be worth the call.
+// Gives back space that nothing needs, where there is enough of it to be worth the call.
 fn give_back(items: &mut Vec<Value>)
     ensures { items.new.items ≡ items.old.items }
 {
@@ -255,7 +255,7 @@ fn give_back(items: &mut Vec<Value>)
 }
 
 // Puts in a member. True where no other had its key; else the other's value is gone. All members are put in here,
-// so that the map's own code stands in this function and in no other, and its answer takes no place in memory.
+// so that the map's own code is in this function and in no other, and its answer takes no memory.
 #[inline(never)]
 pub(in crate::parser) fn put_member<'a>(
     members: &mut Object<'a>,
@@ -273,8 +273,8 @@ pub(in crate::parser) fn put_member<'a>(
     }
 }
 
-// Drops what the map gave back in the place of a new member: the value that a repeated key had, or the one that there
-// was no memory for. Either may nest deep. It is a call of its own, so that `put_member` makes no room for what it
+// Drops what the map gave back instead of a new member: the value that a repeated key had, or the one that there
+// was no memory for. Either may nest deep. It is a call of its own, so that `put_member` makes no space for what it
 // drops.
 #[cold]
 #[inline(never)]

@@ -1,6 +1,6 @@
 use Rattle.std.proofs.Common.{[], Ok, subst}
 use Rattle.jsonb_stored.specs.Found.{IsNext}
-use Rattle.jsonb_c.proofs.KeyParts.{kind_agrees, left_there, next_known, next_told, none_next}
+use Rattle.jsonb_c.proofs.KeyParts.{kind_agrees, left_there, next_known, next_reported, none_next}
 use Rattle.jsonb_c.proofs.key.next_entry.Goals as goal
 
 pub returns-in_err-value-clause-next : goal.returns-in_err-value-clause-next
@@ -17,5 +17,5 @@ returns-in_default-clause-next c = λ left s entry behind.
 pub returns-clause-next : goal.returns-clause-next
 returns-clause-next c = λ left s.
     let back = left_there c.args.key.now c.args.cursor left c.split_at.result.1.now s c.split_at.ensures.back in
-    next_told c.args.key.now c.args.cursor left c.split_at.result.1.now c.in-Some.value c.in-Some.others s back
+    next_reported c.args.key.now c.args.cursor left c.split_at.result.1.now c.in-Some.value c.in-Some.others s back
     (subst (λ answer. IsNext left [] (Ok answer)) c.in-Some.is (c.in_ok-value.ensures.next left (kind_agrees left c.args.cursor.kind s.kind_is) s.fits [] back))

@@ -9,7 +9,7 @@ pub returns : goal.returns
 returns c = record {
   finds = record {
     known = search rules;
-    found = λ t k. c.tell_range.ensures.found (item_from c.args.index t)
+    found = λ t k. c.report_range.ensures.found (item_from c.args.index t)
         (subst (λ index. Finds c.args.key.now (item_from index t) c.find_item.result) (to_z-of_z w64 c.args.index c.ranges.index) (c.find_item.ensures.finds.found t k.readable [] (all_of_it c.args.key.now t k)));
     within = search rules;
   };

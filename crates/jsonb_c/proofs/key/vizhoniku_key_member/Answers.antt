@@ -7,7 +7,7 @@ pub returns : goal.returns
 returns c = record {
   finds = record {
     known = search rules;
-    found = λ t k. c.tell_range.ensures.found (get_by_name c.args.name.now t) (c.find_member.ensures.finds.found t k.readable [] (all_of_it c.args.key.now t k));
+    found = λ t k. c.report_range.ensures.found (get_by_name c.args.name.now t) (c.find_member.ensures.finds.found t k.readable [] (all_of_it c.args.key.now t k));
     within = search rules;
   };
 }

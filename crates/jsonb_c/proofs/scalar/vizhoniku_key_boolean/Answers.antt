@@ -1,12 +1,12 @@
 use Rattle.std.proofs.Common.{[]}
 use Rattle.jsonb_spec.specs.Accessors.{as_boolean}
 use Rattle.jsonb_c.proofs.KeyParts.{all_of_it}
-use Rattle.jsonb_c.proofs.Scalars.{is_told, is_none, has_kind}
+use Rattle.jsonb_c.proofs.Scalars.{is_reported, is_none, has_kind}
 use Rattle.jsonb_c.proofs.scalar.vizhoniku_key_boolean.Goals as goal
 
 pub returns-in-Some-clause-boolean : goal.returns-in-Some-clause-boolean
 returns-in-Some-clause-boolean c = λ t k.
-    is_told c.boolean_of.result (as_boolean t) c.in-Some.boolean c.number_of.result c.in-Some.is (c.boolean_of.ensures.boolean t k.readable [] (all_of_it c.args.key.now t k)) c.number_of.ensures
+    is_reported c.boolean_of.result (as_boolean t) c.in-Some.boolean c.number_of.result c.in-Some.is (c.boolean_of.ensures.boolean t k.readable [] (all_of_it c.args.key.now t k)) c.number_of.ensures
 
 pub returns-in-Some-kind_of-clause-boolean : goal.returns-in-Some-kind_of-clause-boolean
 returns-in-Some-kind_of-clause-boolean c = λ t k.

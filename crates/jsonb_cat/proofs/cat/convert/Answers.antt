@@ -7,10 +7,10 @@ use Rattle.jsonb_spec.specs.Grammar.{IsDocument}
 use Rattle.jsonb_spec.specs.Mode.{Mode}
 use Rattle.jsonb_spec.specs.Text.{AppendsText, tree_text}
 use Rattle.jsonb_spec.specs.Tree.{Tree}
-use Rattle.jsonb.specs.Appends.{LacksRoomForText}
+use Rattle.jsonb.specs.Appends.{LacksCapacityForText}
 use Rattle.jsonb.proofs.Documents.Straight.{text_there}
 use Rattle.jsonb_scan.specs.Answer.{MayAllocate, mode_of}
-use Rattle.jsonb_spec.specs.Program.{IsLineOf, LacksRoom}
+use Rattle.jsonb_spec.specs.Program.{IsLineOf, LacksCapacity}
 use Rattle.jsonb_cat.proofs.LinesAgain.{appended_again}
 use Rattle.jsonb_cat.proofs.cat.convert.Goals as goal
 
@@ -25,8 +25,8 @@ again mode t input old now new document written pushed text ended line =
     let whole : new ≡ old ++ (written.bytes ++ 10 ∷ []) = pushed ∙ ap (λ bytes. bytes ++ 10 ∷ []) written.appended ∙ append_assoc old written.bytes (10 ∷ []) in
     appended_again mode input old new (written.bytes ++ 10 ∷ []) (record { tree = t; document = document; text = written.bytes; is_text = written.is_text; ended = refl }) whole text ended line
 
--- a buffer that the text and a line feed don't fit has no room for the line
-lacking : (mode : Mode) (input : List ℕ) (t : Tree) (capacity len : ℕ) → IsDocument mode input t → capacity < len + (length (tree_text t) + 1) → LacksRoom mode input capacity len
+-- a buffer that the text and a line feed don't fit has no space for the line
+lacking : (mode : Mode) (input : List ℕ) (t : Tree) (capacity len : ℕ) → IsDocument mode input t → capacity < len + (length (tree_text t) + 1) → LacksCapacity mode input capacity len
 lacking mode input t capacity len document short = record {
   line = tree_text t ++ 10 ∷ [];
   line_of = record { tree = t; document = document; text = tree_text t; is_text = text_there mode input t document; ended = refl };
@@ -34,23 +34,23 @@ lacking mode input t capacity len document short = record {
 }
 
 -- the text alone doesn't fit
-text_lacks : (mode : Mode) (input : List ℕ) (capacity len : ℕ) → MayAllocate input ⊎ LacksRoomForText mode input capacity len → MayAllocate input ⊎ LacksRoom mode input capacity len
+text_lacks : (mode : Mode) (input : List ℕ) (capacity len : ℕ) → MayAllocate input ⊎ LacksCapacityForText mode input capacity len → MayAllocate input ⊎ LacksCapacity mode input capacity len
 text_lacks mode input capacity len (inl may) = inl may
 text_lacks mode input capacity len (inr lacks) = inr (lacking mode input lacks.tree capacity len lacks.document (omega (arith, lacks.too_short)))
 
 -- the clause of a call that was rejected
 grown_failed : {T E P : Type 0} (r : Result T E) → OnErr r P → is_err r ≡ true → P
-grown_failed (Ok x) told rejected = cc
-grown_failed (Err e) told rejected = told
+grown_failed (Ok x) reported rejected = cc
+grown_failed (Err e) reported rejected = reported
 
 -- the line feed alone doesn't fit
-feed_lacks : (mode : Mode) (input : List ℕ) (t : Tree) (old now : List ℕ) (capacity after : ℕ) → IsDocument mode input t → AppendsText t old now → after ≤ length now → MayAllocate input ⊎ (capacity ≤ after) → MayAllocate input ⊎ LacksRoom mode input capacity (length old)
+feed_lacks : (mode : Mode) (input : List ℕ) (t : Tree) (old now : List ℕ) (capacity after : ℕ) → IsDocument mode input t → AppendsText t old now → after ≤ length now → MayAllocate input ⊎ (capacity ≤ after) → MayAllocate input ⊎ LacksCapacity mode input capacity (length old)
 feed_lacks mode input t old now capacity after document written full (inl may) = inl may
-feed_lacks mode input t old now capacity after document written full (inr kept) =
+feed_lacks mode input t old now capacity after document written full (inr retained) =
     let both : Some written.bytes ≡ Some (tree_text t) = sym written.is_text ∙ text_there mode input t document in
     let same : written.bytes ≡ tree_text t = one_of both in
     let whole : length now ≡ length old + length (tree_text t) = ap length written.appended ∙ length-append old written.bytes ∙ ap (λ text. length old + length text) same in
-    inr (lacking mode input t capacity (length old) document (omega (arith, whole, kept, full)))
+    inr (lacking mode input t capacity (length old) document (omega (arith, whole, retained, full)))
   where
     one_of : {xs ys : List ℕ} → Some xs ≡ Some ys → xs ≡ ys
     one_of e = cc
@@ -58,15 +58,15 @@ feed_lacks mode input t old now capacity after document written full (inr kept) 
 pub returns-in_err-append_text-clause-memory : goal.returns-in_err-append_text-clause-memory
 returns-in_err-append_text-clause-memory c = λ is.
     let residual = err_from_is_err_and c.from_residual.result c.from_residual.ensures.1 in
-    let told : c.append_text.result ≡ Err OutOfMemory = (let returned = residual.1 in let same = residual.2 in let was = c.in_err-append_text.was in cc) in
-    text_lacks (mode_of c.args.mode) c.args.input.now (vec_capacity c.args.out.now) (vec_len c.args.out.now) (c.append_text.ensures.appends.memory told)
+    let reported : c.append_text.result ≡ Err OutOfMemory = (let returned = residual.1 in let same = residual.2 in let was = c.in_err-append_text.was in cc) in
+    text_lacks (mode_of c.args.mode) c.args.input.now (vec_capacity c.args.out.now) (vec_len c.args.out.now) (c.append_text.ensures.appends.memory reported)
 
 pub returns-then-is_err-clause-memory : goal.returns-then-is_err-clause-memory
 returns-then-is_err-clause-memory c = λ is.
     let appended = c.in_ok-append_text.ensures.appends.ok in
     let full : vec_capacity c.append_text.new.buf ≤ vec_len c.append_text.new.buf = grown_failed c.push.result c.push.ensures.full (sym c.if-is_err.ensures.value) in
     let within : vec_capacity c.append_text.new.buf ≤ length c.append_text.new.buf.items = omega (arith, full, c.append_text.new.buf.ok.0) in
-    subst (λ len. MayAllocate c.args.input.now ⊎ LacksRoom (mode_of c.args.mode) c.args.input.now (vec_capacity c.args.out.now) len) (sym c.args.out.now.ok.0)
+    subst (λ len. MayAllocate c.args.input.now ⊎ LacksCapacity (mode_of c.args.mode) c.args.input.now (vec_capacity c.args.out.now) len) (sym c.args.out.now.ok.0)
     (feed_lacks (mode_of c.args.mode) c.args.input.now appended.tree c.args.out.now.items c.append_text.new.buf.items (vec_capacity c.args.out.now) (vec_capacity c.append_text.new.buf) appended.parsed.document appended.appended within c.append_text.ensures.appends.capacity)
 
 pub returns-clause-again : goal.returns-clause-again

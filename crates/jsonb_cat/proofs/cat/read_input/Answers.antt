@@ -9,14 +9,14 @@ reads-preserved g c =
     let size = c.read.auto.buf in
     let len = c.deref_mut.ensures.len in
     let value = c.deref_mut.ensures.value in
-    let room = c.in_ok-make_room.ensures.room in
-    let kept = c.in_ok-make_room.ensures.filled in
+    let space = c.in_ok-grow.ensures.space in
+    let retained = c.in_ok-grow.ensures.filled in
     let bytes = c.in_ok-count.ensures.bytes.0 in
-    let within : c.reads.filled + c.in_ok-count.count ≤ c.make_room.new.buffer.len = omega (arith, count, size, len, room) in
-    let inside : c.reads.filled ≤ length c.deref_mut.result.now = omega (arith, len, room) in
-    let front : take c.reads.filled c.deref_mut.result.now ≡ take c.reads.filled c.reads.buffer.items = ap (λ l. take c.reads.filled l) value ∙ kept in
+    let within : c.reads.filled + c.in_ok-count.count ≤ c.grow.new.buffer.len = omega (arith, count, size, len, space) in
+    let inside : c.reads.filled ≤ length c.deref_mut.result.now = omega (arith, len, space) in
+    let front : take c.reads.filled c.deref_mut.result.now ≡ take c.reads.filled c.reads.buffer.items = ap (λ l. take c.reads.filled l) value ∙ retained in
     record {
       within = within;
-      read = rw (filled_front c.reads.filled c.in_ok-count.count c.make_room.new.buffer.len c.deref_mut.result.now c.read.new.buf _ _ inside count within)
+      read = rw (filled_front c.reads.filled c.in_ok-count.count c.grow.new.buffer.len c.deref_mut.result.now c.read.new.buf _ _ inside count within)
           (rw front (Consumes-trans _ _ _ _ _ c.reads.invariant.read bytes));
     }

@@ -23,7 +23,7 @@ pub read_array-returns-in_err-item-clause-found : goal.read_array-returns-in_err
 read_array-returns-in_err-item-clause-found t c = λ ts readable more e.
     let within = one_deeper (AreWithin IsAnyNumber ts) c.args.depth c.in-Some.inner readable.within (omega (arith, c.in-Some.ensures)) in
     let next = next_item c.in-Some.inner c.args.bytes.now c.items.items.items c.items.rest.now c.in-Some-split_first.first.now c.in-Some-split_first.others.now c.items.invariant.reads c.in-Some-split_first.ensures.cases.0 c.if-first-eq-TERMINATOR.false ts readable.proper within more e in
-    let memory = c.in_err-item.ensures.found next.item next.readable _ next.stands in
+    let memory = c.in_err-item.ensures.found next.item next.readable _ next.occurs in
     let p = err_from_is_err_and c.from_residual.result c.from_residual.ensures.1 in
     rw p.1 (p.2 ∙ memory)
 
@@ -31,7 +31,7 @@ pub read_array-items-preserved : goal.read_array-items-preserved
 read_array-items-preserved t c = record {
   reads = λ ts p w more e.
       let next = next_item c.in-Some.inner c.args.bytes.now c.items.items.items c.items.rest.now c.in-Some-split_first.first.now c.in-Some-split_first.others.now c.items.invariant.reads c.in-Some-split_first.ensures.cases.0 c.if-first-eq-TERMINATOR.false ts p w more e in
-      let read = c.in_ok-item.ensures.found next.item next.readable _ next.stands in
+      let read = c.in_ok-item.ensures.found next.item next.readable _ next.occurs in
       subst (λ items. ItemsLeft c.in-Some.inner ts items c.in_ok-item.others.now more) (sym c.in_ok-push.ensures.items)
       (item_read c.in-Some.inner ts c.items.items.items c.items.rest.now more c.in_ok-item.item c.in_ok-item.others.now next read.0 read.1);
   within = omega (arith, c.in_ok-item.ensures.decodes.shorter, c.items.invariant.within);
@@ -53,7 +53,7 @@ pub read_object-returns-in_err-key-clause-found : goal.read_object-returns-in_er
 read_object-returns-in_err-key-clause-found t c = λ ms readable more e.
     let within = one_deeper (HaveWithin IsAnyNumber ms) c.args.depth c.in-Some.inner readable.within (omega (arith, c.in-Some.ensures)) in
     let next = next_member c.in-Some.inner c.args.bytes.now c.members.members.items c.members.rest.now c.members.invariant.reads (λ tail there. absurd (none_some tail (c.in_default-skip_pair.ensures.found tail there))) ms readable.proper.1 within more e in
-    let memory = c.in_err-key.ensures.found next.key next.utf8 _ next.stands in
+    let memory = c.in_err-key.ensures.found next.key next.utf8 _ next.occurs in
     let p = err_from_is_err_and c.from_residual-in_err-key.result c.from_residual-in_err-key.ensures.1 in
     rw p.1 (p.2 ∙ memory)
 
@@ -61,7 +61,7 @@ pub read_object-returns-in_err-value-clause-found : goal.read_object-returns-in_
 read_object-returns-in_err-value-clause-found t c = λ ms readable more e.
     let within = one_deeper (HaveWithin IsAnyNumber ms) c.args.depth c.in-Some.inner readable.within (omega (arith, c.in-Some.ensures)) in
     let next = next_member c.in-Some.inner c.args.bytes.now c.members.members.items c.members.rest.now c.members.invariant.reads (λ tail there. absurd (none_some tail (c.in_default-skip_pair.ensures.found tail there))) ms readable.proper.1 within more e in
-    let key = c.in_ok-key.ensures.found next.key next.utf8 _ next.stands in
+    let key = c.in_ok-key.ensures.found next.key next.utf8 _ next.occurs in
     let memory = c.in_err-value.ensures.found next.value next.readable _ key.1 in
     let p = err_from_is_err_and c.from_residual-in_err-value.result c.from_residual-in_err-value.ensures.1 in
     rw p.1 (p.2 ∙ memory)
@@ -70,7 +70,7 @@ pub read_object-members-preserved : goal.read_object-members-preserved
 read_object-members-preserved t c = record {
   reads = λ ms p w more e.
       let next = next_member c.in-Some.inner c.args.bytes.now c.members.members.items c.members.rest.now c.members.invariant.reads (λ tail there. absurd (none_some tail (c.in_default-skip_pair.ensures.found tail there))) ms p w more e in
-      let key = c.in_ok-key.ensures.found next.key next.utf8 _ next.stands in
+      let key = c.in_ok-key.ensures.found next.key next.utf8 _ next.occurs in
       let value = c.in_ok-value.ensures.found next.value next.readable _ key.1 in
       subst (λ entries. MembersLeft c.in-Some.inner ms entries c.in_ok-value.others.now more) (sym c.in_ok-push.ensures.items)
       (member_read c.in-Some.inner ms c.members.members.items c.members.rest.now more (c.in_ok-key.key, c.in_ok-value.value) c.in_ok-value.others.now next key.0 value.0 value.1);

@@ -13,7 +13,7 @@ decreases-read_array l = 2 * l.depth
 abbrev pub decreases-read_object : goal.decreases-read_object
 decreases-read_object l = 2 * l.depth
 
--- what was read stands before what is left
+-- what was read is before what is left
 abbrev pub invariant-read_array-items : goal.invariant-read_array-items
 invariant-read_array-items l = record { reads : ReadsItems l.inner l.bytes l.items.items l.rest; within : length l.rest ≤ length l.bytes; decoded : AreDecoded l.inner l.items.items }
 

@@ -38,7 +38,7 @@ pub returns-then-byte-eq0-clause-read : goal.returns-then-byte-eq0-clause-read
 returns-then-byte-eq0-clause-read c =
     let read = last_pair_read c.args.negative c.args.bytes.now c.pairs.digits c.pairs.count c.pairs.rest.now c.in-Some.others.now c.in-Some.byte.now c.invert_if-byte.result (c.invert_if-byte.result / 2) c.in_ok-digits.digits c.in_ok-digits.last c.pairs.invariant.read c.in-Some.ensures.cases.0 (search rules) c.invert_if-byte.ensures refl c.if-byte-eq0.true c.in_ok-digits.ensures in
     record {
-      stands = read.0;
+      occurs = read.0;
       shorter = omega (arith, c.in-Some.ensures.cases.1, c.pairs.invariant.within);
       below = read.1;
       few = omega (arith, c.pairs.invariant.few, c.in_ok-digits.ensures.few);

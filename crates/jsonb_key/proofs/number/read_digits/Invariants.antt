@@ -3,7 +3,7 @@ use Rattle.jsonb_key.proofs.Numbers.{ReadsDigits}
 use Rattle.jsonb_key.proofs.Exact.{DigitsRead}
 use Rattle.jsonb_key.proofs.number.read_digits.Given as goal
 
--- what was read stands before what is left
+-- what was read is before what is left
 abbrev pub invariant-pairs : goal.invariant-pairs
 invariant-pairs l = record {
   reads : ReadsDigits l.negative l.bytes l.digits l.count l.rest;

@@ -3,8 +3,8 @@ use Rattle.std.specs.Bool.{nat_lt}
 use Rattle.jsonb_spec.specs.SortKey.{digits_key, invert_if}
 use Rattle.jsonb_value.specs.View.{number_view}
 use Rattle.jsonb_value.proofs.SortKeys.Numbers.{nothing_there}
-use Rattle.jsonb_key.specs.Reading.{place_of}
-use Rattle.jsonb_key.proofs.Numbers.{place_read}
+use Rattle.jsonb_key.specs.Reading.{exponent_of}
+use Rattle.jsonb_key.proofs.Numbers.{exponent_read}
 use Rattle.jsonb_key.proofs.Signs.{zero_read, signed_read, some_bytes, same_keys, parts_of}
 use Rattle.jsonb_key.proofs.Texts.{none_some, some_pair}
 use Rattle.jsonb_key.proofs.Wholes.{most}
@@ -19,39 +19,39 @@ returns-then-first-clause-found c = λ n proper more e.
     let read = zero_read n proper c.in_ok-first.first.now c.in_ok-first.rest.now c.args.bytes.now more c.in_ok-first.ensures.cases.0 c.if-first.true e in
     (nothing_there _ refl ∙ sym read.0, read.1)
 
-pub returns-in_err-place-clause-found : goal.returns-in_err-place-clause-found
-returns-in_err-place-clause-found c = λ n proper more e.
+pub returns-in_err-exponent-clause-found : goal.returns-in_err-exponent-clause-found
+returns-in_err-exponent-clause-found c = λ n proper more e.
     let s = signed_read n proper c.in_ok-first.first.now c.in_ok-first.rest.now c.args.bytes.now more c.in_ok-first.ensures.cases.0 c.if-first.false e in
-    let placed = place_read (nat_lt c.in_ok-first.first.now 128) s.place (map (invert_if (nat_lt c.in_ok-first.first.now 128)) (digits_key s.count (unsigned_abs n.whole)) ++ more) s.low in
-    absurd (none_some _ (c.in_err-place.ensures.place ∙ ap (place_of (nat_lt c.in_ok-first.first.now 128)) s.stands ∙ placed))
+    let scaled = exponent_read (nat_lt c.in_ok-first.first.now 128) s.exponent (map (invert_if (nat_lt c.in_ok-first.first.now 128)) (digits_key s.count (unsigned_abs n.whole)) ++ more) s.low in
+    absurd (none_some _ (c.in_err-exponent.ensures.exponent ∙ ap (exponent_of (nat_lt c.in_ok-first.first.now 128)) s.occurs ∙ scaled))
 
 pub returns-in_err-digits-clause-found : goal.returns-in_err-digits-clause-found
 returns-in_err-digits-clause-found c = λ n proper more e.
     let s = signed_read n proper c.in_ok-first.first.now c.in_ok-first.rest.now c.args.bytes.now more c.in_ok-first.ensures.cases.0 c.if-first.false e in
-    let placed = place_read (nat_lt c.in_ok-first.first.now 128) s.place (map (invert_if (nat_lt c.in_ok-first.first.now 128)) (digits_key s.count (unsigned_abs n.whole)) ++ more) s.low in
-    let at = some_pair c.in_ok-place.place s.place c.in_ok-place.rest.now (map (invert_if (nat_lt c.in_ok-first.first.now 128)) (digits_key s.count (unsigned_abs n.whole)) ++ more) (c.in_ok-place.ensures.place ∙ ap (place_of (nat_lt c.in_ok-first.first.now 128)) s.stands ∙ placed) in
+    let scaled = exponent_read (nat_lt c.in_ok-first.first.now 128) s.exponent (map (invert_if (nat_lt c.in_ok-first.first.now 128)) (digits_key s.count (unsigned_abs n.whole)) ++ more) s.low in
+    let at = some_pair c.in_ok-exponent.exponent s.exponent c.in_ok-exponent.rest.now (map (invert_if (nat_lt c.in_ok-first.first.now 128)) (digits_key s.count (unsigned_abs n.whole)) ++ more) (c.in_ok-exponent.ensures.exponent ∙ ap (exponent_of (nat_lt c.in_ok-first.first.now 128)) s.occurs ∙ scaled) in
     absurd (c.in_err-digits.ensures.found s.count (unsigned_abs n.whole) s.below s.some (most n proper) s.few more at.1)
 
 pub returns-in_err-number_of-clause-found : goal.returns-in_err-number_of-clause-found
 returns-in_err-number_of-clause-found c = λ n proper more e.
     let s = signed_read n proper c.in_ok-first.first.now c.in_ok-first.rest.now c.args.bytes.now more c.in_ok-first.ensures.cases.0 c.if-first.false e in
-    let placed = place_read (nat_lt c.in_ok-first.first.now 128) s.place (map (invert_if (nat_lt c.in_ok-first.first.now 128)) (digits_key s.count (unsigned_abs n.whole)) ++ more) s.low in
-    let at = some_pair c.in_ok-place.place s.place c.in_ok-place.rest.now (map (invert_if (nat_lt c.in_ok-first.first.now 128)) (digits_key s.count (unsigned_abs n.whole)) ++ more) (c.in_ok-place.ensures.place ∙ ap (place_of (nat_lt c.in_ok-first.first.now 128)) s.stands ∙ placed) in
+    let scaled = exponent_read (nat_lt c.in_ok-first.first.now 128) s.exponent (map (invert_if (nat_lt c.in_ok-first.first.now 128)) (digits_key s.count (unsigned_abs n.whole)) ++ more) s.low in
+    let at = some_pair c.in_ok-exponent.exponent s.exponent c.in_ok-exponent.rest.now (map (invert_if (nat_lt c.in_ok-first.first.now 128)) (digits_key s.count (unsigned_abs n.whole)) ++ more) (c.in_ok-exponent.ensures.exponent ∙ ap (exponent_of (nat_lt c.in_ok-first.first.now 128)) s.occurs ∙ scaled) in
     let read = c.in_ok-digits.ensures.found s.count (unsigned_abs n.whole) s.below s.some (most n proper) s.few more at.1 in
-    absurd (c.in_err-number_of.ensures.same n proper s.is_sign (parts_of n (nat_lt c.in_ok-first.first.now 128) c.args.bytes.now more s c.in_ok-place.place c.in_ok-digits.digits c.in_ok-digits.count at.0 read.0))
+    absurd (c.in_err-number_of.ensures.same n proper s.is_sign (parts_of n (nat_lt c.in_ok-first.first.now 128) c.args.bytes.now more s c.in_ok-exponent.exponent c.in_ok-digits.digits c.in_ok-digits.count at.0 read.0))
 
 pub returns-clause-found : goal.returns-clause-found
 returns-clause-found c = λ n proper more e.
     let s = signed_read n proper c.in_ok-first.first.now c.in_ok-first.rest.now c.args.bytes.now more c.in_ok-first.ensures.cases.0 c.if-first.false e in
-    let placed = place_read (nat_lt c.in_ok-first.first.now 128) s.place (map (invert_if (nat_lt c.in_ok-first.first.now 128)) (digits_key s.count (unsigned_abs n.whole)) ++ more) s.low in
-    let at = some_pair c.in_ok-place.place s.place c.in_ok-place.rest.now (map (invert_if (nat_lt c.in_ok-first.first.now 128)) (digits_key s.count (unsigned_abs n.whole)) ++ more) (c.in_ok-place.ensures.place ∙ ap (place_of (nat_lt c.in_ok-first.first.now 128)) s.stands ∙ placed) in
+    let scaled = exponent_read (nat_lt c.in_ok-first.first.now 128) s.exponent (map (invert_if (nat_lt c.in_ok-first.first.now 128)) (digits_key s.count (unsigned_abs n.whole)) ++ more) s.low in
+    let at = some_pair c.in_ok-exponent.exponent s.exponent c.in_ok-exponent.rest.now (map (invert_if (nat_lt c.in_ok-first.first.now 128)) (digits_key s.count (unsigned_abs n.whole)) ++ more) (c.in_ok-exponent.ensures.exponent ∙ ap (exponent_of (nat_lt c.in_ok-first.first.now 128)) s.occurs ∙ scaled) in
     let read = c.in_ok-digits.ensures.found s.count (unsigned_abs n.whole) s.below s.some (most n proper) s.few more at.1 in
-    let same = c.in_ok-number_of.ensures.same n proper s.is_sign (parts_of n (nat_lt c.in_ok-first.first.now 128) c.args.bytes.now more s c.in_ok-place.place c.in_ok-digits.digits c.in_ok-digits.count at.0 read.0) in
+    let same = c.in_ok-number_of.ensures.same n proper s.is_sign (parts_of n (nat_lt c.in_ok-first.first.now 128) c.args.bytes.now more s c.in_ok-exponent.exponent c.in_ok-digits.digits c.in_ok-digits.count at.0 read.0) in
     (same_keys (number_view c.in_ok-number_of.field-0) n c.in_ok-number_of.ensures.number.proper proper same, read.1)
 
 pub returns-then-first-clause-read : goal.returns-then-first-clause-read
 returns-then-first-clause-read c = record {
-  stands = c.in_ok-first.ensures.cases.0 ∙ ap (λ b. b ∷ c.in_ok-first.rest.now) c.if-first.true ∙ ap (λ key. key ++ c.in_ok-first.rest.now) (sym (nothing_there _ refl));
+  occurs = c.in_ok-first.ensures.cases.0 ∙ ap (λ b. b ∷ c.in_ok-first.rest.now) c.if-first.true ∙ ap (λ key. key ++ c.in_ok-first.rest.now) (sym (nothing_there _ refl));
   shorter = omega (arith, c.in_ok-first.ensures.cases.1);
   proper = search rules;
   fewest = search rules;
@@ -60,9 +60,9 @@ returns-then-first-clause-read c = record {
 pub returns-then-not-begins_with_digit-clause-found : goal.returns-then-not-begins_with_digit-clause-found
 returns-then-not-begins_with_digit-clause-found c = λ n proper more e.
     let s = signed_read n proper c.in_ok-first.first.now c.in_ok-first.rest.now c.args.bytes.now more c.in_ok-first.ensures.cases.0 c.if-first.false e in
-    let placed = place_read (nat_lt c.in_ok-first.first.now 128) s.place (map (invert_if (nat_lt c.in_ok-first.first.now 128)) (digits_key s.count (unsigned_abs n.whole)) ++ more) s.low in
-    let at = some_pair c.in_ok-place.place s.place c.in_ok-place.rest.now (map (invert_if (nat_lt c.in_ok-first.first.now 128)) (digits_key s.count (unsigned_abs n.whole)) ++ more) (c.in_ok-place.ensures.place ∙ ap (place_of (nat_lt c.in_ok-first.first.now 128)) s.stands ∙ placed) in
-    absurd (digit_there (nat_lt c.in_ok-first.first.now 128) s.count (unsigned_abs n.whole) c.in_ok-place.rest.now more s.some s.below s.least at.1 (c.begins_with_digit.ensures.no c.if-not-begins_with_digit.true))
+    let scaled = exponent_read (nat_lt c.in_ok-first.first.now 128) s.exponent (map (invert_if (nat_lt c.in_ok-first.first.now 128)) (digits_key s.count (unsigned_abs n.whole)) ++ more) s.low in
+    let at = some_pair c.in_ok-exponent.exponent s.exponent c.in_ok-exponent.rest.now (map (invert_if (nat_lt c.in_ok-first.first.now 128)) (digits_key s.count (unsigned_abs n.whole)) ++ more) (c.in_ok-exponent.ensures.exponent ∙ ap (exponent_of (nat_lt c.in_ok-first.first.now 128)) s.occurs ∙ scaled) in
+    absurd (digit_there (nat_lt c.in_ok-first.first.now 128) s.count (unsigned_abs n.whole) c.in_ok-exponent.rest.now more s.some s.below s.least at.1 (c.begins_with_digit.ensures.no c.if-not-begins_with_digit.true))
 
 pub number_of-requires-clause-digits : goal.number_of-requires-clause-digits
 number_of-requires-clause-digits c =
@@ -71,7 +71,7 @@ number_of-requires-clause-digits c =
     let read = c.in_ok-digits.ensures.read in
     record {
       below = read.below;
-      least = first_digit sign c.in_ok-digits.count c.in_ok-digits.digits first.0 c.in_ok-place.rest.now first.1 c.in_ok-digits.rest.now (omega (arith, read.fewest)) read.below read.stands first.2 first.3;
+      least = first_digit sign c.in_ok-digits.count c.in_ok-digits.digits first.0 c.in_ok-exponent.rest.now first.1 c.in_ok-digits.rest.now (omega (arith, read.fewest)) read.below read.occurs first.2 first.3;
       few = read.few;
       fewest = read.fewest;
     }

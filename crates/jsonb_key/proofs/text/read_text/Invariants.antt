@@ -2,7 +2,7 @@ use Rattle.std.proofs.Common.{◌≤◌, length}
 use Rattle.jsonb_key.proofs.Texts.{ReadsText}
 use Rattle.jsonb_key.proofs.text.read_text.Given as goal
 
--- what was read stands before what is left
+-- what was read is before what is left
 abbrev pub invariant-bytes : goal.invariant-bytes
 invariant-bytes l = record { reads : ReadsText l.bytes l.text.items l.rest; within : length l.rest ≤ length l.bytes }
 

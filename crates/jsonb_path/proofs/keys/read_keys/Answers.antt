@@ -1,8 +1,8 @@
 use Rattle.std.proofs.Common.{◌≡◌, ℕ, List, [], ◌∷◌, ◌++◌, map, string_bytes, String, Global, Result, Ok, Err, IfErr, true≢false, sym, subst, ap, ◌∙◌}
 use Rattle.std.proofs.lemmas.List.{map-append, nil_from_length}
-use Rattle.jsonb_path.specs.KeySpelling.{Reads}
+use Rattle.jsonb_path.specs.KeyEncoding.{Reads}
 use Rattle.jsonb_path.specs.Path.{StartsKey}
-use Rattle.jsonb_path.proofs.KeySpelling.{after_key, path_read, path_alone, no_slash, no_text, starts}
+use Rattle.jsonb_path.proofs.KeyEncoding.{after_key, path_read, path_alone, no_slash, no_text, starts}
 use Rattle.jsonb_path.proofs.keys.read_keys.Goals as goal
 
 moved : (bytes : List ℕ) (keys : List (List ℕ)) (rest more : List ℕ) (slash : ℕ) → Reads bytes keys rest → rest ≡ slash ∷ more → slash ≡ 47 → Reads bytes keys (47 ∷ more)
@@ -44,16 +44,16 @@ pub returns-clause-only : goal.returns-clause-only
 returns-clause-only c = λ others path.
     path_alone c.args.path.now (map string_bytes c.parts.keys.items) others (subst (λ left. Reads c.args.path.now (map string_bytes c.parts.keys.items) left) (nil_from_length c.parts.rest.now c.in_default.ensures.cases) c.parts.invariant) path
 
-told : {A E : Type 0} (r : Result A E) (P : Type 0) → P → IfErr r (λ _. P)
-told (Ok x) P p = tt
-told (Err e) P p = p
+reported : {A E : Type 0} (r : Result A E) (P : Type 0) → P → IfErr r (λ _. P)
+reported (Ok x) P p = tt
+reported (Err e) P p = p
 
 pub returns-in_err-key-clause-memory : goal.returns-in_err-key-clause-memory
 returns-in_err-key-clause-memory c =
     let here = moved c.args.path.now (map string_bytes c.parts.keys.items) c.parts.rest.now c.in-Some.more.now c.in-Some.slash.now c.parts.invariant c.in-Some.ensures.cases.0 c.if-slash-ne47.false in
-    told c.from_residual.result (StartsKey c.args.path.now) (starts c.args.path.now (map string_bytes c.parts.keys.items) c.in-Some.more.now here)
+    reported c.from_residual.result (StartsKey c.args.path.now) (starts c.args.path.now (map string_bytes c.parts.keys.items) c.in-Some.more.now here)
 
 pub returns-in_err-push-clause-memory : goal.returns-in_err-push-clause-memory
 returns-in_err-push-clause-memory c =
     let here = moved c.args.path.now (map string_bytes c.parts.keys.items) c.parts.rest.now c.in-Some.more.now c.in-Some.slash.now c.parts.invariant c.in-Some.ensures.cases.0 c.if-slash-ne47.false in
-    told c.from_residual-in_err-push.result (StartsKey c.args.path.now) (starts c.args.path.now (map string_bytes c.parts.keys.items) c.in-Some.more.now here)
+    reported c.from_residual-in_err-push.result (StartsKey c.args.path.now) (starts c.args.path.now (map string_bytes c.parts.keys.items) c.in-Some.more.now here)

@@ -64,12 +64,12 @@ fn decimal_ends(bytes: &[u8]) -> DecimalEnds
     }
 }
 
-// The index after the decimal text; else the place of the fault.
+// The index after the decimal text; else the offset of the fault.
 fn decimal_end(bytes: &[u8], ends: DecimalEnds) -> std::result::Result<usize, usize>
     requires { AreEnds bytes.now ends }
     ensures end { result ≡ decimal_end bytes.now }
     ensures within { IfOk result (λ end. end ≤ length bytes.now) }
-    ensures near { IfErr result (λ place. place ≤ length bytes.now) }
+    ensures near { IfErr result (λ offset. offset ≤ length bytes.now) }
 {
     let scale = ends.behind_end - ends.point_end;
     if ends.front_end - ends.start + scale == 0 {
@@ -87,7 +87,7 @@ fn decimal_end(bytes: &[u8], ends: DecimalEnds) -> std::result::Result<usize, us
 // The number that digits write when they follow those of `number`.
 fn digits_onto(number: u128, digits: &[u8]) -> u128
     requires are_digits { AllDigits 10 digits.now }
-    requires room { (number + 1) * 10 ^ length digits.now ≤ 10 ^ 38 }
+    requires space { (number + 1) * 10 ^ length digits.now ≤ 10 ^ 38 }
     ensures value { result ≡ digits_value_after 10 number digits.now }
     ensures bound { result < (number + 1) * 10 ^ length digits.now }
 {
@@ -118,7 +118,7 @@ fn decimal_number(bytes: &[u8], ends: DecimalEnds, end: usize) -> Option<Number>
 pub(super) fn scan_decimal(bytes: &[u8]) -> std::result::Result<NumberText, NumberFault>
     ensures scan { scanned_view result ≡ decimal_scan bytes.now }
     ensures within { IfOk result (λ text. text.end ≤ length bytes.now) }
-    ensures near { IfErr result (λ fault. fault.place ≤ length bytes.now) }
+    ensures near { IfErr result (λ fault. fault.offset ≤ length bytes.now) }
 {
     let ends = decimal_ends(bytes);
     match decimal_end(bytes, ends) {
@@ -126,9 +126,9 @@ pub(super) fn scan_decimal(bytes: &[u8]) -> std::result::Result<NumberText, Numb
             number: decimal_number(bytes, ends, end),
             end,
         }),
-        Err(place) => Err(NumberFault {
+        Err(offset) => Err(NumberFault {
             code: ParseErrorCode::InvalidNumberValue,
-            place,
+            offset,
         }),
     }
 }

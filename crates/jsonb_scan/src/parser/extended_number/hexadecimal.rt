@@ -79,22 +79,22 @@ fn hexadecimal(negative: bool, magnitude: u128) -> Option<Number>
     }))
 }
 
-// The digits behind the point of a hexadecimal, of which the first has this place.
+// The digits behind the point of a hexadecimal, of which the first has this offset.
 fn scan_fraction(
     bytes: &[u8],
-    place: usize,
+    offset: usize,
     whole_fits: bool,
 ) -> std::result::Result<NumberText, NumberFault>
-    requires { place + length bytes.now < 2 ^ 63 }
-    ensures scan { scanned_view result ≡ fraction_scan place whole_fits bytes.now }
-    ensures within { IfOk result (λ text. text.end ≤ place + length bytes.now) }
-    ensures near { IfErr result (λ fault. fault.place ≤ place + length bytes.now) }
+    requires { offset + length bytes.now < 2 ^ 63 }
+    ensures scan { scanned_view result ≡ fraction_scan offset whole_fits bytes.now }
+    ensures within { IfOk result (λ text. text.end ≤ offset + length bytes.now) }
+    ensures near { IfErr result (λ fault. fault.offset ≤ offset + length bytes.now) }
 {
     let len = hexadecimal_length(bytes);
     if len == 0 {
-        return invalid(place);
+        return invalid(offset);
     }
-    let end = place + len;
+    let end = offset + len;
     let fraction = hexadecimal_value(&bytes[..len]);
     if !whole_fits || fraction.is_none() {
         return invalid(end);
@@ -102,23 +102,23 @@ fn scan_fraction(
     Ok(NumberText { number: None, end })
 }
 
-// The bytes after the x of a hexadecimal, of which the first has this place.
+// The bytes after the x of a hexadecimal, of which the first has this offset.
 #[cold]
 pub(super) fn scan_hexadecimal(
     bytes: &[u8],
-    place: usize,
+    offset: usize,
     negative: bool,
 ) -> std::result::Result<NumberText, NumberFault>
-    requires { place + length bytes.now < 2 ^ 63 }
-    ensures scan { scanned_view result ≡ hexadecimal_scan place negative bytes.now }
-    ensures within { IfOk result (λ text. text.end ≤ place + length bytes.now) }
-    ensures near { IfErr result (λ fault. fault.place ≤ place + length bytes.now) }
+    requires { offset + length bytes.now < 2 ^ 63 }
+    ensures scan { scanned_view result ≡ hexadecimal_scan offset negative bytes.now }
+    ensures within { IfOk result (λ text. text.end ≤ offset + length bytes.now) }
+    ensures near { IfErr result (λ fault. fault.offset ≤ offset + length bytes.now) }
 {
     let len = hexadecimal_length(bytes);
     if len == 0 {
-        return invalid(place);
+        return invalid(offset);
     }
-    let end = place + len;
+    let end = offset + len;
     let whole = hexadecimal_value(&bytes[..len]);
     if byte_at(bytes, len) == b'.' {
         let fits = whole.is_some();
@@ -133,7 +133,7 @@ pub(super) fn scan_hexadecimal(
     }
 }
 
-// Whether a zero and an x stand here.
+// Whether a zero and an x are here.
 pub(super) fn begins_hexadecimal(bytes: &[u8], start: usize) -> bool
     requires { start ≤ length bytes.now }
     ensures { result ≡ hexadecimal_starts bytes.now start }

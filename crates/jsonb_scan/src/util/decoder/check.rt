@@ -4,7 +4,7 @@ ghost use Rattle.jsonb_spec.specs.Ascii as ascii;
 ghost use Rattle.jsonb_spec.specs.Mode.{Mode as GrammarMode};
 ghost use Rattle.jsonb_value.specs.Error.CodeView.{code_of};
 ghost use Rattle.jsonb_scan.specs.Answer.{mode_of};
-ghost use Rattle.jsonb_scan.specs.Decoding.{IsDecodedUpTo, IsShortLetter, SeesNoBackslash, StopsAtEscape, TellsBackslash};
+ghost use Rattle.jsonb_scan.specs.Decoding.{IsDecodedUpTo, IsShortLetter, SeesNoBackslash, StopsAtEscape, ReportsBackslash};
 ghost use Rattle.jsonb_scan.specs.QuotedString.{ChecksContents, decoded_text};
 ghost use Rattle.jsonb_scan.specs.Parsing.String.{body_of};
 
@@ -56,7 +56,7 @@ fn next_backslash(bytes: &[u8]) -> usize
     far_search(bytes)
 }
 
-// Passes the escape whose backslash stands before the bytes, and returns what follows.
+// Passes the escape whose backslash is before the bytes, and returns what follows.
 #[inline(always)]
 fn pass_escape(bytes: &[u8], mode: Mode) -> std::result::Result<&[u8], DecodingFault>
     ensures ok { IfOk result (λ rest. IsDecodedUpTo (mode_of mode) (ascii.backslash ∷ bytes.now) rest.now) }
@@ -155,10 +155,10 @@ fn check(bytes: &[u8], mode: Mode, from: usize) -> std::result::Result<(), Decod
 ///
 /// `Syntax` with the code and the offset that decoding the contents fails with.
 pub fn check_contents(body: &str, mode: Mode, from: usize, idx: usize) -> Result<()>
-    requires escaped { TellsBackslash body.now (length body.now) true }
+    requires escaped { ReportsBackslash body.now (length body.now) true }
     requires inside { from ≤ length body.now }
     requires known { IsDecodedUpTo (mode_of mode) body.now (drop from body.now) }
-    requires room { idx + length body.now < 2 ^ 64 }
+    requires space { idx + length body.now < 2 ^ 64 }
     ensures { ChecksContents idx result (decoded_text (mode_of mode) body.now) (body_of (mode_of mode) body.now) }
 {
     let bytes = body.as_bytes();

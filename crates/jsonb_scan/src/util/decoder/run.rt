@@ -5,7 +5,7 @@ ghost use Rattle.jsonb_scan.specs.Decoding.{SeesNoBackslash, CopiesRun};
 ghost use Rattle.jsonb_spec.specs.Ascii as ascii;
 
 use super::Decoded;
-use super::room::{write_all, write_byte};
+use super::space::{write_all, write_byte};
 use memchr::memchr;
 use std::simd::prelude::*;
 
@@ -40,7 +40,7 @@ pub(super) fn near_backslash(bytes: &[u8]) -> Option<usize>
 #[inline(always)]
 fn write_sixteen(text: &mut [u8], len: usize, bytes: &[u8])
     requires enough { 16 ≤ length bytes.now }
-    requires room { len + 16 ≤ length text.old }
+    requires space { len + 16 ≤ length text.old }
     ensures written { take (len + 16) text.new ≡ take len text.old ++ take 16 bytes.now }
     ensures size { length text.new ≡ length text.old }
 {
@@ -52,7 +52,7 @@ fn write_sixteen(text: &mut [u8], len: usize, bytes: &[u8])
 fn write_few(text: &mut [u8], len: usize, bytes: &[u8], count: usize)
     requires few { count ≤ 16 }
     requires enough { 16 ≤ length bytes.now }
-    requires room { len + 16 ≤ length text.old }
+    requires space { len + 16 ≤ length text.old }
     ensures written { take (len + count) text.new ≡ take len text.old ++ take count bytes.now }
     ensures size { length text.new ≡ length text.old }
 {
@@ -121,7 +121,7 @@ fn copy_near(bytes: &[u8], text: &mut [u8], len: usize) -> usize
 fn copy_more(bytes: &[u8], text: &mut [u8], len: usize) -> usize
     requires long { 16 ≤ length bytes.now }
     requires clear { SeesNoBackslash bytes.now 16 }
-    requires room { len + length bytes.now ≤ length text.old }
+    requires space { len + length bytes.now ≤ length text.old }
     ensures bound { result ≤ length bytes.now }
     ensures before { SeesNoBackslash bytes.now result }
     ensures here { result < length bytes.now → slice_index bytes.now result ≡ ascii.backslash }

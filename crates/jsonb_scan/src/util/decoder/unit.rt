@@ -6,11 +6,11 @@ ghost use Rattle.std.specs.Str.Parse.{digits_value};
 ghost use Rattle.jsonb_spec.specs.Ascii as ascii;
 ghost use Rattle.jsonb_spec.specs.Mode.{Mode as GrammarMode};
 ghost use Rattle.jsonb_value.specs.Error.CodeView.{code_of};
-ghost use Rattle.jsonb_spec.specs.Grammar.StringBody.{IsHexDigit, unit, spelling, alone, together};
+ghost use Rattle.jsonb_spec.specs.Grammar.StringBody.{IsHexDigit, unit, encoding, alone, together};
 ghost use Rattle.jsonb_spec.specs.Grammar.StringFault.{IsUnitCut, IsFirstNonDigit};
 ghost use Rattle.jsonb_scan.specs.Decoding.{SplitsUnit, ParsesUnit, Adds, IsDecodedUpTo, StopsInUnit, StopsAtEscape};
 
-use super::room::write_all;
+use super::space::write_all;
 use super::{Decoded, DecodingFault};
 use jsonb_value::error::ParseErrorCode;
 
@@ -76,7 +76,7 @@ fn split_unit(bytes: &[u8]) -> Option<(&[u8], &[u8])>
     Some((&bytes[1..5], &bytes[6..]))
 }
 
-// The unit whose `\u` stands before the bytes.
+// The unit whose `\u` is before the bytes.
 #[inline(always)]
 fn read_unit(bytes: &[u8]) -> std::result::Result<HexUnit<'_>, DecodingFault>
     ensures ok { IfOk result (λ unit. ParsesUnit bytes.now unit.digits.now unit.rest.now unit.value) }
@@ -124,7 +124,7 @@ fn is_surrogate(value: u32) -> bool
 #[inline(always)]
 fn push_char(text: &mut [u8], len: usize, value: u32) -> usize
     requires scalar { InScalarRange value }
-    requires room { len + 4 ≤ length text.old }
+    requires space { len + 4 ≤ length text.old }
     ensures written { take result text.new ≡ take len text.old ++ encode_utf8 value }
     ensures len { result ≤ len + 4 }
     ensures size { length text.new ≡ length text.old }
@@ -134,10 +134,10 @@ fn push_char(text: &mut [u8], len: usize, value: u32) -> usize
     write_all(text, len, character.encode_utf8(&mut buffer).as_bytes())
 }
 
-fn push_kept(text: &mut [u8], len: usize, digits: &[u8]) -> usize
+fn push_verbatim(text: &mut [u8], len: usize, digits: &[u8]) -> usize
     requires four { length digits.now ≡ 4 }
-    requires room { len + 6 ≤ length text.old }
-    ensures written { take result text.new ≡ take len text.old ++ spelling (unit false digits.now) }
+    requires space { len + 6 ≤ length text.old }
+    ensures written { take result text.new ≡ take len text.old ++ encoding (unit false digits.now) }
     ensures len { result ≡ len + 6 }
     ensures size { length text.new ≡ length text.old }
 {
@@ -151,13 +151,13 @@ fn push_alone(text: &mut [u8], len: usize, digits: &[u8], value: u32) -> usize
     requires four { length digits.now ≡ 4 }
     requires value { value ≡ digits_value 16 digits.now }
     requires range { value < 2 ^ 16 }
-    requires room { len + 6 ≤ length text.old }
+    requires space { len + 6 ≤ length text.old }
     ensures written { take result text.new ≡ take len text.old ++ alone digits.now }
     ensures len { result ≤ len + 6 }
     ensures size { length text.new ≡ length text.old }
 {
     if is_surrogate(value) {
-        push_kept(text, len, digits)
+        push_verbatim(text, len, digits)
     } else {
         push_char(text, len, value)
     }
@@ -169,7 +169,7 @@ fn push_together(text: &mut [u8], len: usize, high: &HexUnit<'_>, next: &HexUnit
     requires value { (high.now.value ≡ digits_value 16 high.now.digits.now)
         × (next.now.value ≡ digits_value 16 next.now.digits.now) }
     requires is_high { is_high_surrogate high.now.value ≡ true }
-    requires room { len + 12 ≤ length text.old }
+    requires space { len + 12 ≤ length text.old }
     ensures written { take result text.new ≡ take len text.old ++ together high.now.digits.now next.now.digits.now }
     ensures len { result ≤ len + 12 }
     ensures size { length text.new ≡ length text.old }
@@ -181,8 +181,8 @@ fn push_together(text: &mut [u8], len: usize, high: &HexUnit<'_>, next: &HexUnit
             0x10000 + (high.value - 0xD800) * 0x400 + (next.value - 0xDC00),
         )
     } else {
-        let len = push_kept(text, len, high.digits);
-        push_kept(text, len, next.digits)
+        let len = push_verbatim(text, len, high.digits);
+        push_verbatim(text, len, next.digits)
     }
 }
 
@@ -201,7 +201,7 @@ fn after_unit_mark(bytes: &[u8]) -> Option<&[u8]>
     }
 }
 
-// What follows the next `\u`, where it stands right after a high unit.
+// What follows the next `\u`, where it is right after a high unit.
 fn after_next_mark<'a>(unit: &HexUnit<'a>) -> Option<&'a [u8]>
     ensures some { IfSome result (λ rest. (is_high_surrogate unit.now.value ≡ true)
         × (unit.now.rest.now ≡ ascii.backslash ∷ ascii.lower_u ∷ rest.now)) }
@@ -216,7 +216,7 @@ fn after_next_mark<'a>(unit: &HexUnit<'a>) -> Option<&'a [u8]>
     }
 }
 
-// Decodes the unit whose `\u` stands before the bytes, with the next one where the two are taken together.
+// Decodes the unit whose `\u` is before the bytes, with the next one where the two are taken together.
 #[inline(always)]
 pub(super) fn units<'a>(
     bytes: &'a [u8],
@@ -227,7 +227,7 @@ pub(super) fn units<'a>(
     ensures ok { IfOk result (λ done. (mode : GrammarMode) → Adds mode
         (ascii.backslash ∷ ascii.lower_u ∷ bytes.now) done.rest.now (take len text.old) (take done.len text.new)) }
     ensures shorter { IfOk result (λ done. length done.rest.now ≤ length bytes.now) }
-    ensures room { IfOk result (λ done. done.len + length done.rest.now ≤ len + 2 + length bytes.now) }
+    ensures space { IfOk result (λ done. done.len + length done.rest.now ≤ len + 2 + length bytes.now) }
     ensures within { IfOk result (λ done. done.len ≤ length text.new) }
     ensures err { IfErr result (λ fault. (mode : GrammarMode) → StopsAtEscape mode
         (ascii.backslash ∷ ascii.lower_u ∷ bytes.now) (code_of fault.code) fault.left) }
@@ -250,7 +250,7 @@ pub(super) fn units<'a>(
     })
 }
 
-// Passes the unit whose `\u` stands before the bytes, with the next one where the two are taken together, and returns
+// Passes the unit whose `\u` is before the bytes, with the next one where the two are taken together, and returns
 // what follows.
 #[inline(never)]
 pub(super) fn pass_units(bytes: &[u8]) -> std::result::Result<&[u8], DecodingFault>

@@ -18,7 +18,7 @@ wide-preserved c =
 
 pub returns-in_err-zero : goal.returns-in_err-zero
 returns-in_err-zero c =
-    subst (λ (told : Option ℕ). IsFirstByte (is_byte 0) c.args.bytes.now told) (sym c.from_residual.ensures)
+    subst (λ (reported : Option ℕ). IsFirstByte (is_byte 0) c.args.bytes.now reported) (sym c.from_residual.ensures)
     (none_behind c.args.bytes.now c.wide.len c.wide.invariant.1 c.wide.invariant.0
     (subst (λ (rest : List ℕ). IsFirstByte (is_byte 0) rest None) c.split_at.ensures.back c.in_err-zero.ensures))
 

@@ -7,7 +7,7 @@ returns-in-Some c = record {
   compares = λ text more wanted e n.
       let order = c.cmp.ensures ∙ head_compares text wanted more c.args.bytes.now c.args.name.now c.in-Some.head.now c.in-Some.rest.now e n c.in-Some.ensures.cases in
       record {
-        told = order;
+        reported = order;
         behind = λ same. behind_name text wanted more c.args.bytes.now c.args.name.now c.in-Some.head.now c.in-Some.rest.now e n c.in-Some.ensures.cases (sym c.cmp.ensures ∙ same) (sym order ∙ same);
       };
 }
@@ -15,7 +15,7 @@ returns-in-Some c = record {
 pub returns-in-None : goal.returns-in-None
 returns-in-None c = record {
   compares = λ text more wanted e n. record {
-    told = c.cmp-in-None.ensures ∙ short_compares text wanted more c.args.bytes.now c.args.name.now e n c.in-None.ensures.cases;
+    reported = c.cmp-in-None.ensures ∙ short_compares text wanted more c.args.bytes.now c.args.name.now e n c.in-None.ensures.cases;
     behind = λ same. absurd (short_never c.args.bytes.now c.args.name.now c.in-None.ensures.cases (sym c.cmp-in-None.ensures ∙ same));
   };
 }

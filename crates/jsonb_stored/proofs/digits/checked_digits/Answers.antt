@@ -1,5 +1,5 @@
 use Rattle.std.proofs.Common.{rules, arith}
-use Rattle.jsonb_stored.proofs.NumberEnds.{begun, pair_passed, digits_end, all_over, all_low, all_large, all_zeros, all_many, all_told}
+use Rattle.jsonb_stored.proofs.NumberEnds.{begun, pair_passed, digits_end, all_over, all_low, all_large, all_zeros, all_many, all_reported}
 use Rattle.jsonb_stored.proofs.digits.checked_digits.Goals as goal
 
 pub pairs-init : goal.pairs-init
@@ -31,7 +31,7 @@ pub returns-in_default-last_digits-clause-all : goal.returns-in_default-last_dig
 returns-in_default-last_digits-clause-all c = all_zeros c.args.negative c.args.bytes.now c.pairs.count c.pairs.rest.now c.in-Some-split_first.others.now c.in-Some-split_first.byte.now c.invert_if-byte.result c.pairs.invariant.read c.in-Some-split_first.ensures.cases.0 c.invert_if-byte.ensures c.if-byte-eq0.true c.in_default-last_digits.ensures
 
 pub returns-then-byte-eq0-clause-all : goal.returns-then-byte-eq0-clause-all
-returns-then-byte-eq0-clause-all c = all_told c.args.negative c.args.bytes.now c.pairs.count c.pairs.rest.now c.in-Some-split_first.others c.in-Some-split_first.byte.now c.invert_if-byte.result c.in-Some-last_digits.last c.pairs.invariant.read c.in-Some-split_first.ensures.cases.0 c.invert_if-byte.ensures c.if-byte-eq0.true (omega (arith, c.if-byte-gt199.false)) c.in-Some-last_digits.ensures
+returns-then-byte-eq0-clause-all c = all_reported c.args.negative c.args.bytes.now c.pairs.count c.pairs.rest.now c.in-Some-split_first.others c.in-Some-split_first.byte.now c.invert_if-byte.result c.in-Some-last_digits.last c.pairs.invariant.read c.in-Some-split_first.ensures.cases.0 c.invert_if-byte.ensures c.if-byte-eq0.true (omega (arith, c.if-byte-gt199.false)) c.in-Some-last_digits.ensures
 
 pub returns-then-count-gt34-clause-all : goal.returns-then-count-gt34-clause-all
 returns-then-count-gt34-clause-all c = all_many c.args.negative c.args.bytes.now c.pairs.count c.pairs.rest.now c.in-Some-split_first.others.now c.in-Some-split_first.byte.now c.invert_if-byte.result c.pairs.invariant.read c.in-Some-split_first.ensures.cases.0 c.invert_if-byte.ensures c.if-byte-eq0.false c.pairs.invariant.even (omega (arith, c.if-count-gt34.true))

@@ -1,5 +1,5 @@
 use Rattle.std.proofs.Common.{◌≤◌, length}
-use Rattle.jsonb_stored.proofs.Standing.{ComparesNames}
+use Rattle.jsonb_stored.proofs.Occurrence.{ComparesNames}
 use Rattle.jsonb_stored.proofs.find.compare_name.Given as goal
 
 abbrev pub invariant-bytes : goal.invariant-bytes

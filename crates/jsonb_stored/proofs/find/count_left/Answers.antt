@@ -1,6 +1,6 @@
 use Rattle.std.proofs.Common.{◌+◌, Ok, ap, arith, refl}
 use Rattle.jsonb_key.proofs.Texts.{none_some, some_same}
-use Rattle.jsonb_stored.proofs.Standing.{all_counted, part_here, part_counted}
+use Rattle.jsonb_stored.proofs.Occurrence.{all_counted, part_here, part_counted}
 use Rattle.jsonb_stored.proofs.find.count_left.Goals as goal
 
 pub returns-then-is_over-clause-counted : goal.returns-then-is_over-clause-counted
@@ -11,19 +11,19 @@ returns-then-is_over-clause-counted c = λ o is h more e.
 pub returns-in_default-clause-counted : goal.returns-in_default-clause-counted
 returns-in_default-clause-counted c = λ o is h more e.
     let n = part_here o c.args.object c.parts.count c.parts.rest.now more (c.parts.invariant.counts o is h more e) (c.is_over.ensures.no c.if-is_over.false) in
-    absurd (none_some _ (c.in_default.ensures.found n.name _ n.stands))
+    absurd (none_some _ (c.in_default.ensures.found n.name _ n.occurs))
 
 pub returns-in_default-after_key-clause-counted : goal.returns-in_default-after_key-clause-counted
 returns-in_default-after_key-clause-counted c = λ o is h more e.
     let n = part_here o c.args.object c.parts.count c.parts.rest.now more (c.parts.invariant.counts o is h more e) (c.is_over.ensures.no c.if-is_over.false) in
-    let value = some_same c.in-Some.value.now _ (c.in-Some.ensures.found n.name _ n.stands) in
+    let value = some_same c.in-Some.value.now _ (c.in-Some.ensures.found n.name _ n.occurs) in
     absurd (none_some _ (c.in_default-after_key.ensures.found n.value n.readable _ value))
 
 pub parts-preserved : goal.parts-preserved
 parts-preserved c = record {
   counts = λ o is h more e.
       let n = part_here o c.args.object c.parts.count c.parts.rest.now more (c.parts.invariant.counts o is h more e) (c.is_over.ensures.no c.if-is_over.false) in
-      let value = some_same c.in-Some.value.now _ (c.in-Some.ensures.found n.name _ n.stands) in
+      let value = some_same c.in-Some.value.now _ (c.in-Some.ensures.found n.name _ n.occurs) in
       let others = some_same c.in-Some-after_key.others.now _ (c.in-Some-after_key.ensures.found n.value n.readable _ value) in
       part_counted o c.args.object c.parts.count (c.parts.count + 1) c.parts.rest.now more c.in-Some-after_key.others.now n refl others;
   within = omega (arith, c.in-Some-after_key.ensures.shorter, c.in-Some.ensures.within, c.parts.invariant.within);

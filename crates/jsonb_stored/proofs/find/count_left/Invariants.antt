@@ -1,5 +1,5 @@
 use Rattle.std.proofs.Common.{◌≤◌, ◌+◌, length}
-use Rattle.jsonb_stored.proofs.Standing.{CountsParts}
+use Rattle.jsonb_stored.proofs.Occurrence.{CountsParts}
 use Rattle.jsonb_stored.proofs.find.count_left.Given as goal
 
 abbrev pub invariant-parts : goal.invariant-parts

@@ -2,7 +2,7 @@ use Rattle.std.proofs.Common.{rules, ◌≡◌, ◌∷◌, IfSome, Ok, pos, ◌<
 use Rattle.std.proofs.lemmas.Int.{ints}
 use Rattle.jsonb_stored.specs.Found.{item_from, Finds, Opens}
 use Rattle.jsonb_stored.specs.Open.{opening_byte}
-use Rattle.jsonb_stored.proofs.Standing.{array_left, by_back, by_index, found_behind}
+use Rattle.jsonb_stored.proofs.Occurrence.{array_left, by_back, by_index, found_behind}
 use Rattle.jsonb_stored.proofs.find.find_item.Goals as goal
 
 pub returns-then-index-lt0 : goal.returns-then-index-lt0
@@ -17,7 +17,7 @@ returns-then-index-lt0 c = record {
         let is = by_back c.args.index c.unsigned_abs-steps.result a.ts steps below in
         subst (λ u. Finds c.args.key.now (item_from c.args.index u) c.item_from_end.result) a.is
         (subst (λ part. Finds c.args.key.now part c.item_from_end.result) (sym is)
-        (found_behind c.args.key.now c.in-Some.parts.now (opening_byte c.in-Some.object) _ c.item_from_end.result first (c.item_from_end.ensures.found a.ts a.proper a.within more a.stands)));
+        (found_behind c.args.key.now c.in-Some.parts.now (opening_byte c.in-Some.object) _ c.item_from_end.result first (c.item_from_end.ensures.found a.ts a.proper a.within more a.occurs)));
     within = search rules;
   };
 }
@@ -33,7 +33,7 @@ returns-else-index-lt0 c = record {
         let is = by_index c.args.index c.unsigned_abs-steps.result a.ts steps (λ below. omega (arith, ints, below)) in
         subst (λ u. Finds c.args.key.now (item_from c.args.index u) c.item_at.result) a.is
         (subst (λ part. Finds c.args.key.now part c.item_at.result) (sym is)
-        (found_behind c.args.key.now c.in-Some.parts.now (opening_byte c.in-Some.object) _ c.item_at.result first (c.item_at.ensures.found a.ts a.proper a.within more a.stands)));
+        (found_behind c.args.key.now c.in-Some.parts.now (opening_byte c.in-Some.object) _ c.item_at.result first (c.item_at.ensures.found a.ts a.proper a.within more a.occurs)));
     within = search rules;
   };
 }

@@ -2,7 +2,7 @@ use Rattle.std.proofs.Common.{rules, ◌≡◌, ◌∷◌, IfSome, Ok, subst}
 use Rattle.jsonb_stored.specs.Found.{Finds, Opens}
 use Rattle.jsonb_stored.specs.Open.{opening_byte}
 use Rattle.jsonb_spec.specs.Accessors.{get_by_name}
-use Rattle.jsonb_stored.proofs.Standing.{found_behind, object_left}
+use Rattle.jsonb_stored.proofs.Occurrence.{found_behind, object_left}
 use Rattle.jsonb_stored.proofs.find.find_member.Goals as goal
 
 pub returns-then-object : goal.returns-then-object
@@ -13,7 +13,7 @@ returns-then-object c = record {
         let first = subst (λ answer. IfSome answer (λ parts. c.args.key.now ≡ opening_byte parts.0 ∷ parts.1.now)) c.in-Some.is c.in_ok-object.ensures.some in
         let o = object_left t r c.in-Some.object c.in-Some.parts.now more l c.if-object.true in
         subst (λ u. Finds c.args.key.now (get_by_name c.args.name.now u) c.member_from.result) o.is
-        (found_behind c.args.key.now c.in-Some.parts.now (opening_byte c.in-Some.object) _ c.member_from.result first (c.member_from.ensures.found o.ms o.ascend o.proper o.within more o.stands));
+        (found_behind c.args.key.now c.in-Some.parts.now (opening_byte c.in-Some.object) _ c.member_from.result first (c.member_from.ensures.found o.ms o.ascend o.proper o.within more o.occurs));
     within = search rules;
   };
 }

@@ -1,5 +1,5 @@
 use Rattle.std.proofs.Common.{◌≤◌, length, map, string_bytes}
-use Rattle.jsonb_stored.proofs.Standing.{WalksPath}
+use Rattle.jsonb_stored.proofs.Occurrence.{WalksPath}
 use Rattle.jsonb_stored.proofs.find.find_part.Given as goal
 
 abbrev pub invariant-names : goal.invariant-names

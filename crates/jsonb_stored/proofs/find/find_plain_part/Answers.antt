@@ -16,10 +16,10 @@ names-preserved c = record {
 pub returns-clause-found : goal.returns-clause-found
 returns-clause-found c = plain_path_found c.args.path.now c.names.rest.now c.args.key.now c.names.found c.names.invariant.so_far (nil_from_length c.names.rest.now (eqb-true (length c.names.rest.now) 0 (sym c.names-test.ensures)))
 
-told : {A : Type 0} (r : Option A) (P : Type 0) → P → IfNone r P
-told (Some x) P p = tt
-told None P p = p
+reported : {A : Type 0} (r : Option A) (P : Type 0) → P → IfNone r P
+reported (Some x) P p = tt
+reported None P p = p
 
 pub returns-in_err-name-clause-none : goal.returns-in_err-name-clause-none
 returns-in_err-name-clause-none c =
-    told c.from_residual.result ((names : List (List ℕ)) → IsPlainPath c.args.path.now names → ⊥) (plain_path_stopped c.args.path.now c.names.rest.now c.args.key.now c.names.found c.names.invariant.so_far (sym c.names-test.ensures) c.in_err-name.ensures.none)
+    reported c.from_residual.result ((names : List (List ℕ)) → IsPlainPath c.args.path.now names → ⊥) (plain_path_stopped c.args.path.now c.names.rest.now c.args.key.now c.names.found c.names.invariant.so_far (sym c.names-test.ensures) c.in_err-name.ensures.none)

@@ -1,5 +1,5 @@
 use Rattle.std.proofs.Common.{◌≤◌, length}
-use Rattle.jsonb_stored.proofs.Standing.{WalksItems}
+use Rattle.jsonb_stored.proofs.Occurrence.{WalksItems}
 use Rattle.jsonb_stored.proofs.find.item_at.Given as goal
 
 abbrev pub invariant-items : goal.invariant-items

@@ -2,7 +2,7 @@ use Rattle.std.proofs.Common.{◌≡◌, subst, sym, refl, arith}
 use Rattle.jsonb_spec.specs.Accessors.{trees_len}
 use Rattle.jsonb_stored.specs.Found.{item_back, Finds}
 use Rattle.jsonb_stored.specs.Open.{items}
-use Rattle.jsonb_stored.proofs.Standing.{found_none, no_count, same_count, some_back, none_back}
+use Rattle.jsonb_stored.proofs.Occurrence.{found_none, no_count, same_count, some_back, none_back}
 use Rattle.jsonb_stored.proofs.find.item_from_end.Goals as goal
 
 pub returns-in_err-count-clause-found : goal.returns-in_err-count-clause-found

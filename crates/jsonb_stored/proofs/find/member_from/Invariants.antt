@@ -1,5 +1,5 @@
 use Rattle.std.proofs.Common.{◌≤◌, length}
-use Rattle.jsonb_stored.proofs.Standing.{WalksMembers}
+use Rattle.jsonb_stored.proofs.Occurrence.{WalksMembers}
 use Rattle.jsonb_stored.proofs.find.member_from.Given as goal
 
 abbrev pub invariant-members : goal.invariant-members

@@ -1,5 +1,5 @@
 use Rattle.jsonb_key.proofs.Texts.{none_some, some_same}
-use Rattle.jsonb_stored.proofs.Standing.{next_over, next_stands}
+use Rattle.jsonb_stored.proofs.Occurrence.{next_over, next_occurs}
 use Rattle.jsonb_stored.proofs.find.next_part.Goals as goal
 
 pub returns-then-is_over-clause-next : goal.returns-then-is_over-clause-next
@@ -9,18 +9,18 @@ returns-then-is_over-clause-next c = λ o is h more e.
 
 pub returns-in_default-clause-next : goal.returns-in_default-clause-next
 returns-in_default-clause-next c = λ o is h more e.
-    let n = next_stands o c.args.object c.args.left.now more is h e (c.is_over.ensures.no c.if-is_over.false) in
-    absurd (none_some _ (c.in_default.ensures.found n.name _ n.stands))
+    let n = next_occurs o c.args.object c.args.left.now more is h e (c.is_over.ensures.no c.if-is_over.false) in
+    absurd (none_some _ (c.in_default.ensures.found n.name _ n.occurs))
 
 pub returns-in_default-after_key-clause-next : goal.returns-in_default-after_key-clause-next
 returns-in_default-after_key-clause-next c = λ o is h more e.
-    let n = next_stands o c.args.object c.args.left.now more is h e (c.is_over.ensures.no c.if-is_over.false) in
-    let value = some_same c.in-Some.value.now _ (c.in-Some.ensures.found n.name _ n.stands) in
+    let n = next_occurs o c.args.object c.args.left.now more is h e (c.is_over.ensures.no c.if-is_over.false) in
+    let value = some_same c.in-Some.value.now _ (c.in-Some.ensures.found n.name _ n.occurs) in
     absurd (none_some _ (c.in_default-after_key.ensures.found n.value n.readable _ value))
 
 pub returns-clause-next : goal.returns-clause-next
 returns-clause-next c = λ o is h more e.
-    let n = next_stands o c.args.object c.args.left.now more is h e (c.is_over.ensures.no c.if-is_over.false) in
-    let value = some_same c.in-Some.value.now _ (c.in-Some.ensures.found n.name _ n.stands) in
+    let n = next_occurs o c.args.object c.args.left.now more is h e (c.is_over.ensures.no c.if-is_over.false) in
+    let value = some_same c.in-Some.value.now _ (c.in-Some.ensures.found n.name _ n.occurs) in
     let others = some_same c.in-Some-after_key.others.now _ (c.in-Some-after_key.ensures.found n.value n.readable _ value) in
-    n.told c.in-Some.value c.in-Some-after_key.others value others
+    n.reported c.in-Some.value c.in-Some-after_key.others value others

@@ -1,6 +1,6 @@
 use Rattle.jsonb_key.proofs.FirstBytes.{no_key}
 use Rattle.jsonb_stored.proofs.Finds.{parent_of}
-use Rattle.jsonb_stored.proofs.Standing.{left_of}
+use Rattle.jsonb_stored.proofs.Occurrence.{left_of}
 use Rattle.jsonb_stored.proofs.find.open_key.Goals as goal
 
 pub returns-in_default-clause-opens : goal.returns-in_default-clause-opens

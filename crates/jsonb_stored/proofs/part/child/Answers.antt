@@ -1,6 +1,6 @@
 use Rattle.std.proofs.Common.{rules}
 use Rattle.jsonb_stored.proofs.Finds.{child_found}
-use Rattle.jsonb_stored.proofs.Standing.{no_fault}
+use Rattle.jsonb_stored.proofs.Occurrence.{no_fault}
 use Rattle.jsonb_stored.proofs.part.child.Goals as goal
 
 pub returns-in-Ok : goal.returns-in-Ok

@@ -8,7 +8,7 @@ returns-in_err-first-clause-found c = λ t r more e. absurd (no_key 512 t r c.ar
 pub returns-in-Some-clause-found : goal.returns-in-Some-clause-found
 returns-in-Some-clause-found c = λ t r more e.
     let x = opened 512 t r c.in_ok-first.first.now c.in_ok-first.rest.now c.args.bytes.now more c.in_ok-first.ensures.cases.0 e c.in-Some.object c.in-Some.ensures in
-    c.after_parts.ensures.found x.open_there x.is (opened_at_top x.open_there x.inner x.deeper x.fits) more x.stands
+    c.after_parts.ensures.found x.open_there x.is (opened_at_top x.open_there x.inner x.deeper x.fits) more x.occurs
 
 pub returns-in-None-clause-found : goal.returns-in-None-clause-found
 returns-in-None-clause-found c = λ t r more e.

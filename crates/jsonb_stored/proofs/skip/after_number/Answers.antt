@@ -1,8 +1,8 @@
 use Rattle.std.proofs.Common.{◌++◌, map, sym, ap, ◌∙◌, unsigned_abs}
 use Rattle.std.specs.Bool.{nat_lt}
 use Rattle.jsonb_spec.specs.SortKey.{digits_key, invert_if}
-use Rattle.jsonb_key.specs.Reading.{place_of}
-use Rattle.jsonb_key.proofs.Numbers.{place_read}
+use Rattle.jsonb_key.specs.Reading.{exponent_of}
+use Rattle.jsonb_key.proofs.Numbers.{exponent_read}
 use Rattle.jsonb_key.proofs.Signs.{signed_read}
 use Rattle.jsonb_key.proofs.Texts.{none_some, some_same}
 use Rattle.jsonb_stored.proofs.skip.after_number.Goals as goal
@@ -12,15 +12,15 @@ returns-in_err-digits-clause-found c = λ n proper first tail begins other sign 
     let bytes = c.args.bytes.now in
     let s = signed_read n proper first tail bytes more begins other e in
     let key = map (invert_if (nat_lt first 128)) (digits_key s.count (unsigned_abs n.whole)) ++ more in
-    let placed = place_read (nat_lt first 128) s.place key s.low in
-    absurd (none_some _ (c.in_err-digits.ensures.found s.place key (ap (λ b. place_of b bytes) sign ∙ ap (place_of (nat_lt first 128)) s.stands ∙ placed)))
+    let scaled = exponent_read (nat_lt first 128) s.exponent key s.low in
+    absurd (none_some _ (c.in_err-digits.ensures.found s.exponent key (ap (λ b. exponent_of b bytes) sign ∙ ap (exponent_of (nat_lt first 128)) s.occurs ∙ scaled)))
 
 pub returns-clause-found : goal.returns-clause-found
 returns-clause-found c = λ n proper first tail begins other sign more e.
     let bytes = c.args.bytes.now in
     let s = signed_read n proper first tail bytes more begins other e in
     let key = map (invert_if (nat_lt first 128)) (digits_key s.count (unsigned_abs n.whole)) ++ more in
-    let placed = place_read (nat_lt first 128) s.place key s.low in
-    let at = some_same c.in_ok-digits.digits.now key (c.in_ok-digits.ensures.found s.place key (ap (λ b. place_of b bytes) sign ∙ ap (place_of (nat_lt first 128)) s.stands ∙ placed)) in
+    let scaled = exponent_read (nat_lt first 128) s.exponent key s.low in
+    let at = some_same c.in_ok-digits.digits.now key (c.in_ok-digits.ensures.found s.exponent key (ap (λ b. exponent_of b bytes) sign ∙ ap (exponent_of (nat_lt first 128)) s.occurs ∙ scaled)) in
     c.after_digits.ensures.found s.count (unsigned_abs n.whole) s.below s.some more
     (at ∙ ap (λ b. map (invert_if b) (digits_key s.count (unsigned_abs n.whole)) ++ more) (sym sign))

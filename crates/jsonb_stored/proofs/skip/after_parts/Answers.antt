@@ -2,7 +2,7 @@ use Rattle.std.proofs.Common.{◌+◌, Some, ap, arith, refl}
 use Rattle.jsonb_key.proofs.FirstBytes.{no_key}
 use Rattle.jsonb_key.proofs.Texts.{none_some, some_same}
 use Rattle.jsonb_stored.proofs.Scalars.{scalar_there}
-use Rattle.jsonb_stored.proofs.Standing.{end_here, part_here, part_counted}
+use Rattle.jsonb_stored.proofs.Occurrence.{end_here, part_here, part_counted}
 use Rattle.jsonb_stored.proofs.skip.after_parts.Goals as goal
 
 pub returns-in-Some-clause-found : goal.returns-in-Some-clause-found
@@ -12,18 +12,18 @@ returns-in-Some-clause-found c = λ o is h more e.
 pub returns-in_err-value-clause-found : goal.returns-in_err-value-clause-found
 returns-in_err-value-clause-found c = λ o is h more e.
     let n = part_here o c.args.object c.scalars.invariant.passed.0 c.scalars.rest.now more (c.scalars.invariant.passed.1 o is h more e) (λ tail over. none_some tail (c.in_default.ensures.found tail over)) in
-    absurd (none_some _ (c.in_err-value.ensures.found n.name _ n.stands))
+    absurd (none_some _ (c.in_err-value.ensures.found n.name _ n.occurs))
 
 pub returns-in_err-first-clause-found : goal.returns-in_err-first-clause-found
 returns-in_err-first-clause-found c = λ o is h more e.
     let n = part_here o c.args.object c.scalars.invariant.passed.0 c.scalars.rest.now more (c.scalars.invariant.passed.1 o is h more e) (λ tail over. none_some tail (c.in_default.ensures.found tail over)) in
-    let value = some_same c.in_ok-value.value.now _ (c.in_ok-value.ensures.found n.name _ n.stands) in
+    let value = some_same c.in_ok-value.value.now _ (c.in_ok-value.ensures.found n.name _ n.occurs) in
     absurd (no_key 512 n.value n.readable c.in_ok-value.value.now _ value c.in_err-first.ensures.cases)
 
 pub returns-in_err-rest-in-None-clause-found : goal.returns-in_err-rest-in-None-clause-found
 returns-in_err-rest-in-None-clause-found c = λ o is h more e.
     let n = part_here o c.args.object c.scalars.invariant.passed.0 c.scalars.rest.now more (c.scalars.invariant.passed.1 o is h more e) (λ tail over. none_some tail (c.in_default.ensures.found tail over)) in
-    let value = some_same c.in_ok-value.value.now _ (c.in_ok-value.ensures.found n.name _ n.stands) in
+    let value = some_same c.in_ok-value.value.now _ (c.in_ok-value.ensures.found n.name _ n.occurs) in
     let scalar = scalar_there 512 n.value n.readable c.in_ok-first.first.now c.in_ok-first.field-0-1.now c.in_ok-value.value.now _ c.in_ok-first.ensures.cases.0 value c.in-None.ensures.0 c.in-None.ensures.1 in
     absurd (none_some _ (c.in_err-rest-in-None.ensures.found 512 n.value n.readable scalar _ value))
 
@@ -33,7 +33,7 @@ scalars-preserved c = record {
     c.scalars.invariant.passed.0 + 1,
     λ o is h more e.
         let n = part_here o c.args.object c.scalars.invariant.passed.0 c.scalars.rest.now more (c.scalars.invariant.passed.1 o is h more e) (λ tail over. none_some tail (c.in_default.ensures.found tail over)) in
-        let value = some_same c.in_ok-value.value.now _ (c.in_ok-value.ensures.found n.name _ n.stands) in
+        let value = some_same c.in_ok-value.value.now _ (c.in_ok-value.ensures.found n.name _ n.occurs) in
         let scalar = scalar_there 512 n.value n.readable c.in_ok-first.first.now c.in_ok-first.field-0-1.now c.in_ok-value.value.now _ c.in_ok-first.ensures.cases.0 value c.in-None.ensures.0 c.in-None.ensures.1 in
         let others = some_same c.in_ok-rest-in-None.rest.now _ (c.in_ok-rest-in-None.ensures.found 512 n.value n.readable scalar _ value) in
         part_counted o c.args.object c.scalars.invariant.passed.0 (c.scalars.invariant.passed.0 + 1) c.scalars.rest.now more c.in_ok-rest-in-None.rest.now n refl others,

@@ -1,5 +1,5 @@
 use Rattle.std.proofs.Common.{ℕ, ◌≤◌, length}
-use Rattle.jsonb_stored.proofs.Standing.{CountsParts}
+use Rattle.jsonb_stored.proofs.Occurrence.{CountsParts}
 use Rattle.jsonb_stored.proofs.skip.after_parts.Given as goal
 
 abbrev pub invariant-scalars : goal.invariant-scalars

@@ -16,7 +16,7 @@ bytes-preserved c =
 
 pub returns : goal.returns
 returns c = record {
-  put = λ text more e room.
+  put = λ text more e space.
       let i = c.bytes.invariant in
       let done = text_ended c.args.key.now i.read c.bytes.rest.now i.reads c.in_default.ensures.byte text more e in
       i.put ∙ ap (λ n. i.read ++ drop n c.args.out.now) (sym i.long) ∙ ap (λ t. t ++ drop (length t) c.args.out.now) (sym done.0);

@@ -1,6 +1,6 @@
 use Rattle.std.proofs.Common.{[], ◌∷◌, ◌++◌, ◌==◌, Some, length, ap, arith, sym, ◌∙◌}
 use Rattle.jsonb_key.proofs.Texts.{byte_read, none_some, some_same}
-use Rattle.jsonb_stored.proofs.Standing.{true_false}
+use Rattle.jsonb_stored.proofs.Occurrence.{true_false}
 use Rattle.jsonb_stored.proofs.Strings.{one_longer, text_read}
 use Rattle.jsonb_stored.proofs.text.text_size.Goals as goal
 

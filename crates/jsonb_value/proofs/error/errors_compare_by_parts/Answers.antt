@@ -15,27 +15,27 @@ use Rattle.jsonb_value.proofs.error.errors_compare_by_parts.Goals as goal
 pair_equal : (t u : Code) (e : Bool) (p q : ℕ) → (IsTrue e ↔ t ≡ u) → IsTrue (e && (p == q)) ↔ (syntax t p ≡ syntax u q)
 pair_equal t u e p q h = search rules
 
-faults_equal : (code : ParseErrorCode) (place : ℕ) (r : Error) → IsTrue (derived.ghosts.eq (variants.Syntax code place) r) ↔ (error_view (variants.Syntax code place) ≡ error_view r)
-faults_equal code place variants.InvalidUtf8 = search rules
-faults_equal code place variants.InvalidEOF = search rules
-faults_equal code place variants.InvalidToken = search rules
-faults_equal code place variants.InvalidCast = search rules
-faults_equal code place variants.InvalidJson = search rules
-faults_equal code place variants.InvalidJsonb = search rules
-faults_equal code place variants.InvalidJsonbHeader = search rules
-faults_equal code place variants.InvalidJsonbJEntry = search rules
-faults_equal code place variants.InvalidJsonbNumber = search rules
-faults_equal code place variants.InvalidJsonbExtension = search rules
-faults_equal code place variants.InvalidJsonPath = search rules
-faults_equal code place variants.InvalidJsonPathPredicate = search rules
-faults_equal code place variants.InvalidKeyPath = search rules
-faults_equal code place variants.InvalidJsonType = search rules
-faults_equal code place variants.InvalidObject = search rules
-faults_equal code place variants.ObjectDuplicateKey = search rules
-faults_equal code place variants.UnexpectedType = search rules
-faults_equal code place (variants.Message m) = search rules
-faults_equal code place (variants.Syntax other q) = pair_equal (code_of code) (code_of other) (derived_code.ghosts.eq code other) place q (codes_equal code other)
-faults_equal code place variants.OutOfMemory = search rules
+faults_equal : (code : ParseErrorCode) (offset : ℕ) (r : Error) → IsTrue (derived.ghosts.eq (variants.Syntax code offset) r) ↔ (error_view (variants.Syntax code offset) ≡ error_view r)
+faults_equal code offset variants.InvalidUtf8 = search rules
+faults_equal code offset variants.InvalidEOF = search rules
+faults_equal code offset variants.InvalidToken = search rules
+faults_equal code offset variants.InvalidCast = search rules
+faults_equal code offset variants.InvalidJson = search rules
+faults_equal code offset variants.InvalidJsonb = search rules
+faults_equal code offset variants.InvalidJsonbHeader = search rules
+faults_equal code offset variants.InvalidJsonbJEntry = search rules
+faults_equal code offset variants.InvalidJsonbNumber = search rules
+faults_equal code offset variants.InvalidJsonbExtension = search rules
+faults_equal code offset variants.InvalidJsonPath = search rules
+faults_equal code offset variants.InvalidJsonPathPredicate = search rules
+faults_equal code offset variants.InvalidKeyPath = search rules
+faults_equal code offset variants.InvalidJsonType = search rules
+faults_equal code offset variants.InvalidObject = search rules
+faults_equal code offset variants.ObjectDuplicateKey = search rules
+faults_equal code offset variants.UnexpectedType = search rules
+faults_equal code offset (variants.Message m) = search rules
+faults_equal code offset (variants.Syntax other q) = pair_equal (code_of code) (code_of other) (derived_code.ghosts.eq code other) offset q (codes_equal code other)
+faults_equal code offset variants.OutOfMemory = search rules
 
 errors_equal : (l r : Error) → IsTrue (derived.ghosts.eq l r) ↔ (error_view l ≡ error_view r)
 errors_equal variants.InvalidUtf8 r = search rules
@@ -56,7 +56,7 @@ errors_equal variants.InvalidObject r = search rules
 errors_equal variants.ObjectDuplicateKey r = search rules
 errors_equal variants.UnexpectedType r = search rules
 errors_equal (variants.Message m) r = search rules
-errors_equal (variants.Syntax code place) r = faults_equal code place r
+errors_equal (variants.Syntax code offset) r = faults_equal code offset r
 errors_equal variants.OutOfMemory r = search rules
 
 pub returns-clause-equal : goal.returns-clause-equal

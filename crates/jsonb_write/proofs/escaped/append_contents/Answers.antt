@@ -9,7 +9,7 @@ use Rattle.jsonb_scan.specs.Decoding.{AreContents}
 use Rattle.jsonb_scan.proofs.Strings.Decoding.{contents_left}
 use Rattle.jsonb_write.specs.Escaped.{WritesItems}
 use Rattle.jsonb_write.proofs.EscapedTexts.{writes_behind}
-use Rattle.jsonb_write.proofs.Rooms.{on_ok}
+use Rattle.jsonb_write.proofs.Sinks.{on_ok}
 use Rattle.jsonb_write.proofs.escaped.append_contents.Goals as goal
 
 pub append_rest-requires-clause-left : goal.append_rest-requires-clause-left
@@ -17,17 +17,17 @@ append_rest-requires-clause-left c =
     let contents = c.args.contents.now in
     let mode = mode_of contents.mode in
     let body : List ℕ = contents.body.now in
-    subst (λ (u : List ℕ). AreContents mode (drop contents.kept_len u)) (sym c.as_bytes-body.ensures.value)
-    (∥∥₁_elim contents.kept (Prim.hlevel props) (λ w. contents_left mode body (drop contents.kept_len body) w.text contents.checked w.decodes))
+    subst (λ (u : List ℕ). AreContents mode (drop contents.entry_len u)) (sym c.as_bytes-body.ensures.value)
+    (∥∥₁_elim contents.retained (Prim.hlevel props) (λ w. contents_left mode body (drop contents.entry_len body) w.text contents.checked w.decodes))
 
 pub returns-clause-ok : goal.returns-clause-ok
 returns-clause-ok c =
     let contents = c.args.contents.now in
     let mode = mode_of contents.mode in
-    let kept : ℕ = contents.kept_len in
+    let verbatim : ℕ = contents.entry_len in
     let old : List ℕ = c.args.out.now.items in
     let body : List ℕ = c.as_bytes-body.result.now in
-    on_ok c.append_rest.result c.append_rest.ensures.ok (λ all. ∥∥₁_elim contents.kept (Prim.hlevel props) (λ w.
-    let first : WritesItems mode body (drop kept body) [] (take kept body) = subst (λ (u : List ℕ). WritesItems mode u (drop kept u) [] (take kept u)) (sym c.as_bytes-body.ensures.value) w in
-    all old (subst (λ (u : List ℕ). WritesItems mode body (drop kept body) old u) (sym c.in_ok-append_first.ensures.bytes) (writes_behind mode body (drop kept body) old (take kept body) first))
+    on_ok c.append_rest.result c.append_rest.ensures.ok (λ all. ∥∥₁_elim contents.retained (Prim.hlevel props) (λ w.
+    let first : WritesItems mode body (drop verbatim body) [] (take verbatim body) = subst (λ (u : List ℕ). WritesItems mode u (drop verbatim u) [] (take verbatim u)) (sym c.as_bytes-body.ensures.value) w in
+    all old (subst (λ (u : List ℕ). WritesItems mode body (drop verbatim body) old u) (sym c.in_ok-append_first.ensures.bytes) (writes_behind mode body (drop verbatim body) old (take verbatim body) first))
     ∙ ap (λ (u : List ℕ). old ++ flat_map byte_text (decoded_text mode u)) c.as_bytes-body.ensures.value))

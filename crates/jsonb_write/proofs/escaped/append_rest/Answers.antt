@@ -14,19 +14,19 @@ parts-preserved c =
     let body : List ℕ = c.args.body.now in
     let rest : List ℕ = c.parts.rest.now in
     let others : List ℕ = c.in_ok-others.others.now in
-    let count : ℕ = c.kept_len-count.result in
+    let count : ℕ = c.entry_len-count.result in
     let first : List ℕ = c.parts.out.items in
     let second : List ℕ = c.append_next.new.out.items in
     let third : List ℕ = c.append_first.new.out.items in
     let next = c.in_ok-others.ensures.ok in
-    let kept = c.kept_len-count.ensures.kept mode in
+    let verbatim = c.entry_len-count.ensures.retained mode in
     let run : WritesItems mode others (drop count others) second third =
-    subst (λ (u : List ℕ). WritesItems mode others (drop count others) second u) (sym c.in_ok-append_first.ensures.bytes) (writes_behind mode others (drop count others) second (take count others) (c.kept_len-count.ensures.kept mode)) in record {
+    subst (λ (u : List ℕ). WritesItems mode others (drop count others) second u) (sym c.in_ok-append_first.ensures.bytes) (writes_behind mode others (drop count others) second (take count others) (c.entry_len-count.ensures.retained mode)) in record {
       writes = λ before w.
           let so_far = writes_then mode body rest others before first second (c.parts.invariant.writes before w) c.in_ok-others.ensures.ok in
           subst (λ (u : List ℕ). WritesItems mode body u before third) (sym (take_rest others count)) (writes_then mode body others (drop count others) before second third so_far run);
-      kept = extends_on c.parts.invariant.kept (extends_on c.in_ok-others.ensures.kept c.in_ok-append_first.ensures.kept);
-      left = subst (AreContents mode) (sym (take_rest others count)) (contents_left mode others (drop count others) kept.text (contents_left mode rest others next.text c.parts.invariant.left next.decodes) kept.decodes);
+      retained = extends_on c.parts.invariant.retained (extends_on c.in_ok-others.ensures.retained c.in_ok-append_first.ensures.retained);
+      left = subst (AreContents mode) (sym (take_rest others count)) (contents_left mode others (drop count others) verbatim.text (contents_left mode rest others next.text c.parts.invariant.left next.decodes) verbatim.decodes);
     }
 
 pub returns-clause-ok : goal.returns-clause-ok
@@ -42,6 +42,6 @@ append_next-requires c = c.parts.invariant.left
 pub parts-init : goal.parts-init
 parts-init c = record {
   writes = λ before w. subst (λ (u : List ℕ). WritesItems (mode_of c.args.mode) c.args.body.now u before c.args.out.now.items) (sym (take_rest c.args.body.now c.args.from)) w;
-  kept = record { more = []; extended = sym (append-nil c.args.out.now.items) };
+  retained = record { more = []; extended = sym (append-nil c.args.out.now.items) };
   left = subst (AreContents (mode_of c.args.mode)) (sym (take_rest c.args.body.now c.args.from)) c.requires.left;
 }

@@ -9,7 +9,7 @@ use Rattle.jsonb_write.proofs.escaped.append_rest.Given as goal
 abbrev pub invariant-parts : goal.invariant-parts
 invariant-parts l = record {
   writes : (before : List ℕ) → WritesItems (mode_of l.mode) l.body (drop l.from l.body) before l.fn.out.items → WritesItems (mode_of l.mode) l.body l.rest before l.out.items;
-  kept : Extends l.fn.out.items l.out.items;
+  retained : Extends l.fn.out.items l.out.items;
   left : AreContents (mode_of l.mode) l.rest;
 }
 

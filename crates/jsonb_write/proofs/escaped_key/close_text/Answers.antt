@@ -4,7 +4,7 @@ use Rattle.std.proofs.lemmas.List.{take_rest}
 use Rattle.memchr.specs.Find.{IsFirstByte, is_byte}
 use Rattle.jsonb_write.proofs.EscapedKeys.{ends_text}
 use Rattle.jsonb_write.proofs.Fronts.{extends_on}
-use Rattle.jsonb_write.proofs.Objects.Pieces.{front_kept}
+use Rattle.jsonb_write.proofs.Objects.Pieces.{front_verbatim}
 use Rattle.jsonb_write.proofs.escaped_key.close_text.Goals as goal
 
 pub returns-clause-bytes : goal.returns-clause-bytes
@@ -15,5 +15,5 @@ returns-clause-bytes c =
     let none : IsFirstByte (is_byte 0) (drop from old) None = subst (λ (u : List ℕ). IsFirstByte (is_byte 0) u None) rest c.in-None.ensures in
     subst (λ (u : List ℕ). OnOk c.append_end.result (c.append_end.new.out.items ≡ u)) (ends_text from old none) c.append_end.ensures.bytes
 
-pub returns-clause-kept : goal.returns-clause-kept
-returns-clause-kept c = extends_on (front_kept c.args.from c.args.out.now.items) c.append_end.ensures.kept
+pub returns-clause-retained : goal.returns-clause-retained
+returns-clause-retained c = extends_on (front_verbatim c.args.from c.args.out.now.items) c.append_end.ensures.retained

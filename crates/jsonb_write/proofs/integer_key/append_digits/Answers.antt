@@ -1,6 +1,6 @@
 use Rattle.std.proofs.Common.{◌++◌, ◌∷◌, [], ◌∙◌, ap}
 use Rattle.jsonb_write.proofs.IntegerKeys.{appended}
-use Rattle.jsonb_write.proofs.Rooms.{on_ok}
+use Rattle.jsonb_write.proofs.Sinks.{on_ok}
 use Rattle.jsonb_write.proofs.integer_key.append_digits.Goals as goal
 
 pub returns-clause-bytes : goal.returns-clause-bytes

@@ -8,8 +8,8 @@ use Rattle.jsonb_write.proofs.integer_key.append_long.Given as goal
 
 pub record Left (negative : Bool) (digits rest before : List ℕ) (out : Vec ℕ Global) : Type 0 where
   pub bytes : out.items ++ map (invert_if negative) (digit_bytes rest) ≡ before ++ map (invert_if negative) (digit_bytes digits)
-  pub kept : Extends before out.items
-  pub room : vec_len out + length rest ≤ vec_capacity out
+  pub retained : Extends before out.items
+  pub sink : vec_len out + length rest ≤ vec_capacity out
 
 abbrev pub invariant-pairs : goal.invariant-pairs
 invariant-pairs l = Left l.negative l.digits l.rest l.fn.out.items l.out

@@ -2,7 +2,7 @@ use Rattle.std.proofs.Common.{◌++◌, ◌∙◌, ap, map, take, arith}
 use Rattle.std.proofs.lemmas.List.{take-take}
 use Rattle.jsonb_spec.specs.SortKey.{invert_if}
 use Rattle.jsonb_write.specs.IntegerKey.{digit_bytes}
-use Rattle.jsonb_write.proofs.Rooms.{on_ok}
+use Rattle.jsonb_write.proofs.Sinks.{on_ok}
 use Rattle.jsonb_write.proofs.integer_key.append_pairs.Goals as goal
 
 pub returns-in-Some-clause-bytes : goal.returns-in-Some-clause-bytes

@@ -2,8 +2,8 @@ use Rattle.std.proofs.Common.{◌≡◌, ◌+◌, length, take, ap₂, ◌∙◌
 use Rattle.std.proofs.Math.Seq.{take-append-add}
 use Rattle.jsonb_write.proofs.short.append_part.Goals as goal
 
-pub returns-clause-kept : goal.returns-clause-kept
-returns-clause-kept c =
+pub returns-clause-retained : goal.returns-clause-retained
+returns-clause-retained c =
     let old = c.args.out.now.items in
     let count : c.len-len.result + c.args.count ≡ length old + c.args.count = omega arith in
     record {

@@ -1,5 +1,5 @@
 use Rattle.std.proofs.Common.{◌≡◌, ◌++◌, ◌∙◌, refl, ap, take, length, append-nil, arith}
-use Rattle.jsonb_write.proofs.Rooms.{on_ok}
+use Rattle.jsonb_write.proofs.Sinks.{on_ok}
 use Rattle.jsonb_write.specs.ShortString.{written_bytes}
 use Rattle.jsonb_write.proofs.ShortStrings.{row_taken}
 use Rattle.jsonb_write.proofs.short_string.append_row.Goals as goal
@@ -16,8 +16,8 @@ returns-in_default-clause-bytes c =
     let back : c.truncate.new.self.items ≡ old = taken.1 ∙ ap (λ xs. old ++ xs) (taken.2 refl) ∙ append-nil old in
     on_ok c.append_short-in_default.result c.append_short-in_default.ensures.bytes (λ w text short. w text short ∙ ap (λ xs. xs ++ written_bytes c.args.as_text text) back)
 
-pub returns-clause-kept : goal.returns-clause-kept
-returns-clause-kept c =
+pub returns-clause-retained : goal.returns-clause-retained
+returns-clause-retained c =
     let old = c.args.out.now.items in
     let ext = c.extend_from_slice.new.self in
     let start = c.len-start.result in

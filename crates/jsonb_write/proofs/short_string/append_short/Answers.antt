@@ -19,7 +19,7 @@ items-preserved-then-at-count c =
     record {
       within = omega (arith, c.in_ok-at.ensures.onward.1, c.if-at-count.true, length-take-le (count - (at + run)) (drop (at + run) bytes) (omega (arith, length-drop (at + run) bytes, c.requires)));
       writes = some_item c.args.as_text bytes _ count (at + run) c.in_ok-at.field-0 c.args.out.now.items c.append_first.new.out.items c.append_item.new.out.items (omega (arith, c.if-at-count.true)) front refl c.in_ok-at.ensures.item;
-      kept = extends_on c.items.invariant.kept (extends_on c.in_ok-append_first.ensures.kept c.in_ok-at.ensures.kept);
+      retained = extends_on c.items.invariant.retained (extends_on c.in_ok-append_first.ensures.retained c.in_ok-at.ensures.retained);
     }
 
 pub items-preserved : goal.items-preserved
@@ -35,7 +35,7 @@ items-preserved c =
       within = omega (arith, less.1, c.items.invariant.within);
       writes = some_run c.args.as_text bytes count at near run c.args.out.now.items c.items.out.items c.append_first.new.out.items c.items.invariant.within c.requires c.items.invariant.writes plain less.0 less.1
           (c.in_ok-append_first.ensures.bytes ∙ ap (λ xs. c.items.out.items ++ take run xs) (take_rest bytes at));
-      kept = extends_on c.items.invariant.kept c.in_ok-append_first.ensures.kept;
+      retained = extends_on c.items.invariant.retained c.in_ok-append_first.ensures.retained;
     }
 
 pub returns-clause-bytes : goal.returns-clause-bytes

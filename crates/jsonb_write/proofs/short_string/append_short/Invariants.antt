@@ -7,7 +7,7 @@ abbrev pub invariant-items : goal.invariant-items
 invariant-items l = record {
   within : l.at ≤ l.count;
   writes : WritesSome l.as_text l.bytes l.count l.fn.out.items l.out.items l.at;
-  kept : Extends l.fn.out.items l.out.items;
+  retained : Extends l.fn.out.items l.out.items;
 }
 
 abbrev pub decreases-items : goal.decreases-items

@@ -1,6 +1,6 @@
 use Rattle.std.proofs.Common.{◌++◌, take, sym, ap, ap₂, ◌∙◌}
 use Rattle.jsonb_write.specs.ShortString.{written_byte}
-use Rattle.jsonb_write.proofs.ShortStrings.{kept_text, puts_raw, writes_escape}
+use Rattle.jsonb_write.proofs.ShortStrings.{verbatim_text, puts_raw, writes_escape}
 use Rattle.jsonb_write.proofs.short_string.put_item.Goals as goal
 
 pub returns-then-bytes-ne92-clause-item : goal.returns-then-bytes-ne92-clause-item
@@ -23,4 +23,4 @@ returns-clause-item c = λ text short.
     let front = take c.args.at c.args.row.now in
     let is = sym c.short_byte.ensures ∙ c.in_ok-byte.was in
     writes_escape c.args.as_text c.args.bytes.now text front _ c.in_ok-byte.byte c.requires c.if-bytes-ne92.false is
-    (c.in_ok-end-4.ensures.put ∙ ap (λ xs. front ++ xs) (sym (ap (λ b. written_byte b c.in_ok-byte.byte) c.if-not-as_text.false ∙ kept_text _ c.in_ok-byte.byte c.if-not-is_kept_letter.ensures is))) short
+    (c.in_ok-end-4.ensures.put ∙ ap (λ xs. front ++ xs) (sym (ap (λ b. written_byte b c.in_ok-byte.byte) c.if-not-as_text.false ∙ verbatim_text _ c.in_ok-byte.byte c.if-not-is_verbatim_letter.ensures is))) short

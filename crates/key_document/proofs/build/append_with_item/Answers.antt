@@ -21,4 +21,4 @@ returns-clause-answers c = λ t r e u ru eu.
     let front : c.saturating_sub.result ≡ length (key_of t) - 1 = omega (arith, c.saturating_sub.ensures, ap length is_key) in
     let part_len : length c.split_document-2.result.0.now ≡ length (counts_at u) = ap length is_item ∙ sym (one_each u ru.proper) in
     let a = are_spliced x c.split_document.result.1.now c.split_document-2.result.1.now (length key) _ r.proper (c.split_document.ensures.zeros t r e) (c.split_document-2.ensures.zeros u ru eu) (ap length is_key) front changes.1 part_len refl (omega arith) fit in
-    finished (with_item u t) put.tree c.splice_tail.result c.args.out.now mid c.splice_tail.new.out _ put.is put.holds.1 done c.in_ok-append_with_item.ensures.keeps.capacity (as_tail x 0 changes.1) (c.splice_tail.ensures.spliced x.first x.entry (counts_at u) x.last a) c.splice_tail.ensures.answer
+    finished (with_item u t) put.tree c.splice_tail.result c.args.out.now mid c.splice_tail.new.out _ put.is put.holds.1 done c.in_ok-append_with_item.ensures.preserves.capacity (as_tail x 0 changes.1) (c.splice_tail.ensures.spliced x.first x.entry (counts_at u) x.last a) c.splice_tail.ensures.answer

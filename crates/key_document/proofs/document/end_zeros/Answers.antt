@@ -18,4 +18,4 @@ returns-clause-ended c = λ small.
     let long : vec_len mid ≡ vec_len old + length (reverse sevens) = omega (arith, mid.ok.0, old.ok.0, ap length appended, length-append old.items sevens, length-reverse sevens) in
     ends_with c.extend_from_slice.result old c.extend_from_slice.new.self _ (reverse sevens) (end_of c.args.size) (vec_capacity mid) (vec_len mid)
     (turned_end (vec_len mid) c.len-start.result c.deref_mut.result.now c.reverse.new.self _ _ old.items sevens all start size c.reverse.ensures.after)
-    (end_some c.args.size c.if-size-eq0.false) long c.in_ok-append_sevens.ensures.keeps.capacity c.extend_from_slice.ensures.capacity c.extend_from_slice.ensures.items c.extend_from_slice.ensures.full
+    (end_some c.args.size c.if-size-eq0.false) long c.in_ok-append_sevens.ensures.preserves.capacity c.extend_from_slice.ensures.capacity c.extend_from_slice.ensures.items c.extend_from_slice.ensures.full

@@ -34,5 +34,5 @@ returns-in-Err-clause-merges c = λ t r e u ru eu.
     let done = c.in_ok-append_merged.ensures.merges t u r is_key ru is_other in
     let small : length (counts_at v) < 2 ^ 63 = omega (arith, one_each v (merged_proper t u r.proper ru.proper), ap length done.ok, length-append c.args.out.now.items (key_of v), mid.ok.0, mid.ok.1, mid.small) in
     let tail = c.in-Err.ensures.merged t u r ru is_key (c.split_document.ensures.zeros t r e) is_other (c.split_document-2.ensures.zeros u ru eu) small in
-    let short : vec_capacity c.args.out.now < vec_len c.args.out.now + length (document_of v) = omega (arith, tail.1, c.in_ok-append_merged.ensures.keeps.capacity, c.args.out.now.ok.0, mid.ok.0, ap length done.ok, length-append c.args.out.now.items (key_of v), length-append (key_of v) (behind_key (zeros_at v))) in
+    let short : vec_capacity c.args.out.now < vec_len c.args.out.now + length (document_of v) = omega (arith, tail.1, c.in_ok-append_merged.ensures.preserves.capacity, c.args.out.now.ok.0, mid.ok.0, ap length done.ok, length-append c.args.out.now.items (key_of v), length-append (key_of v) (behind_key (zeros_at v))) in
     record { ok = tt; fits = tt; errors = subst (λ error. IsLacking v c.args.out.now error) (sym tail.0) short }

@@ -1,7 +1,7 @@
 use Rattle.std.proofs.Common.{◌≡◌, ◌+◌, ◌<◌, ◌++◌, length, take, refl, sym, ap, subst, ◌∙◌, arith, length-append}
 use Rattle.std.specs.Prelude.{vec_len, vec_capacity}
 use Rattle.std.proofs.Math.Seq.{take-append_seam}
-use Rattle.stored_text.proofs.Appending.{both, no_room_second}
+use Rattle.stored_text.proofs.Appending.{both, no_capacity_second}
 use Rattle.stored_edit.specs.Edit.{as_items}
 use Rattle.stored_zeros.specs.Zeros.{plain_at_end, zeros_of}
 use Rattle.key_document.specs.Document.{zeros_at}
@@ -35,7 +35,7 @@ returns-in_err-copy-clause-joined c = λ t u r i e z f w fit.
     let y = c.in_err-copy.ensures.found (ys ++ b.behind) b.pends (omega (arith, b.size_is, length-append ys b.behind)) b.short (omega (arith, b.size_is, plain, plain_bound 1 xs, joined_long t u, fit)) in
     let full = subst (λ l. vec_capacity c.copy.new.out < vec_len c.copy.new.out + length (zeros_of c.in_ok-plain.plain l)) others y.1 in
     lacks_zeros c.from_residual-in_err-copy.result c.in_err-copy.field-0.0 c.args.out.now c.copy-2.new.out (zeros_of 1 xs ++ zeros_of c.in_ok-plain.plain ys) (zeros_at (joined_array t u)) c.from_residual-in_err-copy.ensures.1 y.0
-    (no_room_second c.args.out.now c.copy.new.out (zeros_of 1 xs) (zeros_of c.in_ok-plain.plain ys) first c.in_ok-plain.ensures.keeps.capacity full) (omega (arith, ap length (joined_zeros t u c.in_ok-plain.plain plain)))
+    (no_capacity_second c.args.out.now c.copy.new.out (zeros_of 1 xs) (zeros_of c.in_ok-plain.plain ys) first c.in_ok-plain.ensures.preserves.capacity full) (omega (arith, ap length (joined_zeros t u c.in_ok-plain.plain plain)))
 
 pub returns-clause-joined : goal.returns-clause-joined
 returns-clause-joined c = λ t u r i e z f w fit.

@@ -1,5 +1,5 @@
 use Rattle.std.proofs.Common.{◌<◌, ◌^◌, ◌∷◌, length, ap, arith}
-use Rattle.stored_text.proofs.Appending.{kept, keeps_on}
+use Rattle.stored_text.proofs.Appending.{retained, preserves_on}
 use Rattle.stored_edit.specs.Edit.{merged_members}
 use Rattle.stored_zeros.specs.Zeros.{zeros_of}
 use Rattle.key_document.specs.Document.{counts_at_members}
@@ -34,7 +34,7 @@ members-init c = record {
       join_begun ms ns c.args.out.now.items c.args.left.now c.args.right.now c.in_ok-ours.ours c.in_ok-theirs.theirs h i e f (omega (arith, small)) (omega (arith, other_small))
       (c.in_ok-ours.ensures.found (0 ∷ counts_at_members ms) small (c.in_ok-all.ensures.found (0 ∷ counts_at_members ms) small z) (omega arith))
       (c.in_ok-theirs.ensures.found (0 ∷ counts_at_members ns) other_small (c.in_ok-other_all.ensures.found (0 ∷ counts_at_members ns) other_small w) (omega arith));
-  keeps = kept c.args.out.now;
+  preserves = retained c.args.out.now;
 }
 
 pub returns-in_default-clause-joined : goal.returns-in_default-clause-joined
@@ -49,7 +49,7 @@ returns-in_err-merging-clause-joined c = λ ms ns h i e f z w a b fit.
     let n = next ms ns c.args.out.now.items c.members.out.items c.members.merging.plain c.members.merging.ours c.members.merging.theirs c.members.members.now c.members.others.now c.in-Ok.step c.saturating_sub-passed.result l s c.saturating_sub-passed.ensures fit in
     let x = c.in_err-merging.ensures.copied (counts_at_members l.members) (counts_at_members l.others) l.ours_pend l.theirs_pend n.enough n.xs_short n.ys_short n.fit in
     lacks_zeros c.from_residual-in_err-merging.result c.in_err-merging.field-0.0 c.args.out.now c.copy_step.new.out (zeros_of 1 (counts_at_members (merged_members ms ns))) (zeros_of 1 (counts_at_members (merged_members ms ns))) c.from_residual-in_err-merging.ensures.1 x.0
-    (omega (arith, x.1, n.room, c.members.invariant.keeps.capacity, c.args.out.now.ok.0, c.members.out.ok.0)) (omega arith)
+    (omega (arith, x.1, n.depth_left, c.members.invariant.preserves.capacity, c.args.out.now.ok.0, c.members.out.ok.0)) (omega arith)
 
 pub returns-then-step-clause-joined : goal.returns-then-step-clause-joined
 returns-then-step-clause-joined c = λ ms ns h i e f z w a b fit.
@@ -67,5 +67,5 @@ members-preserved c = record {
       let n = next ms ns c.args.out.now.items c.members.out.items c.members.merging.plain c.members.merging.ours c.members.merging.theirs c.members.members.now c.members.others.now c.in-Ok.step c.saturating_sub-passed.result l s c.saturating_sub-passed.ensures fit in
       let x = c.in_ok-merging.ensures.copied (counts_at_members l.members) (counts_at_members l.others) l.ours_pend l.theirs_pend n.enough n.xs_short n.ys_short n.fit in
       goes_on ms ns c.args.out.now.items c.members.out.items c.members.merging.plain c.members.merging.ours c.members.merging.theirs c.members.members.now c.members.others.now c.in-Ok.step c.saturating_sub-passed.result l s c.saturating_sub-passed.ensures c.if-step.false c.copy_step.new.out.items c.in_ok-merging.merging.plain c.in_ok-merging.merging.ours c.in_ok-merging.merging.theirs x.0 x.1 x.2 x.3;
-  keeps = keeps_on c.args.out.now c.members.out c.copy_step.new.out c.members.invariant.keeps c.in_ok-merging.ensures.keeps;
+  preserves = preserves_on c.args.out.now c.members.out c.copy_step.new.out c.members.invariant.preserves c.in_ok-merging.ensures.preserves;
 }

@@ -1,7 +1,7 @@
 use Rattle.std.proofs.Common.{◌≡◌, ◌+◌, ◌<◌, ◌^◌, ◌++◌, length, refl, subst, sym, ap, ◌∙◌, append-nil, arith, eqb-true, length-append}
 use Rattle.std.specs.Prelude.{vec_len, vec_capacity}
 use Rattle.stored_edit.specs.Edit.{merge}
-use Rattle.stored_text.proofs.Appending.{no_room_second}
+use Rattle.stored_text.proofs.Appending.{no_capacity_second}
 use Rattle.key_document.specs.Document.{behind_key, end_of, zeros_at}
 use Rattle.key_document.specs.declared.error.DocumentError.TheVariants.{OutOfMemory}
 use Rattle.key_document.proofs.Joining.{lacks_zeros}
@@ -23,4 +23,4 @@ returns-in_err-end_zeros-clause-merged c = λ t u r i e z f w fit.
     let small : c.saturating_sub-size.result < 2 ^ 63 = omega (arith, size, mid.ok.0, mid.ok.1, mid.small, ap length joined, long) in
     let full = subst (λ n. vec_capacity mid < vec_len mid + length (end_of n)) size (c.in_err-end_zeros.ensures.ended small).full in
     lacks_zeros c.from_residual-in_err-end_zeros.result OutOfMemory c.args.out.now c.end_zeros.new.out (zeros ++ end_of (length zeros)) (behind_key zeros) c.from_residual-in_err-end_zeros.ensures.1 refl
-    (no_room_second c.args.out.now mid zeros (end_of (length zeros)) joined c.in_ok-merge_zeros.ensures.keeps.capacity full) (omega arith)
+    (no_capacity_second c.args.out.now mid zeros (end_of (length zeros)) joined c.in_ok-merge_zeros.ensures.preserves.capacity full) (omega arith)

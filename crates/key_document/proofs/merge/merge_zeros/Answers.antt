@@ -11,7 +11,7 @@ returns-in-Some-clause-merged c = λ t u r i e z f w fit.
     let b = members_there u i c.args.other.now c.in-Some.others.now f c.in-Some.ensures.1 in
     let same = merged_objects t u a.ms b.ms a.is b.is in
     subst (λ v. AppendsZeros c.join_members.result c.args.out.now c.join_members.new.out (zeros_at v)) same
-    (c.join_members.ensures.joined a.ms b.ms a.readable b.readable a.stands b.stands (z ∙ ap zeros_at a.is) (w ∙ ap zeros_at b.is) (omega (arith, ap length c.in-Some.ensures.0)) (omega (arith, ap length c.in-Some.ensures.1)) (omega (arith, fit, ap (λ v. length (counts_at v)) same)))
+    (c.join_members.ensures.joined a.ms b.ms a.readable b.readable a.occurs b.occurs (z ∙ ap zeros_at a.is) (w ∙ ap zeros_at b.is) (omega (arith, ap length c.in-Some.ensures.0)) (omega (arith, ap length c.in-Some.ensures.1)) (omega (arith, fit, ap (λ v. length (counts_at v)) same)))
 
 pub returns-in-None-clause-merged : goal.returns-in-None-clause-merged
 returns-in-None-clause-merged c = λ t u r i e z f w fit.

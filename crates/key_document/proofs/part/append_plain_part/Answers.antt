@@ -22,14 +22,14 @@ pub returns-in_default-after_key-clause-answers : goal.returns-in_default-after_
 returns-in_default-after_key-clause-answers c = λ t r e none.
     let o = part_at (map string_bytes c.args.names.now) t in
     let p = part_found c.args.key.now o c.in-Some.rest (subst (λ a. Finds c.args.key.now o (Ok a)) c.in-Some.is (c.in_ok-rest.ensures.finds.found t r [] (e ∙ sym (append-nil (key_of t))))) in
-    absurd (no_rest _ (c.in_default-after_key.ensures.found p.part p.readable p.behind p.stands))
+    absurd (no_rest _ (c.in_default-after_key.ensures.found p.part p.readable p.behind p.occurs))
 
 pub returns-in_err-extend_from_slice-clause-answers : goal.returns-in_err-extend_from_slice-clause-answers
 returns-in_err-extend_from_slice-clause-answers c = λ t r e none.
     let o = part_at (map string_bytes c.args.names.now) t in
     let p = part_found c.args.key.now o c.in-Some.rest (subst (λ a. Finds c.args.key.now o (Ok a)) c.in-Some.is (c.in_ok-rest.ensures.finds.found t r [] (e ∙ sym (append-nil (key_of t))))) in
-    let rest : c.in-Some-after_key.behind.now ≡ p.behind = some_same c.in-Some-after_key.behind.now p.behind (c.in-Some-after_key.ensures.found p.part p.readable p.behind p.stands) in
-    let is : c.front.result.now ≡ key_of p.part = c.front.ensures (key_of p.part) (p.stands ∙ ap (λ b. key_of p.part ++ b) (sym rest)) in
+    let rest : c.in-Some-after_key.behind.now ≡ p.behind = some_same c.in-Some-after_key.behind.now p.behind (c.in-Some-after_key.ensures.found p.part p.readable p.behind p.occurs) in
+    let is : c.front.result.now ≡ key_of p.part = c.front.ensures (key_of p.part) (p.occurs ∙ ap (λ b. key_of p.part ++ b) (sym rest)) in
     answer_lacking o p.part c.from_residual-in_err-extend_from_slice.result c.args.out.now c.extend_from_slice.new.self p.is c.from_residual-in_err-extend_from_slice.ensures.1 (omega (arith, c.in_err-extend_from_slice.ensures.full, ap length is))
 
 pub returns-clause-answers : goal.returns-clause-answers
@@ -37,8 +37,8 @@ returns-clause-answers c = λ t r e none.
     let names = map string_bytes c.args.names.now in
     let o = part_at names t in
     let p = part_found c.args.key.now o c.in-Some.rest (subst (λ a. Finds c.args.key.now o (Ok a)) c.in-Some.is (c.in_ok-rest.ensures.finds.found t r [] (e ∙ sym (append-nil (key_of t))))) in
-    let rest : c.in-Some-after_key.behind.now ≡ p.behind = some_same c.in-Some-after_key.behind.now p.behind (c.in-Some-after_key.ensures.found p.part p.readable p.behind p.stands) in
-    let is : c.front.result.now ≡ key_of p.part = c.front.ensures (key_of p.part) (p.stands ∙ ap (λ b. key_of p.part ++ b) (sym rest)) in
+    let rest : c.in-Some-after_key.behind.now ≡ p.behind = some_same c.in-Some-after_key.behind.now p.behind (c.in-Some-after_key.ensures.found p.part p.readable p.behind p.occurs) in
+    let is : c.front.result.now ≡ key_of p.part = c.front.ensures (key_of p.part) (p.occurs ∙ ap (λ b. key_of p.part ++ b) (sym rest)) in
     let zeros = none_within t names p.part r p.is none in
     subst (λ o. Answers o (Ok true) c.args.out.now c.extend_from_slice.new.self) (sym p.is) (
       record {

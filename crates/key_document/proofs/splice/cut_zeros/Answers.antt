@@ -1,7 +1,7 @@
 use Rattle.std.proofs.Common.{◌≡◌, ◌+◌, ◌<◌, ◌^◌, ◌++◌, drop, length, take, refl, sym, ap, subst, ◌∙◌, arith, length-append}
 use Rattle.std.specs.Prelude.{vec_len, vec_capacity}
 use Rattle.std.proofs.Math.Seq.{take-append_seam, drop-append_seam}
-use Rattle.stored_text.proofs.Appending.{both, no_room_second}
+use Rattle.stored_text.proofs.Appending.{both, no_capacity_second}
 use Rattle.stored_zeros.specs.Numbers.{Pends}
 use Rattle.stored_zeros.specs.Zeros.{zeros_of}
 use Rattle.key_document.specs.Document.{behind_key, end_of}
@@ -38,7 +38,7 @@ returns-in_err-end_zeros-clause-cut c = λ before part behind z o s fit.
     let small : c.saturating_sub-zeros_len.result < 2 ^ 63 = omega (arith, size, mid.ok.0, mid.ok.1, mid.small, ap length joined, sum) in
     let full = subst (λ n. vec_capacity mid < vec_len mid + length (end_of n)) size (c.in_err-end_zeros.ensures.ended small).full in
     lacks_zeros c.from_residual-in_err-end_zeros.result OutOfMemory c.args.out.now c.end_zeros.new.out (zeros ++ end_of (length zeros)) (behind_key zeros) c.from_residual-in_err-end_zeros.ensures.1 refl
-    (no_room_second c.args.out.now mid zeros (end_of (length zeros)) joined c.in_ok-copy.ensures.keeps.capacity full) (omega arith)
+    (no_capacity_second c.args.out.now mid zeros (end_of (length zeros)) joined c.in_ok-copy.ensures.preserves.capacity full) (omega arith)
 
 pub returns-clause-cut : goal.returns-clause-cut
 returns-clause-cut c = λ before part behind z o s fit.

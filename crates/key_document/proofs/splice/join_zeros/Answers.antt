@@ -1,6 +1,6 @@
 use Rattle.std.proofs.Common.{◌≡◌, ◌+◌, ◌<◌, ◌++◌, length, take, sym, ap, subst, ◌∙◌, arith, append_assoc, length-append}
 use Rattle.std.specs.Prelude.{vec_len, vec_capacity}
-use Rattle.stored_text.proofs.Appending.{both, no_room_second}
+use Rattle.stored_text.proofs.Appending.{both, no_capacity_second}
 use Rattle.stored_zeros.specs.Numbers.{Pends}
 use Rattle.stored_zeros.specs.Zeros.{plain_at_end, zeros_of}
 use Rattle.key_document.proofs.Joining.{counts_long, entry_passed, front_passed, front_taken, front_within, lacks_zeros, part_within, plain_bound, take_all, three_parts}
@@ -44,7 +44,7 @@ returns-in_err-more-clause-joined c = λ front entry part behind x.
     let z = c.in_err-more.ensures.found part part_pends (omega (arith, x.part_is)) (omega (arith, x.fit)) (omega (arith, named, plain_bound 0 front, x.fit, x.part_is)) in
     let full = subst (λ l. vec_capacity c.copy.new.out < vec_len c.copy.new.out + length (zeros_of c.in_ok-named.named l)) (take_all c.args.lengths.now.part part x.part_is) z.1 in
     lacks_zeros c.from_residual-in_err-more.result c.in_err-more.field-0.0 c.args.out.now c.copy-2.new.out (zeros_of 0 front ++ zeros_of c.in_ok-named.named part) _ c.from_residual-in_err-more.ensures.1 z.0
-    (no_room_second c.args.out.now c.copy.new.out (zeros_of 0 front) (zeros_of c.in_ok-named.named part) first c.in_ok-plain.ensures.keeps.capacity full)
+    (no_capacity_second c.args.out.now c.copy.new.out (zeros_of 0 front) (zeros_of c.in_ok-named.named part) first c.in_ok-plain.ensures.preserves.capacity full)
     (part_within front c.args.lengths.now.name part behind c.in_ok-named.named named)
 
 pub returns-in_err-copy-clause-joined : goal.returns-in_err-copy-clause-joined
@@ -69,9 +69,9 @@ returns-in_err-copy-clause-joined c = λ front entry part behind x.
     let full = subst (λ l. vec_capacity c.copy-2.new.out < vec_len c.copy-2.new.out + length (zeros_of c.in_ok-more.more l)) (take_all c.args.lengths.now.behind behind x.behind_is) w.1 in
     let whole = three_parts front c.args.lengths.now.name part behind c.in_ok-named.named c.in_ok-more.more named more in
     lacks_zeros c.from_residual-in_err-copy.result c.in_err-copy.field-0.0 c.args.out.now c.copy-3.new.out ((zeros_of 0 front ++ zeros_of c.in_ok-named.named part) ++ zeros_of c.in_ok-more.more behind) _ c.from_residual-in_err-copy.ensures.1 w.0
-    (no_room_second c.args.out.now c.copy-2.new.out (zeros_of 0 front ++ zeros_of c.in_ok-named.named part) (zeros_of c.in_ok-more.more behind)
+    (no_capacity_second c.args.out.now c.copy-2.new.out (zeros_of 0 front ++ zeros_of c.in_ok-named.named part) (zeros_of c.in_ok-more.more behind)
     (both c.args.out.now.items c.copy.new.out.items c.copy-2.new.out.items (zeros_of 0 front) (zeros_of c.in_ok-named.named part) first second)
-    (omega (arith, c.in_ok-plain.ensures.keeps.capacity, c.in_ok-more.ensures.keeps.capacity)) full)
+    (omega (arith, c.in_ok-plain.ensures.preserves.capacity, c.in_ok-more.ensures.preserves.capacity)) full)
     (omega (arith, ap length whole, ap length (append_assoc (zeros_of 0 front) (zeros_of c.in_ok-named.named part) (zeros_of c.in_ok-more.more behind))))
 
 pub returns-clause-joined : goal.returns-clause-joined

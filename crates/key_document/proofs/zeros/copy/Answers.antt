@@ -1,12 +1,12 @@
 use Rattle.std.proofs.Common.{◌≡◌, ◌+◌, ◌-◌, ◌<◌, ◌^◌, take, drop, sym, subst, arith}
-use Rattle.stored_text.proofs.Appending.{keeps_on, kept}
+use Rattle.stored_text.proofs.Appending.{preserves_on, retained}
 use Rattle.stored_zeros.specs.Numbers.{Pends}
-use Rattle.stored_zeros.proofs.Taking.{entry_copied, entry_room, counts_long, plain_copied, taken_none, taken_plain}
-use Rattle.key_document.proofs.Passing.{copies_on, still_same, none_left, one_left, no_room_on}
+use Rattle.stored_zeros.proofs.Taking.{entry_copied, entry_sink, counts_long, plain_copied, taken_none, taken_plain}
+use Rattle.key_document.proofs.Passing.{copies_on, still_same, none_left, one_left, no_capacity_on}
 use Rattle.key_document.proofs.zeros.copy.Goals as goal
 
 pub entries-init : goal.entries-init
-entries-init c = record { copying = λ counts p enough short fit. copies_on counts c.args.plain c.args.bytes c.args.out.now.items c.args.left p enough short fit; keeps = kept c.args.out.now }
+entries-init c = record { copying = λ counts p enough short fit. copies_on counts c.args.plain c.args.bytes c.args.out.now.items c.args.left p enough short fit; preserves = retained c.args.out.now }
 
 pub entries-preserved : goal.entries-preserved
 entries-preserved c = record {
@@ -25,7 +25,7 @@ entries-preserved c = record {
         same = still_same counts x.others q.later c.args.bytes c.entries.todo c.in-Some.before c.in-Some.count x.same q.is c.if-before-todo.false;
         fewer = omega (arith, x.fewer, long);
       };
-  keeps = keeps_on c.args.out.now c.entries.out c.append_entry.new.buf c.entries.invariant.keeps c.in_ok-plain.ensures.keeps;
+  preserves = preserves_on c.args.out.now c.entries.out c.append_entry.new.buf c.entries.invariant.preserves c.in_ok-plain.ensures.preserves;
 }
 
 pub returns-in_default-clause-found : goal.returns-in_default-clause-found
@@ -52,6 +52,6 @@ returns-in_err-plain-clause-found c = λ counts p enough short fit.
     let small : c.entries.plain + c.in-Some.before < 2 ^ 63 = omega (arith, x.copy.fit, c.if-before-todo.false) in
     let gap : c.in-Ok-more_plain-2.gap ≡ c.entries.plain + c.in-Some.before = c.in-Ok-more_plain-2.ensures small in
     let gap_small : c.in-Ok-more_plain-2.gap < 2 ^ 63 = omega (arith, small, gap) in
-    let room = entry_room c.args.plain (take c.args.bytes counts) c.args.out.now.items c.entries.out.items x.others c.entries.todo c.entries.plain c.in-Some.before c.in-Some.count c.in-Some.others.now x.copy q c.if-before-todo.false c.in-Ok-more_plain-2.gap (omega (arith, gap)) in
-    no_room_on c.args.plain (take c.args.bytes counts) (drop c.args.bytes counts) c.from_residual.result c.args.out.now c.append_entry.new.buf c.from_residual.ensures.1
-    (omega (arith, room, c.entries.invariant.keeps.capacity, (c.in_err-plain.ensures.appends gap_small).full))
+    let depth_left = entry_sink c.args.plain (take c.args.bytes counts) c.args.out.now.items c.entries.out.items x.others c.entries.todo c.entries.plain c.in-Some.before c.in-Some.count c.in-Some.others.now x.copy q c.if-before-todo.false c.in-Ok-more_plain-2.gap (omega (arith, gap)) in
+    no_capacity_on c.args.plain (take c.args.bytes counts) (drop c.args.bytes counts) c.from_residual.result c.args.out.now c.append_entry.new.buf c.from_residual.ensures.1
+    (omega (arith, depth_left, c.entries.invariant.preserves.capacity, (c.in_err-plain.ensures.appends gap_small).full))

@@ -35,5 +35,5 @@ entries-preserved c = record {
       let x = c.entries.invariant.passing counts small p enough in
       let q = subst (Pends x.skip.others) c.in-Some.is x.pends in
       let s = entry_skipped counts c.args.bytes c.entries.todo x.rest x.skip c.in-Some.before c.in-Some.count c.in-Some.others.now q c.if-before-todo.false in
-      record { rest = c.in-Some.others.now; skip = s; pends = c.in-Ok.ensures.found s.others (omega (arith, small, s.fewer)) s.stands };
+      record { rest = c.in-Some.others.now; skip = s; pends = c.in-Ok.ensures.found s.others (omega (arith, small, s.fewer)) s.occurs };
 }

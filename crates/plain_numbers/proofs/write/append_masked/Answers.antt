@@ -17,6 +17,6 @@ pub returns-in_default-clause-items : goal.returns-in_default-clause-items
 returns-in_default-clause-items c =
     let p = c.in_default.ensures.none in
     let now = c.numbers.invariant.written in
-    let room : vec_len c.numbers.buf + length c.numbers.rest.now ≤ vec_capacity c.numbers.buf = omega (arith, c.requires.room, c.numbers.invariant.capacity, ap length now.items, length-append c.args.buf.now.items now.written, now.sum, c.numbers.buf.ok.0, c.args.buf.now.ok.0) in
-    let w = gap_masked c.args.text.now c.numbers.rest.now [] c.args.buf.now.items c.numbers.buf.items c.extend_from_slice.new.self.items c.numbers.rest.now c.numbers.invariant.written p (rest_is c.numbers.rest.now p) (when_ok _ _ _ _ c.extend_from_slice.ensures.items (c.extend_from_slice.ensures.succeeds room)) in
+    let space : vec_len c.numbers.buf + length c.numbers.rest.now ≤ vec_capacity c.numbers.buf = omega (arith, c.requires.space, c.numbers.invariant.capacity, ap length now.items, length-append c.args.buf.now.items now.written, now.sum, c.numbers.buf.ok.0, c.args.buf.now.ok.0) in
+    let w = gap_masked c.args.text.now c.numbers.rest.now [] c.args.buf.now.items c.numbers.buf.items c.extend_from_slice.new.self.items c.numbers.rest.now c.numbers.invariant.written p (rest_is c.numbers.rest.now p) (when_ok _ _ _ _ c.extend_from_slice.ensures.items (c.extend_from_slice.ensures.succeeds space)) in
     all_masked c.args.text.now c.args.buf.now.items c.extend_from_slice.new.self.items w

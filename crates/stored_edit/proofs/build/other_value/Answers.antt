@@ -1,5 +1,5 @@
 use Rattle.std.proofs.Common.{[], append-nil, sym, ◌∙◌}
-use Rattle.jsonb_stored.proofs.Standing.{has_kind}
+use Rattle.jsonb_stored.proofs.Occurrence.{has_kind}
 use Rattle.jsonb_spec.specs.SortKey.{key_of}
 use Rattle.stored_edit.proofs.build.other_value.Goals as goal
 

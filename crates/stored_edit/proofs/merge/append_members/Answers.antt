@@ -35,9 +35,9 @@ members-preserved c =
           let l = c.members.invariant.walks ms ns h i e f in
           let step = c.in-Ok.ensures.step l.members l.others l.readable l.others_readable l.left_is l.right_is in
           merge_goes_on ms ns c.args.out.now.items c.members.out.items c.members.members.now c.members.others.now c.append-in-members.new.out.items c.in-Ok.step l c.if-step.false step done;
-      kept = record {
-        more = c.members.invariant.kept.more ++ c.in-Ok.step.part.now;
-        extended = done ∙ ap (λ o. o ++ c.in-Ok.step.part.now) c.members.invariant.kept.extended ∙ append_assoc c.args.out.now.items c.members.invariant.kept.more c.in-Ok.step.part.now;
+      retained = record {
+        more = c.members.invariant.retained.more ++ c.in-Ok.step.part.now;
+        extended = done ∙ ap (λ o. o ++ c.in-Ok.step.part.now) c.members.invariant.retained.extended ∙ append_assoc c.args.out.now.items c.members.invariant.retained.more c.in-Ok.step.part.now;
       };
       capacity = omega (arith, c.members.invariant.capacity, c.append-in-members.ensures.capacity);
     }

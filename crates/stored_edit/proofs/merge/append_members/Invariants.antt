@@ -7,7 +7,7 @@ use Rattle.stored_edit.proofs.merge.append_members.Given as goal
 abbrev pub invariant-members : goal.invariant-members
 invariant-members l = record {
   walks : WalksBoth l.left l.right l.fn.out.items l.out.items l.members l.others;
-  kept : Extends l.fn.out.items l.out.items;
+  retained : Extends l.fn.out.items l.out.items;
   capacity : vec_capacity l.fn.out ≤ vec_capacity l.out;
 }
 

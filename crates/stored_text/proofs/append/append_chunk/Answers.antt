@@ -7,4 +7,4 @@ returns-then-capacity-len c =
     let old = c.args.buf.now.items in
     let count : c.len-len.result + c.args.count ≡ length old + c.args.count = omega arith in
     let taken = c.truncate.ensures.items ∙ ap₂ take count c.in_ok-extend_from_slice.ensures.items ∙ take-append-add old c.args.bytes.now c.args.count in
-    record { ok = taken; kept = record { more = take c.args.count c.args.bytes.now; extended = taken }; full = tt; capacity = omega arith }
+    record { ok = taken; retained = record { more = take c.args.count c.args.bytes.now; extended = taken }; full = tt; capacity = omega arith }

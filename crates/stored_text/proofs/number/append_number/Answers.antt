@@ -3,9 +3,9 @@ use Rattle.std.specs.Bool.{nat_lt}
 use Rattle.std.specs.Fmt.{sign_text}
 use Rattle.std.specs.Prelude.{vec_capacity, vec_len, length, ◌+◌, ◌<◌}
 use Rattle.jsonb_key.proofs.Signs.{zero_read, some_bytes}
-use Rattle.stored_text.specs.Writes.{placed_text}
-use Rattle.stored_text.proofs.Appending.{out_of_memory, no_room_first, no_room_second, both}
-use Rattle.stored_text.proofs.KeyNumbers.{zero_there, signed, some_place, is_place, near_place}
+use Rattle.stored_text.specs.Writes.{scaled_text}
+use Rattle.stored_text.proofs.Appending.{out_of_memory, no_capacity_first, no_capacity_second, both}
+use Rattle.stored_text.proofs.KeyNumbers.{zero_there, signed, some_exponent, is_exponent_key, near_exponent}
 use Rattle.stored_text.proofs.NumberTexts.{number_is, zero_is}
 use Rattle.stored_text.proofs.number.append_number.Goals as goal
 
@@ -22,44 +22,44 @@ returns-then-first-clause-found c = λ n proper more e.
     let zero_text = zero_is n (zero_there n proper c.in-Some.first.now c.in-Some.others.now c.args.bytes.now more c.in-Some.ensures.cases.0 c.if-first.true e) in
     ((zero_read n proper c.in-Some.first.now c.in-Some.others.now c.args.bytes.now more c.in-Some.ensures.cases.0 c.if-first.true e).1, c.in_ok-extend_from_slice.ensures.items ∙ ap (λ t. c.args.buf.now.items ++ t) (sym zero_text))
 
-pub returns-in_default-read_place-clause-found : goal.returns-in_default-read_place-clause-found
-returns-in_default-read_place-clause-found c = λ n proper more e.
-    absurd (some_place n proper c.in-Some.first.now c.in-Some.others.now c.args.bytes.now more c.in-Some.ensures.cases.0 c.if-first.false e c.in_default-read_place.ensures.place)
+pub returns-in_default-read_exponent-clause-found : goal.returns-in_default-read_exponent-clause-found
+returns-in_default-read_exponent-clause-found c = λ n proper more e.
+    absurd (some_exponent n proper c.in-Some.first.now c.in-Some.others.now c.args.bytes.now more c.in-Some.ensures.cases.0 c.if-first.false e c.in_default-read_exponent.ensures.exponent)
 
-pub returns-in_default-spell-clause-found : goal.returns-in_default-spell-clause-found
-returns-in_default-spell-clause-found c = λ n proper more e.
+pub returns-in_default-encode-clause-found : goal.returns-in_default-encode-clause-found
+returns-in_default-encode-clause-found c = λ n proper more e.
     let s = signed n proper c.in-Some.first.now c.in-Some.others.now c.args.bytes.now more c.in-Some.ensures.cases.0 c.if-first.false e in
-    let at = is_place n proper c.in-Some.first.now c.in-Some.others.now c.args.bytes.now more c.in-Some.ensures.cases.0 c.if-first.false e c.in-Some-read_place.place c.in-Some-read_place.digits.now c.in-Some-read_place.ensures.place in
-    absurd (c.in_default-spell.ensures.found s.count (unsigned_abs n.whole) s.below s.some s.few more at.1)
+    let at = is_exponent_key n proper c.in-Some.first.now c.in-Some.others.now c.args.bytes.now more c.in-Some.ensures.cases.0 c.if-first.false e c.in-Some-read_exponent.exponent c.in-Some-read_exponent.digits.now c.in-Some-read_exponent.ensures.exponent in
+    absurd (c.in_default-encode.ensures.found s.count (unsigned_abs n.whole) s.below s.some s.few more at.1)
 
-pub returns-then-place-clause-found : goal.returns-then-place-clause-found
-returns-then-place-clause-found c = λ n proper more e.
-    let near = near_place n proper c.in-Some.first.now c.in-Some.others.now c.args.bytes.now more c.in-Some.ensures.cases.0 c.if-first.false e in
-    let at = is_place n proper c.in-Some.first.now c.in-Some.others.now c.args.bytes.now more c.in-Some.ensures.cases.0 c.if-first.false e c.in-Some-read_place.place c.in-Some-read_place.digits.now c.in-Some-read_place.ensures.place in
-    absurd (omega (arith, near, at.0, c.if-place.true))
+pub returns-then-exponent-clause-found : goal.returns-then-exponent-clause-found
+returns-then-exponent-clause-found c = λ n proper more e.
+    let near = near_exponent n proper c.in-Some.first.now c.in-Some.others.now c.args.bytes.now more c.in-Some.ensures.cases.0 c.if-first.false e in
+    let at = is_exponent_key n proper c.in-Some.first.now c.in-Some.others.now c.args.bytes.now more c.in-Some.ensures.cases.0 c.if-first.false e c.in-Some-read_exponent.exponent c.in-Some-read_exponent.digits.now c.in-Some-read_exponent.ensures.exponent in
+    absurd (omega (arith, near, at.0, c.if-exponent.true))
 
 pub returns-in_err-append_sign-clause-found : goal.returns-in_err-append_sign-clause-found
 returns-in_err-append_sign-clause-found c = λ n proper more e.
     let s = signed n proper c.in-Some.first.now c.in-Some.others.now c.args.bytes.now more c.in-Some.ensures.cases.0 c.if-first.false e in
-    let at = is_place n proper c.in-Some.first.now c.in-Some.others.now c.args.bytes.now more c.in-Some.ensures.cases.0 c.if-first.false e c.in-Some-read_place.place c.in-Some-read_place.digits.now c.in-Some-read_place.ensures.place in
-    let read = c.in-Some-spell.ensures.found s.count (unsigned_abs n.whole) s.below s.some s.few more at.1 in
-    let text = number_is n _ c.args.bytes.now more s c.in-Some-spell.count c.spell.new.row read.0 in
+    let at = is_exponent_key n proper c.in-Some.first.now c.in-Some.others.now c.args.bytes.now more c.in-Some.ensures.cases.0 c.if-first.false e c.in-Some-read_exponent.exponent c.in-Some-read_exponent.digits.now c.in-Some-read_exponent.ensures.exponent in
+    let read = c.in-Some-encode.ensures.found s.count (unsigned_abs n.whole) s.below s.some s.few more at.1 in
+    let text = number_is n _ c.args.bytes.now more s c.in-Some-encode.count c.encode.new.row read.0 in
     out_of_memory (λ rest. rest.now) c.from_residual-in_err-append_sign.result c.args.buf.now c.append_sign.new.buf more _ c.from_residual-in_err-append_sign.ensures.1
-    (subst (λ t. vec_capacity c.args.buf.now < vec_len c.args.buf.now + length t) (sym text) (no_room_first c.args.buf.now (sign_text (nat_lt c.in-Some.first.now 128)) (placed_text s.place c.in-Some-spell.count c.spell.new.row) c.in_err-append_sign.ensures.full))
+    (subst (λ t. vec_capacity c.args.buf.now < vec_len c.args.buf.now + length t) (sym text) (no_capacity_first c.args.buf.now (sign_text (nat_lt c.in-Some.first.now 128)) (scaled_text s.exponent c.in-Some-encode.count c.encode.new.row) c.in_err-append_sign.ensures.full))
 
-pub returns-in_err-append_placed-clause-found : goal.returns-in_err-append_placed-clause-found
-returns-in_err-append_placed-clause-found c = λ n proper more e.
+pub returns-in_err-append_scaled-clause-found : goal.returns-in_err-append_scaled-clause-found
+returns-in_err-append_scaled-clause-found c = λ n proper more e.
     let s = signed n proper c.in-Some.first.now c.in-Some.others.now c.args.bytes.now more c.in-Some.ensures.cases.0 c.if-first.false e in
-    let at = is_place n proper c.in-Some.first.now c.in-Some.others.now c.args.bytes.now more c.in-Some.ensures.cases.0 c.if-first.false e c.in-Some-read_place.place c.in-Some-read_place.digits.now c.in-Some-read_place.ensures.place in
-    let read = c.in-Some-spell.ensures.found s.count (unsigned_abs n.whole) s.below s.some s.few more at.1 in
-    let text = number_is n _ c.args.bytes.now more s c.in-Some-spell.count c.spell.new.row read.0 ∙ ap (λ p. sign_text (nat_lt c.in-Some.first.now 128) ++ placed_text p c.in-Some-spell.count c.spell.new.row) (sym at.0) in
-    out_of_memory (λ rest. rest.now) c.from_residual-in_err-append_placed.result c.args.buf.now c.append_placed.new.buf more _ c.from_residual-in_err-append_placed.ensures.1
-    (subst (λ t. vec_capacity c.args.buf.now < vec_len c.args.buf.now + length t) (sym text) (no_room_second c.args.buf.now c.append_sign.new.buf (sign_text (nat_lt c.in-Some.first.now 128)) (placed_text c.in-Some-read_place.place c.in-Some-spell.count c.spell.new.row) c.in_ok-append_sign.ensures.ok c.in_ok-append_sign.ensures.capacity c.in_err-append_placed.ensures.full))
+    let at = is_exponent_key n proper c.in-Some.first.now c.in-Some.others.now c.args.bytes.now more c.in-Some.ensures.cases.0 c.if-first.false e c.in-Some-read_exponent.exponent c.in-Some-read_exponent.digits.now c.in-Some-read_exponent.ensures.exponent in
+    let read = c.in-Some-encode.ensures.found s.count (unsigned_abs n.whole) s.below s.some s.few more at.1 in
+    let text = number_is n _ c.args.bytes.now more s c.in-Some-encode.count c.encode.new.row read.0 ∙ ap (λ p. sign_text (nat_lt c.in-Some.first.now 128) ++ scaled_text p c.in-Some-encode.count c.encode.new.row) (sym at.0) in
+    out_of_memory (λ rest. rest.now) c.from_residual-in_err-append_scaled.result c.args.buf.now c.append_scaled.new.buf more _ c.from_residual-in_err-append_scaled.ensures.1
+    (subst (λ t. vec_capacity c.args.buf.now < vec_len c.args.buf.now + length t) (sym text) (no_capacity_second c.args.buf.now c.append_sign.new.buf (sign_text (nat_lt c.in-Some.first.now 128)) (scaled_text c.in-Some-read_exponent.exponent c.in-Some-encode.count c.encode.new.row) c.in_ok-append_sign.ensures.ok c.in_ok-append_sign.ensures.capacity c.in_err-append_scaled.ensures.full))
 
 pub returns-clause-found : goal.returns-clause-found
 returns-clause-found c = λ n proper more e.
     let s = signed n proper c.in-Some.first.now c.in-Some.others.now c.args.bytes.now more c.in-Some.ensures.cases.0 c.if-first.false e in
-    let at = is_place n proper c.in-Some.first.now c.in-Some.others.now c.args.bytes.now more c.in-Some.ensures.cases.0 c.if-first.false e c.in-Some-read_place.place c.in-Some-read_place.digits.now c.in-Some-read_place.ensures.place in
-    let read = c.in-Some-spell.ensures.found s.count (unsigned_abs n.whole) s.below s.some s.few more at.1 in
-    let text = number_is n _ c.args.bytes.now more s c.in-Some-spell.count c.spell.new.row read.0 ∙ ap (λ p. sign_text (nat_lt c.in-Some.first.now 128) ++ placed_text p c.in-Some-spell.count c.spell.new.row) (sym at.0) in
-    (read.1, both c.args.buf.now.items c.append_sign.new.buf.items c.append_placed.new.buf.items (sign_text (nat_lt c.in-Some.first.now 128)) (placed_text c.in-Some-read_place.place c.in-Some-spell.count c.spell.new.row) c.in_ok-append_sign.ensures.ok c.in_ok-append_placed.ensures.ok ∙ ap (λ t. c.args.buf.now.items ++ t) (sym text))
+    let at = is_exponent_key n proper c.in-Some.first.now c.in-Some.others.now c.args.bytes.now more c.in-Some.ensures.cases.0 c.if-first.false e c.in-Some-read_exponent.exponent c.in-Some-read_exponent.digits.now c.in-Some-read_exponent.ensures.exponent in
+    let read = c.in-Some-encode.ensures.found s.count (unsigned_abs n.whole) s.below s.some s.few more at.1 in
+    let text = number_is n _ c.args.bytes.now more s c.in-Some-encode.count c.encode.new.row read.0 ∙ ap (λ p. sign_text (nat_lt c.in-Some.first.now 128) ++ scaled_text p c.in-Some-encode.count c.encode.new.row) (sym at.0) in
+    (read.1, both c.args.buf.now.items c.append_sign.new.buf.items c.append_scaled.new.buf.items (sign_text (nat_lt c.in-Some.first.now 128)) (scaled_text c.in-Some-read_exponent.exponent c.in-Some-encode.count c.encode.new.row) c.in_ok-append_sign.ensures.ok c.in_ok-append_scaled.ensures.ok ∙ ap (λ t. c.args.buf.now.items ++ t) (sym text))

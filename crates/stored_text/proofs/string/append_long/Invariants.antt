@@ -1,6 +1,6 @@
 use Rattle.std.proofs.Common.{◌≤◌, length, take}
 use Rattle.jsonb_spec.specs.Text.StringText.{ArePlain}
-use Rattle.stored_text.specs.Writes.{Keeps}
+use Rattle.stored_text.specs.Writes.{Preserves}
 use Rattle.stored_text.proofs.Strings.{WritesInside}
 use Rattle.stored_text.proofs.string.append_long.Given as goal
 
@@ -8,7 +8,7 @@ use Rattle.stored_text.proofs.string.append_long.Given as goal
 abbrev pub invariant-runs : goal.invariant-runs
 invariant-runs l = record {
   writes : WritesInside l.colon l.bytes l.rest l.fn.buf.items l.buf.items;
-  keeps : Keeps l.fn.buf l.buf;
+  preserves : Preserves l.fn.buf l.buf;
   within : length l.rest ≤ length l.bytes;
   inside : l.run ≤ length l.rest;
   plain : ArePlain (take l.run l.rest);

@@ -12,7 +12,7 @@ returns-in_err-append_chunk c = record {
         let string = short_string c.args.colon c.args.bytes.now c.in-Some.chunk.now c.plain_len-run.result c.in-Some.ensures.cases.same (ap length c.in-Some.ensures.cases.same ∙ length-take-le 16 c.args.bytes.now c.in-Some.ensures.cases.enough) c.if-run-le14.true c.plain_len-run.ensures.plain c.if-chunk-run-eq-TERMINATOR.true c.if-chunk-run-eq-TEXT_END.true text more e in
         out_of_memory (λ rest. rest.now) c.from_residual.result c.args.buf.now c.append_chunk.new.buf more _ c.from_residual.ensures.1 (omega (arith, c.in_err-append_chunk.ensures.full, ap length (row ∙ string.1)));
     shorter = search rules;
-    keeps = search rules;
+    preserves = search rules;
   };
 }
 
@@ -24,6 +24,6 @@ returns-then-chunk-run-eq-TEXT_END c = record {
         let string = short_string c.args.colon c.args.bytes.now c.in-Some.chunk.now c.plain_len-run.result c.in-Some.ensures.cases.same (ap length c.in-Some.ensures.cases.same ∙ length-take-le 16 c.args.bytes.now c.in-Some.ensures.cases.enough) c.if-run-le14.true c.plain_len-run.ensures.plain c.if-chunk-run-eq-TERMINATOR.true c.if-chunk-run-eq-TEXT_END.true text more e in
         (take_rest c.args.bytes.now (c.plain_len-run.result + 2) ∙ string.0, c.in_ok-append_chunk.ensures.ok ∙ ap (λ t. c.args.buf.now.items ++ t) (row ∙ string.1));
     shorter = search rules;
-    keeps = search rules;
+    preserves = search rules;
   };
 }

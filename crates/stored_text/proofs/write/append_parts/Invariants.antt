@@ -1,12 +1,12 @@
 use Rattle.std.proofs.Common.{◌≡◌, ◌≤◌, ◌∷◌, ◌++◌, [], length}
-use Rattle.stored_text.specs.Writes.{Keeps, opening_text}
+use Rattle.stored_text.specs.Writes.{Preserves, opening_text}
 use Rattle.stored_text.proofs.Walk.{WritesParts}
 use Rattle.stored_text.proofs.write.append_parts.Given as goal
 
 abbrev pub invariant-parts : goal.invariant-parts
 invariant-parts l = record {
   writes : WritesParts l.object l.bytes l.objects l.depth l.rest l.is_first (l.fn.buf.items ++ opening_text l.object ∷ []) l.buf.items;
-  keeps : Keeps l.fn.buf l.buf;
+  preserves : Preserves l.fn.buf l.buf;
   deep : l.depth ≤ 512;
   size : length l.objects ≡ 512;
 }

@@ -55,14 +55,14 @@ pub returns-clause-only : goal.returns-clause-only
 returns-clause-only c = λ t r e.
     let some : 0 < length c.split_at.result.1.now = omega (arith, eqb-false (length c.split_at.result.1.now) 0 (sym c.is_empty.ensures ∙ c.if-is_empty.false)) in
     let x = c.in-Some.ensures.only t r [] (e ∙ sym (append-nil (key_of t))) c.if-rest-part.false some in
-    let k = part_key t 512 (omega arith) r x.before c.in-Some.before x.part x.stands in
+    let k = part_key t 512 (omega arith) r x.before c.in-Some.before x.part x.occurs in
     let at : c.args.offset ≡ length x.before = omega (arith, c.if-offset-key.false, c.if-rest-part.false, ap length x.inside, length-append x.before c.in-Some.rest.now, ap length c.split_at.ensures.back, length-drop c.args.offset c.args.key.now) in
     let there : c.split_at.result.1.now ≡ key_of x.part ++ x.behind = c.split_at.ensures.back ∙ ap (λ n. drop n c.args.key.now) at ∙ ap (drop (length x.before)) x.inside ∙ drop-append_seam x.before c.in-Some.rest.now ∙ x.key in
     let y = c.in-Some-count_until.ensures.whole refl x.part k.readable x.behind there in
     record {
       part = x.part;
       front = x.before;
-      stands = x.stands;
+      occurs = x.occurs;
       offset_is = at;
       size_is = omega (arith, c.if-part-behind.false, ap length y.1, ap length there, length-append (key_of x.part) x.behind);
       numbers_are = y.0;

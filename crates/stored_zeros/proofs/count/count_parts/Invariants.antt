@@ -1,7 +1,7 @@
 use Rattle.std.proofs.Common.{◌≡◌, ◌≤◌, ◌+◌, ℕ, List, ◌++◌, length}
 use Rattle.jsonb_spec.specs.Tree.{Tree}
 use Rattle.jsonb_stored.specs.Open.{Open, is_object, open_key, IsOpen}
-use Rattle.stored_zeros.specs.PartsOf.{numbers_open, StandsInOpen}
+use Rattle.stored_zeros.specs.PartsOf.{numbers_open, OccursInOpen}
 use Rattle.stored_zeros.proofs.Counting.{Walked, Sums, Ahead}
 use Rattle.stored_zeros.proofs.Backwards.{Back}
 use Rattle.stored_zeros.proofs.count.count_parts.Given as goal
@@ -9,7 +9,7 @@ use Rattle.stored_zeros.proofs.count.count_parts.Given as goal
 abbrev pub invariant-parts : goal.invariant-parts
 invariant-parts l = record {
   sums : (o : Open) → is_object o ≡ l.object → IsOpen o 511 → (more : List ℕ) → l.bytes ≡ open_key o ++ more → Walked l.objects l.depth l.rest more (Sums (numbers_open o) l.numbers);
-  ahead : (o : Open) → is_object o ≡ l.object → IsOpen o 511 → (more : List ℕ) → l.bytes ≡ open_key o ++ more → (before : List ℕ) (all : ℕ) (part : Tree) → StandsInOpen o before all part → l.stop + length before ≡ length l.bytes
+  ahead : (o : Open) → is_object o ≡ l.object → IsOpen o 511 → (more : List ℕ) → l.bytes ≡ open_key o ++ more → (before : List ℕ) (all : ℕ) (part : Tree) → OccursInOpen o before all part → l.stop + length before ≡ length l.bytes
       → Walked l.objects l.depth l.rest more (Ahead part all l.stop l.numbers (length l.rest));
   back : (o : Open) → is_object o ≡ l.object → IsOpen o 511 → (more : List ℕ) → l.bytes ≡ open_key o ++ more → Walked l.objects l.depth l.rest more (Back o l.bytes l.rest l.numbers);
   within : l.numbers + length l.rest ≤ length l.bytes;

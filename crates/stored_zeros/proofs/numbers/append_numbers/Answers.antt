@@ -1,7 +1,7 @@
 use Rattle.std.proofs.Common.{◌≡◌, ◌+◌, ◌<◌, ◌^◌, take, subst, refl, arith}
-use Rattle.stored_text.proofs.Appending.{keeps_on}
+use Rattle.stored_text.proofs.Appending.{preserves_on}
 use Rattle.stored_zeros.specs.Numbers.{Pends}
-use Rattle.stored_zeros.proofs.Taking.{plain_copied, copied_as, no_room, taken_none, taken_plain, counts_long, entry_room, entry_copied}
+use Rattle.stored_zeros.proofs.Taking.{plain_copied, copied_as, no_capacity, taken_none, taken_plain, counts_long, entry_sink, entry_copied}
 use Rattle.stored_zeros.proofs.numbers.append_numbers.Goals as goal
 
 pub returns-in_default-clause-found : goal.returns-in_default-clause-found
@@ -26,9 +26,9 @@ returns-in_err-plain-clause-found c = λ counts pends enough fit.
     let small : c.entries.plain + c.in-Some.before < 2 ^ 63 = omega (arith, y.2.fit, c.if-before-left.false) in
     let gap : c.in_ok-gap.gap ≡ c.entries.plain + c.in-Some.before = c.in_ok-gap.ensures small in
     let gap_small : c.in_ok-gap.gap < 2 ^ 63 = omega (arith, small, gap) in
-    let room = entry_room c.args.plain (take c.args.numbers counts) c.args.buf.now.items c.entries.buf.items y.0 c.entries.left c.entries.plain c.in-Some.before c.in-Some.count c.in-Some.others.now y.2 p c.if-before-left.false c.in_ok-gap.gap (omega (arith, gap)) in
-    no_room c.args.plain (take c.args.numbers counts) c.from_residual-in_err-plain.result c.args.buf.now c.append_entry.new.buf c.from_residual-in_err-plain.ensures.1
-    (omega (arith, room, c.entries.invariant.keeps.capacity, (c.in_err-plain.ensures.appends gap_small).full))
+    let space = entry_sink c.args.plain (take c.args.numbers counts) c.args.buf.now.items c.entries.buf.items y.0 c.entries.left c.entries.plain c.in-Some.before c.in-Some.count c.in-Some.others.now y.2 p c.if-before-left.false c.in_ok-gap.gap (omega (arith, gap)) in
+    no_capacity c.args.plain (take c.args.numbers counts) c.from_residual-in_err-plain.result c.args.buf.now c.append_entry.new.buf c.from_residual-in_err-plain.ensures.1
+    (omega (arith, space, c.entries.invariant.preserves.capacity, (c.in_err-plain.ensures.appends gap_small).full))
 
 pub entries-preserved : goal.entries-preserved
 entries-preserved c = record {
@@ -44,5 +44,5 @@ entries-preserved c = record {
         entry_copied c.args.plain (take c.args.numbers counts) c.args.buf.now.items c.entries.buf.items y.0 c.entries.left c.entries.plain c.in-Some.before c.in-Some.count c.in-Some.others.now y.2 p c.if-before-left.false c.in_ok-gap.gap (omega (arith, gap))
             c.append_entry.new.buf.items c.in_ok-plain.plain (c.in_ok-plain.ensures.appends gap_small).ok (c.in_ok-plain.ensures.plain gap_small),
       );
-  keeps = keeps_on c.args.buf.now c.entries.buf c.append_entry.new.buf c.entries.invariant.keeps c.in_ok-plain.ensures.keeps;
+  preserves = preserves_on c.args.buf.now c.entries.buf c.append_entry.new.buf c.entries.invariant.preserves c.in_ok-plain.ensures.preserves;
 }

@@ -1,5 +1,5 @@
 use Rattle.std.proofs.Common.{◌≤◌, ◌<◌, ◌+◌, ◌^◌, ℕ, List, length, take}
-use Rattle.stored_text.specs.Writes.{Keeps}
+use Rattle.stored_text.specs.Writes.{Preserves}
 use Rattle.stored_zeros.specs.Numbers.{Pends}
 use Rattle.stored_zeros.proofs.Taking.{CopyLeft}
 use Rattle.stored_zeros.proofs.numbers.append_numbers.Given as goal
@@ -8,7 +8,7 @@ abbrev pub invariant-entries : goal.invariant-entries
 invariant-entries l = record {
   copies : (counts : List ℕ) → Pends counts l.entry → l.fn.numbers ≤ length counts → l.fn.plain + length counts < 2 ^ 63
       → (others : List ℕ) × Pends others l.next × CopyLeft l.fn.plain (take l.fn.numbers counts) l.fn.buf.items l.buf.items others l.left l.plain;
-  keeps : Keeps l.fn.buf l.buf;
+  preserves : Preserves l.fn.buf l.buf;
 }
 
 abbrev pub decreases-entries : goal.decreases-entries

@@ -1,13 +1,13 @@
 use Rattle.std.proofs.Common.{◌<◌, ◌^◌, length, sym, ◌∙◌, arith, eqb-true}
 use Rattle.std.proofs.lemmas.Bool.{eqb-false}
-use Rattle.stored_text.proofs.Appending.{kept, keeps_on}
+use Rattle.stored_text.proofs.Appending.{retained, preserves_on}
 use Rattle.stored_zeros.specs.declared.error.ZerosError.TheVariants.{OutOfMemory}
 use Rattle.stored_zeros.proofs.Collecting.{collects, some_found, all_found, one_found, not_many, entry_fits, entry_appended, ends_shorter}
 use Rattle.stored_zeros.proofs.Errors.{or_error}
 use Rattle.stored_zeros.proofs.write.append_zeros.Goals as goal
 
 pub numbers-init : goal.numbers-init
-numbers-init c = record { collects = collects c.args.text.now c.args.buf.now.items; few = omega arith; keeps = kept c.args.buf.now }
+numbers-init c = record { collects = collects c.args.text.now c.args.buf.now.items; few = omega arith; preserves = retained c.args.buf.now }
 
 pub returns-in_default-clause-found : goal.returns-in_default-clause-found
 returns-in_default-clause-found c = λ t r e.
@@ -29,8 +29,8 @@ returns-in_err-plain-clause-found c = λ t r e.
     let some : 0 < length c.in-Some.number.now = omega (arith, eqb-false (length c.in-Some.number.now) 0 (sym c.is_empty.ensures ∙ c.if-is_empty.false)) in
     let small : c.numbers.plain < 2 ^ 63 = omega (arith, c.numbers.invariant.few) in
     let x = one_found t c.numbers.rest.now c.numbers.plain c.args.buf.now.items c.numbers.buf.items (c.numbers.invariant.collects t r e) c.in-Some.number.now c.in-Some.ensures.found some in
-    let room = entry_fits t c.in-Some.number.now c.numbers.plain c.args.buf.now.items c.numbers.buf.items x c.ending_of-ending.result.pointed c.ending_of-ending.result.zeros c.ending_of-ending.result.rest.now c.ending_of-ending.ensures.exact in
-    or_error OutOfMemory c.from_residual.result c.args.buf.now c.append_entry.new.buf _ c.from_residual.ensures.1 (omega (arith, room, c.numbers.invariant.keeps.capacity, (c.in_err-plain.ensures.appends small).full))
+    let space = entry_fits t c.in-Some.number.now c.numbers.plain c.args.buf.now.items c.numbers.buf.items x c.ending_of-ending.result.pointed c.ending_of-ending.result.zeros c.ending_of-ending.result.rest.now c.ending_of-ending.ensures.exact in
+    or_error OutOfMemory c.from_residual.result c.args.buf.now c.append_entry.new.buf _ c.from_residual.ensures.1 (omega (arith, space, c.numbers.invariant.preserves.capacity, (c.in_err-plain.ensures.appends small).full))
 
 pub numbers-smaller : goal.numbers-smaller
 numbers-smaller c =
@@ -47,5 +47,5 @@ numbers-preserved c =
           entry_appended t c.in-Some.number.now c.numbers.plain c.args.buf.now.items c.numbers.buf.items x c.ending_of-ending.result.pointed c.ending_of-ending.result.zeros c.ending_of-ending.result.rest.now c.ending_of-ending.ensures.exact
           c.append_entry.new.buf.items c.in_ok-plain.plain (c.in_ok-plain.ensures.appends small).ok (c.in_ok-plain.ensures.plain small);
       few = omega (arith, c.numbers.invariant.few, c.in_ok-plain.ensures.within, c.in-Some.ensures.within, ends_shorter c.ending_of-ending.result.pointed c.ending_of-ending.result.zeros c.in-Some.number.now c.ending_of-ending.result.rest.now c.in-Some.ensures.begins some c.ending_of-ending.ensures.exact);
-      keeps = keeps_on c.args.buf.now c.numbers.buf c.append_entry.new.buf c.numbers.invariant.keeps c.in_ok-plain.ensures.keeps;
+      preserves = preserves_on c.args.buf.now c.numbers.buf c.append_entry.new.buf c.numbers.invariant.preserves c.in_ok-plain.ensures.preserves;
     }

@@ -1,5 +1,5 @@
 use Rattle.std.proofs.Common.{◌≤◌, ◌+◌, length}
-use Rattle.stored_text.specs.Writes.{Keeps}
+use Rattle.stored_text.specs.Writes.{Preserves}
 use Rattle.stored_zeros.proofs.Collecting.{Collects}
 use Rattle.stored_zeros.proofs.write.append_zeros.Given as goal
 
@@ -7,7 +7,7 @@ abbrev pub invariant-numbers : goal.invariant-numbers
 invariant-numbers l = record {
   collects : Collects l.text l.rest l.plain l.fn.buf.items l.buf.items;
   few : l.plain + length l.rest ≤ length l.text;
-  keeps : Keeps l.fn.buf l.buf;
+  preserves : Preserves l.fn.buf l.buf;
 }
 
 abbrev pub decreases-numbers : goal.decreases-numbers

@@ -5,9 +5,9 @@ use Rattle.vjson_run.specs.Lines.{IsArranged, IsFirstOfEach, order_of}
 use Rattle.vjson_run.specs.declared.lines.Line.{Line}
 use Rattle.vjson_run.proofs.lines.arrange.Goals as goal
 
-firsts : (down unique : Bool) (given kept : List Line) → unique ≡ true → IsFirstOfEach (order_of down) given kept → IsArranged down unique given kept
-firsts down true given kept is h = h
-firsts down false given kept is h = cc
+firsts : (down unique : Bool) (given retained : List Line) → unique ≡ true → IsFirstOfEach (order_of down) given retained → IsArranged down unique given retained
+firsts down true given retained is h = h
+firsts down false given retained is h = cc
 
 pub returns-then-unique : goal.returns-then-unique
 returns-then-unique c = record {

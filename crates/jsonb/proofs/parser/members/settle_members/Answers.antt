@@ -5,7 +5,7 @@ use Rattle.jsonb.specs.Source.{found_of}
 use Rattle.jsonb_spec.specs.Source.{Spot, adjacent_repeat, spot_of}
 use Rattle.jsonb.proofs.Containers.Members.{no_more_left, not_repeated, repeated, spots}
 use Rattle.text_common.proofs.Shuffles.{agree_if, differ_if, neighbours_agree, neighbours_differ}
-use Rattle.jsonb.proofs.Places.Views.{fuse}
+use Rattle.jsonb.proofs.Offsets.Views.{fuse}
 use Rattle.jsonb.proofs.parser.members.settle_members.Goals as goal
 
 pub returns-then-eq : goal.returns-then-eq
@@ -23,7 +23,7 @@ returns-then-eq c =
           let here = neighbours_agree (λ (x : Written). spot_of (found_of x)) new i (omega arith) within a b c.index-earlier.ensures c.index-later.ensures same in
           let found : adjacent_repeat (spots new) ≡ Some s = c.loop-i.invariant ∙ subst (λ (ss : List Spot). adjacent_repeat (drop (i - 1) ss) ≡ Some s) (sym (fuse found_of spot_of new)) here in
           repeated c.args.members.now.items new c.sort_members.ensures.permutation c.sort_members.ensures.ascending s rest found
-          ∙ ap (λ (k : List ℕ). Err (record { code = object_duplicate_key k; place = b.2 })) (sym (c.in_ok-key.ensures.ok ∙ c.as_str-then-eq.ensures.value));
+          ∙ ap (λ (k : List ℕ). Err (record { code = object_duplicate_key k; offset = b.2 })) (sym (c.in_ok-key.ensures.ok ∙ c.as_str-then-eq.ensures.value));
     }
 
 pub loop-i-preserved : goal.loop-i-preserved

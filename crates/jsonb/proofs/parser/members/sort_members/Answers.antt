@@ -4,7 +4,7 @@ use Rattle.jsonb.specs.Source.{found_of}
 use Rattle.jsonb_spec.specs.Source.{spot_cmp, spot_of}
 use Rattle.text_common.proofs.Repeats.{spot_cmp_total}
 use Rattle.text_common.proofs.Shuffles.{ascending_from_sorted}
-use Rattle.jsonb.proofs.Places.Views.{fuse}
+use Rattle.jsonb.proofs.Offsets.Views.{fuse}
 use Rattle.jsonb.proofs.parser.members.sort_members.Goals as goal
 
 pub returns-clause-ascending : goal.returns-clause-ascending

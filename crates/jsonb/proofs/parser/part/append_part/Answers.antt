@@ -5,8 +5,8 @@ use Rattle.jsonb_scan.specs.Answer.{MayAllocate, mode_of}
 use Rattle.jsonb_scan.specs.Parsing.Document.{source_of}
 use Rattle.jsonb_spec.specs.Source.{tree_of_source}
 use Rattle.jsonb_spec.specs.PartAt.{part_at}
-use Rattle.jsonb_write.specs.PartRoom.{part_of}
-use Rattle.jsonb_write.proofs.PartRooms.{filled_root}
+use Rattle.jsonb_write.specs.PartSink.{part_of}
+use Rattle.jsonb_write.proofs.PartSinks.{filled_root}
 use Rattle.jsonb_parse.specs.Handler.{Misses}
 use Rattle.jsonb.proofs.Documents.Agreement.{fault_fails, fault_rejects}
 use Rattle.jsonb.proofs.Documents.Parts.{part_appended, part_missing}
@@ -17,9 +17,9 @@ pub returns-in-Ok-clause-ok : goal.returns-in-Ok-clause-ok
 returns-in-Ok-clause-ok c =
     let mode = mode_of c.args.mode in
     let keys = map string_bytes c.args.path.now in
-    let read = c.in-Ok.ensures.parses c.new-room.ensures.stands in
-    let same = c.in-Ok.ensures.base ∙ c.new-room.ensures.keys in
-    let none : None ≡ part_of c.parse_text.new.room = sym (ap (option_map (λ part. part.items)) c.in-None.is) ∙ c.into_part.ensures in
+    let read = c.in-Ok.ensures.parses c.new-sink.ensures.holds in
+    let same = c.in-Ok.ensures.base ∙ c.new-sink.ensures.keys in
+    let none : None ≡ part_of c.parse_text.new.sink = sym (ap (option_map (λ part. part.items)) c.in-None.is) ∙ c.into_part.ensures in
     part_missing mode c.args.text.now keys (tree_of_source read.0) c.args.buf.now.items (source_parsed mode c.args.text.now read.0 read.2)
     (none ∙ filled_root read.1 ∙ ap (λ ks. option_map tree_text (part_at ks (tree_of_source read.0))) same)
 
@@ -27,22 +27,22 @@ pub returns-in-Some-clause-ok : goal.returns-in-Some-clause-ok
 returns-in-Some-clause-ok c =
     let mode = mode_of c.args.mode in
     let keys = map string_bytes c.args.path.now in
-    let read = c.in-Ok.ensures.parses c.new-room.ensures.stands in
+    let read = c.in-Ok.ensures.parses c.new-sink.ensures.holds in
     let parsed = source_parsed mode c.args.text.now read.0 read.2 in
-    let same = c.in-Ok.ensures.base ∙ c.new-room.ensures.keys in
-    let some : Some c.in-Some.part.items ≡ part_of c.parse_text.new.room = sym (ap (option_map (λ part. part.items)) c.in-Some.is) ∙ c.into_part.ensures in
+    let same = c.in-Ok.ensures.base ∙ c.new-sink.ensures.keys in
+    let some : Some c.in-Some.part.items ≡ part_of c.parse_text.new.sink = sym (ap (option_map (λ part. part.items)) c.in-Some.is) ∙ c.into_part.ensures in
     part_appended mode c.args.text.now keys (tree_of_source read.0) c.args.buf.now.items c.extend_from_slice.new.self.items c.in-Some.part.items parsed (text_there mode c.args.text.now (tree_of_source read.0) parsed.document)
     (some ∙ filled_root read.1 ∙ ap (λ ks. option_map tree_text (part_at ks (tree_of_source read.0))) same) (search rules)
 
 -- what goes past the test of the text may take memory
-pub returns-in-Some-told-clause-memory : goal.returns-in-Some-told-clause-memory
-returns-in-Some-told-clause-memory c = let may : MayAllocate c.args.text.now = search rules in λ _. inl may
+pub returns-in-Some-reported-clause-memory : goal.returns-in-Some-reported-clause-memory
+returns-in-Some-reported-clause-memory c = let may : MayAllocate c.args.text.now = search rules in λ _. inl may
 
 pub returns-then-is_err-clause-memory : goal.returns-then-is_err-clause-memory
 returns-then-is_err-clause-memory c = let may : MayAllocate c.args.text.now = search rules in λ _. inl may
 
-pub returns-in-Some-told-clause-rejects : goal.returns-in-Some-told-clause-rejects
-returns-in-Some-told-clause-rejects c = fault_rejects (mode_of c.args.mode) c.args.text.now c.in-Some-told.error (subst (λ told. Misses true told (source_of (mode_of c.args.mode) c.args.text.now)) c.in-Some-told.is (c.in-Err.ensures.parses c.new-room.ensures.stands))
+pub returns-in-Some-reported-clause-rejects : goal.returns-in-Some-reported-clause-rejects
+returns-in-Some-reported-clause-rejects c = fault_rejects (mode_of c.args.mode) c.args.text.now c.in-Some-reported.error (subst (λ reported. Misses true reported (source_of (mode_of c.args.mode) c.args.text.now)) c.in-Some-reported.is (c.in-Err.ensures.parses c.new-sink.ensures.holds))
 
-pub returns-in-Some-told-clause-follows : goal.returns-in-Some-told-clause-follows
-returns-in-Some-told-clause-follows c = fault_fails (mode_of c.args.mode) c.args.text.now c.in-Some-told.error (subst (λ told. Misses true told (source_of (mode_of c.args.mode) c.args.text.now)) c.in-Some-told.is (c.in-Err.ensures.parses c.new-room.ensures.stands))
+pub returns-in-Some-reported-clause-follows : goal.returns-in-Some-reported-clause-follows
+returns-in-Some-reported-clause-follows c = fault_fails (mode_of c.args.mode) c.args.text.now c.in-Some-reported.error (subst (λ reported. Misses true reported (source_of (mode_of c.args.mode) c.args.text.now)) c.in-Some-reported.is (c.in-Err.ensures.parses c.new-sink.ensures.holds))

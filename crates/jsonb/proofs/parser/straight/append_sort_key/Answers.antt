@@ -12,9 +12,9 @@ pub returns-in-Ok-clause-appends : goal.returns-in-Ok-clause-appends
 returns-in-Ok-clause-appends c =
     let mode = mode_of c.args.mode in
     let text = c.args.text.now in
-    let read = c.in-Ok.ensures.parses c.new-room.ensures.stands in
+    let read = c.in-Ok.ensures.parses c.new-sink.ensures.holds in
     let parsed = source_parsed mode text read.0 read.2 in
-    let before = same_only c.in-Ok.ensures.base ∙ c.new-room.ensures.base ∙ ap (λ v. v.items) c.replace-out.ensures.value in
+    let before = same_only c.in-Ok.ensures.base ∙ c.new-sink.ensures.base ∙ ap (λ v. v.items) c.replace-out.ensures.value in
     let bytes = c.into_buffer.ensures ∙ returned c.finish.result (sym c.is_err.ensures.value ∙ c.if-is_err.false) c.finish.ensures.ok text read.0 read.1 ∙ ap (λ front. front ++ source_key read.0) before in
     -- what goes past the test of the text may take memory
     let may : MayAllocate text = search rules in
@@ -25,11 +25,11 @@ returns-in-Ok-clause-appends c =
       capacity = inl may;
     }
 
-fault_told : (c : goal.In-Some) → Fails c.in-Some.error (source_of (mode_of c.args.mode) c.args.text.now)
-fault_told c = subst (λ told. Misses true told (source_of (mode_of c.args.mode) c.args.text.now)) c.in-Some.is (c.in-Err.ensures.parses c.new-room.ensures.stands)
+fault_reported : (c : goal.In-Some) → Fails c.in-Some.error (source_of (mode_of c.args.mode) c.args.text.now)
+fault_reported c = subst (λ reported. Misses true reported (source_of (mode_of c.args.mode) c.args.text.now)) c.in-Some.is (c.in-Err.ensures.parses c.new-sink.ensures.holds)
 
 pub returns-in-Some-clause-rejects : goal.returns-in-Some-clause-rejects
-returns-in-Some-clause-rejects c = fault_rejects (mode_of c.args.mode) c.args.text.now c.in-Some.error (fault_told c)
+returns-in-Some-clause-rejects c = fault_rejects (mode_of c.args.mode) c.args.text.now c.in-Some.error (fault_reported c)
 
 pub returns-in-Some-clause-appends : goal.returns-in-Some-clause-appends
 returns-in-Some-clause-appends c = let may : MayAllocate c.args.text.now = search rules in record { ok = tt; err = search rules; memory = λ _. inl may; capacity = inl may }
@@ -45,4 +45,4 @@ pub returns-then-not-may_allocate : goal.returns-then-not-may_allocate
 returns-then-not-may_allocate c = c.append_sort_key_of_value.ensures
 
 pub returns-in-Some-clause-follows : goal.returns-in-Some-clause-follows
-returns-in-Some-clause-follows c = fault_fails (mode_of c.args.mode) c.args.text.now c.in-Some.error (fault_told c)
+returns-in-Some-clause-follows c = fault_fails (mode_of c.args.mode) c.args.text.now c.in-Some.error (fault_reported c)

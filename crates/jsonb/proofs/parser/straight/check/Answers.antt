@@ -9,15 +9,15 @@ use Rattle.jsonb.proofs.parser.straight.check.Goals as goal
 
 pub returns-in-Ok-clause-document : goal.returns-in-Ok-clause-document
 returns-in-Ok-clause-document c =
-    let read = c.in-Ok.ensures.parses c.new-room.ensures.stands in
+    let read = c.in-Ok.ensures.parses c.new-sink.ensures.holds in
     (tree_of_source read.0, source_parsed (mode_of c.args.mode) c.args.text.now read.0 read.2)
 
 pub returns-in-Some-clause-rejects : goal.returns-in-Some-clause-rejects
 returns-in-Some-clause-rejects c =
-    let told = subst (λ told. Misses false told (source_of (mode_of c.args.mode) c.args.text.now)) c.in-Some.is (c.in-Err.ensures.parses c.new-room.ensures.stands) in
-    fault_rejects (mode_of c.args.mode) c.args.text.now c.in-Some.error told
+    let reported = subst (λ reported. Misses false reported (source_of (mode_of c.args.mode) c.args.text.now)) c.in-Some.is (c.in-Err.ensures.parses c.new-sink.ensures.holds) in
+    fault_rejects (mode_of c.args.mode) c.args.text.now c.in-Some.error reported
 
 pub returns-in-Some-clause-follows : goal.returns-in-Some-clause-follows
 returns-in-Some-clause-follows c =
-    let told = subst (λ told. Misses false told (source_of (mode_of c.args.mode) c.args.text.now)) c.in-Some.is (c.in-Err.ensures.parses c.new-room.ensures.stands) in
-    fault_fails (mode_of c.args.mode) c.args.text.now c.in-Some.error told
+    let reported = subst (λ reported. Misses false reported (source_of (mode_of c.args.mode) c.args.text.now)) c.in-Some.is (c.in-Err.ensures.parses c.new-sink.ensures.holds) in
+    fault_fails (mode_of c.args.mode) c.args.text.now c.in-Some.error reported

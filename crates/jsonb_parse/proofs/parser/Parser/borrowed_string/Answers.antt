@@ -3,11 +3,11 @@ use Rattle.std.proofs.lemmas.List.{drop-take, drop_more, get_or-take, take-appen
 use Rattle.std.proofs.lemmas.Str.{IsCharBoundary-after_ascii}
 use Rattle.std.specs.Str.{IsCharBoundary, IsUtf8}
 use Rattle.jsonb_spec.specs.Tree.Mark.{plain}
-use Rattle.jsonb_scan.specs.Decoding.{TellsBackslash}
+use Rattle.jsonb_scan.specs.Decoding.{ReportsBackslash}
 use Rattle.jsonb_scan.specs.Answer.{mode_of}
 use Rattle.jsonb_parse.specs.Parser.{size_of}
 use Rattle.jsonb_scan.specs.Parsing.String.{quote_end, string_at}
-use Rattle.jsonb_scan.proofs.Strings.Bodies.{body-raw, found_end, search_start, search_to, string-closed, tells_taken}
+use Rattle.jsonb_scan.proofs.Strings.Bodies.{body-raw, found_end, search_start, search_to, string-closed, reports_taken}
 use Rattle.jsonb_parse.proofs.parser.Parser.borrowed_string.Goals as goal
 
 pub range-body-requires-clause-start_boundary : goal.range-body-requires-clause-start_boundary
@@ -34,7 +34,7 @@ returns c =
           let mode = mode_of p.mode in
           let within : end < length rest = omega arith in
           let found : quote_end quote rest ≡ Ok end = found_end quote rest end within c.if-rest-end.false (search_to quote rest 0 end mark.bounds.0 mark.bounds.1 mark.before (search_start quote rest)) in
-          let clear : TellsBackslash (take end rest) (length (take end rest)) false = tells_taken rest end false mark.bounds.1 (λ k high. (mark.before k (omega arith) high).1) in
+          let clear : ReportsBackslash (take end rest) (length (take end rest)) false = reports_taken rest end false mark.bounds.1 (λ k high. (mark.before k (omega arith) high).1) in
           let count : p.offset + end - p.offset ≡ end = omega arith in
           let all : ℕ = length c.args.text.now in
           let left : ℕ = all - p.offset in
@@ -51,7 +51,7 @@ returns c =
           ∙ string-closed (size_of p) mode quote rest end (plain, take end rest) found (body-raw mode (take end rest) clear is_text)
           ∙ ap (λ (s : List ℕ). Ok ((plain, s), drop (end + 1) rest)) (sym cut)
           ∙ ap (λ (u : List ℕ). Ok ((plain, c.range-body.result.now), u)) (ap (λ (u : List ℕ). drop (end + 1) u) rest-is ∙ drop-drop (end + 1) p.offset p.buf.now ∙ ap (λ (n : ℕ). drop n p.buf.now) after);
-      spelled =
+      encoded =
           let p = c.args.self.now in
           let rest-is = c.rest-rest.ensures in
           let rest : List ℕ = c.rest-rest.result.now in

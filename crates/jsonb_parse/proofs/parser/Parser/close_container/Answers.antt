@@ -20,10 +20,10 @@ returns-in_err-finish g c =
           let p = c.args.self.now in
           let gs = c.pop.new.self.items in
           let inner = c.in-Some.inner in
-          let stands = g.V.Handler.stands p.buf.now c.args.room.now in
-          let x = ended stands stands p c.args.stack.now.items gs inner whole c.in-Some.ensures.items c.requires.depth ahead in
+          let holds = g.V.Handler.holds p.buf.now c.args.sink.now in
+          let x = ended holds holds p c.args.stack.now.items gs inner whole c.in-Some.ensures.items c.requires.depth ahead in
           let residual = err_from_is_err_and c.from_residual.result c.from_residual.ensures.1 in
-          rw (residual.1) (end_misses stands stands p gs inner whole g.V.Handler.silent c.finish.new.told x (c.in_err-finish.ensures.ended p.buf.now x.inner (rest_of p) (reverse gs) x.others x.fits x.held));
+          rw (residual.1) (end_misses holds holds p gs inner whole g.V.Handler.silent c.finish.new.reported x (c.in_err-finish.ensures.ended p.buf.now x.inner (rest_of p) (reverse gs) x.others x.fits x.held));
       onward = search rules;
       depth = search rules;
       some = search rules;
@@ -40,8 +40,8 @@ returns-in-Ok g c =
           let inner = c.in-Some.inner in
           let h = g.V.Handler in
           let text = p.buf.now in
-          let before = h.stands text c.args.room.now in
-          let after = h.stands text c.push_inner.new.room in
+          let before = h.holds text c.args.sink.now in
+          let after = h.holds text c.push_inner.new.sink in
           let value = c.frame_value-value.result in
           let x = ended before after p c.args.stack.now.items gs inner whole c.in-Some.ensures.items c.requires.depth ahead in
           let done = c.in_ok-finish.ensures.ended text x.inner (rest_of p) (reverse gs) x.others x.fits x.held in
@@ -58,10 +58,10 @@ returns-in-Ok g c =
           let a = c.end_element.ensures.advances in
           let on : Advances p q = record { buf = a.buf; mode = a.mode; onward = a.onward } in
           joined before after p q gs _ (take n gs) (variants.Array v) (variants.Array w) inner whole s expected_array_comma_or_end 93 on e (last-set gs n (variants.Array w) last)
-          h.silent q.told c.end_element.result x done.2
-          (λ o cs fits same. array-joins before after (λ fs ds. h.filled text c.finish.new.room value s fs ds) (size_of p) (mode_of p.mode) v w s below cs (λ ss full. c.in-Ok.ensures.put text s ss below cs full) o fits
-          (subst (λ ds. h.filled text c.finish.new.room value s (variants.Array v ∷ below) ds) same (subst (λ fs. h.filled text c.finish.new.room value s fs x.others) turned filled)))
-          (builds_always h.silent q.told (λ b d. b ≡ d) c.end_element.result _ (rest_of q) c.end_element.ensures.parses);
+          h.silent q.reported c.end_element.result x done.2
+          (λ o cs fits same. array-joins before after (λ fs ds. h.filled text c.finish.new.sink value s fs ds) (size_of p) (mode_of p.mode) v w s below cs (λ ss full. c.in-Ok.ensures.put text s ss below cs full) o fits
+          (subst (λ ds. h.filled text c.finish.new.sink value s (variants.Array v ∷ below) ds) same (subst (λ fs. h.filled text c.finish.new.sink value s fs x.others) turned filled)))
+          (builds_always h.silent q.reported (λ b d. b ≡ d) c.end_element.result _ (rest_of q) c.end_element.ensures.parses);
       onward = search rules;
       depth = search rules;
       some = search rules;
@@ -78,8 +78,8 @@ returns-in_ok-put_result-in-Object g c =
           let inner = c.in-Some.inner in
           let h = g.V.Handler in
           let text = p.buf.now in
-          let before = h.stands text c.args.room.now in
-          let after = h.stands text c.insert_inner-inserted.new.room in
+          let before = h.holds text c.args.sink.now in
+          let after = h.holds text c.insert_inner-inserted.new.sink in
           let value = c.frame_value-value.result in
           let x = ended before after p c.args.stack.now.items gs inner whole c.in-Some.ensures.items c.requires.depth ahead in
           let done = c.in_ok-finish.ensures.ended text x.inner (rest_of p) (reverse gs) x.others x.fits x.held in
@@ -98,11 +98,11 @@ returns-in_ok-put_result-in-Object g c =
           let on : Advances p q = record { buf = a.buf; mode = a.mode; onward = a.onward } in
           let put = put_new (h.silent ≡ true) c.insert_inner-inserted.result ok.0 c.insert_inner-inserted.ensures.put in
           joined before after p q gs _ (take n gs) (variants.Object v) (variants.Object w) inner whole s expected_object_comma_or_end 125 on e (last-set gs n (variants.Object w) last)
-          h.silent q.told c.end_member.result x done.2
-          (λ o cs fits same. object-joins before after (λ fs ds. h.filled text c.finish.new.room value s fs ds) (size_of p) (mode_of p.mode) v w s below cs (λ front k place full. put text s front k place below cs full) o fits
-          (subst (λ ds. h.filled text c.finish.new.room value s (variants.Object v ∷ below) ds) same (subst (λ fs. h.filled text c.finish.new.room value s fs x.others) turned filled)))
-          (builds_always h.silent q.told (λ b d. b ≡ d) c.end_member.result _ (rest_of q)
-          (subst (λ m. Builds false q.told (λ b d. b ≡ d) c.end_member.result (part_end (size_of m) expected_object_comma_or_end 125 (skip_whitespace (mode_of m.mode) (rest_of m))) (rest_of q)) ok.1 c.end_member.ensures.parses));
+          h.silent q.reported c.end_member.result x done.2
+          (λ o cs fits same. object-joins before after (λ fs ds. h.filled text c.finish.new.sink value s fs ds) (size_of p) (mode_of p.mode) v w s below cs (λ front k offset full. put text s front k offset below cs full) o fits
+          (subst (λ ds. h.filled text c.finish.new.sink value s (variants.Object v ∷ below) ds) same (subst (λ fs. h.filled text c.finish.new.sink value s fs x.others) turned filled)))
+          (builds_always h.silent q.reported (λ b d. b ≡ d) c.end_member.result _ (rest_of q)
+          (subst (λ m. Builds false q.reported (λ b d. b ≡ d) c.end_member.result (part_end (size_of m) expected_object_comma_or_end 125 (skip_whitespace (mode_of m.mode) (rest_of m))) (rest_of q)) ok.1 c.end_member.ensures.parses));
       onward = search rules;
       depth = search rules;
       some = search rules;

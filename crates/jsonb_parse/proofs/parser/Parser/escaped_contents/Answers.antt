@@ -2,10 +2,10 @@ use Rattle.std.proofs.Common.{◌≡◌, ℕ, ◌+◌, ◌-◌, ◌<◌, ◌≤�
 use Rattle.std.proofs.lemmas.List.{drop-take, get_or-take, get_or-drop, length-take-le, take-take}
 use Rattle.std.proofs.lemmas.Str.{IsCharBoundary-after_ascii}
 use Rattle.std.specs.Str.{IsCharBoundary}
-use Rattle.jsonb_scan.specs.Decoding.{TellsBackslash}
+use Rattle.jsonb_scan.specs.Decoding.{ReportsBackslash}
 use Rattle.jsonb_parse.specs.Parser.{rest_of}
 use Rattle.jsonb_scan.specs.Parsing.String.{quote_end}
-use Rattle.jsonb_scan.proofs.Strings.Bodies.{tells_taken}
+use Rattle.jsonb_scan.proofs.Strings.Bodies.{reports_taken}
 use Rattle.jsonb_scan.proofs.Strings.Ends.{quote_within}
 use Rattle.jsonb_parse.proofs.Scalars.Contents.{quote_there}
 use Rattle.jsonb_parse.proofs.parser.Parser.escaped_contents.Goals as goal
@@ -62,12 +62,12 @@ returns-clause-passes c =
     ∙ ap (λ (u : List ℕ). take end (drop p.offset u)) (c.requires.same ∙ ap (λ (n : ℕ). take n p.buf.now) split)
     ∙ ap (λ (u : List ℕ). take end u) (drop-take p.offset left p.buf.now) ∙ take-take end left (drop p.offset p.buf.now) short in
     let long : length body ≡ end = ap length cut ∙ length-take-le end rest (omega (arith, within)) in
-    let tells : TellsBackslash (take end rest) (length (take end rest)) true =
-    tells_taken rest end true (omega (arith, within)) (subst (TellsBackslash rest end) c.if-not-escaped.false (subst (λ (u : List ℕ). TellsBackslash u end c.in-Closed.escaped) rest-is c.in-Closed.ensures.1)) in
+    let reports : ReportsBackslash (take end rest) (length (take end rest)) true =
+    reports_taken rest end true (omega (arith, within)) (subst (ReportsBackslash rest end) c.if-not-escaped.false (subst (λ (u : List ℕ). ReportsBackslash u end c.in-Closed.escaped) rest-is c.in-Closed.ensures.1)) in
     let after : p.offset + (end + 1) ≡ p.offset + end + 1 = omega arith in record {
       found = found ∙ ap (λ (n : ℕ). Ok n) (sym long);
       is = cut ∙ ap (λ (n : ℕ). take n rest) (sym long);
-      escaped = subst (λ (u : List ℕ). TellsBackslash u (length u) true) (sym cut) tells;
+      escaped = subst (λ (u : List ℕ). ReportsBackslash u (length u) true) (sym cut) reports;
       within = omega (arith, within, long);
       rest = ap (λ (n : ℕ). drop n p.buf.now) (sym after) ∙ sym (drop-drop (end + 1) p.offset p.buf.now) ∙ ap (λ (n : ℕ). drop (n + 1) rest) (sym long);
     }

@@ -11,8 +11,8 @@ returns-in-Ok g c =
     let next = sym c.next_is.ensures ∙ c.if-next_is.true in
     record {
       parses = λ depth o fs cs fits held.
-          array_awaits (h.stands text c.args.room.now) (h.stands text c.next_item.new.room) p c.in-Array.items c.next_item.new.items next depth o fs cs (λ ss so_far. c.in-Ok.ensures.due text ss fs cs so_far)
-          (subst (λ f. Fits f o) c.in-Array.is fits) (subst (λ f. h.stands text c.args.room.now false (f ∷ fs) (o ∷ cs)) c.in-Array.is held);
+          array_awaits (h.holds text c.args.sink.now) (h.holds text c.next_item.new.sink) p c.in-Array.items c.next_item.new.items next depth o fs cs (λ ss so_far. c.in-Ok.ensures.due text ss fs cs so_far)
+          (subst (λ f. Fits f o) c.in-Array.is fits) (subst (λ f. h.holds text c.args.sink.now false (f ∷ fs) (o ∷ cs)) c.in-Array.is held);
       onward = search rules;
       opens = inl next;
       advances = search rules;

@@ -5,7 +5,7 @@ use Rattle.jsonb_parse.specs.declared.parser.Parser.{Parser}
 use Rattle.jsonb_parse.specs.Parser.{Advances, size_of}
 use Rattle.jsonb_parse.proofs.Containers.Frames.{after_brace, array_opened, object_opened, too_many}
 use Rattle.jsonb_parse.proofs.Steps.Advancing.{goes_on}
-use Rattle.jsonb_parse.proofs.Steps.Failures.{tells_fault}
+use Rattle.jsonb_parse.proofs.Steps.Failures.{reports_fault}
 use Rattle.jsonb_parse.proofs.parser.Parser.open_container.Goals as goal
 
 pub returns-then-len-eq-MAX_DEPTH : goal.returns-then-len-eq-MAX_DEPTH
@@ -13,8 +13,8 @@ returns-then-len-eq-MAX_DEPTH g c =
     record {
       parses = λ whole due.
           let p = c.args.self.now in
-          tells_fault g.V.Handler.silent c.fail.new.self.told c.too_deep-error.result whole c.fail.ensures.told
-          (subst (λ e. Fails e whole) (sym c.too_deep-error.ensures) (too_many (g.V.Handler.stands p.buf.now c.args.room.now) p c.args.stack.now.items whole (omega arith) c.requires.opens due));
+          reports_fault g.V.Handler.silent c.fail.new.self.reported c.too_deep-error.result whole c.fail.ensures.reported
+          (subst (λ e. Fails e whole) (sym c.too_deep-error.ensures) (too_many (g.V.Handler.holds p.buf.now c.args.sink.now) p c.args.stack.now.items whole (omega arith) c.requires.opens due));
       onward = search rules;
       depth = search rules;
       some = search rules;
@@ -32,7 +32,7 @@ returns-then-take_byte g c =
           let a = c.take_byte.ensures.advances in
           let h = g.V.Handler in
           let fs = c.args.stack.now.items in
-          array_opened (h.stands p.buf.now c.args.room.now) (h.stands p.buf.now c.items.new.room) p o s q fs c.push.new.self.items c.in-Ok.items c.take_byte-then-take_byte.result whole a (goes_on p o q a (goes_on o s q c.skip_whitespace.ensures.advances c.take_byte-then-take_byte.ensures.advances))
+          array_opened (h.holds p.buf.now c.args.sink.now) (h.holds p.buf.now c.items.new.sink) p o s q fs c.push.new.self.items c.in-Ok.items c.take_byte-then-take_byte.result whole a (goes_on p o q a (goes_on o s q c.skip_whitespace.ensures.advances c.take_byte-then-take_byte.ensures.advances))
           c.if-take_byte.ensures.rest c.skip_whitespace.ensures.rest c.take_byte-then-take_byte.ensures.found c.take_byte-then-take_byte.ensures.rest (λ cs. c.in-Ok.ensures.opened p.buf.now (reverse fs) cs) c.in-Ok-push.ensures.items (omega arith) due;
       onward = search rules;
       depth = search rules;
@@ -56,7 +56,7 @@ returns g c =
           let a = goes_on p n o c.take_byte.ensures.advances past in
           let h = g.V.Handler in
           let fs = c.args.stack.now.items in
-          object_opened (h.stands p.buf.now c.args.room.now) (h.stands p.buf.now c.members.new.room) p o s q fs c.push-2.new.self.items c.in-Ok-members.object (plain, []) 0 c.take_byte-2.result whole a (goes_on p o q a (record { buf = more.buf; mode = more.mode; onward = more.onward }))
+          object_opened (h.holds p.buf.now c.args.sink.now) (h.holds p.buf.now c.members.new.sink) p o s q fs c.push-2.new.self.items c.in-Ok-members.object (plain, []) 0 c.take_byte-2.result whole a (goes_on p o q a (record { buf = more.buf; mode = more.mode; onward = more.onward }))
           brace c.skip_whitespace-2.ensures.rest c.take_byte-2.ensures.found c.take_byte-2.ensures.rest (λ cs. c.in-Ok-members.ensures.opened p.buf.now (reverse fs) cs) c.in-Ok-push-2.ensures.items (omega arith) due;
       onward = search rules;
       depth = search rules;

@@ -18,5 +18,5 @@ returns-in_err-finish-clause-parses g c held =
     let same : frame ≡ read.0 = last_of_one _ frame read.0 (sym c.in-Some.ensures.items ∙ read.2) in
     let rest = rest_of c.parse_open_containers.new.self in
     let residual = err_from_is_err_and c.from_residual.result c.from_residual.ensures.1 in
-    rw (residual.1) (misses_same h.silent c.finish.new.told (finish_container read.1 rest) (parse_at (λ size mode. value_at size mode max_depth) p) read.5
-    (c.in_err-finish.ensures.ended p.buf.now read.1 rest [] [] (subst (λ f. Fits f read.1) (sym same) read.3) (subst (λ f. h.stands p.buf.now c.parse_open_containers.new.room false (f ∷ []) (read.1 ∷ [])) (sym same) read.4)))
+    rw (residual.1) (misses_same h.silent c.finish.new.reported (finish_container read.1 rest) (parse_at (λ size mode. value_at size mode max_depth) p) read.5
+    (c.in_err-finish.ensures.ended p.buf.now read.1 rest [] [] (subst (λ f. Fits f read.1) (sym same) read.3) (subst (λ f. h.holds p.buf.now c.parse_open_containers.new.sink false (f ∷ []) (read.1 ∷ [])) (sym same) read.4)))

@@ -10,7 +10,7 @@ use Rattle.jsonb_scan.specs.Parsing.Scalar.{scalar_at}
 use Rattle.jsonb_spec.specs.Source.{null_source, source_alone}
 use Rattle.jsonb_parse.proofs.Containers.Frames.{each_error, opens_allocates}
 use Rattle.jsonb_parse.proofs.Containers.OpenOnLists.{value_plain}
-use Rattle.jsonb_parse.proofs.Steps.Failures.{if_ok, misses_same, misses_through, root_put, tells_fault, written_memory}
+use Rattle.jsonb_parse.proofs.Steps.Failures.{if_ok, misses_same, misses_through, root_put, reports_fault, written_memory}
 use Rattle.jsonb_parse.proofs.Steps.Outcomes.{fails_same}
 use Rattle.jsonb_parse.proofs.Document.{document_comment, document_none, document_some, ended, ended_same}
 use Rattle.jsonb_parse.proofs.parser.Parser.parse_document.Goals as goal
@@ -48,9 +48,9 @@ returns-in-Err-end_document-clause-parses g c held =
     let h = g.V.Handler in
     let m = c.parse_container.new.self in
     let e = c.in-Err-end_document.error in
-    let read = c.in_ok-value.ensures.parses (subst (λ b. h.stands b.now c.args.room.now true [] []) (sym c.skip_closed_whitespace.ensures.advances.buf) held) in
+    let read = c.in_ok-value.ensures.parses (subst (λ b. h.holds b.now c.args.sink.now true [] []) (sym c.skip_closed_whitespace.ensures.advances.buf) held) in
     let whole = source_from (size_of p) (mode_of p.mode) (skip_closed_whitespace (mode_of p.mode) (rest_of p)) in
-    tells_fault h.silent c.fail-in-Err-end_document.new.self.told e whole c.fail-in-Err-end_document.ensures.told
+    reports_fault h.silent c.fail-in-Err-end_document.new.self.reported e whole c.fail-in-Err-end_document.ensures.reported
     (fails_same e (at_end (size_of m) (mode_of m.mode) read.0 (skip_closed_whitespace (mode_of m.mode) (rest_of m))) whole
     (document_some p q c.skip_closed_whitespace.ensures.rest c.skip_closed_whitespace.ensures.advances c.if-self.false (sym c.opens_comment.ensures.value ∙ c.if-opens_comment.false)
     ∙ ap (λ r. r >>= ended (size_of q) (mode_of q.mode)) read.2 ∙ ended_same q m read.0 c.in_ok-value.ensures.advances.parser) (c.in-Err-end_document.ensures.parses read.0))
@@ -62,7 +62,7 @@ returns-in_err-value-2-clause-parses g c held =
     let p = c.args.self.now in
     let q = c.skip_closed_whitespace.new.self in
     let h = g.V.Handler in
-    let t = c.parse_root_scalar.new.self.told in
+    let t = c.parse_root_scalar.new.self.reported in
     let value = value_at (size_of q) (mode_of q.mode) max_depth (rest_of q) in
     let residual = err_from_is_err_and c.from_residual-in_err-value-2.result c.from_residual-in_err-value-2.ensures.1 in
     rw (residual.1) (misses_same h.silent t (value >>= ended (size_of q) (mode_of q.mode)) (source_from (size_of p) (mode_of p.mode) (skip_closed_whitespace (mode_of p.mode) (rest_of p)))
@@ -81,7 +81,7 @@ returns-in-Err-end_document-2-clause-parses g c held =
     let read = c.in_ok-value-2.ensures.parses in
     let s = source_alone read.0 in
     let whole = source_from (size_of p) (mode_of p.mode) (skip_closed_whitespace (mode_of p.mode) (rest_of p)) in
-    tells_fault h.silent c.fail-in-Err-end_document-2.new.self.told e whole c.fail-in-Err-end_document-2.ensures.told
+    reports_fault h.silent c.fail-in-Err-end_document-2.new.self.reported e whole c.fail-in-Err-end_document-2.ensures.reported
     (fails_same e (at_end (size_of m) (mode_of m.mode) s (skip_closed_whitespace (mode_of m.mode) (rest_of m))) whole
     (document_some p q c.skip_closed_whitespace.ensures.rest c.skip_closed_whitespace.ensures.advances c.if-self.false (sym c.opens_comment.ensures.value ∙ c.if-opens_comment.false)
     ∙ ap (λ r. r >>= ended (size_of q) (mode_of q.mode)) (value_plain (size_of q) (mode_of q.mode) max_depth (rest_of q) c.if-begins_container.ensures.other.0 c.if-begins_container.ensures.other.1 ∙ ap alone_at read.2)
@@ -95,7 +95,7 @@ returns-clause-parses g c held =
     let m = c.parse_root_scalar.new.self in
     let read = c.in_ok-value-2.ensures.parses in
     let s = source_alone read.0 in
-    root_put (h.writes ≡ true) h.silent c.put_root-2.new.self.told (λ v u. h.filled p.buf.now c.put_root-2.new.room v u [] []) c.put_root-2.result (source_from (size_of p) (mode_of p.mode) (skip_closed_whitespace (mode_of p.mode) (rest_of p))) s
+    root_put (h.writes ≡ true) h.silent c.put_root-2.new.self.reported (λ v u. h.filled p.buf.now c.put_root-2.new.sink v u [] []) c.put_root-2.result (source_from (size_of p) (mode_of p.mode) (skip_closed_whitespace (mode_of p.mode) (rest_of p))) s
     (document_some p q c.skip_closed_whitespace.ensures.rest c.skip_closed_whitespace.ensures.advances c.if-self.false (sym c.opens_comment.ensures.value ∙ c.if-opens_comment.false)
     ∙ ap (λ r. r >>= ended (size_of q) (mode_of q.mode)) (value_plain (size_of q) (mode_of q.mode) max_depth (rest_of q) c.if-begins_container.ensures.other.0 c.if-begins_container.ensures.other.1 ∙ ap alone_at read.2)
     ∙ ended_same q m s c.in_ok-value-2.ensures.advances ∙ c.in_default-end_document-2.ensures.parses s)

@@ -15,8 +15,8 @@ invariant-elements g l =
     let p = l.fn.self in
     let h = g.V.Handler in record {
       advances : Advances p l.self;
-      base : h.base l.room ≡ h.base l.fn.room;
-      parses : (depth : ℕ) (c : Open) (fs : List (Frame g.row.V-Items.Denot g.row.V-Members.Denot g.row.V-Key.Denot)) (cs : List Open) → IsArray c → h.stands p.buf.now l.fn.room false (variants.Array l.fn.items ∷ fs) (c ∷ cs) → (ss : List Source) × h.stands p.buf.now l.room false (variants.Array l.items ∷ fs) (elements_so_far ss ∷ cs) × (next_part_at (size_of p) (mode_of p.mode) depth c (rest_of p) ≡ elements_from (size_of p) (mode_of p.mode) depth ss (rest_of l.self));
+      base : h.base l.sink ≡ h.base l.fn.sink;
+      parses : (depth : ℕ) (c : Open) (fs : List (Frame g.row.V-Items.Denot g.row.V-Members.Denot g.row.V-Key.Denot)) (cs : List Open) → IsArray c → h.holds p.buf.now l.fn.sink false (variants.Array l.fn.items ∷ fs) (c ∷ cs) → (ss : List Source) × h.holds p.buf.now l.sink false (variants.Array l.items ∷ fs) (elements_so_far ss ∷ cs) × (next_part_at (size_of p) (mode_of p.mode) depth c (rest_of p) ≡ elements_from (size_of p) (mode_of p.mode) depth ss (rest_of l.self));
     }
 
 abbrev pub decreases-elements : goal.decreases-elements

@@ -47,7 +47,7 @@ returns-in-Err-escaped_string g c =
       parses =
           let p = c.args.self.now in
           let rejected = subst (λ mode. SeesContents g.V.Handler.sees (p.offset + 1) (Err c.in-Err-escaped_string.error) (body_of (mode_of mode) c.in-Some.body.now)) c.escaped_contents.ensures.advances.mode c.in-Err-escaped_string.ensures in
-          contents_fail c.args.quote p c.escaped_contents.new.self c.in-Some.body.now c.in-Some.ensures.passes g.V.Handler.sees g.V.Handler.silent c.fail-in-Err-escaped_string.new.self.told c.in-Err-escaped_string.error c.fail-in-Err-escaped_string.ensures.told rejected;
+          contents_fail c.args.quote p c.escaped_contents.new.self c.in-Some.body.now c.in-Some.ensures.passes g.V.Handler.sees g.V.Handler.silent c.fail-in-Err-escaped_string.new.self.reported c.in-Err-escaped_string.error c.fail-in-Err-escaped_string.ensures.reported rejected;
       memory = λ is. contents_escaped c.args.quote c.args.self.now c.escaped_contents.new.self c.in-Some.body.now c.in-Some.ensures.passes;
       advances = search rules;
     }

@@ -8,7 +8,7 @@ pub returns-in-Err : goal.returns-in-Err
 returns-in-Err c =
     record {
       parses =
-          scanned_fault c.args.self.now.offset c.in-Err.fault.place (code_of c.in-Err.fault.code) c.args.self.now.buf.now c.args.bytes.now c.args.self.now.inside c.requires.bytes (sym c.in-Err.ensures.scan);
+          scanned_fault c.args.self.now.offset c.in-Err.fault.offset (code_of c.in-Err.fault.code) c.args.self.now.buf.now c.args.bytes.now c.args.self.now.inside c.requires.bytes (sym c.in-Err.ensures.scan);
       takes_no_memory = search rules;
       advances = search rules;
     }

@@ -19,7 +19,7 @@ use Rattle.jsonb_scan.specs.Open.{Open}
 use Rattle.jsonb_scan.specs.Open.{elements_so_far, members_so_far}
 use Rattle.jsonb_parse.proofs.Containers.Frames.{after_member, member_due, member_turn, same_end, waits}
 use Rattle.jsonb_parse.proofs.Steps.Advancing.{goes_on, stays}
-use Rattle.jsonb_parse.proofs.Steps.Failures.{misses_same, misses_through, puts_if, stops_if, tells_always}
+use Rattle.jsonb_parse.proofs.Steps.Failures.{misses_same, misses_through, puts_if, stops_if, reports_always}
 use Rattle.jsonb_parse.proofs.parser.Parser.parse_members.Goals as goal
 
 pub returns-in_err-key : goal.returns-in_err-key
@@ -31,7 +31,7 @@ returns-in_err-key g c =
           let i = c.members.invariant in
           let so_far = i.parses depth o fs cs fits held in
           let silent = g.V.Handler.silent in
-          let t = c.begin_member.new.self.told in
+          let t = c.begin_member.new.self.reported in
           let residual = err_from_is_err_and c.from_residual.result c.from_residual.ensures.1 in
           rw (residual.1) (misses_same silent t (parse_at member_start l >>= waits p depth so_far.0) (next_part_at (size_of p) (mode_of p.mode) depth o (rest_of p))
           (so_far.4 ∙ member_due p l depth so_far.0 i.advances)
@@ -52,12 +52,12 @@ returns-then-branch g c =
           let i = c.members.invariant in
           let so_far = i.parses depth o fs cs fits held in
           let key = c.in_ok-key.ensures.parses in
-          let begun = subst (λ b. Begins (h.stands b.now) c.members.room c.members.object c.begin_member.new.room c.begin_member.new.object c.in_ok-key.key key.0.0 key.0.1) c.members.invariant.advances.buf key.1 in
+          let begun = subst (λ b. Begins (h.holds b.now) c.members.sink c.members.object c.begin_member.new.sink c.begin_member.new.object c.in_ok-key.key key.0.0 key.0.1) c.members.invariant.advances.buf key.1 in
           let here = members_so_far so_far.0 key.0.0 key.0.1 in
           record {
             so_far = here;
             fits = tt;
-            held = subst (λ f. h.stands text c.put_member.new.room true (f ∷ fs) (here ∷ cs)) (sym stop.same_frame) (subst (λ r. h.stands text r true (variants.Object (record { members = c.begin_member.new.object.members; key = c.in_ok-key.key }) ∷ fs) (here ∷ cs)) (sym stop.same_room) (begun so_far.0 so_far.1 so_far.2 fs cs so_far.3));
+            held = subst (λ f. h.holds text c.put_member.new.sink true (f ∷ fs) (here ∷ cs)) (sym stop.same_frame) (subst (λ r. h.holds text r true (variants.Object (record { members = c.begin_member.new.object.members; key = c.in_ok-key.key }) ∷ fs) (here ∷ cs)) (sym stop.same_sink) (begun so_far.0 so_far.1 so_far.2 fs cs so_far.3));
             parses = so_far.4 ∙ member_due p c.members.self depth so_far.0 i.advances ∙ ap (λ x. x >>= waits p depth so_far.0) key.2 ∙ ap (λ q. resume_value (size_of p) (mode_of p.mode) depth false here (rest_of q)) (sym stop.stays);
           };
       onward = search rules;
@@ -77,7 +77,7 @@ returns-in_err-put_member g c =
           let so_far = i.parses depth o fs cs fits held in
           let key = c.in_ok-key.ensures.parses in
           let silent = g.V.Handler.silent in
-          let t = c.put_member.new.self.told in
+          let t = c.put_member.new.self.reported in
           let on = goes_on p l s i.advances c.begin_member.ensures.advances.parser in
           let residual = err_from_is_err_and c.from_residual-in_err-put_member.result c.from_residual-in_err-put_member.ensures.1 in
           rw (residual.1) (misses_same silent t (parse_at scalar_at s >>= after_member p depth so_far.0 key.0.0 key.0.1) (next_part_at (size_of p) (mode_of p.mode) depth o (rest_of p))
@@ -102,7 +102,7 @@ returns-in_err-end_member g c =
           let key = c.in_ok-key.ensures.parses in
           let put = puts_if _ _ _ c.if-branch.false c.in_ok-put_member.ensures.puts.puts in
           let silent = g.V.Handler.silent in
-          let t = c.end_member.new.self.told in
+          let t = c.end_member.new.self.reported in
           let on = goes_on p l s i.advances c.begin_member.ensures.advances.parser in
           let more = members_so_far (so_far.0 ++ found_member key.0.0 (source_alone put.tree) key.0.1 ∷ []) (plain, []) 0 in
           let ends = part_end (size_of q) expected_object_comma_or_end 125 (skip_whitespace (mode_of q.mode) (rest_of q)) in
@@ -112,7 +112,7 @@ returns-in_err-end_member g c =
           ∙ member_turn p s depth so_far.0 key.0.0 key.0.1 on put.none_opens.0 put.none_opens.1
           ∙ ap (λ x. x >>= after_member p depth so_far.0 key.0.0 key.0.1) put.parses
           ∙ ap (λ x. x >>= λ y. resume_part (size_of p) (mode_of p.mode) depth y.0 more y.1) (sym (same_end p q expected_object_comma_or_end 125 (goes_on p s q on c.put_member.ensures.advances.parser))))
-          (misses_through silent t ends (λ y. resume_part (size_of p) (mode_of p.mode) depth y.0 more y.1) (tells_always silent t ends c.in_err-end_member.ensures.parses)));
+          (misses_through silent t ends (λ y. resume_part (size_of p) (mode_of p.mode) depth y.0 more y.1) (reports_always silent t ends c.in_err-end_member.ensures.parses)));
       onward = search rules;
       opens = search rules;
       advances = search rules;
@@ -130,7 +130,7 @@ returns-then-branch-2 g c =
           let i = c.members.invariant in
           let so_far = i.parses depth o fs cs fits held in
           let key = c.in_ok-key.ensures.parses in
-          let begun = subst (λ b. Begins (g.V.Handler.stands b.now) c.members.room c.members.object c.begin_member.new.room c.begin_member.new.object c.in_ok-key.key key.0.0 key.0.1) c.members.invariant.advances.buf key.1 in
+          let begun = subst (λ b. Begins (g.V.Handler.holds b.now) c.members.sink c.members.object c.begin_member.new.sink c.begin_member.new.object c.in_ok-key.key key.0.0 key.0.1) c.members.invariant.advances.buf key.1 in
           let put = puts_if _ _ _ c.if-branch.false c.in_ok-put_member.ensures.puts.puts in
           let ended = c.in_ok-end_member.ensures.parses in
           let on = goes_on p l s i.advances c.begin_member.ensures.advances.parser in
@@ -138,7 +138,7 @@ returns-then-branch-2 g c =
           let more = members_so_far all (plain, []) 0 in
           let h = g.V.Handler in
           let m = c.begin_member.new.object in
-          let inserted = subst (λ b. h.stands b.now c.begin_member.new.room true (variants.Object (record { members = m.members; key = c.in_ok-key.key }) ∷ fs) (members_so_far so_far.0 key.0.0 key.0.1 ∷ cs) → h.stands b.now c.put_member.new.room false (variants.Object c.put_member.new.object ∷ fs) (more ∷ cs)) on.buf (put.put (members_so_far so_far.0 key.0.0 key.0.1) fs cs tt) (begun so_far.0 so_far.1 so_far.2 fs cs so_far.3) in
+          let inserted = subst (λ b. h.holds b.now c.begin_member.new.sink true (variants.Object (record { members = m.members; key = c.in_ok-key.key }) ∷ fs) (members_so_far so_far.0 key.0.0 key.0.1 ∷ cs) → h.holds b.now c.put_member.new.sink false (variants.Object c.put_member.new.object ∷ fs) (more ∷ cs)) on.buf (put.put (members_so_far so_far.0 key.0.0 key.0.1) fs cs tt) (begun so_far.0 so_far.1 so_far.2 fs cs so_far.3) in
           record {
             so_far = more;
             fits = tt;
@@ -164,9 +164,9 @@ members-init g c =
       parses = begun;
     }
   where
-    begun : (depth : ℕ) (o : Open) (fs : List (Frame g.row.V-Items.Denot g.row.V-Members.Denot g.row.V-Key.Denot)) (cs : List Open) → IsObject o → g.V.Handler.stands c.args.self.now.buf.now c.args.room.now false (variants.Object c.args.object.now ∷ fs) (o ∷ cs) → (ms : List Found) × (k : Mark × List ℕ) × (place : ℕ) × g.V.Handler.stands c.args.self.now.buf.now c.args.room.now false (variants.Object c.args.object.now ∷ fs) (members_so_far ms k place ∷ cs) × (next_part_at (size_of c.args.self.now) (mode_of c.args.self.now.mode) depth o (rest_of c.args.self.now) ≡ object_members_from (size_of c.args.self.now) (mode_of c.args.self.now.mode) depth ms (rest_of c.args.self.now))
+    begun : (depth : ℕ) (o : Open) (fs : List (Frame g.row.V-Items.Denot g.row.V-Members.Denot g.row.V-Key.Denot)) (cs : List Open) → IsObject o → g.V.Handler.holds c.args.self.now.buf.now c.args.sink.now false (variants.Object c.args.object.now ∷ fs) (o ∷ cs) → (ms : List Found) × (k : Mark × List ℕ) × (offset : ℕ) × g.V.Handler.holds c.args.self.now.buf.now c.args.sink.now false (variants.Object c.args.object.now ∷ fs) (members_so_far ms k offset ∷ cs) × (next_part_at (size_of c.args.self.now) (mode_of c.args.self.now.mode) depth o (rest_of c.args.self.now) ≡ object_members_from (size_of c.args.self.now) (mode_of c.args.self.now.mode) depth ms (rest_of c.args.self.now))
     begun depth (elements_so_far ss) fs cs fits held = absurd fits
-    begun depth (members_so_far ms k place) fs cs fits held = (ms, k, place, held, refl)
+    begun depth (members_so_far ms k offset) fs cs fits held = (ms, k, offset, held, refl)
 
 pub members-preserved : goal.members-preserved
 members-preserved g c =
@@ -177,7 +177,7 @@ members-preserved g c =
     let r = c.end_member.new.self in
     let i = c.members.invariant in
     let key = c.in_ok-key.ensures.parses in
-    let begun = subst (λ b. Begins (g.V.Handler.stands b.now) c.members.room c.members.object c.begin_member.new.room c.begin_member.new.object c.in_ok-key.key key.0.0 key.0.1) c.members.invariant.advances.buf key.1 in
+    let begun = subst (λ b. Begins (g.V.Handler.holds b.now) c.members.sink c.members.object c.begin_member.new.sink c.begin_member.new.object c.in_ok-key.key key.0.0 key.0.1) c.members.invariant.advances.buf key.1 in
     let put = puts_if _ _ _ c.if-branch.false c.in_ok-put_member.ensures.puts.puts in
     let ended = c.in_ok-end_member.ensures.parses in
     let on = goes_on p l s i.advances c.begin_member.ensures.advances.parser in
@@ -194,7 +194,7 @@ members-preserved g c =
             all,
             (plain, []),
             0,
-            subst (λ b. h.stands b.now c.begin_member.new.room true (variants.Object (record { members = m.members; key = c.in_ok-key.key }) ∷ fs) (members_so_far so_far.0 key.0.0 key.0.1 ∷ cs) → h.stands b.now c.put_member.new.room false (variants.Object c.put_member.new.object ∷ fs) (more ∷ cs)) on.buf (put.put (members_so_far so_far.0 key.0.0 key.0.1) fs cs tt) (begun so_far.0 so_far.1 so_far.2 fs cs so_far.3),
+            subst (λ b. h.holds b.now c.begin_member.new.sink true (variants.Object (record { members = m.members; key = c.in_ok-key.key }) ∷ fs) (members_so_far so_far.0 key.0.0 key.0.1 ∷ cs) → h.holds b.now c.put_member.new.sink false (variants.Object c.put_member.new.object ∷ fs) (more ∷ cs)) on.buf (put.put (members_so_far so_far.0 key.0.0 key.0.1) fs cs tt) (begun so_far.0 so_far.1 so_far.2 fs cs so_far.3),
             so_far.4 ∙ member_due p l depth so_far.0 i.advances ∙ ap (λ x. x >>= waits p depth so_far.0) key.2
                 ∙ member_turn p s depth so_far.0 key.0.0 key.0.1 on put.none_opens.0 put.none_opens.1
                 ∙ ap (λ x. x >>= after_member p depth so_far.0 key.0.0 key.0.1) put.parses

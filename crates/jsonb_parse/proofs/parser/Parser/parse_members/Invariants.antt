@@ -16,8 +16,8 @@ invariant-members g l =
     let p = l.fn.self in
     let h = g.V.Handler in record {
       advances : Advances p l.self;
-      base : h.base l.room ≡ h.base l.fn.room;
-      parses : (depth : ℕ) (c : Open) (fs : List (Frame g.row.V-Items.Denot g.row.V-Members.Denot g.row.V-Key.Denot)) (cs : List Open) → IsObject c → h.stands p.buf.now l.fn.room false (variants.Object l.fn.object ∷ fs) (c ∷ cs) → (ms : List Found) × (k : Mark × List ℕ) × (place : ℕ) × h.stands p.buf.now l.room false (variants.Object l.object ∷ fs) (members_so_far ms k place ∷ cs) × (next_part_at (size_of p) (mode_of p.mode) depth c (rest_of p) ≡ object_members_from (size_of p) (mode_of p.mode) depth ms (rest_of l.self));
+      base : h.base l.sink ≡ h.base l.fn.sink;
+      parses : (depth : ℕ) (c : Open) (fs : List (Frame g.row.V-Items.Denot g.row.V-Members.Denot g.row.V-Key.Denot)) (cs : List Open) → IsObject c → h.holds p.buf.now l.fn.sink false (variants.Object l.fn.object ∷ fs) (c ∷ cs) → (ms : List Found) × (k : Mark × List ℕ) × (offset : ℕ) × h.holds p.buf.now l.sink false (variants.Object l.object ∷ fs) (members_so_far ms k offset ∷ cs) × (next_part_at (size_of p) (mode_of p.mode) depth c (rest_of p) ≡ object_members_from (size_of p) (mode_of p.mode) depth ms (rest_of l.self));
     }
 
 abbrev pub decreases-members : goal.decreases-members

@@ -13,8 +13,8 @@ invariant-turns g l =
       open-stack : 0 < length l.stack.items;
       depth : length l.stack.items ≤ max_depth;
       advances : Advances p l.self;
-      base : g.V.Handler.base l.room ≡ g.V.Handler.base l.fn.room;
-      ahead : g.V.Handler.stands p.buf.now l.fn.room true [] [] → AtPart (g.V.Handler.stands p.buf.now l.room) (value_at (size_of p) (mode_of p.mode) max_depth (rest_of p)) l.self l.stack.items l.closed;
+      base : g.V.Handler.base l.sink ≡ g.V.Handler.base l.fn.sink;
+      ahead : g.V.Handler.holds p.buf.now l.fn.sink true [] [] → AtPart (g.V.Handler.holds p.buf.now l.sink) (value_at (size_of p) (mode_of p.mode) max_depth (rest_of p)) l.self l.stack.items l.closed;
     }
 
 abbrev pub decreases-turns : goal.decreases-turns

@@ -20,7 +20,7 @@ returns-in_err-fill g c =
           let last : n + 1 ≡ length fs = omega arith in
           let f = c.in-Some.frame.now in
           let residual = err_from_is_err_and c.from_residual.result c.from_residual.ensures.1 in
-          rw (residual.1) (part_misses (g.V.Handler.stands p.buf.now c.args.room.now) (g.V.Handler.stands p.buf.now c.args.room.now) p fs (take n fs) f whole g.V.Handler.silent c.fill.new.self.told (last-is fs n f last c.in-Some.ensures.value) c.in_err-fill.ensures.parses ahead);
+          rw (residual.1) (part_misses (g.V.Handler.holds p.buf.now c.args.sink.now) (g.V.Handler.holds p.buf.now c.args.sink.now) p fs (take n fs) f whole g.V.Handler.silent c.fill.new.self.reported (last-is fs n f last c.in-Some.ensures.value) c.in_err-fill.ensures.parses ahead);
       onward = search rules;
       depth = search rules;
       some = search rules;
@@ -39,8 +39,8 @@ returns-then-branch g c =
           let last : n + 1 ≡ length fs = omega arith in
           let f = c.in-Some.frame.now in
           let h = c.fill.new.frame in
-          read_to_end (g.V.Handler.stands p.buf.now c.args.room.now) (g.V.Handler.stands p.buf.now c.fill.new.room) p q fs _ (take n fs) f h whole c.fill.ensures.advances.parser (last-is fs n f last c.in-Some.ensures.value) (last-set fs n h last)
-          (λ depth o ks cs fits held. subst (λ closed. ParsesParts (g.V.Handler.stands p.buf.now c.fill.new.room) (size_of p) (mode_of p.mode) depth (next_part_at (size_of p) (mode_of p.mode) depth o (rest_of p)) closed h ks cs (rest_of q)) c.if-branch.true (c.in_ok-fill.ensures.parses depth o ks cs fits held))
+          read_to_end (g.V.Handler.holds p.buf.now c.args.sink.now) (g.V.Handler.holds p.buf.now c.fill.new.sink) p q fs _ (take n fs) f h whole c.fill.ensures.advances.parser (last-is fs n f last c.in-Some.ensures.value) (last-set fs n h last)
+          (λ depth o ks cs fits held. subst (λ closed. ParsesParts (g.V.Handler.holds p.buf.now c.fill.new.sink) (size_of p) (mode_of p.mode) depth (next_part_at (size_of p) (mode_of p.mode) depth o (rest_of p)) closed h ks cs (rest_of q)) c.if-branch.true (c.in_ok-fill.ensures.parses depth o ks cs fits held))
           ahead;
       onward = search rules;
       depth = search rules;
@@ -60,9 +60,9 @@ returns g c =
           let last : n + 1 ≡ length fs = omega arith in
           let f = c.in-Some.frame.now in
           let h = c.fill.new.frame in
-          subst (λ b. BeforeValue (g.V.Handler.stands b.now c.fill.new.room) whole q (set fs n h) → ElseFails g.V.Handler.silent c.open_container.new.self.told c.open_container.result whole (AtPart (g.V.Handler.stands b.now c.open_container.new.room) whole c.open_container.new.self c.open_container.new.stack.items)) c.fill.ensures.advances.parser.buf (c.open_container.ensures.parses whole)
-          (stopped_due (g.V.Handler.stands p.buf.now c.args.room.now) (g.V.Handler.stands p.buf.now c.fill.new.room) p q fs _ (take n fs) f h whole c.fill.ensures.advances.parser (last-is fs n f last c.in-Some.ensures.value) (last-set fs n h last)
-          (λ depth o ks cs fits held. subst (λ closed. ParsesParts (g.V.Handler.stands p.buf.now c.fill.new.room) (size_of p) (mode_of p.mode) depth (next_part_at (size_of p) (mode_of p.mode) depth o (rest_of p)) closed h ks cs (rest_of q)) c.if-branch.false (c.in_ok-fill.ensures.parses depth o ks cs fits held))
+          subst (λ b. BeforeValue (g.V.Handler.holds b.now c.fill.new.sink) whole q (set fs n h) → ElseFails g.V.Handler.silent c.open_container.new.self.reported c.open_container.result whole (AtPart (g.V.Handler.holds b.now c.open_container.new.sink) whole c.open_container.new.self c.open_container.new.stack.items)) c.fill.ensures.advances.parser.buf (c.open_container.ensures.parses whole)
+          (stopped_due (g.V.Handler.holds p.buf.now c.args.sink.now) (g.V.Handler.holds p.buf.now c.fill.new.sink) p q fs _ (take n fs) f h whole c.fill.ensures.advances.parser (last-is fs n f last c.in-Some.ensures.value) (last-set fs n h last)
+          (λ depth o ks cs fits held. subst (λ closed. ParsesParts (g.V.Handler.holds p.buf.now c.fill.new.sink) (size_of p) (mode_of p.mode) depth (next_part_at (size_of p) (mode_of p.mode) depth o (rest_of p)) closed h ks cs (rest_of q)) c.if-branch.false (c.in_ok-fill.ensures.parses depth o ks cs fits held))
           ahead);
       onward = search rules;
       depth = search rules;

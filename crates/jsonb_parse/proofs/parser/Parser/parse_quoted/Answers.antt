@@ -6,14 +6,14 @@ use Rattle.jsonb_spec.specs.Code.{invalid_eof}
 use Rattle.jsonb_value.specs.View.{mark_view}
 use Rattle.jsonb_value.specs.declared.error.Error.{Error}
 use Rattle.jsonb_value.specs.declared.error.Error.TheVariants.{OutOfMemory}
-use Rattle.jsonb_scan.specs.Decoding.{TellsBackslash}
+use Rattle.jsonb_scan.specs.Decoding.{ReportsBackslash}
 use Rattle.jsonb_scan.specs.Answer.{mode_of}
 use Rattle.jsonb_parse.specs.Parser.{rest_of, size_of}
 use Rattle.jsonb_scan.specs.QuotedString.{DecodesContents}
 use Rattle.jsonb_scan.specs.Parsing.{fault}
 use Rattle.jsonb_scan.specs.Parsing.String.{body_of, quote_end}
 use Rattle.jsonb_scan.proofs.Strings.Ends.{quote_within}
-use Rattle.jsonb_scan.proofs.Strings.Bodies.{string-closed, string-unclosed, body_fails, contains_after, tells_taken}
+use Rattle.jsonb_scan.proofs.Strings.Bodies.{string-closed, string-unclosed, body_fails, contains_after, reports_taken}
 use Rattle.jsonb_parse.proofs.parser.Parser.parse_quoted.Goals as goal
 
 same_error : {A : Type 0} (r : Result A Error) (x y : Error) → r ≡ Err x → r ≡ Err OutOfMemory → x ≡ y → y ≡ OutOfMemory
@@ -45,7 +45,7 @@ returns-in_err-text-in-Closed c =
           let sees : c.in-Closed.escaped ≡ true = c.in_err-text-in-Closed.ensures.memory (ap Err (same_error _ _ _ r.1 is r.2)) in
           let found = ap (quote_end c.args.quote) (sym rest-is) ∙ c.in-Closed.ensures.0 in
           contains_after p.buf.now p.offset end
-          (subst (TellsBackslash (rest_of p) end) sees (subst (λ (u : List ℕ). TellsBackslash u end c.in-Closed.escaped) rest-is c.in-Closed.ensures.1))
+          (subst (ReportsBackslash (rest_of p) end) sees (subst (λ (u : List ℕ). ReportsBackslash u end c.in-Closed.escaped) rest-is c.in-Closed.ensures.1))
           (omega (arith, quote_within c.args.quote (rest_of p) end found));
       advances = search rules;
     }
@@ -68,8 +68,8 @@ returns-in-Unclosed c =
       parses =
           let p = c.args.self.now in
           let none = ap (quote_end c.args.quote) (sym c.rest-rest.ensures) ∙ c.in-Unclosed.ensures.0 in
-          let place : size_of p - length (rest_of p) + c.in-Unclosed.at ≡ p.offset + c.in-Unclosed.at = omega (arith, length-drop p.offset p.buf.now, c.args.self.now.inside) in
-          string-unclosed (size_of p) (mode_of p.mode) c.args.quote (rest_of p) c.in-Unclosed.at none ∙ ap (λ (k : ℕ). fault invalid_eof k) place;
+          let offset : size_of p - length (rest_of p) + c.in-Unclosed.at ≡ p.offset + c.in-Unclosed.at = omega (arith, length-drop p.offset p.buf.now, c.args.self.now.inside) in
+          string-unclosed (size_of p) (mode_of p.mode) c.args.quote (rest_of p) c.in-Unclosed.at none ∙ ap (λ (k : ℕ). fault invalid_eof k) offset;
       memory = search rules;
       advances = search rules;
     }
@@ -92,7 +92,7 @@ returns-in_ok-text-in-Closed c =
 pub decode_contents-requires-clause-escaped : goal.decode_contents-requires-clause-escaped
 decode_contents-requires-clause-escaped c =
     let within = quote_within c.args.quote c.rest-rest.result.now c.in-Closed.end c.in-Closed.ensures.0 in
-    tells_taken c.rest-rest.result.now c.in-Closed.end c.in-Closed.escaped (omega (arith, within)) c.in-Closed.ensures.1
+    reports_taken c.rest-rest.result.now c.in-Closed.end c.in-Closed.escaped (omega (arith, within)) c.in-Closed.ensures.1
 
 pub invariant_of-self : goal.invariant_of-self
 invariant_of-self c =

@@ -30,7 +30,7 @@ returns g c =
       parses =
           let p = c.args.self.now in
           let quote = c.args.quote in
-          builds_same g.V.Handler.silent c.parse_escaped_string.new.self.told (AsScalar g.V.Handler.sees) c.parse_escaped_string.result _ _ _
+          builds_same g.V.Handler.silent c.parse_escaped_string.new.self.reported (AsScalar g.V.Handler.sees) c.parse_escaped_string.result _ _ _
           (ap (quoted_at (size_of p) (mode_of p.mode) quote) (drop-drop 1 p.offset p.buf.now)
           ∙ sym (ap (λ o. quoted_at (size_of o) (mode_of o.mode) quote (rest_of o)) c.in_default.ensures.stays))
           c.parse_escaped_string.ensures.parses;

@@ -3,11 +3,11 @@ use Rattle.std.proofs.lemmas.List.{drop-take, drop_more, get_or-take, length-tak
 use Rattle.std.proofs.lemmas.Str.{IsCharBoundary-after_ascii}
 use Rattle.std.specs.Str.{IsCharBoundary, IsUtf8}
 use Rattle.jsonb_spec.specs.Tree.Mark.{plain}
-use Rattle.jsonb_scan.specs.Decoding.{TellsBackslash}
+use Rattle.jsonb_scan.specs.Decoding.{ReportsBackslash}
 use Rattle.jsonb_scan.specs.Answer.{mode_of}
 use Rattle.jsonb_parse.specs.Parser.{size_of}
 use Rattle.jsonb_scan.specs.Parsing.String.{quote_end, string_at}
-use Rattle.jsonb_scan.proofs.Strings.Bodies.{body-raw, found_end, search_start, search_to, string-closed, tells_taken}
+use Rattle.jsonb_scan.proofs.Strings.Bodies.{body-raw, found_end, search_start, search_to, string-closed, reports_taken}
 use Rattle.jsonb_scan.specs.QuotedString.{IsClear}
 use Rattle.jsonb_spec.specs.Text.StringText.{ArePlain}
 use Rattle.jsonb_value.proofs.Strings.PlainTexts.{no_marks}
@@ -40,7 +40,7 @@ returns-clause-cuts c =
           let long : length (take end rest) ≡ end = length-take-le end rest mark.within in
           let before : IsClear quote rest 0 end = λ k low high. let there = marks k (omega (arith, high, long)) in subst (λ b. (b ≢ quote) × (b ≢ 92)) (get_or-take end rest k 0 high) there in
           let found : quote_end quote rest ≡ Ok end = found_end quote rest end within c.if-rest-end-ne34.false (search_to quote rest 0 end (omega arith) mark.within before (search_start quote rest)) in
-          let clear : TellsBackslash (take end rest) (length (take end rest)) false = tells_taken rest end false mark.within (λ k high. (before k (omega arith) high).1) in
+          let clear : ReportsBackslash (take end rest) (length (take end rest)) false = reports_taken rest end false mark.within (λ k high. (before k (omega arith) high).1) in
           let count : p.offset + end - p.offset ≡ end = omega arith in
           let all : ℕ = length c.args.text.now in
           let left : ℕ = all - p.offset in
@@ -56,7 +56,7 @@ returns-clause-cuts c =
           ∙ string-closed (size_of p) mode quote rest end (plain, take end rest) found (body-raw mode (take end rest) clear is_text)
           ∙ ap (λ (s : List ℕ). Ok ((plain, s), drop (end + 1) rest)) (sym cut)
           ∙ ap (λ (u : List ℕ). Ok ((plain, c.range-body.result.now), u)) (ap (λ (u : List ℕ). drop (end + 1) u) rest-is ∙ drop-drop (end + 1) p.offset p.buf.now);
-      spelled =
+      encoded =
           let p = c.args.self.now in
           let rest-is = c.rest-rest.ensures in
           let rest : List ℕ = c.rest-rest.result.now in

@@ -7,7 +7,7 @@ use Rattle.jsonb_scan.specs.Parsing.Scalar.{scalar_at}
 use Rattle.jsonb_spec.specs.Source.{null_source}
 use Rattle.jsonb_parse.specs.declared.parser.frame.Frame.TheVariants as variants
 use Rattle.jsonb_parse.specs.Parser.{rest_of, size_of}
-use Rattle.jsonb_parse.proofs.Scalars.Built.{not_spelled, put_so}
+use Rattle.jsonb_parse.proofs.Scalars.Built.{not_encoded, put_so}
 use Rattle.jsonb_parse.proofs.parser.Parser.put_element.Goals as goal
 
 pub returns : goal.returns
@@ -17,7 +17,7 @@ returns g c =
           let p = c.args.self.now in
           let h = g.V.Handler in
           let mode = mode_of p.mode in
-          put_so h.silent h.stands _ p.buf.now p c.put.new.self c.args.room.now c.put.new.room c.put.result (variants.Array c.args.items.now) null _ (variants.Array c.put.new.container) c.put.ensures.put c.put.ensures.same c.put.ensures.told (inl (c.scalar-null.ensures, not_spelled p.buf.now p.offset null_source))
+          put_so h.silent h.holds _ p.buf.now p c.put.new.self c.args.sink.now c.put.new.sink c.put.result (variants.Array c.args.items.now) null _ (variants.Array c.put.new.container) c.put.ensures.put c.put.ensures.same c.put.ensures.reported (inl (c.scalar-null.ensures, not_encoded p.buf.now p.offset null_source))
           (cond-true (is_left_out mode (rest_of p)) (Ok (null, rest_of p)) (scalar_at (size_of p) mode (rest_of p)) (sym c.if-not-is_left_out.ensures));
       advances = search rules;
     }

@@ -17,7 +17,7 @@ returns-in_err-put_quoted-clause-puts g c =
     let residual = err_from_is_err_and c.from_residual.result c.from_residual.ensures.1 in
     record {
       puts = rw (residual.1) tt;
-      fails = rw (residual.1) (c.if-begins_container.ensures.other, misses_same g.V.Handler.silent c.put_quoted.new.self.told _ _ (scalar_quoted p o c.take_byte.ensures.advances e) c.in_err-put_quoted.ensures.parses);
+      fails = rw (residual.1) (c.if-begins_container.ensures.other, misses_same g.V.Handler.silent c.put_quoted.new.self.reported _ _ (scalar_quoted p o c.take_byte.ensures.advances e) c.in_err-put_quoted.ensures.parses);
     }
 
 pub returns-then-take_byte-clause-puts : goal.returns-then-take_byte-clause-puts
@@ -33,7 +33,7 @@ returns-then-take_byte-clause-puts g c =
             none_opens = c.if-begins_container.ensures.other;
             tree = put.0;
             parses = scalar_quoted p o on e ∙ put.1;
-            put = subst (λ b. TakesTree g.V.Handler.stands b.now put.0 c.args.room.now (variants.Object (record { members = c.args.object.now.members; key = c.args.key })) c.put_quoted.new.room (variants.Object c.put_quoted.new.container)) on.buf put.2;
+            put = subst (λ b. TakesTree g.V.Handler.holds b.now put.0 c.args.sink.now (variants.Object (record { members = c.args.object.now.members; key = c.args.key })) c.put_quoted.new.sink (variants.Object c.put_quoted.new.container)) on.buf put.2;
           };
       fails = tt;
     }
@@ -44,7 +44,7 @@ returns-then-begins_container-clause-puts g c =
       puts =
           record {
             stays = refl;
-            same_room = refl;
+            same_sink = refl;
             same_frame = refl;
             opens = c.if-begins_container.ensures.opens;
             is_there = c.if-begins_container.ensures.other;
@@ -58,7 +58,7 @@ returns-in_err-put_scalar-clause-puts g c =
     let residual = err_from_is_err_and c.from_residual-in_err-put_scalar.result c.from_residual-in_err-put_scalar.ensures.1 in
     record {
       puts = rw (residual.1) tt;
-      fails = rw (residual.1) (c.if-begins_container.ensures.other, subst (λ q. Misses g.V.Handler.silent c.put_scalar.new.self.told (parse_at scalar_at q)) still c.in_err-put_scalar.ensures.parses);
+      fails = rw (residual.1) (c.if-begins_container.ensures.other, subst (λ q. Misses g.V.Handler.silent c.put_scalar.new.self.reported (parse_at scalar_at q)) still c.in_err-put_scalar.ensures.parses);
     }
 
 pub returns-clause-puts : goal.returns-clause-puts
@@ -71,7 +71,7 @@ returns-clause-puts g c =
             none_opens = c.if-begins_container.ensures.other;
             tree = put.0;
             parses = ap (parse_at scalar_at) (sym still) ∙ put.1;
-            put = subst (λ q. TakesTree g.V.Handler.stands q.buf.now put.0 c.args.room.now (variants.Object (record { members = c.args.object.now.members; key = c.args.key })) c.put_scalar.new.room (variants.Object c.put_scalar.new.container)) still put.2;
+            put = subst (λ q. TakesTree g.V.Handler.holds q.buf.now put.0 c.args.sink.now (variants.Object (record { members = c.args.object.now.members; key = c.args.key })) c.put_scalar.new.sink (variants.Object c.put_scalar.new.container)) still put.2;
           };
       fails = tt;
     }

@@ -20,7 +20,7 @@ returns-in_err-put_quoted g c =
       element =
           record {
             puts = rw (residual.1) tt;
-            fails = rw (residual.1) (quote_no_container p o e, misses_same g.V.Handler.silent c.put_quoted.new.self.told _ _ (quoted_element p o e c.take_byte.ensures.advances) c.in_err-put_quoted.ensures.parses);
+            fails = rw (residual.1) (quote_no_container p o e, misses_same g.V.Handler.silent c.put_quoted.new.self.reported _ _ (quoted_element p o e c.take_byte.ensures.advances) c.in_err-put_quoted.ensures.parses);
           };
       advances = search rules;
     }
@@ -41,7 +41,7 @@ returns-then-take_byte g c =
               none_opens = quote_no_container p o e;
               tree = put.0;
               parses = quoted_element p o e on ∙ put.1;
-              put = subst (λ b. TakesTree g.V.Handler.stands b.now put.0 c.args.room.now (variants.Array c.args.items.now) c.put_quoted.new.room (variants.Array c.put_quoted.new.container)) on.buf put.2;
+              put = subst (λ b. TakesTree g.V.Handler.holds b.now put.0 c.args.sink.now (variants.Array c.args.items.now) c.put_quoted.new.sink (variants.Array c.put_quoted.new.container)) on.buf put.2;
             };
             fails = tt;
           };
@@ -58,7 +58,7 @@ returns-then-begins_container g c =
           record {
             puts = record {
               stays = refl;
-              same_room = refl;
+              same_sink = refl;
               same_frame = refl;
               opens = c.if-begins_container.ensures.opens;
               is_there = c.if-begins_container.ensures.other;

@@ -3,7 +3,7 @@ use Rattle.jsonb_spec.specs.Tree.{string}
 use Rattle.jsonb_spec.specs.Tree.Mark.{plain}
 use Rattle.jsonb_scan.specs.Answer.{mode_of}
 use Rattle.jsonb_parse.specs.Parser.{rest_of, size_of}
-use Rattle.jsonb_parse.proofs.Scalars.Built.{key_stands, put_so, string_read}
+use Rattle.jsonb_parse.proofs.Scalars.Built.{key_holds, put_so, string_read}
 use Rattle.jsonb_parse.proofs.Steps.Advancing.{stays}
 use Rattle.jsonb_parse.proofs.parser.Parser.put_quoted.Goals as goal
 
@@ -15,8 +15,8 @@ returns-in-Some g c =
           let q = c.cut_string.new.self in
           let h = g.V.Handler in
           let body = c.in-Some.cut.body.now in
-          put_so h.silent h.stands _ p.buf.now q c.put_cut.new.self c.args.room.now c.put_cut.new.room c.put_cut.result (g.S.Slot.before c.args.container.now c.args.slot) (string plain body) _ (g.S.Slot.after c.put_cut.new.container) c.put_cut.ensures.put c.put_cut.ensures.same c.put_cut.ensures.told
-          (refl, λ some. key_stands p p q body c.requires.opened.0 (stays p) c.cut_string.ensures.cuts.advances c.requires.opened c.in-Some.ensures.cuts.spelled)
+          put_so h.silent h.holds _ p.buf.now q c.put_cut.new.self c.args.sink.now c.put_cut.new.sink c.put_cut.result (g.S.Slot.before c.args.container.now c.args.slot) (string plain body) _ (g.S.Slot.after c.put_cut.new.container) c.put_cut.ensures.put c.put_cut.ensures.same c.put_cut.ensures.reported
+          (refl, λ some. key_holds p p q body c.requires.opened.0 (stays p) c.cut_string.ensures.cuts.advances c.requires.opened c.in-Some.ensures.cuts.encoded)
           (string_read (size_of p) (mode_of p.mode) 34 (rest_of p) (plain, body) _ c.in-Some.ensures.cuts.parses);
       advances = search rules;
     }

@@ -11,7 +11,7 @@ returns-then-take_byte g c =
           let p = c.args.self.now in
           let h = g.V.Handler in
           let on = c.take_byte.ensures.advances in
-          puts_same h.silent c.put_later_quoted.new.self.told h.stands c.put_later_quoted.result _ _ (sym (ap (λ b. b.now) on.buf)) _ _ _ _ _ _ _ (scalar_quoted p c.take_byte.new.self on c.if-take_byte.ensures.rest) c.put_later_quoted.ensures.parses;
+          puts_same h.silent c.put_later_quoted.new.self.reported h.holds c.put_later_quoted.result _ _ (sym (ap (λ b. b.now) on.buf)) _ _ _ _ _ _ _ (scalar_quoted p c.take_byte.new.self on c.if-take_byte.ensures.rest) c.put_later_quoted.ensures.parses;
       advances = search rules;
     }
 
@@ -20,7 +20,7 @@ returns-in-Standard g c =
     record {
       parses =
           let h = g.V.Handler in
-          puts_same h.silent c.put_standard_value.new.self.told h.stands c.put_standard_value.result _ _ (sym (ap (λ o. o.buf.now) c.if-take_byte.ensures.rest)) _ _ _ _ _ _ _ (scalar_still c.args.self.now c.take_byte.new.self c.if-take_byte.ensures.rest) c.put_standard_value.ensures.parses;
+          puts_same h.silent c.put_standard_value.new.self.reported h.holds c.put_standard_value.result _ _ (sym (ap (λ o. o.buf.now) c.if-take_byte.ensures.rest)) _ _ _ _ _ _ _ (scalar_still c.args.self.now c.take_byte.new.self c.if-take_byte.ensures.rest) c.put_standard_value.ensures.parses;
       advances = search rules;
     }
 
@@ -29,7 +29,7 @@ returns-in-Extended g c =
     record {
       parses =
           let h = g.V.Handler in
-          puts_same h.silent c.put_extended_value.new.self.told h.stands c.put_extended_value.result _ _ (sym (ap (λ o. o.buf.now) c.if-take_byte.ensures.rest)) _ _ _ _ _ _ _ (scalar_still c.args.self.now c.take_byte.new.self c.if-take_byte.ensures.rest) c.put_extended_value.ensures.parses;
+          puts_same h.silent c.put_extended_value.new.self.reported h.holds c.put_extended_value.result _ _ (sym (ap (λ o. o.buf.now) c.if-take_byte.ensures.rest)) _ _ _ _ _ _ _ (scalar_still c.args.self.now c.take_byte.new.self c.if-take_byte.ensures.rest) c.put_extended_value.ensures.parses;
       advances = search rules;
     }
 
@@ -38,6 +38,6 @@ returns-in-Extended-2 g c =
     record {
       parses =
           let h = g.V.Handler in
-          puts_same h.silent c.put_other_scalar.new.self.told h.stands c.put_other_scalar.result _ _ (sym (ap (λ o. o.buf.now) c.if-take_byte.ensures.rest)) _ _ _ _ _ _ _ (scalar_still c.args.self.now c.take_byte.new.self c.if-take_byte.ensures.rest) c.put_other_scalar.ensures.parses;
+          puts_same h.silent c.put_other_scalar.new.self.reported h.holds c.put_other_scalar.result _ _ (sym (ap (λ o. o.buf.now) c.if-take_byte.ensures.rest)) _ _ _ _ _ _ _ (scalar_still c.args.self.now c.take_byte.new.self c.if-take_byte.ensures.rest) c.put_other_scalar.ensures.parses;
       advances = search rules;
     }

@@ -22,8 +22,8 @@ returns-clause-finds c =
       advances = search rules;
     }
 
-pub returns-clause-spelled : goal.returns-clause-spelled
-returns-clause-spelled c =
+pub returns-clause-encoded : goal.returns-clause-encoded
+returns-clause-encoded c =
     let p = c.args.self.now in
     let read = c.in_ok-read.read in
     let n = short_view read in

@@ -6,7 +6,7 @@ use Rattle.jsonb_parse.specs.Parser.{rest_of}
 use Rattle.jsonb_parse.specs.ShortString.{IsShortEnd}
 use Rattle.jsonb_parse.proofs.Scalars.ShortStrings.{passes_short}
 use Rattle.jsonb_parse.proofs.parser.Parser.short_string.Goals as goal
-use Rattle.text_common.specs.declared.kept.Kept.TheVariants as kept
+use Rattle.text_common.specs.declared.verbatim.Verbatim.TheVariants as verbatim
 
 pub range-body-requires-clause-start_boundary : goal.range-body-requires-clause-start_boundary
 range-body-requires-clause-start_boundary c some =
@@ -34,7 +34,7 @@ returns-then-found-clause-passes c =
     ∙ ap (λ (u : List ℕ). take end (drop p.offset u)) (c.requires.same ∙ ap (λ (n : ℕ). take n p.buf.now) split)
     ∙ ap (λ (u : List ℕ). take end u) (drop-take p.offset left p.buf.now) ∙ take-take end left (drop p.offset p.buf.now) short in
     let is_text : IsUtf8 (take end (rest_of p)) = subst IsUtf8 (c.as_bytes-bytes.ensures.value ∙ cut) c.as_bytes-bytes.ensures.utf8 in
-    passes_short p _ kept.Same end c.in_ok-found.found.is_same c.if-found.true c.requires.opened found is_text refl refl
+    passes_short p _ verbatim.Same end c.in_ok-found.found.is_same c.if-found.true c.requires.opened found is_text refl refl
 
 pub returns-clause-passes : goal.returns-clause-passes
 returns-clause-passes c =
@@ -51,4 +51,4 @@ returns-clause-passes c =
     ∙ ap (λ (u : List ℕ). take end (drop p.offset u)) (c.requires.same ∙ ap (λ (n : ℕ). take n p.buf.now) split)
     ∙ ap (λ (u : List ℕ). take end u) (drop-take p.offset left p.buf.now) ∙ take-take end left (drop p.offset p.buf.now) short in
     let is_text : IsUtf8 (take end (rest_of p)) = subst IsUtf8 (c.as_bytes-bytes.ensures.value ∙ cut) c.as_bytes-bytes.ensures.utf8 in
-    passes_short p _ kept.Short end c.in_ok-found.found.is_same tt c.requires.opened found is_text refl refl
+    passes_short p _ verbatim.Short end c.in_ok-found.found.is_same tt c.requires.opened found is_text refl refl

@@ -2,7 +2,7 @@ use Rattle.std.proofs.Common.{length, ℕ, List, Ok, sym, ap, subst, ◌∙◌, 
 use Rattle.std.proofs.lemmas.Result.{err_from_is_err_and}
 use Rattle.jsonb_spec.specs.Tree.{plain}
 use Rattle.jsonb_scan.specs.Answer.{mode_of}
-use Rattle.jsonb_scan.specs.Decoding.{TellsBackslash}
+use Rattle.jsonb_scan.specs.Decoding.{ReportsBackslash}
 use Rattle.jsonb_scan.proofs.Strings.Bodies.{body-raw, body-raw_fault, body-decoded, reads_rejected}
 use Rattle.jsonb_scan.proofs.parser.string.decode_contents.Goals as goal
 
@@ -15,17 +15,17 @@ pub returns-then-escaped-clause-parses : goal.returns-then-escaped-clause-parses
 returns-then-escaped-clause-parses c =
     let mode = mode_of c.args.mode in
     let body = c.args.body.now in
-    body-decoded mode body _ (subst (TellsBackslash body (length body)) c.if-escaped.true c.requires.escaped) c.in_ok-text.ensures.ok
+    body-decoded mode body _ (subst (ReportsBackslash body (length body)) c.if-escaped.true c.requires.escaped) c.in_ok-text.ensures.ok
 
 pub returns-in-Ok-clause-parses : goal.returns-in-Ok-clause-parses
 returns-in-Ok-clause-parses c =
     let mode = mode_of c.args.mode in
     let body = c.args.body.now in
     let text = c.in-Ok.ensures.cases in
-    body-raw mode body (subst (TellsBackslash body (length body)) c.if-escaped.false c.requires.escaped) text.1 ∙ ap (λ (t : List ℕ). Ok (plain, t)) (sym text.0)
+    body-raw mode body (subst (ReportsBackslash body (length body)) c.if-escaped.false c.requires.escaped) text.1 ∙ ap (λ (t : List ℕ). Ok (plain, t)) (sym text.0)
 
 pub returns-in-Err-clause-parses : goal.returns-in-Err-clause-parses
 returns-in-Err-clause-parses c =
     let mode = mode_of c.args.mode in
     let body = c.args.body.now in
-    (length body, body-raw_fault mode body (subst (TellsBackslash body (length body)) c.if-escaped.false c.requires.escaped) c.in-Err.ensures.cases.0, refl)
+    (length body, body-raw_fault mode body (subst (ReportsBackslash body (length body)) c.if-escaped.false c.requires.escaped) c.in-Err.ensures.cases.0, refl)

@@ -2,7 +2,7 @@ use Rattle.std.proofs.Common.{◌≡◌, ◌+◌, ◌<◌, length, get_or, ⊎_e
 use Rattle.std.proofs.lemmas.List.{take_rest}
 use Rattle.jsonb_value.specs.StringStep.{escape_step}
 use Rattle.jsonb_scan.proofs.Strings.NearMarks.{knows_later, knows_none}
-use Rattle.jsonb_scan.proofs.Strings.Bodies.{search_start, search_escape, search_to, found_end, no_end, tells_run}
+use Rattle.jsonb_scan.proofs.Strings.Bodies.{search_start, search_escape, search_to, found_end, no_end, reports_run}
 use Rattle.jsonb_scan.proofs.parser.string.find_end.Goals as goal
 
 pub items-init : goal.items-init
@@ -21,7 +21,7 @@ returns-then-bytes-stop c =
     let stop = c.first_mark-stop in
     let passed = search_to c.args.quote bytes c.items.at stop.result.0 stop.ensures.bounds.0 stop.ensures.bounds.1 stop.ensures.before c.items.invariant.0 in (
       found_end c.args.quote bytes stop.result.0 (omega arith) c.if-bytes-stop.true passed,
-      tells_run bytes c.items.at stop.result.0 c.items.escaped stop.ensures.bounds.0 (λ k low high. (stop.ensures.before k low high).1) c.items.invariant.1,
+      reports_run bytes c.items.at stop.result.0 c.items.escaped stop.ensures.bounds.0 (λ k low high. (stop.ensures.before k low high).1) c.items.invariant.1,
     )
 
 pub items-preserved : goal.items-preserved

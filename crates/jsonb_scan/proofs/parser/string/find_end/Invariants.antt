@@ -1,11 +1,11 @@
 use Rattle.std.proofs.Common.{◌+◌, ◌-◌, ◌<◌, length}
-use Rattle.jsonb_scan.specs.Decoding.{TellsBackslash}
+use Rattle.jsonb_scan.specs.Decoding.{ReportsBackslash}
 use Rattle.jsonb_scan.specs.QuotedString.{KnowsMarks}
 use Rattle.jsonb_scan.proofs.Strings.Bodies.{SearchFrom}
 use Rattle.jsonb_scan.proofs.parser.string.find_end.Given as goal
 
 abbrev pub invariant-items : goal.invariant-items
-invariant-items l = SearchFrom l.quote l.bytes l.at × TellsBackslash l.bytes l.at l.escaped × (l.at < length l.bytes + 8) × KnowsMarks l.quote l.bytes l.at l.marks
+invariant-items l = SearchFrom l.quote l.bytes l.at × ReportsBackslash l.bytes l.at l.escaped × (l.at < length l.bytes + 8) × KnowsMarks l.quote l.bytes l.at l.marks
 
 abbrev pub decreases-items : goal.decreases-items
 decreases-items l = length l.bytes - l.at

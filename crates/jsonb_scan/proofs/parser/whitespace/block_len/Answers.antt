@@ -20,10 +20,10 @@ returns-then-ends-ne0-clause-value c =
     let bytes = c.args.bytes.now in
     let at = c.vectors.at in
     let count = c.lowest.result in
-    let told = (c.block_ends-ends.ensures count).0 c.lowest.ensures.set in
-    let few : count < 32 = told.0 in
+    let reported = (c.block_ends-ends.ensures count).0 c.lowest.ensures.set in
+    let few : count < 32 = reported.0 in
     let far = block_far bytes at count (omega (arith, few)) (λ k low star slash.
     let bit = (c.block_ends-ends.ensures k).1 (omega (arith, few, low), star, slash) in
     absurd (omega (arith, bit, c.lowest.ensures.below k low))) in
-    let slash : get_or bytes (at + count + 1) 0 ≡ 47 = ap (λ n. get_or bytes n 0) (let same : at + count + 1 ≡ at + 1 + count = omega arith in same) ∙ told.2 in
-    sym (c.vectors.invariant.0 ∙ ap (longer_by at) (far ∙ ap (longer_by count) (block_at bytes (at + count) (omega (arith, few)) told.1 slash)) ∙ longer-longer at count 2)
+    let slash : get_or bytes (at + count + 1) 0 ≡ 47 = ap (λ n. get_or bytes n 0) (let same : at + count + 1 ≡ at + 1 + count = omega arith in same) ∙ reported.2 in
+    sym (c.vectors.invariant.0 ∙ ap (longer_by at) (far ∙ ap (longer_by count) (block_at bytes (at + count) (omega (arith, few)) reported.1 slash)) ∙ longer-longer at count 2)

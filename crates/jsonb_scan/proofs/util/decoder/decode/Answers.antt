@@ -31,7 +31,7 @@ items-preserved-in-Some c =
     let mode = mode_of c.args.mode in
     let so_far = adds_run mode c.args.bytes.now c.items.done.rest.now copied.run rest (take c.args.len c.args.text.now) (take c.items.done.len c.items.text) copy c.items.invariant.0 copied.split copied.clear copied.appended in (
       adds_then mode c.args.bytes.now rest done.done.rest.now (take c.args.len c.args.text.now) copy added so_far (subst (λ bytes. Adds mode bytes done.done.rest.now copy added) (sym backslash) done.ensures.ok),
-      omega (arith, c.items.invariant.1, done.ensures.room, c.escape.ensures.size, c.copy_run-done.ensures.len, c.copy_run-done.ensures.size, here.1),
+      omega (arith, c.items.invariant.1, done.ensures.space, c.escape.ensures.size, c.copy_run-done.ensures.len, c.copy_run-done.ensures.size, here.1),
       omega (arith, c.items.invariant.2, c.escape.ensures.size, c.copy_run-done.ensures.size),
     )
 
@@ -43,8 +43,8 @@ items-preserved c =
       omega (arith, c.items.invariant.2, c.copy_run-done.ensures.size),
     )
 
-pub returns-in_err-done-clause-kept : goal.returns-in_err-done-clause-kept
-returns-in_err-done-clause-kept c =
+pub returns-in_err-done-clause-retained : goal.returns-in_err-done-clause-retained
+returns-in_err-done-clause-retained c =
     let copied = c.copy_run-done.ensures.copies in
     let text = c.args.text.now in
     let copy = c.copy_run-done.new.text in
@@ -53,6 +53,6 @@ returns-in_err-done-clause-kept c =
     ap (take c.args.len) c.in_err-done.ensures.same
     ∙ front_stays c.args.len done.len text copy so_far.text (omega (arith, c.requires)) (omega (arith, c.items.invariant.1, c.copy_run-done.ensures.len, c.copy_run-done.ensures.size)) so_far.appended
 
-pub returns-clause-kept : goal.returns-clause-kept
-returns-clause-kept c =
+pub returns-clause-retained : goal.returns-clause-retained
+returns-clause-retained c =
     front_stays c.args.len c.items.done.len c.args.text.now c.items.text c.items.invariant.0.text (omega (arith, c.requires)) (omega (arith, c.items.invariant.1)) c.items.invariant.0.appended

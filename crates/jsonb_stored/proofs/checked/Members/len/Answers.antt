@@ -1,6 +1,6 @@
 use Rattle.std.proofs.Common.{[], refl, sym, ◌∙◌, append-nil}
 use Rattle.jsonb_stored.specs.Open.{members}
-use Rattle.jsonb_stored.proofs.Standing.{same_count, no_count}
+use Rattle.jsonb_stored.proofs.Occurrence.{same_count, no_count}
 use Rattle.jsonb_spec.specs.SortKey.{members_key}
 use Rattle.jsonb_stored.proofs.checked.Members.len.Goals as goal
 

@@ -21,7 +21,7 @@ returns-in_err-append_byte t c =
     let e = two_and_more c.args.negative c.args.count (c.args.count - 2) c.args.magnitude c.invert_if-2.result split.result.0 split.result.1 (omega (arith, two_or_more c.args.count c.args.magnitude c.requires.below c.else-count-le20.either)) split.ensures.pair split.ensures.rest c.if-rest-eq0.false c.invert_if-2.ensures in
     let piece = map (invert_if c.args.negative) (digits_key (c.args.count - 2) split.result.1) in
     let h = c.in_err-append_byte.ensures.appends in
-    record { appends = lacks_first c.from_residual.result c.args.buf.now c.append_byte-2.new.buf (c.invert_if-2.result ∷ []) piece _ e c.from_residual.ensures.0 h.kept h.capacity h.full }
+    record { appends = lacks_first c.from_residual.result c.args.buf.now c.append_byte-2.new.buf (c.invert_if-2.result ∷ []) piece _ e c.from_residual.ensures.0 h.retained h.capacity h.full }
 
 pub returns : goal.returns
 returns t c =

@@ -15,18 +15,18 @@ pairs-init c =
     let none : split.result.0 ≡ 0 → c.if-last-ne0.more ≡ 0 = λ h. elim c.if-last-ne0.branch [ then-last-ne0 w ↦ absurd (w.if-last-ne0.true h) | else-last-ne0 w ↦ w.more-is ] in
     record {
       written = rw count (begin_digits c.args.negative c.args.magnitude (2 - c.args.count % 2) split.result.0 split.result.1 c.if-last-ne0.more c.invert_if.result c.args.row.now c.told-row split.ensures.last split.ensures.zero.0 split.ensures.zero.1 split.ensures.front c.invert_if.ensures one none);
-      room = omega (arith, c.requires.few);
+      space = omega (arith, c.requires.few);
       within = omega arith;
       digits = omega (arith, c.requires.some);
       long = length-set c.args.row.now 11 c.invert_if.result ∙ c.told-row;
     }
 
--- a pair fits a byte, and has room in the row
+-- a pair fits a byte, and has space in the row
 pub overflow_sub-start : goal.overflow_sub-start
 overflow_sub-start c =
     elim (cases_eq c.pairs.more 0) [
       | inl z ↦ omega (arith, z, c.from-start.ensures)
-      | inr z ↦ omega (arith, (c.pairs.invariant.written.some z).0, c.from-start.ensures, c.pairs.invariant.room)
+      | inr z ↦ omega (arith, (c.pairs.invariant.written.some z).0, c.from-start.ensures, c.pairs.invariant.space)
     ]
 
 pub overflow_add-pair : goal.overflow_add-pair
@@ -47,8 +47,8 @@ pairs-preserved c =
     let one : l.front % 100 ≢ 0 → c.if-pair-ne0.more ≡ 1 = λ h. elim c.if-pair-ne0.branch [ then-pair-ne0 w ↦ w.more-is | else-pair-ne0 w ↦ absurd (h w.if-pair-ne0.false) ] in
     let same : l.front % 100 ≡ 0 → c.if-pair-ne0.more ≡ l.more = λ h. elim c.if-pair-ne0.branch [ then-pair-ne0 w ↦ absurd (w.if-pair-ne0.true h) | else-pair-ne0 w ↦ w.more-is ] in
     record {
-      written = rw (count, c.from-start.ensures) (next_pair c.args.negative c.args.magnitude (c.args.count - 2 * l.left) l.start l.front l.more c.invert_if-in-pairs.result c.if-pair-ne0.more l.row i.long (omega (arith, i.room)) i.within i.written c.invert_if-in-pairs.ensures one same);
-      room = elim (cases_eq l.more 0) [ inl z ↦ omega (arith, z, c.from-start.ensures, i.room) | inr z ↦ omega (arith, (i.written.some z).0, c.from-start.ensures, i.room, c.pairs-test.true) ];
+      written = rw (count, c.from-start.ensures) (next_pair c.args.negative c.args.magnitude (c.args.count - 2 * l.left) l.start l.front l.more c.invert_if-in-pairs.result c.if-pair-ne0.more l.row i.long (omega (arith, i.space)) i.within i.written c.invert_if-in-pairs.ensures one same);
+      space = elim (cases_eq l.more 0) [ inl z ↦ omega (arith, z, c.from-start.ensures, i.space) | inr z ↦ omega (arith, (i.written.some z).0, c.from-start.ensures, i.space, c.pairs-test.true) ];
       within = omega (arith, i.within);
       digits = omega (arith, i.digits);
       long = length-set l.row (l.start - c.from-start.result) c.invert_if-in-pairs.result ∙ i.long;
@@ -61,5 +61,5 @@ returns-clause-bytes c =
     let all : c.args.magnitude % 10 ^ (c.args.count - 2 * c.pairs.left) ≡ c.args.magnitude = ap (λ n. c.args.magnitude % 10 ^ n) none ∙ mod-eq_of_lt c.requires.below in
     i.written.bytes ∙ (λ k. map (invert_if c.args.negative) (digits_key (none k) (all k)))
 
-pub returns-clause-room : goal.returns-clause-room
-returns-clause-room c = (omega (arith, c.pairs.invariant.room), omega (arith, c.pairs.invariant.within))
+pub returns-clause-space : goal.returns-clause-space
+returns-clause-space c = (omega (arith, c.pairs.invariant.space), omega (arith, c.pairs.invariant.within))

@@ -2,11 +2,11 @@ use Rattle.std.proofs.Common.{◌≡◌, ◌+◌, ◌-◌, ◌*◌, ◌<◌, ◌
 use Rattle.jsonb_value.proofs.SortKeys.Pairs.{AreWritten}
 use Rattle.jsonb_value.proofs.number.sort_key.write_digits.Given as goal
 
--- all digits but the pairs that are left stand in the row
+-- all digits but the pairs that are left are in the row
 abbrev pub invariant-pairs : goal.invariant-pairs
 invariant-pairs l = record {
   written : AreWritten l.fn.negative l.fn.magnitude (l.fn.count - 2 * l.left) l.start l.front l.more l.row;
-  room : 2 + l.left ≤ l.start;
+  space : 2 + l.left ≤ l.start;
   within : l.start ≤ 11;
   digits : 2 * l.left < l.fn.count;
   long : length l.row ≡ 12;

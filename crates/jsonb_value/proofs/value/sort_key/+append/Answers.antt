@@ -3,7 +3,7 @@ use Rattle.jsonb_spec.specs.SortKey.Kind as kind
 use Rattle.jsonb_spec.specs.Tree.{boolean}
 use Rattle.jsonb_spec.specs.SortKey.{text_key, key_of, items_key, members_key}
 use Rattle.jsonb_value.specs.View.{view, trees_view, members_view}
-use Rattle.jsonb_value.proofs.Appending.Appended.{begun, goes_on, fits, on_err, kept_on, appends_rest, appends_as, extended}
+use Rattle.jsonb_value.proofs.Appending.Appended.{begun, goes_on, fits, on_err, retained_on, appends_rest, appends_as, extended}
 use Rattle.jsonb_value.proofs.Values.Accessors.{view-Null, view-Bool, view-String, view-Number, view-Binary, view-Array, view-Object}
 use Rattle.jsonb_value.proofs.SortKeys.Parts.{next_item, next_member}
 use Rattle.jsonb_value.proofs.Values.Members.{Entry}
@@ -20,7 +20,7 @@ append_items-items-preserved t c =
     record {
       underway = goes_on c.append.new.buf.items (key_of (view item)) rest c.items.invariant.underway (next_item all c.items.item-index item (search rules) (search rules)) c.in_ok-append.ensures.appends.ok;
       proper = λ others. c.items.invariant.proper (next_proper all c.items.item-index item (search rules) (search rules) c.in_ok-append.ensures.proper others);
-      room = omega arith;
+      space = omega arith;
     }
 
 pub append_items-returns-in_err-append-clause-appends : goal.append_items-returns-in_err-append-clause-appends
@@ -28,8 +28,8 @@ append_items-returns-in_err-append-clause-appends t c =
     let all = c.args.items.now.items in
     let item = c.item-item.result in
     let rest = items_key (trees_view (drop (c.items.item-index + 1) all)) in
-    let room = fits (key_of (view item)) rest c.items.invariant.underway (next_item all c.items.item-index item (search rules) (search rules)) in
-    record { ok = search rules; kept = kept_on c.items.invariant.underway c.in_err-append.ensures.appends.kept; full = on_err c.from_residual-in_err-append.result (omega (arith, room, c.in_err-append.ensures.appends.full)); capacity = search rules }
+    let space = fits (key_of (view item)) rest c.items.invariant.underway (next_item all c.items.item-index item (search rules) (search rules)) in
+    record { ok = search rules; retained = retained_on c.items.invariant.underway c.in_err-append.ensures.appends.retained; full = on_err c.from_residual-in_err-append.result (omega (arith, space, c.in_err-append.ensures.appends.full)); capacity = search rules }
 
 pub append_members-members-preserved : goal.append_members-members-preserved
 append_members-members-preserved t c =
@@ -41,7 +41,7 @@ append_members-members-preserved t c =
     record {
       underway = goes_on c.append.new.buf.items value rest due refl c.in_ok-append.ensures.appends.ok;
       proper = λ others. c.members.invariant.proper (next_proper_member c.members.key-iterator c.next.new.self (c.in-Some.key.now, c.in-Some.value.now) c.in-Some.ensures.steps c.in_ok-append_key.ensures.utf8 c.in_ok-append.ensures.proper others);
-      room = omega arith;
+      space = omega arith;
     }
 
 pub append_members-returns-in_err-append_key-clause-appends : goal.append_members-returns-in_err-append_key-clause-appends
@@ -50,8 +50,8 @@ append_members-returns-in_err-append_key-clause-appends t c =
     let value = key_of (view c.in-Some.value.now) in
     let rest = members_key (members_view c.next.new.self) in
     let next = next_member c.members.key-iterator c.next.new.self (c.in-Some.key.now, c.in-Some.value.now) c.in-Some.ensures.steps in
-    let room = fits key (value ++ rest) c.members.invariant.underway next in
-    record { ok = search rules; kept = kept_on c.members.invariant.underway c.in_err-append_key.ensures.appends.kept; full = on_err c.from_residual-in_err-append_key.result (omega (arith, room, c.in_err-append_key.ensures.appends.full)); capacity = search rules }
+    let space = fits key (value ++ rest) c.members.invariant.underway next in
+    record { ok = search rules; retained = retained_on c.members.invariant.underway c.in_err-append_key.ensures.appends.retained; full = on_err c.from_residual-in_err-append_key.result (omega (arith, space, c.in_err-append_key.ensures.appends.full)); capacity = search rules }
 
 pub append_members-returns-in_err-append-clause-appends : goal.append_members-returns-in_err-append-clause-appends
 append_members-returns-in_err-append-clause-appends t c =
@@ -60,8 +60,8 @@ append_members-returns-in_err-append-clause-appends t c =
     let rest = members_key (members_view c.next.new.self) in
     let next = next_member c.members.key-iterator c.next.new.self (c.in-Some.key.now, c.in-Some.value.now) c.in-Some.ensures.steps in
     let due = goes_on c.append_key.new.buf.items key (value ++ rest) c.members.invariant.underway next c.in_ok-append_key.ensures.appends.ok in
-    let room = fits value rest due refl in
-    record { ok = search rules; kept = kept_on due c.in_err-append.ensures.appends.kept; full = on_err c.from_residual-in_err-append.result (omega (arith, room, c.in_err-append.ensures.appends.full)); capacity = search rules }
+    let space = fits value rest due refl in
+    record { ok = search rules; retained = retained_on due c.in_err-append.ensures.appends.retained; full = on_err c.from_residual-in_err-append.result (omega (arith, space, c.in_err-append.ensures.appends.full)); capacity = search rules }
 
 pub append_members-members-init : goal.append_members-members-init
 append_members-members-init t c =
@@ -71,14 +71,14 @@ append_members-members-init t c =
     record {
       underway = goes_on c.extend_from_slice.new.self.items (209 ∷ []) rest (begun c.args.buf.now.items (209 ∷ members_key (members_view all))) (ap (λ (es : List Entry). 209 ∷ members_key (members_view es)) (sym whole)) c.in_ok-extend_from_slice.ensures.items;
       proper = λ parts. (KeysAscend-members_view all c.iter-key-items.ensures.ordered, subst (λ es. HaveProperParts (members_view es)) whole parts);
-      room = omega (arith, c.in_ok-extend_from_slice.ensures.capacity);
+      space = omega (arith, c.in_ok-extend_from_slice.ensures.capacity);
     }
 
 pub append_members-returns-clause-appends : goal.append_members-returns-clause-appends
 append_members-returns-clause-appends t c =
     let last = c.extend_from_slice-2.ensures in
     let end = ap (λ (es : List Entry). members_key (members_view es)) (sym c.in-None.ensures.steps.0) in
-    appends_rest _ c.args.buf.now c.members.buf _ _ _ c.members.invariant.underway c.members.invariant.room (extended c.extend_from_slice-2.result c.members.buf c.extend_from_slice-2.new.self _ _ last.items last.full last.capacity end)
+    appends_rest _ c.args.buf.now c.members.buf _ _ _ c.members.invariant.underway c.members.invariant.space (extended c.extend_from_slice-2.result c.members.buf c.extend_from_slice-2.new.self _ _ last.items last.full last.capacity end)
 
 pub append-returns-in-Binary-clause-appends : goal.append-returns-in-Binary-clause-appends
 append-returns-in-Binary-clause-appends t c = rw (ap view c.in-Binary.is ∙ view-Binary c.in-Binary.bytes) c.append_text.ensures.appends

@@ -12,7 +12,7 @@ abbrev pub invariant-append_items-items : goal.invariant-append_items-items
 invariant-append_items-items l = record {
   underway : IsUnderway l.fn.buf.items l.buf.items (210 ∷ items_key (trees_view l.items.items)) (items_key (trees_view (drop l.item-index l.items.items)));
   proper : AreProper (trees_view (drop l.item-index l.items.items)) → AreProper (trees_view l.items.items);
-  room : vec_capacity l.fn.buf ≤ vec_capacity l.buf;
+  space : vec_capacity l.fn.buf ≤ vec_capacity l.buf;
 }
 
 -- the same of members
@@ -20,5 +20,5 @@ abbrev pub invariant-append_members-members : goal.invariant-append_members-memb
 invariant-append_members-members l = record {
   underway : IsUnderway l.fn.buf.items l.buf.items (209 ∷ members_key (members_view l.members.entries)) (members_key (members_view l.key-iterator));
   proper : HaveProperParts (members_view l.key-iterator) → KeysAscend (members_view l.members.entries) × HaveProperParts (members_view l.members.entries);
-  room : vec_capacity l.fn.buf ≤ vec_capacity l.buf;
+  space : vec_capacity l.fn.buf ≤ vec_capacity l.buf;
 }

@@ -4,7 +4,7 @@ use Rattle.jsonb_spec.specs.Text.StringText.{quoted_text}
 use Rattle.jsonb_spec.specs.Text.{with_commas, item_texts, member_texts, tree_text, members_have_texts}
 use Rattle.jsonb_spec.specs.Tree.{boolean}
 use Rattle.jsonb_value.specs.View.{view, trees_view, members_view}
-use Rattle.jsonb_value.proofs.Appending.Appended.{begun, goes_on, fits, on_err, kept_on, extended_if, appends_as_if, whole_if}
+use Rattle.jsonb_value.proofs.Appending.Appended.{begun, goes_on, fits, on_err, retained_on, extended_if, appends_as_if, whole_if}
 use Rattle.jsonb_value.proofs.Values.Accessors.{view-Null, view-Bool, view-String, view-Number, view-Binary, view-Interval, view-Array, view-Object}
 use Rattle.jsonb_value.proofs.Values.Keys.{KeysAscend-members_view}
 use Rattle.jsonb_value.proofs.Values.Members.{Entry}
@@ -28,7 +28,7 @@ append_items-items-preserved t c =
       underway = goes_on c.append.new.buf.items (tree_text (view item)) rest due refl c.in_ok-append.ensures.appends.ok;
       texts = texts_left_have _ _ _ _ c.items.invariant.texts (next_text all c.items.item-index item (search rules) (search rules)) c.in_ok-append.ensures.appends.holds;
       proper = λ others. c.items.invariant.proper (next_proper all c.items.item-index item (search rules) (search rules) c.in_ok-append.ensures.proper others);
-      room = omega arith;
+      space = omega arith;
     }
 
 pub append_items-returns-in_err-append-clause-appends : goal.append_items-returns-in_err-append-clause-appends
@@ -38,9 +38,9 @@ append_items-returns-in_err-append-clause-appends t c =
     let rest = texts_left false (item_texts (trees_view (drop (c.items.item-index + 1) all))) ++ 93 ∷ [] in
     let next = next_item all c.items.item-index item (search rules) (search rules) in
     let due = comma_done c.items.is_first _ _ _ _ (93 ∷ []) c.append_comma.new.buf.items _ _ next c.items.invariant.underway c.in_ok-append_comma.ensures.appends.ok in
-    let room = fits (tree_text (view item)) rest due refl in
+    let space = fits (tree_text (view item)) rest due refl in
     let first = next_text all c.items.item-index item (search rules) (search rules) in
-    record { ok = search rules; holds = search rules; kept = kept_on due c.in_err-append.ensures.appends.kept; full = on_err c.from_residual-in_err-append.result (λ texts. omega (arith, room, c.in_err-append.ensures.appends.full (first_has_text _ _ _ _ c.items.invariant.texts first texts))); capacity = search rules }
+    record { ok = search rules; holds = search rules; retained = retained_on due c.in_err-append.ensures.appends.retained; full = on_err c.from_residual-in_err-append.result (λ texts. omega (arith, space, c.in_err-append.ensures.appends.full (first_has_text _ _ _ _ c.items.invariant.texts first texts))); capacity = search rules }
 
 pub append_members-members-preserved : goal.append_members-members-preserved
 append_members-members-preserved t c =
@@ -54,7 +54,7 @@ append_members-members-preserved t c =
       underway = goes_on c.append.new.buf.items value rest due refl c.in_ok-append.ensures.appends.ok;
       texts = texts_left_have _ _ _ _ c.members.invariant.texts (next_member_text c.members.key-iterator c.next.new.self (c.in-Some.key.now, c.in-Some.value.now) c.in-Some.ensures.steps) c.in_ok-append.ensures.appends.holds;
       proper = λ others. c.members.invariant.proper (next_proper_member c.members.key-iterator c.next.new.self (c.in-Some.key.now, c.in-Some.value.now) c.in-Some.ensures.steps c.in_ok-append_key.ensures.utf8 c.in_ok-append.ensures.proper others);
-      room = omega arith;
+      space = omega arith;
     }
 
 pub append_members-returns-in_err-append_key-clause-appends : goal.append_members-returns-in_err-append_key-clause-appends
@@ -64,8 +64,8 @@ append_members-returns-in_err-append_key-clause-appends t c =
     let rest = texts_left false (member_texts (members_view c.next.new.self)) ++ 125 ∷ [] in
     let next = next_member c.members.key-iterator c.next.new.self (c.in-Some.key.now, c.in-Some.value.now) c.in-Some.ensures.steps in
     let due = comma_done c.members.is_first _ _ _ _ (125 ∷ []) c.append_comma.new.buf.items _ _ next c.members.invariant.underway c.in_ok-append_comma.ensures.appends.ok in
-    let room = fits (quoted_text key ++ 58 ∷ []) (value ++ rest) due (key_split (quoted_text key) value rest) in
-    record { ok = search rules; holds = search rules; kept = kept_on due c.in_err-append_key.ensures.appends.kept; full = on_err c.from_residual-in_err-append_key.result (λ texts. omega (arith, room, c.in_err-append_key.ensures.appends.full)); capacity = search rules }
+    let space = fits (quoted_text key ++ 58 ∷ []) (value ++ rest) due (key_split (quoted_text key) value rest) in
+    record { ok = search rules; holds = search rules; retained = retained_on due c.in_err-append_key.ensures.appends.retained; full = on_err c.from_residual-in_err-append_key.result (λ texts. omega (arith, space, c.in_err-append_key.ensures.appends.full)); capacity = search rules }
 
 pub append_members-returns-in_err-append-clause-appends : goal.append_members-returns-in_err-append-clause-appends
 append_members-returns-in_err-append-clause-appends t c =
@@ -75,9 +75,9 @@ append_members-returns-in_err-append-clause-appends t c =
     let next = next_member c.members.key-iterator c.next.new.self (c.in-Some.key.now, c.in-Some.value.now) c.in-Some.ensures.steps in
     let due = comma_done c.members.is_first _ _ _ _ (125 ∷ []) c.append_comma.new.buf.items _ _ next c.members.invariant.underway c.in_ok-append_comma.ensures.appends.ok in
     let due = key_done _ _ _ (quoted_text key) value rest c.append_key.new.buf.items due c.in_ok-append_key.ensures.appends.ok in
-    let room = fits value rest due refl in
+    let space = fits value rest due refl in
     let first = next_member_text c.members.key-iterator c.next.new.self (c.in-Some.key.now, c.in-Some.value.now) c.in-Some.ensures.steps in
-    record { ok = search rules; holds = search rules; kept = kept_on due c.in_err-append.ensures.appends.kept; full = on_err c.from_residual-in_err-append.result (λ texts. omega (arith, room, c.in_err-append.ensures.appends.full (first_has_text _ _ _ _ c.members.invariant.texts first texts))); capacity = search rules }
+    record { ok = search rules; holds = search rules; retained = retained_on due c.in_err-append.ensures.appends.retained; full = on_err c.from_residual-in_err-append.result (λ texts. omega (arith, space, c.in_err-append.ensures.appends.full (first_has_text _ _ _ _ c.members.invariant.texts first texts))); capacity = search rules }
 
 pub append_members-members-init : goal.append_members-members-init
 append_members-members-init t c =
@@ -89,14 +89,14 @@ append_members-members-init t c =
       underway = goes_on c.extend_from_slice.new.self.items (123 ∷ []) rest (begun c.args.buf.now.items (text all)) (ap text (sym whole)) c.in_ok-extend_from_slice.ensures.items;
       texts = ap (λ es. members_have_texts (members_view es)) (sym whole);
       proper = λ parts. (KeysAscend-members_view all c.iter-key-items.ensures.ordered, subst (λ es. HaveProperParts (members_view es)) whole parts);
-      room = omega (arith, c.in_ok-extend_from_slice.ensures.capacity);
+      space = omega (arith, c.in_ok-extend_from_slice.ensures.capacity);
     }
 
 pub append_members-returns-in_err-append_comma-clause-appends : goal.append_members-returns-in_err-append_comma-clause-appends
 append_members-returns-in_err-append_comma-clause-appends t c =
     let next = next_member c.members.key-iterator c.next.new.self (c.in-Some.key.now, c.in-Some.value.now) c.in-Some.ensures.steps in
-    let room = comma_fits c.members.is_first _ _ _ _ (125 ∷ []) _ _ next c.members.invariant.underway in
-    record { ok = search rules; holds = search rules; kept = search rules; full = on_err c.from_residual-in_err-append_comma.result (λ texts. omega (arith, room, c.in_err-append_comma.ensures.appends.full)); capacity = search rules }
+    let space = comma_fits c.members.is_first _ _ _ _ (125 ∷ []) _ _ next c.members.invariant.underway in
+    record { ok = search rules; holds = search rules; retained = search rules; full = on_err c.from_residual-in_err-append_comma.result (λ texts. omega (arith, space, c.in_err-append_comma.ensures.appends.full)); capacity = search rules }
 
 pub append-returns-in-Null-clause-appends : goal.append-returns-in-Null-clause-appends
 append-returns-in-Null-clause-appends t c =

@@ -9,7 +9,7 @@ use Rattle.jsonb_value.proofs.value.text.append_runs.Given as goal
 abbrev pub invariant-runs : goal.invariant-runs
 invariant-runs l = record {
   underway : IsUnderway l.fn.buf.items l.buf.items (flat_map byte_text l.bytes) (flat_map byte_text l.rest);
-  room : vec_capacity l.fn.buf ≤ vec_capacity l.buf;
+  space : vec_capacity l.fn.buf ≤ vec_capacity l.buf;
 }
 
 abbrev pub decreases-runs : goal.decreases-runs

@@ -10,4 +10,4 @@ pub invariant_of-result : goal.invariant_of-result
 invariant_of-result c =
     let mode = mode_of c.args.mode in
     let body = c.args.body.now in
-    record { inside = omega arith; checked = parsed_contents mode body escaped (decoded_text mode body) c.in_ok-check_contents.ensures; kept = ∣ writes_start mode body [] ∣₁ }
+    record { inside = omega arith; checked = parsed_contents mode body escaped (decoded_text mode body) c.in_ok-check_contents.ensures; retained = ∣ writes_start mode body [] ∣₁ }

@@ -14,42 +14,42 @@ pub check_contents-requires-clause-known : goal.check_contents-requires-clause-k
 check_contents-requires-clause-known c =
     let mode = mode_of c.args.mode in
     let body = c.args.body.now in
-    let kept = c.kept_len-kept.result in
-    writes_known mode body (drop kept body) [] (take kept body) (subst (λ (u : List ℕ). WritesItems mode u (drop kept u) [] (take kept u)) c.as_bytes.ensures.value (c.kept_len-kept.ensures.kept mode))
+    let verbatim = c.entry_len-verbatim.result in
+    writes_known mode body (drop verbatim body) [] (take verbatim body) (subst (λ (u : List ℕ). WritesItems mode u (drop verbatim u) [] (take verbatim u)) c.as_bytes.ensures.value (c.entry_len-verbatim.ensures.retained mode))
 
 pub invariant_of-result : goal.invariant_of-result
 invariant_of-result c =
     let mode = mode_of c.args.mode in
     let body : List ℕ = c.args.body.now in
-    let kept : ℕ = c.kept_len-kept.result in
-    let written : WritesItems mode body (drop kept body) [] (take kept body) =
-    subst (λ (u : List ℕ). WritesItems mode u (drop kept u) [] (take kept u)) c.as_bytes.ensures.value (c.kept_len-kept.ensures.kept mode) in
-    let known = writes_known mode body (drop kept body) [] (take kept body) written in
-    let none : drop kept body ≡ [] = drop_all kept body (omega (arith, c.if-kept-body.true)) in
+    let verbatim : ℕ = c.entry_len-verbatim.result in
+    let written : WritesItems mode body (drop verbatim body) [] (take verbatim body) =
+    subst (λ (u : List ℕ). WritesItems mode u (drop verbatim u) [] (take verbatim u)) c.as_bytes.ensures.value (c.entry_len-verbatim.ensures.retained mode) in
+    let known = writes_known mode body (drop verbatim body) [] (take verbatim body) written in
+    let none : drop verbatim body ≡ [] = drop_all verbatim body (omega (arith, c.if-verbatim-body.true)) in
     record {
-      inside = omega (arith, c.if-kept-body.true);
+      inside = omega (arith, c.if-verbatim-body.true);
       checked = parsed_contents mode body escaped (decoded_text mode body) (body_checked mode body c.requires.escaped c.utf8.body (subst (IsDecodedUpTo mode body) none known));
-      kept = ∣ written ∣₁;
+      retained = ∣ written ∣₁;
     }
 
 pub invariant_of-result-2 : goal.invariant_of-result-2
 invariant_of-result-2 c =
     let mode = mode_of c.args.mode in
     let body : List ℕ = c.args.body.now in
-    let kept : ℕ = c.kept_len-kept.result in
+    let verbatim : ℕ = c.entry_len-verbatim.result in
     record {
-      inside = omega (arith, c.kept_len-kept.ensures.within, ap length c.as_bytes.ensures.value);
+      inside = omega (arith, c.entry_len-verbatim.ensures.within, ap length c.as_bytes.ensures.value);
       checked = parsed_contents mode body escaped (decoded_text mode body) c.in_ok-check_contents.ensures;
-      kept = ∣ subst (λ (u : List ℕ). WritesItems mode u (drop kept u) [] (take kept u)) c.as_bytes.ensures.value (c.kept_len-kept.ensures.kept mode) ∣₁;
+      retained = ∣ subst (λ (u : List ℕ). WritesItems mode u (drop verbatim u) [] (take verbatim u)) c.as_bytes.ensures.value (c.entry_len-verbatim.ensures.retained mode) ∣₁;
     }
 
-pub returns-then-kept-body : goal.returns-then-kept-body
-returns-then-kept-body c =
+pub returns-then-verbatim-body : goal.returns-then-verbatim-body
+returns-then-verbatim-body c =
     let mode = mode_of c.args.mode in
     let body : List ℕ = c.args.body.now in
-    let kept : ℕ = c.kept_len-kept.result in
-    let written : WritesItems mode body (drop kept body) [] (take kept body) =
-    subst (λ (u : List ℕ). WritesItems mode u (drop kept u) [] (take kept u)) c.as_bytes.ensures.value (c.kept_len-kept.ensures.kept mode) in
-    let known = writes_known mode body (drop kept body) [] (take kept body) written in
-    let none : drop kept body ≡ [] = drop_all kept body (omega (arith, c.if-kept-body.true)) in
+    let verbatim : ℕ = c.entry_len-verbatim.result in
+    let written : WritesItems mode body (drop verbatim body) [] (take verbatim body) =
+    subst (λ (u : List ℕ). WritesItems mode u (drop verbatim u) [] (take verbatim u)) c.as_bytes.ensures.value (c.entry_len-verbatim.ensures.retained mode) in
+    let known = writes_known mode body (drop verbatim body) [] (take verbatim body) written in
+    let none : drop verbatim body ≡ [] = drop_all verbatim body (omega (arith, c.if-verbatim-body.true)) in
     body_checked mode body c.requires.escaped c.utf8.body (subst (IsDecodedUpTo mode body) none known)

@@ -1,12 +1,12 @@
 use Rattle.std.proofs.Common.{refl}
-use Rattle.jsonb_write.proofs.Rooms.{on_ok}
+use Rattle.jsonb_write.proofs.Sinks.{on_ok}
 use Rattle.jsonb_write.proofs.open_members.OpenMembers.begin_within.Goals as goal
 
 pub returns : goal.returns
 returns c =
-    on_ok c.keep.result c.keep.ensures (λ has ordered inside. record {
+    on_ok c.preserve.result c.preserve.ensures (λ has ordered inside. record {
       member = _;
       keys = _;
       has = has;
-      kept = record { spot = refl; starts = refl; keyed = c.prefix_within.ensures ordered inside; within = λ e. absurd cc };
+      retained = record { spot = refl; starts = refl; keyed = c.prefix_within.ensures ordered inside; within = λ e. absurd cc };
     })

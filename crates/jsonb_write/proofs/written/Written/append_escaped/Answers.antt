@@ -5,7 +5,7 @@ use Rattle.jsonb_spec.specs.Text.StringText.{byte_text}
 use Rattle.jsonb_write.specs.Contents.{text_of_contents}
 use Rattle.jsonb_write.specs.Written.{bytes_of}
 use Rattle.jsonb_write.proofs.EscapedTexts.{quoted_bytes}
-use Rattle.jsonb_write.proofs.Rooms.{on_ok}
+use Rattle.jsonb_write.proofs.Sinks.{on_ok}
 use Rattle.jsonb_write.proofs.written.Written.append_escaped.Goals as goal
 
 pub returns-clause-bytes : goal.returns-clause-bytes

@@ -4,7 +4,7 @@ use Rattle.text_common.specs.ShortString.{IsShort}
 use Rattle.jsonb_write.specs.ShortString.{written_bytes}
 use Rattle.jsonb_write.specs.Written.{bytes_of}
 use Rattle.jsonb_write.proofs.EscapedTexts.{quoted_bytes}
-use Rattle.jsonb_write.proofs.Rooms.{on_ok}
+use Rattle.jsonb_write.proofs.Sinks.{on_ok}
 use Rattle.jsonb_write.proofs.ShortStrings.{short_text, short_there}
 use Rattle.jsonb_write.proofs.written.Written.append_short.Goals as goal
 

@@ -6,13 +6,13 @@ pub returns-in-Check-clause-ok : goal.returns-in-Check-clause-ok
 returns-in-Check-clause-ok g c = on_ok_weaker c.answer_check.result (λ one. checked_taken g.W.Write.contents c.args.self.now c.answer_check.new.self c.args.text.now c.in-Check.is one c.answer_check.ensures.same) c.answer_check.ensures.ok
 
 pub returns-in-Format-clause-ok : goal.returns-in-Format-clause-ok
-returns-in-Format-clause-ok g c = on_ok_weaker c.answer_format.result (λ laid. laid_taken g.W.Write.contents c.args.self.now c.answer_format.new.self c.args.text.now c.in-Format.is laid c.answer_format.ensures.kept) c.answer_format.ensures.ok
+returns-in-Format-clause-ok g c = on_ok_weaker c.answer_format.result (λ laid. laid_taken g.W.Write.contents c.args.self.now c.answer_format.new.self c.args.text.now c.in-Format.is laid c.answer_format.ensures.retained) c.answer_format.ensures.ok
 
 pub returns-in-Get-clause-ok : goal.returns-in-Get-clause-ok
 returns-in-Get-clause-ok g c = on_ok_weaker c.answer_get.result (λ gets. gets_taken g.W.Write.contents c.args.self.now c.answer_get.new.self c.args.text.now c.in-Get.is gets) c.answer_get.ensures.ok
 
 pub returns-in-Keys-clause-ok : goal.returns-in-Keys-clause-ok
-returns-in-Keys-clause-ok g c = on_ok_weaker c.answer_keys.result (λ keyed. keyed_taken g.W.Write.contents c.args.self.now c.answer_keys.new.self c.args.text.now c.in-Keys.is keyed c.answer_keys.ensures.kept) c.answer_keys.ensures.ok
+returns-in-Keys-clause-ok g c = on_ok_weaker c.answer_keys.result (λ keyed. keyed_taken g.W.Write.contents c.args.self.now c.answer_keys.new.self c.args.text.now c.in-Keys.is keyed c.answer_keys.ensures.retained) c.answer_keys.ensures.ok
 
 pub returns-in-Sort-clause-ok : goal.returns-in-Sort-clause-ok
 returns-in-Sort-clause-ok g c = on_ok_weaker c.take_sort.result (λ added. sorted_taken g.W.Write.contents c.args.self.now c.take_sort.new.self c.args.text.now c.in-Sort.is c.take_sort.ensures.options added) c.take_sort.ensures.ok

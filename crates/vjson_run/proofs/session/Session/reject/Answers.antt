@@ -8,5 +8,5 @@ returns-then-self g c = λ none. rejected_taken g.W.Write.contents c.args.self.n
 
 pub returns : goal.returns
 returns g c = λ none. rejected_taken g.W.Write.contents c.args.self.now
-    (record c.args.self.now { out = c.flush.new.self; err = c.tell_fault.new.err; status = c.status_rejected-self.result; over = c.is_over_rejected-self.result }) c.args.text.now none
+    (record c.args.self.now { out = c.flush.new.self; err = c.report_fault.new.err; status = c.status_rejected-self.result; over = c.is_over_rejected-self.result }) c.args.text.now none
     (record { options = refl; printed = c.flush.ensures.nothing; status = c.status_rejected-self.ensures.others; equal = c.status_rejected-self.ensures.equal; over = c.is_over_rejected-self.ensures })

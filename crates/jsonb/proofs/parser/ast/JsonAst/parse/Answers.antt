@@ -10,8 +10,8 @@ use Rattle.jsonb.proofs.parser.ast.JsonAst.parse.Goals as goal
 source_given : (c : goal.In-Ok) → source_of (mode_of c.args.mode) c.args.buf.now ≡ Ok (source_view c.in-Ok.tree)
 source_given c = let read = c.in-Ok.ensures.parses tt in read.2 ∙ ap (λ s. Ok s) (sym read.1.0)
 
-fault_told : (c : goal.In-Some) → Fails c.in-Some.error (source_of (mode_of c.args.mode) c.args.buf.now)
-fault_told c = subst (λ told. Misses false told (source_of (mode_of c.args.mode) c.args.buf.now)) c.in-Some.is (c.in-Err.ensures.parses tt)
+fault_reported : (c : goal.In-Some) → Fails c.in-Some.error (source_of (mode_of c.args.mode) c.args.buf.now)
+fault_reported c = subst (λ reported. Misses false reported (source_of (mode_of c.args.mode) c.args.buf.now)) c.in-Some.is (c.in-Err.ensures.parses tt)
 
 pub returns-in-Ok-clause-source : goal.returns-in-Ok-clause-source
 returns-in-Ok-clause-source c = gives_source (mode_of c.args.mode) c.args.buf.now (Ok c.in-Ok.tree) (source_given c)
@@ -23,7 +23,7 @@ pub returns-in-Ok-clause-follows : goal.returns-in-Ok-clause-follows
 returns-in-Ok-clause-follows c = gives_as_specified (mode_of c.args.mode) ast_view c.args.buf.now (Ok c.in-Ok.tree) (gives_tree (mode_of c.args.mode) c.args.buf.now (Ok c.in-Ok.tree) (source_given c))
 
 pub returns-in-Some-clause-parses : goal.returns-in-Some-clause-parses
-returns-in-Some-clause-parses c = gives_all (mode_of c.args.mode) ast_view c.args.buf.now (Err c.in-Some.error) (gives_tree (mode_of c.args.mode) c.args.buf.now (Err c.in-Some.error) (fault_told c)) (search rules)
+returns-in-Some-clause-parses c = gives_all (mode_of c.args.mode) ast_view c.args.buf.now (Err c.in-Some.error) (gives_tree (mode_of c.args.mode) c.args.buf.now (Err c.in-Some.error) (fault_reported c)) (search rules)
 
 pub returns-in-Some-clause-follows : goal.returns-in-Some-clause-follows
-returns-in-Some-clause-follows c = gives_as_specified (mode_of c.args.mode) ast_view c.args.buf.now (Err c.in-Some.error) (gives_tree (mode_of c.args.mode) c.args.buf.now (Err c.in-Some.error) (fault_told c))
+returns-in-Some-clause-follows c = gives_as_specified (mode_of c.args.mode) ast_view c.args.buf.now (Err c.in-Some.error) (gives_tree (mode_of c.args.mode) c.args.buf.now (Err c.in-Some.error) (fault_reported c))

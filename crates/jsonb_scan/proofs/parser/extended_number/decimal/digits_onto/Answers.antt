@@ -8,7 +8,7 @@ use Rattle.jsonb_scan.proofs.parser.extended_number.decimal.digits_onto.Goals as
 
 pub overflow_mul-all : goal.overflow_mul-all
 overflow_mul-all c =
-    omega (arith, c.loop-digit.invariant, value_after_step c.args.number c.args.digits.now c.loop-digit.digit-index _ c.requires.are_digits (omega arith) c.requires.room)
+    omega (arith, c.loop-digit.invariant, value_after_step c.args.number c.args.digits.now c.loop-digit.digit-index _ c.requires.are_digits (omega arith) c.requires.space)
 
 pub overflow_sub-digit : goal.overflow_sub-digit
 overflow_sub-digit c = omega (arith, digit_at c.args.digits.now c.loop-digit.digit-index c.requires.are_digits (omega arith))
@@ -16,7 +16,7 @@ overflow_sub-digit c = omega (arith, digit_at c.args.digits.now c.loop-digit.dig
 pub overflow_add-all : goal.overflow_add-all
 overflow_add-all c =
     let digit = digit_at c.args.digits.now c.loop-digit.digit-index c.requires.are_digits (omega arith) in
-    omega (arith, c.from.ensures, digit_value_digit _ digit, digit, c.loop-digit.invariant, value_after_step c.args.number c.args.digits.now c.loop-digit.digit-index _ c.requires.are_digits (omega arith) c.requires.room)
+    omega (arith, c.from.ensures, digit_value_digit _ digit, digit, c.loop-digit.invariant, value_after_step c.args.number c.args.digits.now c.loop-digit.digit-index _ c.requires.are_digits (omega arith) c.requires.space)
 
 pub loop-digit-preserved : goal.loop-digit-preserved
 loop-digit-preserved c =

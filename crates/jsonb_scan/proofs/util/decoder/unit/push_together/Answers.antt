@@ -1,11 +1,11 @@
 use Rattle.std.proofs.Common.{take, ◌≡◌, true, false, sym, ap, ◌∙◌, ◌++◌}
 use Rattle.std.proofs.lemmas.List.{append_assoc}
 use Rattle.std.specs.Char.{encode_utf8}
-use Rattle.jsonb_value.proofs.Strings.Units.{together-kept, together-character}
+use Rattle.jsonb_value.proofs.Strings.Units.{together-retained, together-character}
 use Rattle.jsonb_scan.proofs.util.decoder.unit.push_together.Goals as goal
 use Rattle.std.specs.Char.Utf16.{is_low_surrogate, surrogate_pair_char}
 use Rattle.std.specs.Str.Parse.{digits_value}
-use Rattle.jsonb_spec.specs.Grammar.StringBody.{spelling, unit}
+use Rattle.jsonb_spec.specs.Grammar.StringBody.{encoding, unit}
 
 pub returns-then-is_surrogate_low-clause-written : goal.returns-then-is_surrogate_low-clause-written
 returns-then-is_surrogate_low-clause-written c =
@@ -20,6 +20,6 @@ returns-else-is_surrogate_low-clause-written c =
     let high = c.args.high.now in
     let next = c.args.next.now in
     let other : is_low_surrogate (digits_value 16 next.digits.now) ≡ false = ap is_low_surrogate (sym c.requires.value.1) ∙ sym c.is_surrogate_low.ensures ∙ c.if-is_surrogate_low.false in
-    c.push_kept.ensures.written ∙ ap (λ added. added ++ spelling (unit false next.digits.now)) c.push_kept-len.ensures.written
-    ∙ append_assoc (take c.args.len c.args.text.now) (spelling (unit false high.digits.now)) (spelling (unit false next.digits.now))
-    ∙ ap (λ added. take c.args.len c.args.text.now ++ added) (sym (together-kept high.digits.now next.digits.now other))
+    c.push_verbatim.ensures.written ∙ ap (λ added. added ++ encoding (unit false next.digits.now)) c.push_verbatim-len.ensures.written
+    ∙ append_assoc (take c.args.len c.args.text.now) (encoding (unit false high.digits.now)) (encoding (unit false next.digits.now))
+    ∙ ap (λ added. take c.args.len c.args.text.now ++ added) (sym (together-retained high.digits.now next.digits.now other))

@@ -1,5 +1,5 @@
 use Rattle.std.proofs.Common.{◌∙◌}
-use Rattle.jsonb.proofs.Places.Views.{source-Object}
+use Rattle.jsonb.proofs.Offsets.Views.{source-Object}
 use Rattle.jsonb.proofs.parser.handler.ast.JsonAstHandler.object.Goals as goal
 
 pub returns : goal.returns

@@ -7,7 +7,7 @@ use Rattle.jsonb.proofs.parser.handler.ast.JsonAstHandler.push_inner.Goals as go
 pub returns-clause-put : goal.returns-clause-put
 returns-clause-put c = on_ok c.push_scalar.result
     (λ put text s ss fs cs held. (
-      subst (λ vs. AreSeen (λ v s. source_view v ≡ s) vs (ss ++ s ∷ [])) (sym (put ∙ ap (λ vs. vs ++ c.args.value ∷ []) c.make_room.ensures)) (seen-snoc (λ v s. source_view v ≡ s) c.args.items.now.items ss c.args.value s held.1.0 held.0),
+      subst (λ vs. AreSeen (λ v s. source_view v ≡ s) vs (ss ++ s ∷ [])) (sym (put ∙ ap (λ vs. vs ++ c.args.value ∷ []) c.grow.ensures)) (seen-snoc (λ v s. source_view v ≡ s) c.args.items.now.items ss c.args.value s held.1.0 held.0),
       held.1.1,
     ))
     c.push_scalar.ensures

@@ -3,21 +3,21 @@ use Rattle.std.specs.Prelude.{MatchOption}
 use Rattle.jsonb.specs.Held.{held_by}
 use Rattle.jsonb_scan.specs.Parsing.Container.{object_or_fault}
 use Rattle.jsonb_spec.specs.Source.{first_repeat, object_source_of, spot_of}
-use Rattle.jsonb_write.specs.OpenMembers.{EndsObject, TellsRepeatOf}
-use Rattle.jsonb_parse.proofs.Steps.Failures.{tells_always}
+use Rattle.jsonb_write.specs.OpenMembers.{EndsObject, ReportsRepeatOf}
+use Rattle.jsonb_parse.proofs.Steps.Failures.{reports_always}
 use Rattle.jsonb.proofs.parser.handler.sink.SinkPartHandler.finish.Goals as goal
 
 pub returns-in-Ok-None-clause-ended : goal.returns-in-Ok-None-clause-ended
-returns-in-Ok-None-clause-ended g c = λ text front key k place fs cs rest stands.
+returns-in-Ok-None-clause-ended g c = λ text front key k offset fs cs rest holds.
     let sink = c.end_object.new.self in
     let held = map (held_by g.S.Sink.array g.S.Sink.object) fs in
-    let ends = subst (λ o. MatchOption o (EndsObject (g.S.Sink.filled text) sink front held cs) (TellsRepeatOf (g.S.Sink.opened sink) (g.S.Sink.first c.args.members.now) front)) c.in-Ok-None.field-0-is (c.in-Ok-None.ensures.stands text held front k place cs stands) in
+    let ends = subst (λ o. MatchOption o (EndsObject (g.S.Sink.filled text) sink front held cs) (ReportsRepeatOf (g.S.Sink.opened sink) (g.S.Sink.first c.args.members.now) front)) c.in-Ok-None.field-0-is (c.in-Ok-None.ensures.holds text held front k offset cs holds) in
     (object_source_of front, ends.filled, ap (λ o. object_or_fault o front rest) ends.new_keys)
 
 pub returns-in-Ok-Some-clause-ended : goal.returns-in-Ok-Some-clause-ended
-returns-in-Ok-Some-clause-ended g c = λ text front key k place fs cs rest stands.
+returns-in-Ok-Some-clause-ended g c = λ text front key k offset fs cs rest holds.
     let sink = c.end_object.new.self in
     let held = map (held_by g.S.Sink.array g.S.Sink.object) fs in
-    let repeat = subst (λ o. MatchOption o (EndsObject (g.S.Sink.filled text) sink front held cs) (TellsRepeatOf (g.S.Sink.opened sink) (g.S.Sink.first c.args.members.now) front)) c.in-Ok-Some.field-0-is (c.in-Ok-Some.ensures.stands text held front k place cs stands) in
-    let there = subst (λ ms. TellsRepeatOf ms (g.S.Sink.first c.args.members.now) front c.in-Ok-Some.index) (sym c.open_members.ensures) repeat in
-    tells_always true c.tell_repeat.new.told (object_or_fault (first_repeat (map spot_of front)) front rest) (c.tell_repeat.ensures front rest (subst (λ n. TellsRepeatOf c.open_members.result.now n front c.in-Ok-Some.index) (sym c.first_member-first.ensures) there))
+    let repeat = subst (λ o. MatchOption o (EndsObject (g.S.Sink.filled text) sink front held cs) (ReportsRepeatOf (g.S.Sink.opened sink) (g.S.Sink.first c.args.members.now) front)) c.in-Ok-Some.field-0-is (c.in-Ok-Some.ensures.holds text held front k offset cs holds) in
+    let there = subst (λ ms. ReportsRepeatOf ms (g.S.Sink.first c.args.members.now) front c.in-Ok-Some.index) (sym c.open_members.ensures) repeat in
+    reports_always true c.report_repeat.new.reported (object_or_fault (first_repeat (map spot_of front)) front rest) (c.report_repeat.ensures front rest (subst (λ n. ReportsRepeatOf c.open_members.result.now n front c.in-Ok-Some.index) (sym c.first_member-first.ensures) there))

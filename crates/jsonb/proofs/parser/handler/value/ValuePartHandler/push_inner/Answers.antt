@@ -7,6 +7,6 @@ use Rattle.jsonb.proofs.parser.handler.value.ValuePartHandler.push_inner.Goals a
 
 pub returns-clause-put : goal.returns-clause-put
 returns-clause-put c = λ text s ss fs cs held. (
-  subst (λ vs. AreSeen (λ v s. view v ≡ tree_of_source s) vs (ss ++ s ∷ [])) (sym (c.in_default.ensures.items ∙ ap (λ vs. vs ++ c.args.value.value ∷ []) c.make_room.ensures)) (seen-snoc (λ v s. view v ≡ tree_of_source s) c.args.items.now.items ss c.args.value.value s held.1.0 held.0),
+  subst (λ vs. AreSeen (λ v s. view v ≡ tree_of_source s) vs (ss ++ s ∷ [])) (sym (c.in_default.ensures.items ∙ ap (λ vs. vs ++ c.args.value.value ∷ []) c.grow.ensures)) (seen-snoc (λ v s. view v ≡ tree_of_source s) c.args.items.now.items ss c.args.value.value s held.1.0 held.0),
   held.1.1,
 )

@@ -1,0 +1,3 @@
+-- The byte ranges of a `JsonAst` and its parts.
+pub mod Located
+pub mod Views
