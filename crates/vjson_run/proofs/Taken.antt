@@ -11,7 +11,7 @@ use Rattle.vjson_run.specs.Answers.{Answers, IsFound, IsLaidOut, IsOne, LacksPar
 use Rattle.vjson_run.specs.Lines.{key_line}
 use Rattle.vjson_run.specs.Output.{output, PrintsNothing, PrintsPart}
 use Rattle.vjson_run.specs.declared.report.Output.{Output}
-use Rattle.vjson_run.specs.Runs.{Answer, AreAnswered, AreLinesFor, IsAnswer, IsLineFor, HasMade, HasTaken, Gets, AddsLine, AreEqual, AreEqualSoFar, Compares, Differs, IsVerbatim, IsSame, Takes, denied, is_yes}
+use Rattle.vjson_run.specs.Runs.{Answer, AreAnswered, AreLinesFor, IsAnswer, IsLineFor, HasMade, HasTaken, Gets, AddsLine, AreEqual, AreEqualSoFar, Compares, Differs, IsRetained, IsSame, Takes, denied, is_yes}
 use Rattle.vjson_run.specs.declared.lines.Line.{Line}
 use Rattle.vjson_run.specs.declared.options.Command.{Command}
 use Rattle.vjson_run.specs.declared.options.Command.TheVariants.{Check, Format, Get, Sort, Equal, Keys}
@@ -170,7 +170,7 @@ module _ {W E : Type 0} (contents : W → Option (List ℕ)) where
       subst (λ o. Made start (before ++ text ∷ []) t o.now.command) (sym h.options)
       (by_command s.options.now.command s t good part text start before refl by h calm fine answer (had (untroubled good s.status t.status (h.status calm) calm) (h.failed fine)))
 
-  pub retained_moves : (s t : Session W E) (part : List ℕ) → IsVerbatim s t → t.out.bytes.items ≡ s.out.bytes.items ++ part → Moves s t true part
+  pub retained_moves : (s t : Session W E) (part : List ℕ) → IsRetained s t → t.out.bytes.items ≡ s.out.bytes.items ++ part → Moves s t true part
   retained_moves s t part k bytes = record {
     options = k.options;
     failed = λ fine. sym k.error ∙ fine;
@@ -184,11 +184,11 @@ module _ {W E : Type 0} (contents : W → Option (List ℕ)) where
   checked_taken s t text is one same =
       takes_answered s t true [] text (retained_moves s t [] same.retained (same.bytes ∙ sym (append-nil s.out.bytes.items))) (subst IsByText (sym is) tt) (checked is one)
 
-  pub laid_taken : (s t : Session W E) (text : List ℕ) → s.options.now.command ≡ Format → Prints (IsLaidOut s.options.now text) s.out.bytes.items t.out.bytes.items → IsVerbatim s t → Takes contents s (text ∷ []) t
+  pub laid_taken : (s t : Session W E) (text : List ℕ) → s.options.now.command ≡ Format → Prints (IsLaidOut s.options.now text) s.out.bytes.items t.out.bytes.items → IsRetained s t → Takes contents s (text ∷ []) t
   laid_taken s t text is laid retained =
       takes_answered s t true (printed laid.bytes) text (retained_moves s t (printed laid.bytes) retained laid.appended) (subst IsByText (sym is) tt) (laid_out laid.bytes is laid.is_printed)
 
-  pub keyed_taken : (s t : Session W E) (text : List ℕ) → s.options.now.command ≡ Keys → PrintsKeyed s.options.now text s.out.bytes.items t.out.bytes.items → IsVerbatim s t → Takes contents s (text ∷ []) t
+  pub keyed_taken : (s t : Session W E) (text : List ℕ) → s.options.now.command ≡ Keys → PrintsKeyed s.options.now text s.out.bytes.items t.out.bytes.items → IsRetained s t → Takes contents s (text ∷ []) t
   keyed_taken s t text is h retained =
       takes_answered s t true (key_line h.key h.line) text (retained_moves s t (key_line h.key h.line) retained h.appended) (subst IsByText (sym is) tt) (keyed h.key h.line is h.keyed)
 

@@ -89,7 +89,7 @@ abbrev pub line_texts : List ℕ → List (List ℕ)
 line_texts line = filter (λ text. not (is_blank_line text)) (without_end line ∷ [])
 
 -- All that counts is the same in both sessions, but for what is printed.
-pub record IsVerbatim {W E : Type 0} (s t : Session W E) : Type 0 where
+pub record IsRetained {W E : Type 0} (s t : Session W E) : Type 0 where
   pub options : t.options ≡ s.options
   pub writer : t.out.writer ≡ s.out.writer
   pub error : t.out.error ≡ s.out.error
@@ -100,7 +100,7 @@ pub record IsVerbatim {W E : Type 0} (s t : Session W E) : Type 0 where
 
 -- And nothing is printed.
 pub record IsSame {W E : Type 0} (s t : Session W E) : Type 0 where
-  pub retained : IsVerbatim s t
+  pub retained : IsRetained s t
   pub bytes : t.out.bytes.items ≡ s.out.bytes.items
 
 -- whether a key differs from that of the text before, if there is one

@@ -13,7 +13,7 @@ ghost use Rattle.vjson_run.specs.Runs.{
   Gets,
   HasTaken,
   IsDone,
-  IsVerbatim,
+  IsRetained,
   IsSame,
   Takes,
   WritesSorted,
@@ -308,7 +308,7 @@ impl<'o, W: Write, E: Write> Session<'o, W, E> {
             self.new.out.bytes.items) }
         ensures err { IfErr result (λ f. f ≢ Fault.NoMemory → self.new.out.bytes.items ≡ self.old.out.bytes.items) }
         ensures rejected { Rejects self.old.options.now.grammar text.now result }
-        ensures retained { IsVerbatim self.old self.new }
+        ensures retained { IsRetained self.old self.new }
     {
         let out = &mut self.out.bytes;
         answers::format(self.alloc, self.options, text, &mut self.buffers, out)
@@ -331,7 +331,7 @@ impl<'o, W: Write, E: Write> Session<'o, W, E> {
             self.new.out.bytes.items) }
         ensures err { IfErr result (λ f. f ≢ Fault.NoMemory → self.new.out.bytes.items ≡ self.old.out.bytes.items) }
         ensures rejected { Rejects self.old.options.now.grammar text.now result }
-        ensures retained { IsVerbatim self.old self.new }
+        ensures retained { IsRetained self.old self.new }
     {
         let out = &mut self.out.bytes;
         answers::print_key(self.alloc, self.options, text, &mut self.buffers, out)
