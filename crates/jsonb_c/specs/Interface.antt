@@ -18,7 +18,7 @@ use Rattle.jsonb_spec.specs.Text.{text_of}
 use Rattle.jsonb_spec.specs.Tree.{Tree}
 use Rattle.jsonb_scan.specs.Parsing.Document.{document_of}
 use Rattle.jsonb_scan.specs.Answer.{Fails, MayAllocate}
-use Rattle.jsonb_spec.specs.Errors.{Occurs}
+use Rattle.jsonb_spec.specs.Errors.{Applies}
 use Rattle.jsonb_spec.specs.PartAt.{IsAt}
 use Rattle.jsonb_path.specs.Path.{IsPath, StartsKey}
 use Rattle.jsonb_c.specs.declared.Part.{Part}
@@ -90,7 +90,7 @@ pub record IsRejected (number : ℕ) (text : List ℕ) (count : ℕ) (rejection 
   pub code : Code
   pub numbered : rejection.code ≡ code_number code
   pub exact : document_of mode text ≡ Err (record { code = code; offset = rejection.position })
-  pub explained : Occurs mode text code rejection.position
+  pub explained : Applies mode text code rejection.position
 
 -- One of two texts is rejected, the first that is no document.
 pub data IsOneRejected (number : ℕ) (left right : List ℕ) (rejection : Rejection) : Type 0 where
