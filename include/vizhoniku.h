@@ -60,6 +60,7 @@ enum vizhoniku_status {
 /* Names of earlier versions, which the next one drops. */
 #define VIZHONIKU_REFUSED VIZHONIKU_REJECTED
 #define vizhoniku_refusal vizhoniku_error
+#define vizhoniku_place vizhoniku_locate
 
 /* What is wrong with a text. docs/GRAMMAR.md says when, and which byte the position means. */
 enum vizhoniku_code {
@@ -169,8 +170,8 @@ struct vizhoniku_location {
 };
 
 /* Returns the byte to show of an error of this text. */
-void vizhoniku_place(const unsigned char *text, size_t text_size, const struct vizhoniku_error *error,
-                     struct vizhoniku_location *location);
+void vizhoniku_locate(const unsigned char *text, size_t text_size, const struct vizhoniku_error *error,
+                      struct vizhoniku_location *location);
 
 /* Writes the error message of the text to the start of the buffer, as the program jsonb_cat prints it, such as
  * `duplicate object attribute "a", pos 10`. The text is parsed for that, so no other call need check it before.

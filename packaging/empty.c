@@ -21,8 +21,8 @@ uint32_t proved_text_and_key(uint32_t mode, const unsigned char *text, size_t te
                              size_t *key_size, struct vizhoniku_error *error);
 uint32_t proved_compare(uint32_t mode, const unsigned char *left, size_t left_size, const unsigned char *right,
                         size_t right_size, int32_t *order, struct vizhoniku_error *error);
-void proved_place(const unsigned char *text, size_t text_size, const struct vizhoniku_error *error,
-                  struct vizhoniku_location *location);
+void proved_locate(const unsigned char *text, size_t text_size, const struct vizhoniku_error *error,
+                   struct vizhoniku_location *location);
 uint32_t proved_message(uint32_t mode, const unsigned char *text, size_t text_size, unsigned char *buffer,
                         size_t buffer_size, size_t *size);
 uint32_t proved_reason(uint32_t mode, const unsigned char *text, size_t text_size, unsigned char *buffer,
@@ -123,9 +123,9 @@ uint32_t vizhoniku_compare(uint32_t mode, const unsigned char *left, size_t left
                         error);
 }
 
-void vizhoniku_place(const unsigned char *text, size_t text_size, const struct vizhoniku_error *error,
-                     struct vizhoniku_location *location) {
-  proved_place(bytes_at(text, text_size), text_size, error, location);
+void vizhoniku_locate(const unsigned char *text, size_t text_size, const struct vizhoniku_error *error,
+                      struct vizhoniku_location *location) {
+  proved_locate(bytes_at(text, text_size), text_size, error, location);
 }
 
 uint32_t vizhoniku_message(uint32_t mode, const unsigned char *text, size_t text_size, unsigned char *buffer,

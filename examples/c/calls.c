@@ -311,7 +311,7 @@ static void pass_null(uint32_t mode) {
   printf(" order %d,", (int)order);
   printf(" message %u", (unsigned)vizhoniku_message(mode, NULL, 0, NULL, 0, &size));
   printf(" size %zu,", size);
-  vizhoniku_place(NULL, 0, &error, &location);
+  vizhoniku_locate(NULL, 0, &error, &location);
   printf(" place %zu %zu %zu\n", location.index, location.line, location.column);
 }
 

@@ -32,7 +32,7 @@ static int print_failure(uint32_t mode, uint32_t status, const struct vizhoniku_
     fprintf(stderr, "status %u\n", (unsigned)status);
     return 2;
   }
-  vizhoniku_place(text, text_size, error, &location);
+  vizhoniku_locate(text, text_size, error, &location);
   fprintf(stderr, "line %zu, column %zu: ", location.line, location.column);
   if (vizhoniku_message(mode, text, text_size, words, sizeof words, &size) == VIZHONIKU_REJECTED)
     fwrite(words, 1, size, stderr);

@@ -88,7 +88,7 @@ static inline struct outcome call_error_path(uint32_t mode, bytes text, size_t t
 
 static inline struct vizhoniku_location call_location(bytes text, size_t text_size, struct vizhoniku_error error) {
   struct vizhoniku_location location;
-  vizhoniku_place(text, text_size, &error, &location);
+  vizhoniku_locate(text, text_size, &error, &location);
   return location;
 }
 

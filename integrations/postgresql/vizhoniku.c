@@ -230,7 +230,7 @@ vjson_locate(const VjsonRejection *why, VjsonLocation *where)
 {
 	struct vizhoniku_location location;
 
-	vizhoniku_place((const unsigned char *) why->text, why->size, &why->error, &location);
+	vizhoniku_locate((const unsigned char *) why->text, why->size, &why->error, &location);
 	where->index = location.index;
 	where->line = location.line;
 	where->column = column_in_characters(why->text, why->size, &location);

@@ -1187,7 +1187,7 @@ STAND_IN = r"""
 #include <time.h>
 
 struct error { uint32_t code, which; size_t position; };
-struct place { size_t index, line, column; };
+struct location { size_t index, line, column; };
 
 volatile int waits, is_waiting, goes_on;
 volatile uint32_t status, reason_status = 1, path_status;
@@ -1270,9 +1270,9 @@ uint32_t vizhoniku_reason(uint32_t mode, const char *text, size_t text_size, cha
 KEY(check) KEY(kind) KEY(count) KEY(member) KEY(item) KEY(part) KEY(begin) KEY(next) KEY(name) KEY(text)
 KEY(contains) KEY(set) KEY(remove) KEY(put) KEY(push) KEY(merge)
 
-void vizhoniku_place(const char *text, size_t text_size, const struct error *error, struct place *place) {
+void vizhoniku_locate(const char *text, size_t text_size, const struct error *error, struct location *location) {
   (void)text, (void)text_size, (void)error;
-  place->index = 0, place->line = place->column = 1;
+  location->index = 0, location->line = location->column = 1;
 }
 """
 

@@ -148,7 +148,7 @@ static uint32_t find_fault(uint32_t mode, struct read_text *text, struct vizhoni
 static size_t write_location(char *words, size_t capacity, const struct read_text *text,
                              const struct vizhoniku_error *error, int is_error) {
   struct vizhoniku_location location;
-  vizhoniku_place(text->at, text->size, error, &location);
+  vizhoniku_locate(text->at, text->size, error, &location);
   size_t first = location.index - (location.column - 1);
   size_t column = text->size ? character_at(text->at, text->size, first, location.index) : 1;
   return (size_t)snprintf(words, capacity, "%sline %zu, column %zu: ", is_error ? "malformed JSON: " : "",
@@ -233,7 +233,7 @@ static void call_error_position(sqlite3_context *context, int count, sqlite3_val
   } else if (status == VIZHONIKU_ACCEPTED) {
     sqlite3_result_int(context, 0);
   } else {
-    vizhoniku_place(read.at, read.size, &error, &location);
+    vizhoniku_locate(read.at, read.size, &error, &location);
     sqlite3_result_int64(context, size ? (sqlite3_int64)character_at(read.at, read.size, 0, location.index) : 1);
   }
   sqlite3_free(read.made);

@@ -390,7 +390,7 @@ pub extern "C" fn vizhoniku_version() -> u32
 
 /// Returns the byte to show of an error of this text.
 #[unsafe(no_mangle)]
-pub extern "C" fn vizhoniku_place(
+pub extern "C" fn vizhoniku_locate(
     alloc: Global,
     text: &[u8],
     rejection: &Rejection,

@@ -76,7 +76,7 @@ def _load() -> ctypes.CDLL:
         library.vizhoniku_text_and_key.argtypes = [mode, *text_in, *text_out, *text_out, error]
         library.vizhoniku_compare.argtypes = [mode, *text_in, *text_in, ctypes.POINTER(ctypes.c_int32), error]
         library.vizhoniku_reason.argtypes = [mode, *text_in, *text_out]
-        library.vizhoniku_place.argtypes = [*text_in, error, location]
+        library.vizhoniku_locate.argtypes = [*text_in, error, location]
         library.vizhoniku_plain_numbers.argtypes = [*text_in, *text_out, error]
         library.vizhoniku_masked_numbers.argtypes = [*text_in, *text_out]
         library.vizhoniku_error_path.argtypes = [mode, *text_in, error, *text_out]
@@ -102,7 +102,7 @@ def _load() -> ctypes.CDLL:
                      "key_text", "key_contains", "key_set", "key_remove", "key_put", "key_push", "key_merge",
                      "plain_numbers", "masked_numbers", "error_path"):
             getattr(library, "vizhoniku_" + name).restype = status
-        library.vizhoniku_place.restype = None
+        library.vizhoniku_locate.restype = None
     except AttributeError as error:
         raise ImportError(f"the library lacks a function: {error}") from None
     return library
@@ -158,7 +158,7 @@ def _path(mode: int, data: bytes, error: _Error) -> Optional[str]:
 def _rejected(mode: int, error: _Error, text: Text, data: bytes, words: Optional[bytes] = None) -> RejectedText:
     """The error of a text, of which the data are the bytes, or are those with numbers masked."""
     location = _Location()
-    _library.vizhoniku_place(data, len(data), error, location)
+    _library.vizhoniku_locate(data, len(data), error, location)
     return rejection(text, data, _words(mode, data) if words is None else words, error.code, error.which,
                      location.index, location.line, location.column, _path(mode, _bytes(text), error))
 

@@ -178,7 +178,7 @@ static void raise_rejected(const struct state *state, uint32_t mode, const struc
                            PyObject *object, const struct text *text, const struct text *passed,
                            const char *own_words) {
   struct vizhoniku_location location;
-  vizhoniku_place(text->at, text->size, error, &location);
+  vizhoniku_locate(text->at, text->size, error, &location);
   PyObject *words = own_words ? PyBytes_FromString(own_words) : words_of(mode, text);
   PyObject *path = words ? path_of(mode, error, passed) : NULL;
   PyObject *raised = !path ? NULL : PyObject_CallFunction(

@@ -197,7 +197,7 @@ fn path(text: &[u8], mode: Mode, error: &ffi::TextError) -> Result<String, Error
 fn location(text: &[u8], error: &ffi::TextError) -> ffi::Location {
     let mut location = ffi::Location::default();
     // SAFETY: the text has its size, and the error and the location are whole.
-    unsafe { ffi::vizhoniku_place(text.as_ptr(), text.len(), error, &mut location) };
+    unsafe { ffi::vizhoniku_locate(text.as_ptr(), text.len(), error, &mut location) };
     location
 }
 

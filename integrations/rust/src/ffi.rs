@@ -50,7 +50,7 @@ extern "C" {
     pub fn vizhoniku_key_text(key: *const u8, key_size: usize, buffer: *mut u8, buffer_size: usize, size: *mut usize) -> u32;
     pub fn vizhoniku_text_and_key(mode: u32, text: *const u8, text_size: usize, buffer: *mut u8, buffer_size: usize, size: *mut usize, key_buffer: *mut u8, key_buffer_size: usize, key_size: *mut usize, error: *mut TextError) -> u32;
     pub fn vizhoniku_compare(mode: u32, left: *const u8, left_size: usize, right: *const u8, right_size: usize, order: *mut i32, error: *mut TextError) -> u32;
-    pub fn vizhoniku_place(text: *const u8, text_size: usize, error: *const TextError, location: *mut Location);
+    pub fn vizhoniku_locate(text: *const u8, text_size: usize, error: *const TextError, location: *mut Location);
     pub fn vizhoniku_reason(mode: u32, text: *const u8, text_size: usize, buffer: *mut u8, buffer_size: usize, size: *mut usize) -> u32;
     pub fn vizhoniku_key_check(key: *const u8, key_size: usize) -> u32;
     pub fn vizhoniku_key_kind(key: *const u8, key_size: usize) -> u32;
