@@ -20,7 +20,7 @@ def answer(text, mode):
     try:
         tree = reference.read(text, mode)
     except reference.Rejection as rejection:
-        fields = {"refused": rejection.code, "position": rejection.position}
+        fields = {"rejected": rejection.code, "position": rejection.position}
         if isinstance(rejection.argument, bytes):
             fields["argument"] = rejection.argument.hex()
         elif rejection.argument is not None:
@@ -31,7 +31,7 @@ def answer(text, mode):
 
 # The code, or how the tree begins.
 def outcome(fields):
-    return fields.get("refused") or fields["tree"][:4]
+    return fields.get("rejected") or fields["tree"][:4]
 
 
 def vector(text):
@@ -70,7 +70,7 @@ def made():
 
 def line_of(fields):
     """What the program answers."""
-    if "refused" in fields:
+    if "rejected" in fields:
         return f"no {fields['printed'].encode().hex()}"
     return f"ok {fields['tree']} {fields['text']} same"
 

@@ -77,7 +77,7 @@ class Cluster:
             self._members[i] = None
 
     def wait(self, seconds: float = 30.0) -> None:
-        """Waits until each member that runs tells that it is healthy."""
+        """Waits until each member that runs says that it is healthy."""
         until = time.monotonic() + seconds
         for i, member in enumerate(self._members):
             while member is not None and not self._is_healthy(i):

@@ -97,7 +97,7 @@ class Documents:
     def put(self, text: vizhoniku.Text) -> bool:
         """Stores the document, and returns whether it is new. One of an equal value stays as it was.
 
-        Where a member stops in between and the request is sent to another one, a new document may be told as not new.
+        Where a member stops in between and the request is sent to another one, a new document may be reported as not new.
         """
         document, key = vizhoniku.text_and_key(text, self._mode)
         name = _to_json(self._prefix + key)

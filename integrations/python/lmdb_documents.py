@@ -1,7 +1,7 @@
 """Documents in LMDB, one for each value, in the order of their values.
 
 A document is stored under its sort key. LMDB bounds its keys, at 511 bytes as Debian builds it. A sort key past the
-bound is cut, and the beginning of a hash of the whole key stands behind what is left. A cut key that differs from
+bound is cut, and the beginning of a hash of the whole key follows what is left. A cut key that differs from
 another key still has the order of the values; documents whose cut keys are equal are sorted by their whole keys when
 they are read.
 

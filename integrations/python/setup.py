@@ -12,7 +12,7 @@ from setuptools import Extension, setup
 
 
 def outcome(variable: str) -> str:
-    """What pkg-config tells of the library, or nothing."""
+    """What pkg-config says of the library, or nothing."""
     try:
         ran = subprocess.run(["pkg-config", "--variable=" + variable, "vizhoniku"], stdin=subprocess.DEVNULL,
                              stdout=subprocess.PIPE, stderr=subprocess.DEVNULL, check=True)

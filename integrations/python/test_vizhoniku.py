@@ -291,7 +291,7 @@ class Calls(unittest.TestCase):
                     answer = row[mode.name.lower()]
                     if mode == v.EXTENDED and answer.get("printed", "").startswith("number not carried"):
                         continue  # of these test_exponents tries some
-                    if "refused" in answer:
+                    if "rejected" in answer:
                         fault = self.rejected(data, mode)
                         printed = f"{fault.message}, pos {answer['position']}"
                         self.assertEqual(printed.encode("utf-8", "replace"),

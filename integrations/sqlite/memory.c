@@ -197,7 +197,7 @@ int main(void) {
       if (is_over) break;
     }
   }
-  printf("%s\n", wrong ? "wrong" : out > runs / 2 ? "ok" : "hardly any request was refused");
+  printf("%s\n", wrong ? "wrong" : out > runs / 2 ? "ok" : "hardly any request failed");
   fprintf(stderr, "%ld runs, %ld of them out of memory\n", runs, out);
   return wrong || out <= runs / 2;
 }

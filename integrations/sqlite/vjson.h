@@ -13,7 +13,7 @@
 #define SQLITE_RESULT_SUBTYPE 0 /* from 3.45 on a function says that its results have subtypes */
 #endif
 
-#define MALFORMED_PATH "malformed path: it is empty or begins with /, and ~ stands only in ~0 and ~1"
+#define MALFORMED_PATH "malformed path: it is empty or begins with /, and ~ occurs only in ~0 and ~1"
 
 /* Reads an argument's bytes. Returns 0 where there is no memory for them, which has been reported. */
 int vjson_read_bytes(sqlite3_context *context, sqlite3_value *value, const unsigned char **bytes, size_t *size);

@@ -34,7 +34,7 @@ pub fn is_standard(alloc: Global, text: &[u8]) -> Result<bool>
     }
 }
 
-/// What to say a user of an error.
+/// What a user reads of an error.
 pub fn describe_error(alloc: Global, error: &Error) -> Result<String> {
     let text = match error {
         Error::OutOfMemory => String::from_str(alloc, "out of memory")?,

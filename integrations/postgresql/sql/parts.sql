@@ -14,7 +14,7 @@ SELECT v, i, v ->> i FROM documents, generate_series(-4, 4) i WHERE NOT pg_temp.
 SELECT '[1,2]'::vjson -> 2147483647 IS NULL AS far, '[1,2]'::vjson -> (-2147483648) IS NULL AS far_behind,
   '[]'::vjson -> 0 IS NULL AS none, '[7.0]'::vjson -> -1 AS last;
 
--- A path as RFC 6901 spells it beside the names of jsonb.
+-- A JSON Pointer beside the names of jsonb.
 CREATE TEMP VIEW paths AS
   SELECT ARRAY[m.name, n.name] AS names, ('/' || replace(replace(m.name, '~', '~0'), '/', '~1') || '/' ||
     replace(replace(n.name, '~', '~0'), '/', '~1'))::vjson_path AS path FROM names m, names n;

@@ -2,11 +2,11 @@
 stored documents.
 
 A document is a str or bytes in UTF-8. Every call takes a mode: EXTENDED, the default, or STANDARD. A text that is no
-document of the mode raises RejectedText, a ValueError that tells line and column. A call that runs out of memory raises
+document of the mode raises RejectedText, a ValueError with line and column. A call that runs out of memory raises
 MemoryError. The calls keep no state: threads need no lock, and other threads run while a call reads a long text.
 
 Where the module in C is built, which has the library in it, the calls go by that; else they go by ctypes, and so they
-do where the environment variable VIZHONIKU names a shared library. NATIVE tells which it is.
+do where the environment variable VIZHONIKU names a shared library. NATIVE says which it is.
 """
 
 import importlib.util

@@ -1,7 +1,7 @@
 """The calls of the library by ctypes: for where the module in C isn't built.
 
 The library is looked for at the path in the environment variable VIZHONIKU, then as libvizhoniku.so.0 where the system
-looks for shared libraries, then in the folder that pkg-config tells.
+looks for shared libraries, then in the folder that pkg-config names.
 """
 
 import ctypes
@@ -300,10 +300,10 @@ def text_and_key(text: Text, mode: int = EXTENDED) -> Tuple[str, bytes]:
 
 @_reads_exponents
 def get(text: Text, path: Text, mode: int = EXTENDED) -> Optional[str]:
-    """The text of the part at the path, as RFC 6901 spells it, or None where nothing stands there.
+    """The text of the part at the path, a JSON Pointer (RFC 6901), or None where there is none.
 
     The path "" is the whole document, and "/a/0" the first item of the member "a". PathError is raised where the path
-    isn't spelled so.
+    is no JSON Pointer.
     """
     mode, data, path_data, error = _mode(mode), _bytes(text), _bytes(path), _Error()
     size, capacity = ctypes.c_size_t(), 256
@@ -415,13 +415,13 @@ class Key:
         return ctypes.string_at(buffer, size.value).decode()
 
     def get(self, path: Text) -> "Optional[Key]":
-        """The part at the path, as RFC 6901 spells it, or None. Raises PathError where the path isn't spelled so."""
+        """The part at the path, a JSON Pointer (RFC 6901), or None. Raises PathError where the path is none."""
         offset, size, path_data = ctypes.c_size_t(), ctypes.c_size_t(), _bytes(path)
         status = _library.vizhoniku_key_part(self._data, len(self._data), path_data, len(path_data), offset, size)
         return self._found(status, offset, size)
 
     def contains(self, other: Any) -> bool:
-        """Whether the value contains another one, as @> of PostgreSQL's jsonb tells: a key or what Key.of takes."""
+        """Whether the value contains another one, as @> of PostgreSQL's jsonb: a key or what Key.of takes."""
         data = Key.of(other)._data
         status = _library.vizhoniku_key_contains(self._data, len(self._data), data, len(data))
         if status == _NO_PART:

@@ -5,7 +5,7 @@ from typing import Optional, Union
 
 Text = Union[str, bytes, bytearray, memoryview]
 
-BAD_PATH = ("the path isn't spelled as RFC 6901 has it: it is empty or begins with /, and ~ stands only in ~0 and ~1")
+BAD_PATH = ("the path is no JSON Pointer (RFC 6901): it is empty or begins with /, and ~ occurs only in ~0 and ~1")
 NO_KEY = "the bytes aren't a sort key"
 TOO_DEEP = "more than 512 nested arrays and objects"
 NO_NAME = "the name isn't UTF-8"
@@ -25,9 +25,9 @@ EXTENDED = Mode.EXTENDED
 class RejectedText(ValueError):
     """A text that is no document of its mode.
 
-    index, line and column tell the place of the fault: the index is counted from 0, line and column from 1. They count
+    index, line and column are those of the fault: the index is counted from 0, line and column from 1. They count
     characters where the text is a str, and bytes otherwise. path is that of the innermost item or member at which the
-    text was rejected, as RFC 6901 spells it ("" is the whole), or None where it can't be told. message says what is
+    text was rejected, as a JSON Pointer ("" is the whole), or None where it isn't known. message says what is
     wrong, code is its number, and which is 1, or 2 where the second text of a comparison is rejected.
     """
 
@@ -48,7 +48,7 @@ class RejectedText(ValueError):
 
 
 class PathError(ValueError):
-    """A path that isn't spelled as RFC 6901 has it."""
+    """A path that is no JSON Pointer (RFC 6901)."""
 
 
 def _characters(data: bytes) -> int:
@@ -58,8 +58,8 @@ def _characters(data: bytes) -> int:
 
 def rejection(text: Text, data: bytes, words: bytes, code: int, which: int, index: int, line: int, column: int,
               path: Optional[str]) -> RejectedText:
-    """The error for a text, whose bytes are the data: with the words, the place in bytes and the path that the library
-    tells."""
+    """The error for a text, whose bytes are the data: with the words, the location in bytes and the path that the
+    library reports."""
     if isinstance(text, str):
         begins = index - (column - 1)  # of the line
         until = index + 1 if index < len(data) else index

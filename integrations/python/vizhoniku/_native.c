@@ -1242,10 +1242,10 @@ static PyMethodDef key_methods[] = {
      HELP("text($self)", "The text of the value, with the fewest digits in each number.")},
     {"get", CALL(key_get),
      HELP("get($self, path)",
-          "The part at the path, as RFC 6901 spells it, or None. Raises PathError where the path isn't spelled so.")},
+          "The part at the path, a JSON Pointer (RFC 6901), or None. Raises PathError where the path is none.")},
     {"contains", CALL(key_py_contains),
      HELP("contains($self, other)",
-          "Whether the value contains another one, as @> of PostgreSQL's jsonb tells: a key or what Key.of takes.")},
+          "Whether the value contains another one, as @> of PostgreSQL's jsonb: a key or what Key.of takes.")},
     {"set", CALL(key_set),
      HELP("set($self, path, value, create=True)",
           "The key with the part at the path set to the value, which is a key or what Key.of takes.\n\n"
@@ -1328,9 +1328,9 @@ static PyMethodDef functions[] = {
      HELP("text_and_key($module, text, mode=EXTENDED)", "What text and sort_key return, of one reading.")},
     {"get", CALL(py_get),
      HELP("get($module, text, path, mode=EXTENDED)",
-          "The text of the part at the path, as RFC 6901 spells it, or None where nothing stands there.\n\n"
+          "The text of the part at the path, a JSON Pointer (RFC 6901), or None where there is none.\n\n"
           "The path \"\" is the whole document, and \"/a/0\" the first item of the member \"a\". PathError is raised\n"
-          "where the path isn't spelled so.")},
+          "where the path is no JSON Pointer.")},
     {"compare", CALL(py_compare),
      HELP("compare($module, left, right, mode=EXTENDED)",
           "-1, 0 or 1: the first document's value is below the second's, equal to it, or above it.")},
