@@ -33,7 +33,7 @@ extern "C" {
 
 /* The version of this interface. It grows where a function, a status or a code is added. vizhoniku_version returns that
  * of the library. */
-#define VIZHONIKU_VERSION 8
+#define VIZHONIKU_VERSION 9
 
 uint32_t vizhoniku_version(void);
 
@@ -54,7 +54,8 @@ enum vizhoniku_status {
   VIZHONIKU_NO_PATH = 6,       /* the path isn't a JSON Pointer (RFC 6901) */
   VIZHONIKU_NO_KEY = 7,        /* the bytes aren't the sort key of a value */
   VIZHONIKU_TOO_DEEP = 8,      /* the value would have more than 512 nested arrays and objects */
-  VIZHONIKU_NO_ZEROS = 9       /* the bytes aren't the text of a value, or not the zeros of one */
+  VIZHONIKU_NO_ZEROS = 9,      /* the bytes aren't the text of a value, or not the zeros of one */
+  VIZHONIKU_NO_DOCUMENT = 10   /* the bytes aren't the document of a value */
 };
 
 /* Names of earlier versions, which the next one drops. */
@@ -386,6 +387,77 @@ uint32_t vizhoniku_key_numbers(const unsigned char *key, size_t key_size, size_t
  * zeros of so many numbers. */
 uint32_t vizhoniku_zeros_of_numbers(const unsigned char *zeros, size_t zeros_size, size_t first, size_t numbers,
                                     size_t *plain, unsigned char *buffer, size_t buffer_size, size_t *size);
+
+/* Documents: values as a store keeps them, in their order, and with the zeros that end their decimals. A sort key has all
+ * of a value but these: 1.5 and 1.50 have one key. A document is the sort key of a value, and where zeros end some of its
+ * decimals, these behind it. So
+ *
+ *  - a sort key is the document of a value without such zeros: what was stored as a key is a document;
+ *  - documents compare, as memcmp does and the shorter first, as their values do; of equal values, by their zeros;
+ *  - two values are equal exactly where the keys of their documents are equal. An index by value is one over the keys,
+ *    whose size vizhoniku_document_key returns.
+ *
+ * A document ends where the store says: nothing follows it, as it may follow a key. In a composite key take the
+ * document's key.
+ *
+ * Behind the key is an entry for each number with zeros at its end, in the order of the key: how many bytes of the key
+ * come before the number's first one, since that of the last such number (LEB128), and how many zeros it has, in one
+ * byte; then how many bytes all these entries are, as LEB128 written from the end; and the byte FF, with which no key
+ * ends.
+ *
+ * The calls over sort keys, above, take a document's key, which is its first bytes. The ranges that they give are those
+ * of vizhoniku_document_range. Calls that write a document write it to the start of the buffer:
+ *
+ *  - VIZHONIKU_ACCEPTED: *size bytes were written. The rest of the buffer is as before.
+ *  - VIZHONIKU_TOO_SHORT: *size bytes are needed, and nothing was written.
+ *  - VIZHONIKU_NO_PART: there is no such part, or nothing changes, so that the document that was passed is the answer.
+ *    *size is 0, and nothing was written.
+ *  - VIZHONIKU_NO_DOCUMENT: the bytes aren't the document of a value that a text can have, with at most 512 nested arrays
+ *    and objects. *size is 0, and nothing was written.
+ *  - VIZHONIKU_TOO_DEEP, VIZHONIKU_NO_PATH, VIZHONIKU_OUT_OF_MEMORY: *size is 0, and nothing was written.
+ *
+ * Any bytes may be passed as a document; they aren't checked as a whole, and of bytes that are none any bytes may be
+ * written. */
+
+/* Returns how many of the document's first bytes are its key. It looks at the last ten bytes alone. Of any bytes it is at
+ * most their number. */
+size_t vizhoniku_document_key(const unsigned char *document, size_t document_size);
+
+/* Compares the values of two documents: -1 where the first is below the second, 0 where they are equal, and 1 where it is
+ * above. Zeros don't count. It takes no memory. */
+int32_t vizhoniku_document_compare(const unsigned char *left, size_t left_size, const unsigned char *right,
+                                   size_t right_size);
+
+/* Writes the document of the part at the path, a JSON Pointer (RFC 6901), as vizhoniku_key_part finds it. */
+uint32_t vizhoniku_document_part(const unsigned char *document, size_t document_size, const unsigned char *path,
+                                 size_t path_size, unsigned char *buffer, size_t buffer_size, size_t *size);
+
+/* Writes the document of the part whose key is at the offset in the document's key, and has this size, as the calls over
+ * keys give them. VIZHONIKU_NO_DOCUMENT: the range isn't within the key. */
+uint32_t vizhoniku_document_range(const unsigned char *document, size_t document_size, size_t offset, size_t part_size,
+                                  unsigned char *buffer, size_t buffer_size, size_t *size);
+
+/* Sets the part at the path, as vizhoniku_key_set does. */
+uint32_t vizhoniku_document_set(const unsigned char *document, size_t document_size, const unsigned char *path,
+                                size_t path_size, const unsigned char *part, size_t part_size, uint32_t create,
+                                unsigned char *buffer, size_t buffer_size, size_t *size);
+
+/* Removes the part at the path, as vizhoniku_key_remove does. */
+uint32_t vizhoniku_document_remove(const unsigned char *document, size_t document_size, const unsigned char *path,
+                                   size_t path_size, unsigned char *buffer, size_t buffer_size, size_t *size);
+
+/* Puts a member into an object, as vizhoniku_key_put does. */
+uint32_t vizhoniku_document_put(const unsigned char *document, size_t document_size, const unsigned char *name,
+                                size_t name_size, const unsigned char *value, size_t value_size, unsigned char *buffer,
+                                size_t buffer_size, size_t *size);
+
+/* Puts an item at the end of an array, as vizhoniku_key_push does. */
+uint32_t vizhoniku_document_push(const unsigned char *document, size_t document_size, const unsigned char *item,
+                                 size_t item_size, unsigned char *buffer, size_t buffer_size, size_t *size);
+
+/* Merges two values, as vizhoniku_key_merge does. */
+uint32_t vizhoniku_document_merge(const unsigned char *left, size_t left_size, const unsigned char *right,
+                                  size_t right_size, unsigned char *buffer, size_t buffer_size, size_t *size);
 
 /* Writes a text of RFC 8259 to the start of the buffer, with each number that has an exponent written out as the decimal
  * of exactly its value, as PostgreSQL's jsonb shows it: 1e-7 is 0.0000001, 1.50e1 is 15.0, and 6.02e23 is

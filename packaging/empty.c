@@ -68,6 +68,25 @@ uint32_t proved_key_numbers(const unsigned char *key, size_t key_size, size_t of
                             size_t *numbers);
 uint32_t proved_zeros_of_numbers(const unsigned char *zeros, size_t zeros_size, size_t first, size_t numbers,
                                  size_t *plain, unsigned char *buffer, size_t buffer_size, size_t *size);
+size_t proved_document_key(const unsigned char *document, size_t document_size);
+int32_t proved_document_compare(const unsigned char *left, size_t left_size, const unsigned char *right,
+                                size_t right_size);
+uint32_t proved_document_part(const unsigned char *document, size_t document_size, const unsigned char *path,
+                              size_t path_size, unsigned char *buffer, size_t buffer_size, size_t *size);
+uint32_t proved_document_range(const unsigned char *document, size_t document_size, size_t offset, size_t part_size,
+                               unsigned char *buffer, size_t buffer_size, size_t *size);
+uint32_t proved_document_set(const unsigned char *document, size_t document_size, const unsigned char *path,
+                             size_t path_size, const unsigned char *part, size_t part_size, uint32_t create,
+                             unsigned char *buffer, size_t buffer_size, size_t *size);
+uint32_t proved_document_remove(const unsigned char *document, size_t document_size, const unsigned char *path,
+                                size_t path_size, unsigned char *buffer, size_t buffer_size, size_t *size);
+uint32_t proved_document_put(const unsigned char *document, size_t document_size, const unsigned char *name,
+                             size_t name_size, const unsigned char *value, size_t value_size, unsigned char *buffer,
+                             size_t buffer_size, size_t *size);
+uint32_t proved_document_push(const unsigned char *document, size_t document_size, const unsigned char *item,
+                              size_t item_size, unsigned char *buffer, size_t buffer_size, size_t *size);
+uint32_t proved_document_merge(const unsigned char *left, size_t left_size, const unsigned char *right,
+                               size_t right_size, unsigned char *buffer, size_t buffer_size, size_t *size);
 uint32_t proved_plain_numbers(const unsigned char *text, size_t text_size, unsigned char *buffer, size_t buffer_size,
                               size_t *size, struct vizhoniku_error *error);
 uint32_t proved_masked_numbers(const unsigned char *text, size_t text_size, unsigned char *buffer, size_t buffer_size,
@@ -255,6 +274,61 @@ uint32_t vizhoniku_zeros_of_numbers(const unsigned char *zeros, size_t zeros_siz
                                     size_t *plain, unsigned char *buffer, size_t buffer_size, size_t *size) {
   return proved_zeros_of_numbers(bytes_at(zeros, zeros_size), zeros_size, first, numbers, plain,
                                  buffer_at(buffer, buffer_size), buffer_size, size);
+}
+
+size_t vizhoniku_document_key(const unsigned char *document, size_t document_size) {
+  return proved_document_key(bytes_at(document, document_size), document_size);
+}
+
+int32_t vizhoniku_document_compare(const unsigned char *left, size_t left_size, const unsigned char *right,
+                                   size_t right_size) {
+  return proved_document_compare(bytes_at(left, left_size), left_size, bytes_at(right, right_size), right_size);
+}
+
+uint32_t vizhoniku_document_part(const unsigned char *document, size_t document_size, const unsigned char *path,
+                                 size_t path_size, unsigned char *buffer, size_t buffer_size, size_t *size) {
+  return proved_document_part(bytes_at(document, document_size), document_size, bytes_at(path, path_size), path_size,
+                              buffer_at(buffer, buffer_size), buffer_size, size);
+}
+
+uint32_t vizhoniku_document_range(const unsigned char *document, size_t document_size, size_t offset, size_t part_size,
+                                  unsigned char *buffer, size_t buffer_size, size_t *size) {
+  return proved_document_range(bytes_at(document, document_size), document_size, offset, part_size,
+                               buffer_at(buffer, buffer_size), buffer_size, size);
+}
+
+uint32_t vizhoniku_document_set(const unsigned char *document, size_t document_size, const unsigned char *path,
+                                size_t path_size, const unsigned char *part, size_t part_size, uint32_t create,
+                                unsigned char *buffer, size_t buffer_size, size_t *size) {
+  return proved_document_set(bytes_at(document, document_size), document_size, bytes_at(path, path_size), path_size,
+                             bytes_at(part, part_size), part_size, create, buffer_at(buffer, buffer_size), buffer_size,
+                             size);
+}
+
+uint32_t vizhoniku_document_remove(const unsigned char *document, size_t document_size, const unsigned char *path,
+                                   size_t path_size, unsigned char *buffer, size_t buffer_size, size_t *size) {
+  return proved_document_remove(bytes_at(document, document_size), document_size, bytes_at(path, path_size), path_size,
+                                buffer_at(buffer, buffer_size), buffer_size, size);
+}
+
+uint32_t vizhoniku_document_put(const unsigned char *document, size_t document_size, const unsigned char *name,
+                                size_t name_size, const unsigned char *value, size_t value_size, unsigned char *buffer,
+                                size_t buffer_size, size_t *size) {
+  return proved_document_put(bytes_at(document, document_size), document_size, bytes_at(name, name_size), name_size,
+                             bytes_at(value, value_size), value_size, buffer_at(buffer, buffer_size), buffer_size,
+                             size);
+}
+
+uint32_t vizhoniku_document_push(const unsigned char *document, size_t document_size, const unsigned char *item,
+                                 size_t item_size, unsigned char *buffer, size_t buffer_size, size_t *size) {
+  return proved_document_push(bytes_at(document, document_size), document_size, bytes_at(item, item_size), item_size,
+                              buffer_at(buffer, buffer_size), buffer_size, size);
+}
+
+uint32_t vizhoniku_document_merge(const unsigned char *left, size_t left_size, const unsigned char *right,
+                                  size_t right_size, unsigned char *buffer, size_t buffer_size, size_t *size) {
+  return proved_document_merge(bytes_at(left, left_size), left_size, bytes_at(right, right_size), right_size,
+                               buffer_at(buffer, buffer_size), buffer_size, size);
 }
 
 uint32_t vizhoniku_plain_numbers(const unsigned char *text, size_t text_size, unsigned char *buffer, size_t buffer_size,

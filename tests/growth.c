@@ -1,6 +1,7 @@
-/* Calls a function of the library over the sort key of the text on standard input: growth FUNCTION [PATH]; or over the
- * text: growth plain_numbers, growth masked_numbers, and growth error_path for a text that extended mode rejects with
- * its numbers masked. The status is the one that the call returns. tests/growth counts the instructions of the call. */
+/* Calls a function of the library over the sort key, or the document, of the text on standard input: growth FUNCTION
+ * [PATH]; or over the text: growth plain_numbers, growth masked_numbers, and growth error_path for a text that
+ * extended mode rejects with its numbers masked. The status is the one that the call returns. tests/growth counts the
+ * instructions of the call. */
 #include <stdio.h>
 #include <stdlib.h>
 #include <string.h>
@@ -10,6 +11,9 @@
 #define ROOM (1 << 22)
 
 static const unsigned char null_key[] = {0xD3};
+
+/* The document of 1.50. */
+static const unsigned char with_zero[] = {0xA1, 0x1E, 0, 1, 2, 0xFF};
 
 static unsigned char text[ROOM], key[ROOM], buffer[ROOM];
 
@@ -27,11 +31,17 @@ int main(int count, char **words) {
     return (int)vizhoniku_error_path(VIZHONIKU_EXTENDED, text, text_size, &error, buffer, ROOM, &size);
   }
   if (vizhoniku_sort_key(VIZHONIKU_STANDARD, text, text_size, key, ROOM, &key_size, &error)) return 2;
-  if (!strcmp(words[1], "count")) return (int)vizhoniku_key_count(key, key_size, &size);
+  if (!strcmp(words[1], "key_count")) return (int)vizhoniku_key_count(key, key_size, &size);
   if (count < 3) return 2;
   const unsigned char *path = (const unsigned char *)words[2];
   size_t path_size = strlen(words[2]);
-  if (!strcmp(words[1], "set"))
+  if (!strcmp(words[1], "key_set"))
     return (int)vizhoniku_key_set(key, key_size, path, path_size, null_key, sizeof null_key, 0, buffer, ROOM, &size);
-  return (int)vizhoniku_key_remove(key, key_size, path, path_size, buffer, ROOM, &size);
+  if (!strcmp(words[1], "key_remove"))
+    return (int)vizhoniku_key_remove(key, key_size, path, path_size, buffer, ROOM, &size);
+  uint32_t status =
+      vizhoniku_document_set(key, key_size, path, path_size, with_zero, sizeof with_zero, 0, buffer, ROOM, &size);
+  if (!strcmp(words[1], "document_set")) return (int)status;
+  if (status) return 2;
+  return (int)vizhoniku_document_remove(buffer, size, path, path_size, key, ROOM, &key_size);
 }

@@ -332,6 +332,13 @@ enum key_function {
   KEY_PUT,
   KEY_PUSH,
   KEY_MERGE,
+  DOCUMENT_PART,
+  DOCUMENT_RANGE,
+  DOCUMENT_SET,
+  DOCUMENT_REMOVE,
+  DOCUMENT_PUT,
+  DOCUMENT_PUSH,
+  DOCUMENT_MERGE,
   ZEROS_OF_TEXT,
   TEXT_WITH_ZEROS,
   ZEROS_OF_NUMBERS,
@@ -349,7 +356,9 @@ static const char *const key_functions[] = {
     "vizhoniku_key_check", "vizhoniku_key_count", "vizhoniku_key_next", "vizhoniku_key_member", "vizhoniku_key_item",
     "vizhoniku_key_part", "vizhoniku_key_string", "vizhoniku_key_contains", "vizhoniku_key_numbers",
     "vizhoniku_key_part with an escape", "vizhoniku_key_text", "vizhoniku_key_set", "vizhoniku_key_remove",
-    "vizhoniku_key_put", "vizhoniku_key_push", "vizhoniku_key_merge", "vizhoniku_zeros_of_text",
+    "vizhoniku_key_put", "vizhoniku_key_push", "vizhoniku_key_merge", "vizhoniku_document_part",
+    "vizhoniku_document_range", "vizhoniku_document_set", "vizhoniku_document_remove", "vizhoniku_document_put",
+    "vizhoniku_document_push", "vizhoniku_document_merge", "vizhoniku_zeros_of_text",
     "vizhoniku_text_with_zeros", "vizhoniku_zeros_of_numbers", "vizhoniku_plain_numbers", "vizhoniku_masked_numbers",
     "vizhoniku_key_of_string", "vizhoniku_path_step", "vizhoniku_error_path",
 };
@@ -401,6 +410,17 @@ static uint32_t call_over_key(enum key_function function, const struct text *key
       return vizhoniku_key_put(key->bytes, key->size, NAME, 4, null_key, sizeof null_key, buffer, room, size);
     case KEY_PUSH:
       return vizhoniku_key_push(key->bytes, key->size, null_key, sizeof null_key, buffer, room, size);
+    case DOCUMENT_PART: return vizhoniku_document_part(key->bytes, key->size, PATH, 2, buffer, room, size);
+    case DOCUMENT_RANGE: return vizhoniku_document_range(key->bytes, key->size, 0, key->size, buffer, room, size);
+    case DOCUMENT_SET:
+      return vizhoniku_document_set(key->bytes, key->size, PATH, 2, null_key, sizeof null_key, 1, buffer, room, size);
+    case DOCUMENT_REMOVE: return vizhoniku_document_remove(key->bytes, key->size, PATH, 2, buffer, room, size);
+    case DOCUMENT_PUT:
+      return vizhoniku_document_put(key->bytes, key->size, NAME, 4, null_key, sizeof null_key, buffer, room, size);
+    case DOCUMENT_PUSH:
+      return vizhoniku_document_push(key->bytes, key->size, null_key, sizeof null_key, buffer, room, size);
+    case DOCUMENT_MERGE:
+      return vizhoniku_document_merge(key->bytes, key->size, key->bytes, key->size, buffer, room, size);
     case ZEROS_OF_TEXT: return vizhoniku_zeros_of_text(key->bytes, key->size, buffer, room, size);
     case TEXT_WITH_ZEROS:
       return vizhoniku_text_with_zeros(shortest.bytes, shortest.size, zeros.bytes, zeros.size, buffer, room, size);

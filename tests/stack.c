@@ -194,7 +194,8 @@ static struct text make(const struct shape *shape) {
  * by a number. */
 enum function {
   CHECK, TEXT, SORT_KEY, TEXT_AND_KEY, PART, COMPARE, MESSAGE, REASON, KEY_CHECK, KEY_TEXT, KEY_PART, KEY_COUNT,
-  KEY_CONTAINS, KEY_SET, KEY_REMOVE, KEY_MERGE, KEY_NUMBERS, ZEROS, TEXT_WITH_ZEROS,
+  KEY_CONTAINS, KEY_SET, KEY_REMOVE, KEY_MERGE, KEY_NUMBERS, DOCUMENT_PART, DOCUMENT_SET, DOCUMENT_REMOVE,
+  DOCUMENT_MERGE, ZEROS, TEXT_WITH_ZEROS,
   PLAIN_NUMBERS, MASKED_NUMBERS, ERROR_PATH, FUNCTIONS
 };
 
@@ -203,7 +204,8 @@ static const char *const functions[] = {
     "vizhoniku_compare", "vizhoniku_message", "vizhoniku_reason", "vizhoniku_key_check", "vizhoniku_key_text",
     "vizhoniku_key_part",
     "vizhoniku_key_count", "vizhoniku_key_contains", "vizhoniku_key_set", "vizhoniku_key_remove", "vizhoniku_key_merge",
-    "vizhoniku_key_numbers", "vizhoniku_zeros_of_text", "vizhoniku_text_with_zeros",
+    "vizhoniku_key_numbers", "vizhoniku_document_part", "vizhoniku_document_set", "vizhoniku_document_remove",
+    "vizhoniku_document_merge", "vizhoniku_zeros_of_text", "vizhoniku_text_with_zeros",
     "vizhoniku_plain_numbers", "vizhoniku_masked_numbers", "vizhoniku_error_path",
 };
 
@@ -214,7 +216,8 @@ static const size_t told[FUNCTIONS][2] = {
     [KEY_TEXT] = {2, 0},      [KEY_PART] = {2, 0},     [KEY_COUNT] = {2, 0},       [KEY_CONTAINS] = {25, 0},
     [KEY_SET] = {2, 0},       [KEY_REMOVE] = {2, 0},   [KEY_MERGE] = {2, 0},       [KEY_NUMBERS] = {2, 0},
     [ZEROS] = {2, 0},         [TEXT_WITH_ZEROS] = {2, 0}, [PLAIN_NUMBERS] = {2, 0},   [MASKED_NUMBERS] = {2, 0},
-    [ERROR_PATH] = {2, 0},    [REASON] = {22, 0},
+    [ERROR_PATH] = {2, 0},    [REASON] = {22, 0},      [DOCUMENT_PART] = {2, 0},   [DOCUMENT_SET] = {2, 0},
+    [DOCUMENT_REMOVE] = {2, 0}, [DOCUMENT_MERGE] = {2, 0},
 };
 
 struct call {
@@ -279,6 +282,22 @@ static void *run(void *given) {
       break;
     case KEY_NUMBERS:
       call->status = vizhoniku_key_numbers(call->key, call->key_size, 0, call->key_size, &size, &key_size);
+      break;
+    case DOCUMENT_PART:
+      call->status = vizhoniku_document_part(call->key, call->key_size, call->path->bytes, call->path->size,
+                                             call->buffer, call->room, &size);
+      break;
+    case DOCUMENT_SET:
+      call->status = vizhoniku_document_set(call->key, call->key_size, call->path->bytes, call->path->size, call->key,
+                                            call->key_size, 1, call->buffer, call->room, &size);
+      break;
+    case DOCUMENT_REMOVE:
+      call->status = vizhoniku_document_remove(call->key, call->key_size, call->path->bytes, call->path->size,
+                                               call->buffer, call->room, &size);
+      break;
+    case DOCUMENT_MERGE:
+      call->status = vizhoniku_document_merge(call->key, call->key_size, call->key, call->key_size, call->buffer,
+                                              call->room, &size);
       break;
     case ZEROS: call->status = vizhoniku_zeros_of_text(bytes, text_size, call->buffer, call->room, &size); break;
     case TEXT_WITH_ZEROS:
@@ -372,7 +391,7 @@ static void measure(const struct shape *shape, const struct stack *stack) {
     /* A comment is refused in standard mode, and a fault in both. */
     int is_read = shape->end == WHOLE || (shape->end == COMMENT && call.mode == VIZHONIKU_EXTENDED) ||
                   call.function >= PLAIN_NUMBERS;
-    int is_deep = call.function == KEY_SET && whole == VIZHONIKU_TOO_DEEP;
+    int is_deep = (call.function == KEY_SET || call.function == DOCUMENT_SET) && whole == VIZHONIKU_TOO_DEEP;
     if (!is_deep && whole != (is_read ? VIZHONIKU_ACCEPTED : VIZHONIKU_REJECTED)) wrong++;
   }
   refused = -1;

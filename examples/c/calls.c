@@ -402,6 +402,66 @@ static void change_keys(void) {
   print_key("null pushed", status, out, size);
 }
 
+/* Documents: {"a":[1.50]}, and 2.0 and null, of docs/SORT_KEYS.md's format. */
+static void change_documents(void) {
+  static const unsigned char document[] = {0xD1, 'a', 0, 1, 0xD2, 0xA1, 0x1E, 0, 0, 0, 5, 1, 2, 0xFF};
+  static const unsigned char number[] = {0xA1, 0x28, 0, 1, 2, 0xFF}, null[] = {0xD3}, array[] = {0xD2, 0};
+  unsigned char out[40];
+  size_t size = 99;
+  printf("document's key: %zu, of none: %zu, null: %zu\n", vizhoniku_document_key(document, sizeof document),
+         vizhoniku_document_key(BYTES("x\xFF")), vizhoniku_document_key(NULL, 0));
+  printf("order: %d %d %d, null: %d\n", (int)vizhoniku_document_compare(document, sizeof document, number,
+         sizeof number),
+         (int)vizhoniku_document_compare(number, sizeof number, number, 2),
+         (int)vizhoniku_document_compare(null, sizeof null, number, sizeof number),
+         (int)vizhoniku_document_compare(NULL, 0, NULL, 0));
+  uint32_t status = vizhoniku_document_part(document, sizeof document, BYTES("/a"), out, sizeof out, &size);
+  print_key("part", status, out, size);
+  status = vizhoniku_document_part(document, sizeof document, BYTES("/a/1"), out, sizeof out, &size);
+  print_key("no part", status, out, size);
+  status = vizhoniku_document_range(document, sizeof document, 5, 2, out, sizeof out, &size);
+  print_key("range", status, out, size);
+  status = vizhoniku_document_range(document, sizeof document, 5, 6, out, sizeof out, &size);
+  print_key("no range", status, out, size);
+  status = vizhoniku_document_set(document, sizeof document, BYTES("/a/0"), number, sizeof number, 0, out, sizeof out,
+                                  &size);
+  print_key("set", status, out, size);
+  status = vizhoniku_document_set(document, sizeof document, BYTES("/b"), number, sizeof number, 0, out, sizeof out,
+                                  &size);
+  print_key("not added", status, out, size);
+  status = vizhoniku_document_set(document, sizeof document, BYTES("/b"), number, sizeof number, 1, out, 20, &size);
+  print_key("too short", status, out, size);
+  status = vizhoniku_document_remove(document, sizeof document, BYTES("/a/-1"), out, sizeof out, &size);
+  print_key("removed", status, out, size);
+  status = vizhoniku_document_remove(document, sizeof document, BYTES("a"), out, sizeof out, &size);
+  print_key("no path", status, out, size);
+  status = vizhoniku_document_put(document, sizeof document, BYTES(""), number, sizeof number, out, sizeof out, &size);
+  print_key("put", status, out, size);
+  status = vizhoniku_document_put(document, sizeof document, BYTES("\xC3"), number, sizeof number, out, sizeof out,
+                                  &size);
+  print_key("no name", status, out, size);
+  status = vizhoniku_document_push(array, sizeof array, number, sizeof number, out, sizeof out, &size);
+  print_key("pushed", status, out, size);
+  status = vizhoniku_document_push(number, sizeof number, number, sizeof number, out, sizeof out, &size);
+  print_key("not pushed", status, out, size);
+  status = vizhoniku_document_merge(number, sizeof number, document, sizeof document, out, sizeof out, &size);
+  print_key("merged", status, out, size);
+  status = vizhoniku_document_part(NULL, 0, NULL, 0, NULL, 0, &size);
+  print_key("null part", status, out, size);
+  status = vizhoniku_document_range(NULL, 0, 0, 0, NULL, 0, &size);
+  print_key("null range", status, out, size);
+  status = vizhoniku_document_set(NULL, 0, NULL, 0, NULL, 0, 0, NULL, 0, &size);
+  print_key("null set", status, out, size);
+  status = vizhoniku_document_remove(NULL, 0, NULL, 0, NULL, 0, &size);
+  print_key("null removed", status, out, size);
+  status = vizhoniku_document_put(NULL, 0, NULL, 0, NULL, 0, NULL, 0, &size);
+  print_key("null put", status, out, size);
+  status = vizhoniku_document_push(NULL, 0, NULL, 0, NULL, 0, &size);
+  print_key("null pushed", status, out, size);
+  status = vizhoniku_document_merge(NULL, 0, NULL, 0, NULL, 0, &size);
+  print_key("null merged", status, out, size);
+}
+
 /* Booleans, keys of strings, steps of paths, and what is wrong with a text, without its offset. */
 static void pass_scalars(void) {
   static const unsigned char yes[] = {0x16}, no[] = {0x15}, null[] = {0xD3}, text[] = {'a', 0, 'b'};
@@ -517,6 +577,7 @@ int main(void) {
   contain("[1.0]", "1");
   pass_null_keys();
   change_keys();
+  change_documents();
   pass_scalars();
 
   printf("version: %u\n", (unsigned)vizhoniku_version());

@@ -49,12 +49,13 @@ static const char *const texts[] = {
 };
 
 /* Each function of the library that takes memory, by a number below this one. */
-#define FUNCTIONS 21
+#define FUNCTIONS 27
 
 static uint32_t call(int which, uint32_t mode, const unsigned char *text, size_t text_size, size_t capacity) {
   static const unsigned char path[] = {'/', 'c', '/', 'k'};
   static const unsigned char key[] = {0xD2, 0xD0, 'a', '\n', 0, 1, 0xA1, 0x1E, 0xD1, 0, 0, 0};
   static const unsigned char object_key[] = {0xD1, 'c', 0, 1, 0xD1, 'k', 0, 1, 0xD3, 0, 0, 0, 0};
+  static const unsigned char document[] = {0xD1, 'c', 0, 1, 0xD2, 0xA1, 0x1E, 0, 0, 0, 5, 1, 2, 0xFF};
   static const unsigned char decimals[] = "[1.50,2,4.000,5.0]", shortest[] = "[1.5,2,4,5]", zeros[] = {0, 1, 1, 3, 0, 1};
   unsigned char buffer[400], key_buffer[400];
   struct vizhoniku_error error;
@@ -89,6 +90,18 @@ static uint32_t call(int which, uint32_t mode, const unsigned char *text, size_t
     case 17: return vizhoniku_reason(mode, text, text_size, buffer, capacity, &size);
     case 18: return vizhoniku_key_of_string(key + 2, 2, buffer, capacity, &size);
     case 19: return vizhoniku_path_step(path, sizeof path, buffer, capacity, &size);
+    case 20:
+      return vizhoniku_document_part(document, sizeof document, path, 2, buffer, capacity, &size);
+    case 21: return vizhoniku_document_range(document, sizeof document, 5, 2, buffer, capacity, &size);
+    case 22:
+      return vizhoniku_document_set(document, sizeof document, path, sizeof path, document, sizeof document, 1, buffer,
+                                    capacity, &size);
+    case 23: return vizhoniku_document_remove(document, sizeof document, path, 2, buffer, capacity, &size);
+    case 24:
+      return vizhoniku_document_put(document, sizeof document, path, 2, document, sizeof document, buffer, capacity,
+                                    &size);
+    case 25:
+      return vizhoniku_document_merge(document, sizeof document, document, sizeof document, buffer, capacity, &size);
     default: return vizhoniku_compare(mode, text, text_size, text, text_size, &order, &error);
   }
 }

@@ -9,13 +9,17 @@ use Rattle.jsonb_c.specs.KeyParts.{IsWritten}
 use Rattle.stored_edit.specs.declared.error.EditError.{EditError}
 use Rattle.stored_edit.specs.declared.error.EditError.TheVariants as errors
 
--- The key of the answer is at the front of the buffer, or the buffer is shorter, which the status says, and so it
--- does where the answer has more than 512 arrays and objects in one another, or where nothing changes.
-abbrev pub IsEdited : Option Tree → ℕ → ℕ → List ℕ → List ℕ → Type 0
-IsEdited (Some t) status size old new =
-    (IsWithin IsAnyNumber t max_depth × IsWritten (Some (key_of t)) status size old new)
+-- The answer, encoded, is at the front of the buffer, or the buffer is shorter, which the status says, and so it does
+-- where the answer has more than 512 arrays and objects in one another, or where there is none.
+abbrev pub IsAnswer : (Tree → List ℕ) → Option Tree → ℕ → ℕ → List ℕ → List ℕ → Type 0
+IsAnswer encode (Some t) status size old new =
+    (IsWithin IsAnyNumber t max_depth × IsWritten (Some (encode t)) status size old new)
     ⊎ ((status ≡ 8) × (IsWithin IsAnyNumber t max_depth → ⊥))
-IsEdited None status size old new = status ≡ 5
+IsAnswer encode None status size old new = status ≡ 5
+
+-- so of the answer's key
+abbrev pub IsEdited : Option Tree → ℕ → ℕ → List ℕ → List ℕ → Type 0
+IsEdited answer status size old new = IsAnswer key_of answer status size old new
 
 -- one of the statuses of a change of a key
 abbrev pub IsEditStatus : ℕ → Type 0

@@ -7,3 +7,4 @@ pub mod Zeros
 pub mod PlainNumbers
 pub mod Rejected
 pub mod Scalars
+pub mod Document

@@ -11,8 +11,9 @@ ghost use Rattle.jsonb_path.specs.Path.{IsPath};
 ghost use Rattle.jsonb_spec.specs.Tree.{Tree};
 ghost use Rattle.stored_edit.specs.Edit.{merge, with_item, with_member, with_part, without_part, AppendsKey, Edits};
 
-use crate::{ACCEPTED, NO_KEY, NO_PART, NO_PATH, OUT_OF_MEMORY, TOO_DEEP, TOO_SHORT, put};
-use jsonb_path::read_keys;
+use crate::{
+    ACCEPTED, NO_KEY, NO_PART, NO_PATH, OUT_OF_MEMORY, TOO_DEEP, TOO_SHORT, names_of, put,
+};
 use std::alloc::Global;
 use stored_edit::{
     EditError, append_merged, append_with_item, append_with_member, append_with_part,
@@ -43,15 +44,11 @@ pub extern "C" fn vizhoniku_key_set(
     ensures path { ReportsPath path.now result }
     ensures preserves { PreservesBuffer result size.new out.old out.new }
 {
-    match read_keys(alloc, path) {
-        Ok(Some(names)) => set_part(alloc, key, &names, part, create != 0, out, size),
-        Ok(None) => {
+    match names_of(alloc, path) {
+        Ok(names) => set_part(alloc, key, &names, part, create != 0, out, size),
+        Err(status) => {
             *size = 0;
-            NO_PATH
-        }
-        Err(_) => {
-            *size = 0;
-            OUT_OF_MEMORY
+            status
         }
     }
 }
@@ -96,15 +93,11 @@ pub extern "C" fn vizhoniku_key_remove(
     ensures path { ReportsPath path.now result }
     ensures preserves { PreservesBuffer result size.new out.old out.new }
 {
-    match read_keys(alloc, path) {
-        Ok(Some(names)) => remove_part(alloc, key, &names, out, size),
-        Ok(None) => {
+    match names_of(alloc, path) {
+        Ok(names) => remove_part(alloc, key, &names, out, size),
+        Err(status) => {
             *size = 0;
-            NO_PATH
-        }
-        Err(_) => {
-            *size = 0;
-            OUT_OF_MEMORY
+            status
         }
     }
 }

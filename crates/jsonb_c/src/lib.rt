@@ -6,7 +6,7 @@
 //! overlap any other argument. Each call writes to each `&mut` but the buffer.
 #![tactic(auto)]
 
-ghost use Rattle.std.specs.Prelude.{◌≡◌, ◌≢◌, ◌⊎◌, ℕ, List, [], ◌<◌, ◌≤◌, ◌++◌, min, length, drop, map, pos, string_bytes, MatchOption, IfOk, IfNone, IfSome, OnOk};
+ghost use Rattle.std.specs.Prelude.{◌≡◌, ◌≢◌, ◌⊎◌, ℕ, List, [], ◌<◌, ◌≤◌, ◌++◌, min, length, drop, map, pos, string_bytes, MatchOption, MatchResult, IfOk, IfNone, IfSome, OnOk};
 ghost use Rattle.jsonb_spec.specs.Code.{Code};
 ghost use Rattle.jsonb_value.specs.Error.CodeView.{code_of};
 ghost use Rattle.jsonb_value.specs.Error.ErrorText.{error_text};
@@ -27,6 +27,8 @@ use jsonb_path::read_keys;
 use std::alloc::Global;
 use std::cmp::Ordering;
 
+pub mod document;
+pub mod document_edit;
 pub mod key;
 pub mod key_contains;
 pub mod key_edit;
@@ -65,6 +67,9 @@ pub const TOO_DEEP: u32 = 8;
 
 /// The bytes aren't a serialized form of a value, or not the zeros of one.
 pub const NO_ZEROS: u32 = 9;
+
+/// The bytes aren't the document of a value of JSON's kinds.
+pub const NO_DOCUMENT: u32 = 10;
 
 /// What is reported of a rejected text: the number of the code, which of the texts it is, from 1 on, and the number of
 /// the error. All are 0 where no text is rejected.
@@ -378,7 +383,7 @@ fn part_at_keys(alloc: Global, mode: u32, keys: &[String], text: &[u8]) -> Resul
 }
 
 /// The version of this interface. It grows by one when a function, a status or a code is added.
-pub const VERSION: u32 = 8;
+pub const VERSION: u32 = 9;
 
 /// The version of this interface.
 #[unsafe(no_mangle)]
@@ -592,6 +597,20 @@ fn sign(order: Ordering) -> i32
         Ordering::Less => -1,
         Ordering::Equal => 0,
         Ordering::Greater => 1,
+    }
+}
+
+// The names of a path; or the status of bytes that are none, or for which memory ran out.
+fn names_of(alloc: Global, path: &[u8]) -> Result<Vec<String>, u32>
+    ensures names { MatchResult result (λ names. (others : List (List ℕ)) → IsPath path.now others
+        → others ≡ map string_bytes names.items)
+        (λ status. ((status ≡ NO_PATH) × IsNoPath path.now) ⊎ (status ≡ OUT_OF_MEMORY)) }
+    ensures path { IfOk result (λ names. IsPath path.now (map string_bytes names.items)) }
+{
+    match read_keys(alloc, path) {
+        Ok(Some(names)) => Ok(names),
+        Ok(None) => Err(NO_PATH),
+        Err(_) => Err(OUT_OF_MEMORY),
     }
 }
 

@@ -1,10 +1,10 @@
-//! The functions and the structs of src/ffi.rs are those of vizhoniku.h. The crate has no call for the zeros of decimals,
-//! and makes keys and paths of Rust's own types.
+//! The functions and the structs of src/ffi.rs are those of vizhoniku.h. The crate has no call for documents and for the
+//! zeros of decimals, and makes keys and paths of Rust's own types.
 
 use std::collections::BTreeMap;
 use std::path::Path;
 
-const LEFT_OUT: [&str; 8] = [
+const LEFT_OUT: [&str; 17] = [
     "vizhoniku_zeros_of_text",
     "vizhoniku_text_with_zeros",
     "vizhoniku_key_numbers",
@@ -13,6 +13,15 @@ const LEFT_OUT: [&str; 8] = [
     "vizhoniku_key_boolean",
     "vizhoniku_key_of_string",
     "vizhoniku_path_step",
+    "vizhoniku_document_key",
+    "vizhoniku_document_compare",
+    "vizhoniku_document_part",
+    "vizhoniku_document_range",
+    "vizhoniku_document_set",
+    "vizhoniku_document_remove",
+    "vizhoniku_document_put",
+    "vizhoniku_document_push",
+    "vizhoniku_document_merge",
 ];
 
 fn between<'a>(text: &'a str, left: &str, right: &str) -> Vec<(&'a str, &'a str)> {

@@ -1,0 +1,160 @@
+//! Documents: sort keys with the zeros that end decimals behind them. Their keys, their order, and parts of them.
+//!
+//! Any bytes are safe to pass. What a call writes is promised for the documents of values of JSON's kinds with at most
+//! 512 nested arrays and objects; of other bytes it may be `NO_DOCUMENT` or any bytes.
+ghost use Rattle.std.specs.Prelude.{◌≡◌, ◌⊎◌, ◌≤◌, ℕ, List, [], length, map, string_bytes, Option, Some, Vec};
+ghost use Rattle.std.specs.declared.alloc.Global.{Global as GlobalAlloc};
+ghost use Rattle.jsonb_c.specs.Document.{document_status_of, IsDocumentAnswer, IsDocumentStatus, IsTreeDocument};
+ghost use Rattle.jsonb_c.specs.Interface.{sign, IsNoPath, PreservesBuffer, ReportsPath};
+ghost use Rattle.jsonb_key.specs.Readable.{IsReadable};
+ghost use Rattle.jsonb_path.specs.Path.{IsPath};
+ghost use Rattle.jsonb_spec.specs.Order.{tree_cmp};
+ghost use Rattle.jsonb_spec.specs.PartAt.{part_at};
+ghost use Rattle.jsonb_spec.specs.SortKey.{key_of};
+ghost use Rattle.jsonb_spec.specs.Tree.{Tree};
+ghost use Rattle.key_document.specs.Changes.{Answers, AppendsDocument, IsPartAt};
+
+use crate::{NO_DOCUMENT, NO_PART, NO_PATH, OUT_OF_MEMORY, TOO_DEEP, names_of, put, sign};
+use key_document::{DocumentError, append_part, append_range, compare_documents, split_document};
+use std::alloc::Global;
+
+/// Returns how many of the document's first bytes are its key. It looks at the last ten bytes alone.
+#[unsafe(no_mangle)]
+pub extern "C" fn vizhoniku_document_key(document: &[u8]) -> usize
+    ensures size { (t : Tree) → IsTreeDocument document.now t → result ≡ length (key_of t) }
+    ensures within { result ≤ length document.now }
+{
+    let (key, _) = split_document(document);
+    key.len()
+}
+
+/// Compares the values of two documents: -1, 0 or 1, as `vizhoniku_compare` does those of two texts.
+#[unsafe(no_mangle)]
+pub extern "C" fn vizhoniku_document_compare<'d>(left: &'d [u8], right: &'d [u8]) -> i32
+    ensures order { (t u : Tree) → IsTreeDocument left.now t → IsTreeDocument right.now u
+        → result ≡ sign (tree_cmp t u) }
+{
+    sign(compare_documents(left, right))
+}
+
+/// Writes the document of the part at the path to the start of `out`, and its size to `size`. Where `out` is too short,
+/// it stays as it is, and `size` is what is needed.
+#[unsafe(no_mangle)]
+pub extern "C" fn vizhoniku_document_part(
+    alloc: Global,
+    document: &[u8],
+    path: &[u8],
+    out: &mut [u8],
+    size: &mut usize,
+) -> u32
+    ensures status { (result ≡ NO_PATH) ⊎ IsDocumentStatus result }
+
+    // What is written is the document of the part; or there is no such part.
+    ensures written { (t : Tree) → IsTreeDocument document.now t → (names : List (List ℕ)) → IsPath path.now names
+        → (result ≡ OUT_OF_MEMORY) ⊎ IsDocumentAnswer (part_at names t) result size.new out.old out.new }
+
+    // What is wrong with a path is reported, unless memory ran out.
+    ensures path { ReportsPath path.now result }
+    ensures preserves { PreservesBuffer result size.new out.old out.new }
+{
+    match names_of(alloc, path) {
+        Ok(names) => cut_part(alloc, document, &names, out, size),
+        Err(status) => {
+            *size = 0;
+            status
+        }
+    }
+}
+
+// Writes the document of the part at the path of these names.
+fn cut_part(
+    alloc: Global,
+    document: &[u8],
+    names: &[String],
+    out: &mut [u8],
+    size: &mut usize,
+) -> u32
+    ensures status { IsDocumentStatus result }
+    ensures written { (t : Tree) → IsTreeDocument document.now t → (result ≡ OUT_OF_MEMORY)
+        ⊎ IsDocumentAnswer (part_at (map string_bytes names.now) t) result size.new out.old out.new }
+    ensures preserves { PreservesBuffer result size.new out.old out.new }
+{
+    let mut bytes = Vec::new(alloc);
+    let reported = append_part(&mut bytes, document, names);
+    report_document(reported, &bytes, out, size)
+}
+
+/// Writes the document of the part whose key is at the offset in the document's key, and has this size, to the start of
+/// `out`, and its size to `size`. Where `out` is too short, it stays as it is, and `size` is what is needed.
+#[unsafe(no_mangle)]
+pub extern "C" fn vizhoniku_document_range(
+    alloc: Global,
+    document: &[u8],
+    offset: usize,
+    part_size: usize,
+    out: &mut [u8],
+    size: &mut usize,
+) -> u32
+    ensures status { IsDocumentStatus result }
+
+    // What is written is the document of the part that has this range.
+    ensures written { (t : Tree) → IsTreeDocument document.now t → (part : Tree) → IsReadable part
+        → IsPartAt t offset part → part_size ≡ length (key_of part)
+        → (result ≡ OUT_OF_MEMORY) ⊎ IsDocumentAnswer (Some part) result size.new out.old out.new }
+    ensures preserves { PreservesBuffer result size.new out.old out.new }
+{
+    let mut bytes = Vec::new(alloc);
+    let reported = answer(append_range(&mut bytes, document, offset, part_size));
+    report_document(reported, &bytes, out, size)
+}
+
+// What is reported of a call that always has an answer.
+pub(crate) fn answer(reported: Result<(), DocumentError>) -> Result<bool, DocumentError>
+    ensures { (t : Tree) → (old new : Vec ℕ GlobalAlloc) → AppendsDocument t reported old new
+        → Answers (Some t) result old new }
+{
+    match reported {
+        Ok(()) => Ok(true),
+        Err(error) => Err(error),
+    }
+}
+
+// Writes the bytes that were appended, and gives the status of what was reported.
+pub(crate) fn report_document(
+    reported: Result<bool, DocumentError>,
+    bytes: &[u8],
+    out: &mut [u8],
+    size: &mut usize,
+) -> u32
+    ensures status { IsDocumentStatus result }
+    ensures written { (answer : Option Tree) → (old new : Vec ℕ GlobalAlloc) → old.items ≡ [] → new.items ≡ bytes.now
+        → Answers answer reported old new
+        → (result ≡ OUT_OF_MEMORY) ⊎ IsDocumentAnswer answer result size.new out.old out.new }
+    ensures preserves { PreservesBuffer result size.new out.old out.new }
+{
+    match reported {
+        Ok(true) => {
+            *size = bytes.len();
+            put(bytes, out)
+        }
+        Ok(false) => {
+            *size = 0;
+            NO_PART
+        }
+        Err(error) => {
+            *size = 0;
+            document_status(&error)
+        }
+    }
+}
+
+// The status of an error.
+fn document_status(error: &DocumentError) -> u32
+    ensures { result ≡ document_status_of error.now }
+{
+    match error {
+        DocumentError::NoDocument => NO_DOCUMENT,
+        DocumentError::TooDeep => TOO_DEEP,
+        DocumentError::OutOfMemory => OUT_OF_MEMORY,
+    }
+}

@@ -1,0 +1,177 @@
+"""Changes of the reference's trees: parts set and removed, members and items added, two values merged; and documents,
+which are sort keys with the zeros that end decimals behind them (docs/SORT_KEYS.md)."""
+
+from reference import EXTENDED, number_text, read, sort_key, text_key
+
+REMOVE = object()
+
+# What values are made of.
+NUMBERS = ["0", "0.0", "1", "1.0", "1.50", "2.25", "-3.000", "100", "1200.00", "0.010", "-0.5", "12345.67890", "7"]
+TEXTS = ["", "x", "1.50", "a\\u0000b", "\\u00e9"]
+NAMES = ["a", "b", "c", "aa", "", "-1", "0", "a\\u0000", "\\u00e9"]
+
+
+def index_of(step):
+    """The index that a step is, or None: decimal digits without leading zeros, and a minus sign before the one that
+    counts from the end."""
+    digits = step[1:] if step[:1] == b"-" else step
+    if not digits or digits.strip(b"0123456789") or (len(digits) > 1 and digits[:1] == b"0"):
+        return None
+    number = int(digits)
+    if step[:1] != b"-":
+        return number if number < 2 ** 64 else None
+    return -number if 0 < number < 2 ** 64 else None
+
+
+def changed(tree, path, new, create):
+    """The tree with another part at the path, or without it where `new` is REMOVE; None where nothing changes."""
+    if not path or tree[0] not in ("array", "object"):
+        return None
+    step, rest = path[0], path[1:]
+    parts = list(tree[1])
+    if tree[0] == "object":
+        at = next((i for i, member in enumerate(parts) if member[1] == step), None)
+    else:
+        index = index_of(step)
+        if index is None:
+            return None
+        at = index + (len(parts) if index < 0 else 0)
+        missing = 0 if at < 0 else len(parts)
+        at = at if 0 <= at < len(parts) else None
+    if at is None:
+        if rest or new is REMOVE or not create:
+            return None
+        if tree[0] == "array":
+            parts.insert(missing, new)
+        else:
+            parts = sorted(parts + [("owned", step, 0, new)], key=lambda member: member[1])
+        return (tree[0], parts)
+    if rest:
+        new = changed(parts[at][3] if tree[0] == "object" else parts[at], rest, new, create)
+        if new is None:
+            return None
+    if new is REMOVE:
+        del parts[at]
+    else:
+        parts[at] = new if tree[0] == "array" else (*parts[at][:3], new)
+    return (tree[0], parts)
+
+
+def merged(left, right):
+    if left[0] == right[0] == "object":
+        members = {member[1]: member for member in (*left[1], *right[1])}
+        return ("object", [members[name] for name in sorted(members)])
+    return ("array", [item for tree in (left, right) for item in (tree[1] if tree[0] == "array" else [tree])])
+
+
+def depth(tree):
+    """How many arrays and objects are in one another."""
+    deepest, left = 0, [(tree, 0)]
+    while left:
+        tree, level = left.pop()
+        if tree[0] in ("array", "object"):
+            deepest = max(deepest, level + 1)
+            left += [(part if tree[0] == "array" else part[3], level + 1) for part in tree[1]]
+    return deepest
+
+
+def pointer(path):
+    """The path as a JSON Pointer."""
+    return b"".join(b"/" + step.replace(b"~", b"~0").replace(b"/", b"~1") for step in path)
+
+
+def paths(tree, chance):
+    """Paths: of parts, and to where none is."""
+    yield []
+    path = []
+    for _ in range(chance.randrange(1, 6)):
+        if tree[0] == "object":
+            names = [member[1] for member in tree[1]]
+            odd = [b"", b"a", b"zz", b"\0", b"a\0", "\u00e9".encode(), b"~/", b"0", b"-1"]
+            odd += [name[:-1] if name.isascii() else b"x" for name in names] + [name + b"\0" for name in names]
+            step = chance.choice(names if names and chance.random() < 0.6 else odd)
+            inner = next((member[3] for member in tree[1] if member[1] == step), None)
+        elif tree[0] == "array":
+            size = len(tree[1])
+            odd = [b"", b"-", b"-0", b"01", b"+1", b" 1", b"1.0", b"x", b"%d" % 2 ** 64, b"-%d" % 2 ** 64, b"--1"]
+            near = [b"%d" % index for index in (*range(-size - 2, size + 2), 2 ** 64 - 1, 1 - 2 ** 64, 2 ** 31)]
+            step = chance.choice(odd if chance.random() < 0.15 else near)
+            index = index_of(step)
+            at = None if index is None else index + (size if index < 0 else 0)
+            inner = tree[1][at] if at is not None and 0 <= at < size else None
+        else:
+            step, inner = chance.choice([b"a", b"0"]), None
+        path = path + [step]
+        yield path
+        if inner is None:
+            yield path + [b"0"]
+            return
+        tree = inner
+
+
+def part_at(tree, path):
+    """The part at the path, whose indices count from the front; None where there is none."""
+    for step in path:
+        if tree[0] == "object":
+            tree = next((member[3] for member in tree[1] if member[1] == step), None)
+        elif tree[0] == "array":
+            index = index_of(step)
+            tree = tree[1][index] if index is not None and 0 <= index < len(tree[1]) else None
+        else:
+            tree = None
+        if tree is None:
+            return None
+    return tree
+
+
+def counts_of(tree):
+    """For each byte of the key the zeros that end the number that begins there."""
+    kind = tree[0]
+    if kind == "number":
+        text = number_text(tree[2], tree[3])
+        zeros = len(text) - len(text.rstrip(b"0")) if b"." in text else 0
+        return [zeros] + [0] * (len(sort_key(tree)) - 1)
+    if kind == "array":
+        return [0] + [count for item in tree[1] for count in counts_of(item)] + [0]
+    if kind == "object":
+        members = [[0] * len(text_key(name)) + counts_of(item) for _, name, _, item in tree[1]]
+        return [0] + [count for member in members for count in member] + [0, 0]
+    return [0] * len(sort_key(tree))
+
+
+def sevens(number):
+    """The number as LEB128."""
+    row = []
+    while number >= 128:
+        row.append(128 + number % 128)
+        number //= 128
+    return bytes(row + [number])
+
+
+def document_of(tree):
+    zeros, plain = b"", 0
+    for count in counts_of(tree):
+        if count:
+            zeros += sevens(plain) + bytes([count])
+        plain = 0 if count else plain + 1
+    return sort_key(tree) + zeros + (sevens(len(zeros))[::-1] + b"\xff" if zeros else b"")
+
+
+def value_text(chance, depth):
+    """A text with decimals that end in zeros, nested no deeper than this."""
+    kind = chance.randrange(8 if depth else 5)
+    if kind < 3:
+        return chance.choice(NUMBERS)
+    if kind == 3:
+        return '"' + chance.choice(TEXTS) + '"'
+    if kind == 4:
+        return chance.choice(["null", "true", "false"])
+    inner = [value_text(chance, depth - 1) for _ in range(chance.randrange(5))]
+    if kind == 5:
+        return "[" + ",".join(inner) + "]"
+    names = chance.sample(NAMES, len(inner))
+    return "{" + ",".join(f'"{name}":{item}' for name, item in zip(names, inner)) + "}"
+
+
+def value(chance, depth):
+    return read(value_text(chance, depth).encode(), EXTENDED)
