@@ -1,12 +1,13 @@
 -- What a session has written once it is finished.
 use Rattle.std.proofs.Common.{◌≡◌, ◌≢◌, ℕ, ◌&&◌, Bool, true, false, not, List, [], Option, None, Some, MatchBool, All, Vec, refl, sym, ap, subst, ◌∙◌}
 use Rattle.std.proofs.lemmas.List.Elements.{All-nil}
-use Rattle.std.specs.Bool.{⊤}
 use Rattle.std.specs.declared.alloc.Global.{Global}
 use Rattle.vjson_text.specs.Json.{AppendsKeyOf}
 use Rattle.std.specs.Io.KnownBytes.{Appends, Keeps}
 use Rattle.std.specs.List.{flat_map}
 use Rattle.vjson_run.proofs.Taken.{appended_more, retained_along, same_answered}
+use Rattle.vjson_run.proofs.InOrder.{order_done}
+use Rattle.vjson_run.specs.InOrder.{AreInOrder, AreInOrderSoFar}
 use Rattle.vjson_run.specs.Lines.{line_text}
 use Rattle.vjson_run.specs.Output.{IsWritten, output}
 use Rattle.vjson_run.specs.Runs.{AreAnswered, AreEqual, AreEqualSoFar, AreLinesFor, AreSorted, HasMade, HasTaken, IsDone, WritesSorted, ends_sorted, is_yes, sorts}
@@ -15,23 +16,36 @@ use Rattle.vjson_run.specs.declared.options.Command.TheVariants.{Check, Format, 
 use Rattle.vjson_run.specs.declared.options.Options.{Options}
 use Rattle.vjson_run.specs.declared.session.Session.{Session}
 use Rattle.vjson_run.specs.declared.session.Status.{Status}
-use Rattle.vjson_run.specs.declared.session.Status.TheVariants.{Trouble}
+use Rattle.vjson_run.specs.declared.session.Status.TheVariants.{Yes, Trouble}
 
 equal_done : (o : Options) (texts : List (List ℕ)) (last : Option (Vec ℕ Global)) (good : Bool) → AreEqualSoFar o texts last good → AreEqual o texts good
 equal_done o texts last false h = h
 equal_done o texts None true h = ([], subst (λ l. All (λ text. AppendsKeyOf o.grammar text [] []) l) (sym h) (All-nil (λ text. AppendsKeyOf o.grammar text [] [])))
 equal_done o texts (Some key) true h = (key.items, h.1)
 
+-- what `sort` and `sort --check` have made of texts
+abbrev ByDone : Bool → Options → List (List ℕ) → Option (List ℕ) → Option (List ℕ) → Bool → Type 0
+ByDone check o texts start end good = MatchBool check (AreInOrder o texts good × Appends start end []) (AreSorted o texts start end good)
+
 module _ {W E : Type 0} (contents : W → Option (List ℕ)) where
+  -- what `sort` and `sort --check` have of some texts
+  abbrev BySort : Bool → Option (List ℕ) → List (List ℕ) → Session W E → Type 0
+  BySort check start texts s = MatchBool check (AreInOrderSoFar s.options.now texts s.last (is_yes s.status) × Appends start (output contents s.out) [] × (s.status ≡ Yes → s.over ≡ false))
+      (AreLinesFor s.options.now texts s.lines.items (is_yes s.status) × Appends start (output contents s.out) [] × (s.over ≡ false))
+
   -- nothing is to be sorted: what is printed is written
   unsorted_sort : (check good : Bool) (s : Session W E) (start end : Option (List ℕ)) (texts : List (List ℕ)) → s.options.now.check ≡ check → is_yes s.status ≡ good → (not check && good) ≡ false
       → Keeps (output contents s.out) end → HasMade contents start texts s Sort → IsDone s.options.now texts start end good Sort
-  unsorted_sort true good s start end texts is status unsorted retained had = subst (λ b. MatchBool b ⊤ (AreSorted s.options.now texts start end good)) (sym is) tt
+  unsorted_sort true good s start end texts is status unsorted retained had =
+      let m : AreInOrderSoFar s.options.now texts s.last (is_yes s.status) × Appends start (output contents s.out) [] × (s.status ≡ Yes → s.over ≡ false) =
+      subst (λ b. BySort b start texts s) is had in
+      subst (λ b. ByDone b s.options.now texts start end good) (sym is)
+      (order_done s.options.now texts s.last good (subst (AreInOrderSoFar s.options.now texts s.last) status m.0), retained_along start (output contents s.out) end [] m.1 retained)
   unsorted_sort false true s start end texts is status unsorted retained had = cc
   unsorted_sort false false s start end texts is status unsorted retained had =
       let m : AreLinesFor s.options.now texts s.lines.items (is_yes s.status) × Appends start (output contents s.out) [] × (s.over ≡ false) =
-      subst (λ b. MatchBool b ⊤ (AreLinesFor s.options.now texts s.lines.items (is_yes s.status) × Appends start (output contents s.out) [] × (s.over ≡ false))) is had in
-      subst (λ b. MatchBool b ⊤ (AreSorted s.options.now texts start end false)) (sym is)
+      subst (λ b. BySort b start texts s) is had in
+      subst (λ b. ByDone b s.options.now texts start end false) (sym is)
       (subst (AreLinesFor s.options.now texts s.lines.items) status m.0, retained_along start (output contents s.out) end [] m.1 retained)
 
   answered_done : (s : Session W E) (start end : Option (List ℕ)) (texts : List (List ℕ)) → Keeps (output contents s.out) end
@@ -55,8 +69,8 @@ module _ {W E : Type 0} (contents : W → Option (List ℕ)) where
   sorted_sort false false s t start end texts is status unsorted w fine retained had = cc
   sorted_sort false true s t start end texts is status unsorted w fine retained had =
       let m : AreLinesFor s.options.now texts s.lines.items (is_yes s.status) × Appends start (output contents s.out) [] × (s.over ≡ false) =
-      subst (λ b. MatchBool b ⊤ (AreLinesFor s.options.now texts s.lines.items (is_yes s.status) × Appends start (output contents s.out) [] × (s.over ≡ false))) is had in
-      subst (λ b. MatchBool b ⊤ (AreSorted s.options.now texts start end true)) (sym is) (
+      subst (λ b. BySort b start texts s) is had in
+      subst (λ b. ByDone b s.options.now texts start end true) (sym is) (
         s.lines.items,
         w.sorted,
         subst (AreLinesFor s.options.now texts s.lines.items) status m.0,

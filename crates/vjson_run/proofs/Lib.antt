@@ -4,7 +4,9 @@ pub mod Down
 pub mod Fed
 pub mod Finished
 pub mod FirstOfEach
+pub mod InOrder
 pub mod KeyLines
+pub mod Lists
 pub mod Ordered
 pub mod Parts
 pub mod Reading

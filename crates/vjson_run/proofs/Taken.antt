@@ -1,17 +1,20 @@
 -- A text more that a session has taken.
-use Rattle.std.proofs.Common.{◌≡◌, ◌≢◌, ℕ, ◌&&◌, Bool, true, false, List, [], ◌∷◌, ◌++◌, Option, None, Some, MatchBool, MatchOption, Vec, All, not, if◌then◌else◌, length, refl, sym, ap, subst, ◌∙◌, arith, append_assoc, append-nil, length-append}
-use Rattle.std.proofs.lemmas.List.{flat_map_more, get_or_append_left, get_or_push, length_push}
+use Rattle.std.proofs.Common.{◌≡◌, ◌≢◌, ℕ, ◌&&◌, Bool, true, false, List, [], ◌∷◌, ◌++◌, Option, None, Some, MatchBool, MatchOption, Vec, All, not, if◌then◌else◌, refl, sym, ap, subst, ◌∙◌, append_assoc, append-nil}
+use Rattle.std.proofs.lemmas.List.{flat_map_more}
 use Rattle.std.specs.Io.KnownBytes.{Appends, Keeps, append_known}
 use Rattle.std.proofs.lemmas.List.Elements.{All-nil, All-cons, All-push}
 use Rattle.std.specs.Bool.{⊤}
 use Rattle.std.specs.declared.alloc.Global.{Global}
-use Rattle.std.specs.List.{AllZip, Any, flat_map, list_all}
+use Rattle.std.specs.List.{flat_map, list_all}
 use Rattle.vjson_text.specs.Json.{AppendsKeyOf, IsNoTextOf}
+use Rattle.vjson_run.proofs.InOrder.{disordered_more, in_order_more, out_of_order, rejected_order}
+use Rattle.vjson_run.proofs.Lists.{any_before, any_last, zipped_more}
 use Rattle.vjson_run.specs.Answers.{Answers, IsFound, IsLaidOut, IsOne, LacksPart, Prints, PrintsKeyed, asked, checked, checks_order, found, keyed, lacking, laid_out, printed, rejected}
+use Rattle.vjson_run.specs.InOrder.{AreInOrderSoFar, is_wrong}
 use Rattle.vjson_run.specs.Lines.{key_line}
 use Rattle.vjson_run.specs.Output.{output, PrintsNothing, PrintsPart}
 use Rattle.vjson_run.specs.declared.report.Output.{Output}
-use Rattle.vjson_run.specs.Runs.{Answer, AreAnswered, AreLinesFor, IsAnswer, IsLineFor, HasMade, HasTaken, Gets, AddsLine, AreEqual, AreEqualSoFar, Compares, Differs, IsRetained, IsSame, Takes, denied, is_yes}
+use Rattle.vjson_run.specs.Runs.{Answer, AreAnswered, AreLinesFor, IsAnswer, IsLineFor, HasMade, HasTaken, Gets, AddsLine, AreEqual, AreEqualSoFar, ChecksOrder, Compares, Differs, IsRetained, IsSame, Takes, denied, is_yes}
 use Rattle.vjson_run.specs.declared.lines.Line.{Line}
 use Rattle.vjson_run.specs.declared.options.Command.{Command}
 use Rattle.vjson_run.specs.declared.options.Command.TheVariants.{Check, Format, Get, Sort, Equal, Keys}
@@ -32,12 +35,6 @@ retained_along (Some xs) None b w h k = absurd h
 retained_along (Some xs) (Some ys) None w h k = absurd k
 retained_along (Some xs) (Some ys) (Some zs) w h k = k ∙ h
 
-zipped_more : {A B : Type 0} (R : A → B → Type 0) (xs : List A) (ys : List B) (x : A) (y : B) → AllZip R xs ys → R x y → AllZip R (xs ++ x ∷ []) (ys ++ y ∷ [])
-zipped_more R [] [] x y all one = (one, tt)
-zipped_more R [] (b ∷ ys) x y all one = absurd all
-zipped_more R (a ∷ xs) [] x y all one = absurd all
-zipped_more R (a ∷ xs) (b ∷ ys) x y all one = (all.0, zipped_more R xs ys x y all.1 one)
-
 and_assoc : (a b c : Bool) → (a && (b && c)) ≡ ((a && b) && c)
 and_assoc true b c = refl
 and_assoc false b c = refl
@@ -53,12 +50,6 @@ and_false false = refl
 all_more : {A : Type 0} (p : A → Bool) (xs : List A) (x : A) → list_all p (xs ++ x ∷ []) ≡ (list_all p xs && p x)
 all_more p [] x = and_true (p x)
 all_more p (a ∷ xs) x = ap (λ b. p a && b) (all_more p xs x) ∙ and_assoc (p a) (list_all p xs) (p x)
-
-any_before : {A : Type 0} (P : A → Type 0) (xs ys : List A) → Any P xs → Any P (xs ++ ys)
-any_before P xs ys h = (h.0, h.1, omega (arith, h.2, length-append xs ys), get_or_append_left xs ys h.1 h.0 h.2 ∙ h.3, h.4)
-
-any_last : {A : Type 0} (P : A → Type 0) (xs : List A) (x : A) → P x → Any P (xs ++ x ∷ [])
-any_last P xs x h = (length xs, x, omega (arith, length_push xs x), get_or_push xs x x (length xs) refl, h)
 
 more_answered : (o : Options) (texts : List (List ℕ)) (start now next : Option (List ℕ)) (good : Bool) (text : List ℕ) (this : Bool) (part : List ℕ) → AreAnswered o texts start now good
     → Answers o text this part → ((w : List ℕ) → Appends start now w → Appends start next (w ++ part)) → AreAnswered o (texts ++ text ∷ []) start next (good && this)
@@ -79,6 +70,10 @@ same_answered o texts start now next good h grows = record { answers = h.answers
 abbrev pub after : Bool → Status → Status
 after true status = status
 after false status = denied status
+
+chosen : (wrong : Bool) (status : Status) → (if wrong then denied status else status) ≡ after (not wrong) status
+chosen true status = refl
+chosen false status = refl
 
 untroubled : (good : Bool) (s t : Status) → t ≡ after good s → t ≢ Trouble → s ≢ Trouble
 untroubled true s t is h e = h (is ∙ e)
@@ -106,6 +101,11 @@ equal_over : (o : Options) (texts more : List (List ℕ)) (last : Option (Vec �
 equal_over o texts more last Yes not_yes h = absurd (not_yes refl)
 equal_over o texts more last No not_yes h = differ_more o texts more h
 equal_over o texts more last Trouble not_yes h = differ_more o texts more h
+
+order_over : (o : Options) (texts more : List (List ℕ)) (last : Option (Vec ℕ Global)) (status : Status) → (status ≡ Yes → ⊥) → AreInOrderSoFar o texts last (is_yes status) → AreInOrderSoFar o (texts ++ more) last (is_yes status)
+order_over o texts more last Yes not_yes h = absurd (not_yes refl)
+order_over o texts more last No not_yes h = disordered_more o texts more h
+order_over o texts more last Trouble not_yes h = disordered_more o texts more h
 
 -- one text more that has the key of those before
 same_more : (o : Options) (before : List (List ℕ)) (text : List ℕ) (last : Option (Vec ℕ Global)) (key : Vec ℕ Global) (good : Bool) → AppendsKeyOf o.grammar text [] key.items → MatchOption last ⊤ (λ k. k.items ≡ key.items)
@@ -218,29 +218,70 @@ module _ {W E : Type 0} (contents : W → Option (List ℕ)) where
   abbrev Collected : Options → Option (List ℕ) → List (List ℕ) → Session W E → Type 0
   Collected o start texts s = AreLinesFor o texts s.lines.items (is_yes s.status) × Appends start (output contents s.out) [] × (s.over ≡ false)
 
-  sorted_by_check : (check : Bool) (s t : Session W E) (text : List ℕ) (start : Option (List ℕ)) (before : List (List ℕ)) → s.options.now.check ≡ check → (s.options.now.check ≡ false → AddsLine text s t)
-      → (s.options.now.check ≡ false → Made start before s Sort) → MatchBool check ⊤ (Collected s.options.now start (before ++ text ∷ []) t)
-  sorted_by_check true s t text start before is added had = tt
-  sorted_by_check false s t text start before is added had =
-      let a = added is in
-      let m : Collected s.options.now start before s = subst (λ b. MatchBool b ⊤ (Collected s.options.now start before s)) is (had is) in (
-        subst (λ lines. AreLinesFor s.options.now (before ++ text ∷ []) lines (is_yes t.status)) (sym a.lines)
-            (subst (λ status. AreLinesFor s.options.now (before ++ text ∷ []) (s.lines.items ++ a.line ∷ []) (is_yes status)) (sym a.status)
-            (one_line s.options.now before text (is_yes s.status) s.lines.items a.line a.is_line m.0)),
-        subst (λ out. Appends start (output contents out) []) (sym a.out) m.1,
-        a.over ∙ m.2,
+  -- what `sort --check` has found of them
+  abbrev Ordered : Options → Option (List ℕ) → List (List ℕ) → Session W E → Type 0
+  Ordered o start texts s = AreInOrderSoFar o texts s.last (is_yes s.status) × Appends start (output contents s.out) [] × (s.status ≡ Yes → s.over ≡ false)
+
+  -- either, as is asked for
+  abbrev ByCheck : Bool → Options → Option (List ℕ) → List (List ℕ) → Session W E → Type 0
+  ByCheck check o start texts s = MatchBool check (Ordered o start texts s) (Collected o start texts s)
+
+  collected_more : (s t : Session W E) (text : List ℕ) (start : Option (List ℕ)) (before : List (List ℕ)) → AddsLine text s t → Collected s.options.now start before s → Collected s.options.now start (before ++ text ∷ []) t
+  collected_more s t text start before a m = (
+    subst (λ lines. AreLinesFor s.options.now (before ++ text ∷ []) lines (is_yes t.status)) (sym a.lines)
+        (subst (λ status. AreLinesFor s.options.now (before ++ text ∷ []) (s.lines.items ++ a.line ∷ []) (is_yes status)) (sym a.status)
+        (one_line s.options.now before text (is_yes s.status) s.lines.items a.line a.is_line m.0)),
+    subst (λ out. Appends start (output contents out) []) (sym a.out) m.1,
+    a.over ∙ m.2,
+  )
+
+  ordered_by : (wrong : Bool) (s t : Session W E) (text : List ℕ) (start : Option (List ℕ)) (before : List (List ℕ)) (h : ChecksOrder text s t) → is_wrong s.options.now s.last h.key.items ≡ wrong
+      → Ordered s.options.now start before s → Ordered s.options.now start (before ++ text ∷ []) t
+  ordered_by false s t text start before h is m =
+      let status : t.status ≡ s.status = h.status ∙ ap (λ b. if b then denied s.status else s.status) is in (
+        subst (λ last. AreInOrderSoFar s.options.now (before ++ text ∷ []) last (is_yes t.status)) (sym h.last)
+            (subst (λ x. AreInOrderSoFar s.options.now (before ++ text ∷ []) (Some h.key) (is_yes x)) (sym status) (in_order_more s.options.now before text s.last h.key (is_yes s.status) h.is_key is m.0)),
+        subst (λ out. Appends start (output contents out) []) (sym h.out) m.1,
+        λ calm. h.over ∙ m.2 (sym status ∙ calm),
+      )
+  ordered_by true s t text start before h is m =
+      let status : t.status ≡ denied s.status = h.status ∙ ap (λ b. if b then denied s.status else s.status) is in
+      let no : is_yes t.status ≡ false = ap is_yes status ∙ not_yes s.status in (
+        subst (AreInOrderSoFar s.options.now (before ++ text ∷ []) t.last) (sym no) (out_of_order s.options.now before text s.last h.key.items (is_yes s.status) h.is_key is m.0),
+        subst (λ out. Appends start (output contents out) []) (sym h.out) m.1,
+        λ calm. cc,
       )
 
-  made_sort : (check : Bool) (s t : Session W E) (start : Option (List ℕ)) (texts : List (List ℕ)) → s.options.now.check ≡ check → t.options ≡ s.options → MatchBool check ⊤ (Collected s.options.now start texts t) → Made start texts t Sort
-  made_sort check s t start texts is options h =
-      subst (λ o. MatchBool o.now.check ⊤ (Collected o.now start texts t)) (sym options) (subst (λ b. MatchBool b ⊤ (Collected s.options.now start texts t)) (sym is) h)
+  ordered_more : (s t : Session W E) (text : List ℕ) (start : Option (List ℕ)) (before : List (List ℕ)) → ChecksOrder text s t → Ordered s.options.now start before s → Ordered s.options.now start (before ++ text ∷ []) t
+  ordered_more s t text start before h m = ordered_by (is_wrong s.options.now s.last h.key.items) s t text start before h refl m
 
-  pub sorted_taken : (s t : Session W E) (text : List ℕ) → s.options.now.command ≡ Sort → t.options ≡ s.options → (s.options.now.check ≡ false → AddsLine text s t) → Takes contents s (text ∷ []) t
-  sorted_taken s t text is options added start before had calm fine =
+  ordered_calm : (s t : Session W E) (text : List ℕ) → ChecksOrder text s t → t.status ≢ Trouble → s.status ≢ Trouble
+  ordered_calm s t text h calm =
+      let wrong = is_wrong s.options.now s.last h.key.items in
+      untroubled (not wrong) s.status t.status (h.status ∙ chosen wrong s.status) calm
+
+  sorted_by_check : (check : Bool) (s t : Session W E) (text : List ℕ) (start : Option (List ℕ)) (before : List (List ℕ)) → s.options.now.check ≡ check → (s.options.now.check ≡ false → AddsLine text s t)
+      → (s.options.now.check ≡ true → ChecksOrder text s t) → t.status ≢ Trouble → t.out.error ≡ None → (s.status ≢ Trouble → s.out.error ≡ None → Made start before s Sort)
+      → ByCheck check s.options.now start (before ++ text ∷ []) t
+  sorted_by_check true s t text start before is added checks calm fine had =
+      let h = checks is in
+      ordered_more s t text start before h
+      (subst (λ b. ByCheck b s.options.now start before s) is (had (ordered_calm s t text h calm) (sym (ap (λ out. out.error) h.out) ∙ fine)))
+  sorted_by_check false s t text start before is added checks calm fine had =
+      let a = added is in
+      collected_more s t text start before a
+      (subst (λ b. ByCheck b s.options.now start before s) is (had (λ e. calm (a.status ∙ e)) (sym (ap (λ out. out.error) a.out) ∙ fine)))
+
+  made_sort : (check : Bool) (s t : Session W E) (start : Option (List ℕ)) (texts : List (List ℕ)) → s.options.now.check ≡ check → t.options ≡ s.options → ByCheck check s.options.now start texts t → Made start texts t Sort
+  made_sort check s t start texts is options h =
+      subst (λ o. ByCheck o.now.check o.now start texts t) (sym options) (subst (λ b. ByCheck b s.options.now start texts t) (sym is) h)
+
+  pub sorted_taken : (s t : Session W E) (text : List ℕ) → s.options.now.command ≡ Sort → t.options ≡ s.options → (s.options.now.check ≡ false → AddsLine text s t)
+      → (s.options.now.check ≡ true → ChecksOrder text s t) → Takes contents s (text ∷ []) t
+  sorted_taken s t text is options added checks start before had calm fine =
       subst (λ o. Made start (before ++ text ∷ []) t o.now.command) (sym options) (subst (Made start (before ++ text ∷ []) t) (sym is)
       (made_sort s.options.now.check s t start (before ++ text ∷ []) refl options
-      (sorted_by_check s.options.now.check s t text start before refl added
-      (λ unchecked. let a = added unchecked in subst (Made start before s) is (had (λ e. calm (a.status ∙ e)) (sym (ap (λ out. out.error) a.out) ∙ fine))))))
+      (sorted_by_check s.options.now.check s t text start before refl added checks calm fine (λ quiet none. subst (Made start before s) is (had quiet none)))))
 
   -- a text is rejected
   pub record Rejected (s t : Session W E) : Type 0 where
@@ -263,10 +304,16 @@ module _ {W E : Type 0} (contents : W → Option (List ℕ)) where
   calm_before s t is calm = untroubled false s.status t.status is calm
 
   rejected_by_check : (check : Bool) (s t : Session W E) (text : List ℕ) (start : Option (List ℕ)) (before : List (List ℕ)) → s.options.now.check ≡ check → s.options.now.command ≡ Sort → IsNoTextOf s.options.now.grammar text
-      → Rejected s t → t.status ≡ denied s.status → t.out.error ≡ None → Made start before s Sort → MatchBool check ⊤ (Collected s.options.now start (before ++ text ∷ []) t)
-  rejected_by_check true s t text start before is command none h status fine had = tt
+      → Rejected s t → t.status ≡ denied s.status → t.out.error ≡ None → Made start before s Sort → ByCheck check s.options.now start (before ++ text ∷ []) t
+  rejected_by_check true s t text start before is command none h status fine had =
+      let m : Ordered s.options.now start before s = subst (λ b. ByCheck b s.options.now start before s) is had in
+      let no : is_yes t.status ≡ false = ap is_yes status ∙ not_yes s.status in (
+        subst (AreInOrderSoFar s.options.now (before ++ text ∷ []) t.last) (sym no) (rejected_order s.options.now before text none),
+        retained_along start (output contents s.out) (output contents t.out) [] m.1 (h.printed.same fine),
+        λ calm. cc,
+      )
   rejected_by_check false s t text start before is command none h status fine had =
-      let m : Collected s.options.now start before s = subst (λ b. MatchBool b ⊤ (Collected s.options.now start before s)) is had in (
+      let m : Collected s.options.now start before s = subst (λ b. ByCheck b s.options.now start before s) is had in (
         subst (AreLinesFor s.options.now (before ++ text ∷ []) t.lines.items) (sym (ap is_yes status ∙ not_yes s.status)) (any_last (IsNoTextOf s.options.now.grammar) before text none),
         retained_along start (output contents s.out) (output contents t.out) [] m.1 (h.printed.same fine),
         h.over (ap (λ c. asked c s.options.now.check) command ∙ is) ∙ m.2,
@@ -332,9 +379,13 @@ module _ {W E : Type 0} (contents : W → Option (List ℕ)) where
     h.over ∙ had.1,
   )
 
-  flushed_collected : (check : Bool) (s t : Session W E) (start : Option (List ℕ)) (texts : List (List ℕ)) → Flushed s t → t.out.error ≡ None → MatchBool check ⊤ (Collected s.options.now start texts s) → MatchBool check ⊤ (Collected s.options.now start texts t)
-  flushed_collected true s t start texts h fine had = tt
-  flushed_collected false s t start texts h fine had = (
+  flushed_by_check : (check : Bool) (s t : Session W E) (start : Option (List ℕ)) (texts : List (List ℕ)) → Flushed s t → t.out.error ≡ None → ByCheck check s.options.now start texts s → ByCheck check s.options.now start texts t
+  flushed_by_check true s t start texts h fine had = (
+    subst (λ last. AreInOrderSoFar s.options.now texts last (is_yes t.status)) (sym h.last) (subst (λ status. AreInOrderSoFar s.options.now texts s.last (is_yes status)) (sym h.status) had.0),
+    retained_along start (output contents s.out) (output contents t.out) [] had.1 (h.printed.same fine),
+    λ calm. h.over ∙ had.2 (sym h.status ∙ calm),
+  )
+  flushed_by_check false s t start texts h fine had = (
     subst (λ lines. AreLinesFor s.options.now texts lines (is_yes t.status)) (sym h.lines) (subst (λ status. AreLinesFor s.options.now texts s.lines.items (is_yes status)) (sym h.status) had.0),
     retained_along start (output contents s.out) (output contents t.out) [] had.1 (h.printed.same fine),
     h.over ∙ had.2,
@@ -345,7 +396,7 @@ module _ {W E : Type 0} (contents : W → Option (List ℕ)) where
   flushed_made Format s t start texts h fine had = flushed_answered s t start texts h fine had
   flushed_made Get s t start texts h fine had = flushed_answered s t start texts h fine had
   flushed_made Keys s t start texts h fine had = flushed_answered s t start texts h fine had
-  flushed_made Sort s t start texts h fine had = made_sort s.options.now.check s t start texts refl h.options (flushed_collected s.options.now.check s t start texts h fine had)
+  flushed_made Sort s t start texts h fine had = made_sort s.options.now.check s t start texts refl h.options (flushed_by_check s.options.now.check s t start texts h fine had)
   flushed_made Equal s t start texts h fine had = (
     subst (λ o. AreEqualSoFar o.now texts t.last (is_yes t.status)) (sym h.options)
         (subst (λ last. AreEqualSoFar s.options.now texts last (is_yes t.status)) (sym h.last)
@@ -395,8 +446,15 @@ module _ {W E : Type 0} (contents : W → Option (List ℕ)) where
         h.retained.over ∙ m.2,
       )
 
-      at : (check : Bool) → MatchBool check ⊤ (Collected s.options.now start texts s) → MatchBool check ⊤ (Collected s.options.now start texts t)
-      at true m = tt
+      ordered : Ordered s.options.now start texts s → Ordered s.options.now start texts t
+      ordered m = (
+        subst (λ last. AreInOrderSoFar s.options.now texts last (is_yes t.status)) (sym h.retained.last) (subst (λ status. AreInOrderSoFar s.options.now texts s.last (is_yes status)) (sym h.retained.status) m.0),
+        subst (λ writer. Appends start (append_known (contents writer) t.out.bytes.items) []) (sym h.retained.writer) (subst (λ items. Appends start (append_known (contents s.out.writer) items) []) (sym h.bytes) m.1),
+        λ calm. h.retained.over ∙ m.2 (sym h.retained.status ∙ calm),
+      )
+
+      at : (check : Bool) → ByCheck check s.options.now start texts s → ByCheck check s.options.now start texts t
+      at true m = ordered m
       at false m = moved m
   made_same Check s t start texts h had = answered_same s t start texts h had
   made_same Format s t start texts h had = answered_same s t start texts h had
@@ -420,9 +478,12 @@ module _ {W E : Type 0} (contents : W → Option (List ℕ)) where
     had.1,
     had.2,
   )
-  over_made Sort true t start texts more over is had = subst (λ b. MatchBool b ⊤ (Collected t.options.now start (texts ++ more) t)) (sym is) tt
+  over_made Sort true t start texts more over is had =
+      let m : Ordered t.options.now start texts t = subst (λ b. ByCheck b t.options.now start texts t) is had in
+      subst (λ b. ByCheck b t.options.now start (texts ++ more) t) (sym is)
+      (order_over t.options.now texts more t.last t.status (λ calm. never t over (m.2 calm)) m.0, m.1, m.2)
   over_made Sort false t start texts more over is had =
-      let m : Collected t.options.now start texts t = subst (λ b. MatchBool b ⊤ (Collected t.options.now start texts t)) is had in
+      let m : Collected t.options.now start texts t = subst (λ b. ByCheck b t.options.now start texts t) is had in
       absurd (never t over m.2)
   over_made Check check t start texts more over is had = absurd (never t over had.1)
   over_made Format check t start texts more over is had = absurd (never t over had.1)
@@ -458,10 +519,6 @@ module _ {W E : Type 0} (contents : W → Option (List ℕ)) where
       let now = compared (is_yes s.status) h.differs s t text start before h refl refl h.found was in
       subst (λ o. Made start (before ++ text ∷ []) t o.now.command) (sym h.options) (subst (Made start (before ++ text ∷ []) t) (sym is)
       (subst (λ o. AreEqualSoFar o.now (before ++ text ∷ []) t.last (is_yes t.status) × Appends start (output contents t.out) [] × (t.status ≡ Yes → t.over ≡ false)) (sym h.options) now))
-    where
-      chosen : (differs : Bool) (status : Status) → (if differs then denied status else status) ≡ after (not differs) status
-      chosen true status = refl
-      chosen false status = refl
 
 module _ {W : Type 0} (contents : W → Option (List ℕ)) where
   pub appended_more : (a b c : Option (List ℕ)) (part one : List ℕ) → Appends a b part → Appends b c one → Appends a c (part ++ one)

@@ -6,11 +6,22 @@ use Rattle.std.specs.Str.Lines.{lines, strip_carriage_return}
 use Rattle.jsonb_spec.specs.Ascii as ascii
 use Rattle.vjson_text.specs.Word.{is_blank}
 
--- the bytes without a byte order mark at their start, which is EF BB BF
+-- the bytes of a byte order mark in UTF-8, EF BB BF
+abbrev pub mark_first : ℕ
+mark_first = 239
+
+abbrev pub mark_second : ℕ
+mark_second = 187
+
+abbrev pub mark_third : ℕ
+mark_third = 191
+
+-- the bytes without a byte order mark at their start
 abbrev pub without_mark : List ℕ → List ℕ
 without_mark bytes =
-    if (slice_index bytes 0 == 239) && ((slice_index bytes 1 == 187) && (slice_index bytes 2 == 191)) then drop 3 bytes
-    else bytes
+    if (slice_index bytes 0 == mark_first)
+    && ((slice_index bytes 1 == mark_second) && (slice_index bytes 2 == mark_third))
+    then drop 3 bytes else bytes
 
 -- a line without its line feed, and without a carriage return before that
 abbrev pub without_end : List ℕ → List ℕ

@@ -1,4 +1,5 @@
 pub mod Answers
+pub mod InOrder
 pub mod Input
 pub mod Lines
 pub mod Output

@@ -56,9 +56,13 @@ IsArranged down true given sorted = IsFirstOfEach (order_of down) given sorted
 abbrev pub line_text : Line → List ℕ
 line_text line = line.text.items ++ ascii.line_feed ∷ []
 
+-- the letter of the digit 10
+abbrev pub letter_of_ten : ℕ
+letter_of_ten = 97
+
 -- a digit of base 16, in small letters
 abbrev pub hex_digit : ℕ → ℕ
-hex_digit half = if nat_lt half 10 then ascii.digit_zero + half else 97 + (half - 10)
+hex_digit half = if nat_lt half 10 then ascii.digit_zero + half else letter_of_ten + (half - 10)
 
 -- the two digits of a byte
 abbrev pub hex_text : ℕ → List ℕ

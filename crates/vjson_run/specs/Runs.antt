@@ -4,8 +4,9 @@ use Rattle.std.specs.Io.KnownBytes.{Appends}
 use Rattle.std.specs.List.{All, AllZip, Any, filter, flat_map, list_all}
 use Rattle.std.specs.declared.alloc.Global.{Global}
 use Rattle.vjson_text.specs.Json.{AppendsKeyOf, IsNoTextOf}
-use Rattle.vjson_run.specs.Answers.{Answers, IsFound, IsKeyed, LacksPart, Prints}
+use Rattle.vjson_run.specs.Answers.{Answers, IsFound, IsKeyOf, IsKeyed, LacksPart, Prints}
 use Rattle.vjson_run.specs.Input.{is_blank_line, without_end}
+use Rattle.vjson_run.specs.InOrder.{AreInOrder, AreInOrderSoFar, is_wrong}
 use Rattle.vjson_run.specs.Lines.{IsArranged, line_text}
 use Rattle.vjson_run.specs.Output.{PrintsPart, output}
 use Rattle.vjson_run.specs.declared.lines.Line.{Line}
@@ -131,6 +132,17 @@ pub record Compares {W E : Type 0} (text : List ℕ) (s t : Session W E) : Type 
   pub status : t.status ≡ (if differs then denied s.status else s.status)
   pub over : differs ≡ false → t.over ≡ s.over
 
+-- The text is one of the grammar, with this key, which is the last one now. Where it may not be right behind the one
+-- before, the status is no; nothing else that counts changes.
+pub record ChecksOrder {W E : Type 0} (text : List ℕ) (s t : Session W E) : Type 0 where
+  pub options : t.options ≡ s.options
+  pub out : t.out ≡ s.out
+  pub over : t.over ≡ s.over
+  pub key : Vec ℕ Global
+  pub is_key : IsKeyOf s.options.now text key.items
+  pub last : t.last ≡ Some key
+  pub status : t.status ≡ (if is_wrong s.options.now s.last key.items then denied s.status else s.status)
+
 -- The text's part is printed, or the default; or there is neither, and the status is no.
 pub record Gets {W E : Type 0} (s : Session W E) (text : List ℕ) (t : Session W E) : Type 0 where
   pub options : t.options ≡ s.options
@@ -146,9 +158,12 @@ pub record Gets {W E : Type 0} (s : Session W E) (text : List ℕ) (t : Session 
 
 module _ {W E : Type 0} (contents : W → Option (List ℕ)) where
   -- What the session's command has made of texts, since the output was at start: each is answered; or their lines are
-  -- there to be sorted, or their keys compared, and nothing is printed. (Of `sort --check` it says nothing.)
+  -- there to be sorted, or they are in order so far, or their keys are compared, and nothing is printed.
   abbrev pub HasMade : Option (List ℕ) → List (List ℕ) → Session W E → Command → Type 0
-  HasMade start texts s Sort = MatchBool s.options.now.check ⊤ (AreLinesFor s.options.now texts s.lines.items (is_yes s.status)
+  HasMade start texts s Sort = MatchBool s.options.now.check
+      (AreInOrderSoFar s.options.now texts s.last (is_yes s.status)
+      × Appends start (output contents s.out) [] × (s.status ≡ Yes → s.over ≡ false))
+      (AreLinesFor s.options.now texts s.lines.items (is_yes s.status)
       × Appends start (output contents s.out) [] × (s.over ≡ false))
   HasMade start texts s Equal = AreEqualSoFar s.options.now texts s.last (is_yes s.status)
       × Appends start (output contents s.out) [] × (s.status ≡ Yes → s.over ≡ false)
@@ -165,7 +180,8 @@ module _ {W E : Type 0} (contents : W → Option (List ℕ)) where
 
 -- What the command prints of the texts, from start to end of the output, and whether its status is yes.
 abbrev pub IsDone : Options → List (List ℕ) → Option (List ℕ) → Option (List ℕ) → Bool → Command → Type 0
-IsDone options texts start end good Sort = MatchBool options.check ⊤ (AreSorted options texts start end good)
+IsDone options texts start end good Sort = MatchBool options.check (AreInOrder options texts good × Appends start end [])
+    (AreSorted options texts start end good)
 IsDone options texts start end good Equal = AreEqual options texts good × Appends start end []
 IsDone options texts start end good command = AreAnswered options texts start end good
 

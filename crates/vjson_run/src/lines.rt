@@ -7,6 +7,7 @@ ghost use Rattle.std.specs.Ordering.{ordering_then};
 ghost use Rattle.jsonb_spec.specs.Order.{bytes_cmp, tree_cmp};
 ghost use Rattle.jsonb_spec.specs.Tree.{Tree};
 ghost use Rattle.vjson_text.specs.declared.reader.Grammar.{Grammar};
+ghost use Rattle.vjson_run.specs.InOrder.{key_order, may_follow};
 ghost use Rattle.vjson_run.specs.Lines.{
   Arranges,
   IsArranged,
@@ -113,6 +114,25 @@ fn sort(lines: &mut Vec<Line>, down: bool) -> Result<(), AllocError>
     lines.sort()?;
     lines.reverse();
     Ok(())
+}
+
+// The order of keys, upwards or downwards.
+fn key_order(first: &[u8], second: &[u8], down: bool) -> Ordering
+    ensures { result ≡ key_order down first.now second.now }
+{
+    if down {
+        second.cmp(first)
+    } else {
+        first.cmp(second)
+    }
+}
+
+/// Whether a line with the second key may be right behind one with the first: it is not before it, or is after it.
+pub fn may_follow(first: &[u8], second: &[u8], down: bool, unique: bool) -> bool
+    ensures { result ≡ may_follow down unique first.now second.now }
+{
+    let order = key_order(first, second, down);
+    if unique { order.is_lt() } else { order.is_le() }
 }
 
 /// Appends a line with a line feed.

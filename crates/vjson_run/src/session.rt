@@ -1,13 +1,15 @@
 //! A run of the program over its files.
 
-ghost use Rattle.std.specs.Prelude.{◌≡◌, ◌≢◌, ◌≤◌, ◌∷◌, ◌==◌, [], List, ℕ, Option, OnOk, IfErr, IfSome, None, true, false};
+ghost use Rattle.std.specs.Prelude.{◌≡◌, ◌≢◌, ◌≤◌, ◌∷◌, ◌==◌, [], List, ℕ, Option, OnOk, IfErr, IfSome, None, Some, if◌then◌else◌, true, false};
 ghost use Rattle.vjson_text.specs.Json.{IsNoTextOf};
 ghost use Rattle.vjson_text.specs.Read.{Rejects};
 ghost use Rattle.vjson_run.specs.Answers.{IsLaidOut, IsOne, Prints, PrintsKeyed, checks_order};
+ghost use Rattle.vjson_run.specs.InOrder.{is_wrong};
 ghost use Rattle.vjson_run.specs.Input.{text_lines, texts_of, without_mark};
 ghost use Rattle.vjson_run.specs.Output.{IsWritten};
 ghost use Rattle.vjson_run.specs.Runs.{
   AddsLine,
+  ChecksOrder,
   Compares,
   Differs,
   Gets,
@@ -25,7 +27,7 @@ ghost use Rattle.vjson_run.specs.Runs.{
 use crate::answers;
 use crate::answers::Buffers;
 use crate::input::{is_blank_line, without_end, without_mark};
-use crate::lines::{Line, arrange};
+use crate::lines::{Line, arrange, may_follow};
 use crate::options::{Command, Options};
 use crate::report::{Output, Spot, print_lines, report_fault, report_memory, report_stream};
 use jsonb::line_and_column;
@@ -367,6 +369,7 @@ impl<'o, W: Write, E: Write> Session<'o, W, E> {
 
     fn take_sort(&mut self, text: &[u8]) -> Result<(), Fault>
         ensures ok { OnOk result (self.old.options.now.check ≡ false → AddsLine text.now self.old self.new) }
+        ensures checked { OnOk result (self.old.options.now.check ≡ true → ChecksOrder text.now self.old self.new) }
         ensures rejected { Rejects self.old.options.now.grammar text.now result }
         ensures same { IfErr result (λ f. f ≢ Fault.NoMemory → IsSame self.old self.new) }
         ensures options { self.new.options ≡ self.old.options }
@@ -374,10 +377,7 @@ impl<'o, W: Write, E: Write> Session<'o, W, E> {
         answers::make_key(self.alloc, self.options, text, &mut self.buffers)?;
         let key = self.buffers.key.clone()?;
         if self.options.check {
-            if self.is_wrong() {
-                self.deny();
-            }
-            self.last = Some(key);
+            self.check_order(key);
             return Ok(());
         }
         let mut line = Vec::new(self.alloc);
@@ -386,18 +386,28 @@ impl<'o, W: Write, E: Write> Session<'o, W, E> {
         Ok(())
     }
 
-    // Whether the key may not be behind the last one.
-    fn is_wrong(&self) -> bool {
-        let Some(last) = &self.last else {
-            return false;
-        };
-        let key = self.buffers.key.as_slice();
-        let (low, high) = if self.options.reverse {
-            (key, last.as_slice())
-        } else {
-            (last.as_slice(), key)
-        };
-        high < low || (self.options.unique && low == high)
+    // Takes the key of the next line, where it is asked whether lines are in order.
+    fn check_order(&mut self, key: Vec<u8>)
+        ensures { self.new ≡ record self.old {
+          last = Some key;
+          status = if is_wrong self.old.options.now self.old.last key.items then denied self.old.status
+              else self.old.status;
+        } }
+    {
+        if self.is_wrong(&key) {
+            self.deny();
+        }
+        self.last = Some(key);
+    }
+
+    // Whether the key may not be right behind the last one.
+    fn is_wrong(&self, key: &[u8]) -> bool
+        ensures { result ≡ is_wrong self.now.options.now self.now.last key.now }
+    {
+        match &self.last {
+            Some(last) => !may_follow(last, key, self.options.reverse, self.options.unique),
+            None => false,
+        }
     }
 
     // Writes the lines in order.

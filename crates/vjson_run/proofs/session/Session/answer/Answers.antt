@@ -1,4 +1,5 @@
 use Rattle.std.proofs.lemmas.Result.{on_ok_weaker}
+use Rattle.vjson_run.proofs.Lists.{on_ok_both}
 use Rattle.vjson_run.proofs.Taken.{checked_taken, compared_taken, gets_taken, keyed_taken, laid_taken, sorted_taken}
 use Rattle.vjson_run.proofs.session.Session.answer.Goals as goal
 
@@ -15,7 +16,7 @@ pub returns-in-Keys-clause-ok : goal.returns-in-Keys-clause-ok
 returns-in-Keys-clause-ok g c = on_ok_weaker c.answer_keys.result (λ keyed. keyed_taken g.W.Write.contents c.args.self.now c.answer_keys.new.self c.args.text.now c.in-Keys.is keyed c.answer_keys.ensures.retained) c.answer_keys.ensures.ok
 
 pub returns-in-Sort-clause-ok : goal.returns-in-Sort-clause-ok
-returns-in-Sort-clause-ok g c = on_ok_weaker c.take_sort.result (λ added. sorted_taken g.W.Write.contents c.args.self.now c.take_sort.new.self c.args.text.now c.in-Sort.is c.take_sort.ensures.options added) c.take_sort.ensures.ok
+returns-in-Sort-clause-ok g c = on_ok_both c.take_sort.result (λ added checks. sorted_taken g.W.Write.contents c.args.self.now c.take_sort.new.self c.args.text.now c.in-Sort.is c.take_sort.ensures.options added checks) c.take_sort.ensures.ok c.take_sort.ensures.checked
 
 pub returns-in-Equal-clause-ok : goal.returns-in-Equal-clause-ok
 returns-in-Equal-clause-ok g c = on_ok_weaker c.take_equal.result (λ compares. compared_taken g.W.Write.contents c.args.self.now c.take_equal.new.self c.args.text.now c.in-Equal.is compares) c.take_equal.ensures.ok
