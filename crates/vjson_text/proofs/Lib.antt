@@ -1,3 +1,9 @@
+pub mod LaidOut
+pub mod LaidOutTexts
+pub mod NumberTexts
+pub mod Numbers
+pub mod PlainTexts
+pub mod Readings
+pub mod StrictTexts
 pub mod Strings
 pub mod Tokens
-pub mod Readings
