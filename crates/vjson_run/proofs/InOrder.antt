@@ -61,7 +61,7 @@ is_less Less h = refl
 is_less Equal h = cc
 is_less Greater h = cc
 
-turned : (down : Bool) (x y : List ℕ) → key_order down y x ≡ ordering_reverse (key_order down x y)
+pub turned : (down : Bool) (x y : List ℕ) → key_order down y x ≡ ordering_reverse (key_order down x y)
 turned false x y = nat_list_cmp_total.antisymm y x
 turned true x y = nat_list_cmp_total.antisymm x y
 

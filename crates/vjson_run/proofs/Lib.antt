@@ -7,7 +7,9 @@ pub mod FirstOfEach
 pub mod InOrder
 pub mod KeyLines
 pub mod Lists
+pub mod OneAnswer
 pub mod Ordered
+pub mod PartKeys
 pub mod Parts
 pub mod Reading
 pub mod Taken

@@ -9,6 +9,7 @@ use Rattle.vjson_text.specs.declared.reader.Grammar.{Grammar}
 use Rattle.vjson_text.specs.declared.reader.Grammar.TheVariants.{Extended}
 use Rattle.vjson_text.specs.declared.reader.Layout.{Layout}
 use Rattle.vjson_text.specs.declared.reader.Layout.TheVariants.{Compact, Indent}
+use Rattle.vjson_run.proofs.PartKeys.{part_key_is}
 use Rattle.vjson_run.specs.Answers.{AppendsLine, IsFound, IsKeyOf, IsLaidOut, IsLineText, IsPartOf, IsShown, LacksPart, Prints, PrintsKeyed, keys_of, layout_of, path_of, given_default, no_key, part_key, shown_part, printed}
 use Rattle.vjson_run.specs.Lines.{key_line}
 use Rattle.vjson_run.specs.declared.options.Options.{Options}
@@ -78,7 +79,10 @@ pub at_keys : (o : Options) (shown : List (String Global)) (text bytes : List �
 at_keys o shown text bytes found b path is h = subst (λ c. AppendsPartOf o.grammar (keys_of o) text [] bytes c) is (subst (λ p. AppendsPartOf o.grammar (map string_bytes p) text [] bytes found) path h)
 
 pub key_by_part : (o : Options) (path : Vec (String Global) Global) (text bytes key : List ℕ) → o.pointer ≡ Some path → AppendsPartOf o.grammar (keys_of o) text [] bytes true → AppendsKeyOf Extended bytes [] key → IsKeyOf o text key
-key_by_part o path text bytes key is h has = part_key path bytes is (part_there o text bytes h) has
+key_by_part o path text bytes key is h has =
+    let p = part_there o text bytes h in
+    part_key path p.part is (record { tree = p.tree; is_text = p.is_text; there = p.there })
+    (part_key_is o.grammar text p.tree p.part (keys_of o) bytes key p.is_text p.there p.is_part has)
 
 pub key_of_none : (o : Options) (path : Vec (String Global) Global) (text bytes key : List ℕ) → o.pointer ≡ Some path → AppendsPartOf o.grammar (keys_of o) text [] bytes false → key ≡ [] → IsKeyOf o text key
 key_of_none o path text bytes key is h nothing = no_key path is (part_lacks o text bytes h) nothing

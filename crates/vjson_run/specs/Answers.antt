@@ -3,12 +3,12 @@ use Rattle.std.specs.Prelude.{◌≡◌, ℕ, Bool, true, false, if◌then◌els
 use Rattle.std.specs.declared.alloc.Global.{Global}
 use Rattle.jsonb_spec.specs.Ascii as ascii
 use Rattle.jsonb_spec.specs.PartAt.{part_at}
+use Rattle.jsonb_spec.specs.SortKey.{key_of}
 use Rattle.jsonb_spec.specs.Text.{text_of}
 use Rattle.jsonb_spec.specs.Tree.{Tree}
 use Rattle.vjson_text.specs.Json.{AppendsKeyOf, AppendsTextOf, IsTextOf, IsNoTextOf}
 use Rattle.vjson_text.specs.Raw.{IsRaw}
 use Rattle.vjson_text.specs.declared.reader.Grammar.{Grammar}
-use Rattle.vjson_text.specs.declared.reader.Grammar.TheVariants.{Extended}
 use Rattle.vjson_text.specs.declared.reader.Layout.{Layout}
 use Rattle.vjson_text.specs.declared.reader.Layout.TheVariants.{Compact, Indent}
 use Rattle.vjson_run.specs.Lines.{key_line}
@@ -74,12 +74,17 @@ pub data IsFound (options : Options) (text bytes : List ℕ) : Type 0 where
   given_default : (given : String Global) → LacksPart options text → options.default ≡ Some given → bytes ≡ string_bytes given
       → IsFound options text bytes
 
--- The key that a text is sorted by: its value's; or, by a part, that of the part's serialized form, and no bytes where
--- there is no such part.
+-- The text is one of the grammar, and this is its part at the path.
+pub record HasPart (options : Options) (text : List ℕ) (part : Tree) : Type 0 where
+  pub tree : Tree
+  pub is_text : IsTextOf options.grammar text tree
+  pub there : part_at (keys_of options) tree ≡ Some part
+
+-- The key that a text is sorted by: its value's; or, by a part, the part's, and no bytes where there is no such part.
 pub data IsKeyOf (options : Options) (text key : List ℕ) : Type 0 where
   whole_key : options.pointer ≡ None → AppendsKeyOf options.grammar text [] key → IsKeyOf options text key
-  part_key : (path : Vec (String Global) Global) (part : List ℕ) → options.pointer ≡ Some path → IsPartOf options text part
-      → AppendsKeyOf Extended part [] key → IsKeyOf options text key
+  part_key : (path : Vec (String Global) Global) (part : Tree) → options.pointer ≡ Some path → HasPart options text part
+      → key ≡ key_of part → IsKeyOf options text key
   no_key : (path : Vec (String Global) Global) → options.pointer ≡ Some path → LacksPart options text → key ≡ [] → IsKeyOf options text key
 
 -- The line of a text that is sorted: the text itself, or with `--canonical` its serialized form.

@@ -1,13 +1,14 @@
 //! Lines in the order of their values, and lines behind their sort keys.
 
-ghost use Rattle.std.specs.Prelude.{◌≡◌, ◌<◌, ◌++◌, ◌∷◌, [], ℕ, List, OnOk};
+ghost use Rattle.std.specs.Prelude.{◌≡◌, ◌<◌, ◌++◌, ◌∷◌, [], ℕ, List, OnOk, true, false};
 ghost use Rattle.std.specs.List.{flat_map};
 ghost use Rattle.jsonb_spec.specs.Ascii as ascii;
 ghost use Rattle.std.specs.Ordering.{ordering_then};
 ghost use Rattle.jsonb_spec.specs.Order.{bytes_cmp, tree_cmp};
 ghost use Rattle.jsonb_spec.specs.Tree.{Tree};
 ghost use Rattle.vjson_text.specs.declared.reader.Grammar.{Grammar};
-ghost use Rattle.vjson_run.specs.InOrder.{key_order, may_follow};
+ghost use Rattle.vjson_run.specs.declared.options.Options.{Options};
+ghost use Rattle.vjson_run.specs.InOrder.{AreInOrder, key_order, may_follow};
 ghost use Rattle.vjson_run.specs.Lines.{
   Arranges,
   IsArranged,
@@ -180,6 +181,12 @@ fn hex_digit(half: u8) -> u8
 pub fn lines_order_as_values()
     ensures { (g : Grammar) → (l m : Line) → (t u : Tree) → IsLineOf g l t → IsLineOf g m u
         → line_cmp l m ≡ tree_cmp t u }
+{}
+
+/// Texts that are in order, each one of the grammar, aren't out of order, and none of them is none of the grammar.
+pub fn lines_in_order_are_not_out_of_order()
+    ensures { (options : Options) → (texts : List (List ℕ)) → AreInOrder options texts true
+        → AreInOrder options texts false → ⊥ }
 {}
 
 /// The order of lines behind their keys, byte by byte as in the locale C, is that of their keys, and of the lines where
