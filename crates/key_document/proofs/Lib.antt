@@ -16,3 +16,4 @@ pub mod Slots
 pub mod ItemsJoined
 pub mod MembersJoined
 pub mod NoZeros
+pub mod Numbering

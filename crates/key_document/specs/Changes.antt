@@ -7,6 +7,7 @@ use Rattle.jsonb_key.specs.Readable.{IsAnyNumber, IsReadable}
 use Rattle.jsonb_spec.specs.Grammar.{max_depth}
 use Rattle.jsonb_spec.specs.SortKey.{key_of}
 use Rattle.jsonb_spec.specs.Text.Range.{IsWithin}
+use Rattle.jsonb_spec.specs.Text.{tree_text}
 use Rattle.jsonb_spec.specs.Tree.{Tree}
 use Rattle.key_document.specs.Document.{counts_at, document_of, OfDocument}
 use Rattle.stored_zeros.specs.Numbers.{Pends}
@@ -98,3 +99,7 @@ abbrev pub as_document_error : EditError → DocumentError
 as_document_error edits.NoKey = NoDocument
 as_document_error edits.TooDeep = TooDeep
 as_document_error edits.OutOfMemory = OutOfMemory
+
+-- Whichever value's serialized form and key these are, this is so of the value.
+abbrev pub OfTextAndKey : List ℕ → List ℕ → (Tree → Type 0) → Type 0
+OfTextAndKey text key Is = (t : Tree) → IsReadable t → text ≡ tree_text t → key ≡ key_of t → Is t

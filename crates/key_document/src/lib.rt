@@ -7,9 +7,11 @@ pub mod edit;
 pub mod error;
 pub mod laws;
 pub mod merge;
+mod numbers;
 pub mod order;
 pub mod part;
 mod splice;
+pub mod text;
 mod zeros;
 
 pub use build::{append_with_item, append_with_member};
@@ -19,3 +21,4 @@ pub use error::DocumentError;
 pub use merge::append_merged;
 pub use order::compare_documents;
 pub use part::{append_part, append_range};
+pub use text::append_document;

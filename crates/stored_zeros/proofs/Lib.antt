@@ -12,3 +12,4 @@ pub mod Taking
 pub mod Telling
 pub mod Joining
 pub mod Backwards
+pub mod Ahead

@@ -1,5 +1,5 @@
 -- Numbers in the bytes of texts, found from left to right.
-use Rattle.std.specs.Prelude.{◌≡◌, ⊤, ℕ, zero, suc, ◌+◌, ◌==◌, nat_lt, Bool, true, false, ◌&&◌, ◌||◌, if◌then◌else◌, List, [], ◌∷◌, replicate, Option, Some, None, option_and_then}
+use Rattle.std.specs.Prelude.{◌≡◌, ◌<◌, ◌≤◌, ⊤, ℕ, zero, suc, ◌+◌, ◌==◌, nat_lt, Bool, true, false, ◌&&◌, ◌||◌, if◌then◌else◌, List, [], ◌∷◌, length, replicate, Option, Some, None, option_and_then}
 use Rattle.jsonb_spec.specs.Ascii as ascii
 
 -- a minus, a point or a digit
@@ -61,3 +61,10 @@ next_number text = behind_number (from_number text)
 abbrev pub after_numbers : ℕ → List ℕ → Option (Bool × List ℕ)
 after_numbers zero text = next_number text
 after_numbers (suc before) text = option_and_then (λ next. after_numbers before next.1) (next_number text)
+
+-- The numbers that are left in a text have so many zeros each, of which there are at most 255.
+abbrev pub ZerosAhead : List ℕ → List ℕ → Type 0
+ZerosAhead [] text = from_number text ≡ Some []
+ZerosAhead (count ∷ counts) text =
+    (number : List ℕ) × (pointed : Bool) × (behind : List ℕ) × (0 < length number) × (from_number text ≡ Some number)
+    × (ending_of false 0 number ≡ (pointed, (count, behind))) × (count ≤ 255) × ZerosAhead counts behind

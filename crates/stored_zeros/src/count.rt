@@ -82,8 +82,8 @@ fn count_scalar(bytes: &[u8]) -> Option<(usize, &[u8])>
     Some((number_count(*first), after))
 }
 
-// One for the first byte of a number.
-fn number_count(first: u8) -> usize
+/// One for the first byte of a number's key, and else none.
+pub fn number_count(first: u8) -> usize
     ensures exact { result ≡ number_count first }
     ensures few { result ≤ 1 }
 {

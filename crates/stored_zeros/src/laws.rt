@@ -7,6 +7,7 @@ ghost use Rattle.jsonb_spec.specs.Tree.{Tree};
 ghost use Rattle.stored_text.specs.FewestDigits.{with_fewest_digits};
 ghost use Rattle.stored_zeros.specs.Numbers.{counts_taken};
 ghost use Rattle.stored_zeros.specs.PartsOf.{OccursIn, numbers_in};
+ghost use Rattle.stored_zeros.specs.Scan.{ZerosAhead};
 ghost use Rattle.stored_zeros.specs.Zeros.{counts_in, plain_at_end, zeros_in, zeros_of};
 
 /// Values that have one text with the fewest digits, and the same zeros, have one text. So nothing of a text is lost
@@ -33,4 +34,9 @@ pub fn zeros_are_joined()
         → zeros_of plain (front ++ back) ≡ zeros_of plain front ++ zeros_of (plain_at_end plain front) back }
     ensures plain { (plain : ℕ) → (front back : List ℕ)
         → plain_at_end plain (front ++ back) ≡ plain_at_end (plain_at_end plain front) back }
+{}
+
+/// The zeros of a value are those of the numbers in its text, from left to right, as `next_count` takes them.
+pub fn texts_have_their_zeros()
+    ensures { (t : Tree) → IsReadable t → ZerosAhead (counts_in t) (tree_text t) }
 {}

@@ -11,8 +11,8 @@ mod restore;
 mod scan;
 mod write;
 
-pub use count::count_numbers;
+pub use count::{count_numbers, number_count};
 pub use error::ZerosError;
 pub use numbers::write_zeros_of_numbers;
 pub use restore::write_text_with_zeros;
-pub use write::write_zeros_of_text;
+pub use write::{next_count, write_zeros_of_text};

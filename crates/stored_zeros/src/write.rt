@@ -1,9 +1,10 @@
 //! The zeros of a value from its text.
 
-ghost use Rattle.std.specs.Prelude.{◌≡◌, ◌≤◌, ◌++◌, IfOk, IfErr, OnErr};
+ghost use Rattle.std.specs.Prelude.{◌≡◌, ◌≤◌, ◌++◌, ◌∷◌, ℕ, List, IfOk, IfErr, OnErr, MatchOption};
 ghost use Rattle.std.specs.Vec.{vec_capacity};
 ghost use Rattle.stored_text.specs.Writes.{Preserves, LacksCapacity};
 ghost use Rattle.stored_zeros.specs.Appending.{AppendsOr, OfText};
+ghost use Rattle.stored_zeros.specs.Scan.{ZerosAhead};
 ghost use Rattle.stored_zeros.specs.Zeros.{zeros_in};
 
 use crate::entry::append_entry;
@@ -63,4 +64,23 @@ fn append_zeros(text: &[u8], buf: &mut Vec<u8>) -> Result<(), ZerosError>
         plain = append_entry(plain, ending.zeros as u8, buf)?;
         rest = ending.rest;
     }
+}
+
+/// How many zeros end the next number of a serialized form, and the bytes after it. `None` where no number is left. Of
+/// bytes that aren't the end of a serialized form it may be any number, or `None`.
+pub fn next_count(text: &[u8]) -> Option<(u8, &[u8])>
+    ensures taken { (count : ℕ) → (counts : List ℕ) → ZerosAhead (count ∷ counts) text.now
+        → MatchOption result ⊥ (λ r. (r.0 ≡ count) × ZerosAhead counts r.1.now) }
+{
+    let Some(number) = from_number(text) else {
+        return None;
+    };
+    if number.is_empty() {
+        return None;
+    }
+    let ending = ending_of(number);
+    if ending.zeros > 255 {
+        return None;
+    }
+    Some((ending.zeros as u8, ending.rest))
 }

@@ -1,8 +1,8 @@
 use crate::rows::ROWS;
 use jsonb_path::read_keys;
 use key_document::{
-    append_merged, append_part, append_with_item, append_with_member, append_with_part,
-    append_without_part, compare_documents,
+    DocumentError, append_document, append_merged, append_part, append_with_item,
+    append_with_member, append_with_part, append_without_part, compare_documents,
 };
 use std::cmp::Ordering;
 use std::process::Abort;
@@ -41,6 +41,20 @@ fn order_of(left: &[u8], right: &[u8]) -> &'static str {
     }
 }
 
+// The document is that of the text and the key.
+fn expect_document(
+    rt: &(impl AllocGlobal + Abort),
+    document: &[u8],
+    key: &[u8],
+    text: &[u8],
+) -> Result<(), Fail> {
+    let mut again = bytes_of(rt, "78")?;
+    assert!(rt; append_document(&mut again, text, key).is_ok());
+    let (_, made) = again.split_first().expect(rt, "what was there is gone");
+    assert!(rt; *made == *document);
+    Ok(())
+}
+
 // A call, two documents, a path, and what the call gives.
 #[test]
 fn documents_are_those_of_the_reference(rt: HostRuntime) -> Result<(), Fail> {
@@ -53,6 +67,10 @@ fn documents_are_those_of_the_reference(rt: HostRuntime) -> Result<(), Fail> {
         let other = bytes_of(&rt, right)?;
         if call == "order" {
             assert_eq!(&rt; order_of(&document, &other), answer);
+            continue;
+        }
+        if call == "text" {
+            expect_document(&rt, &document, &other, &bytes_of(&rt, answer)?)?;
             continue;
         }
         let names = read_keys(rt.alloc(), path.as_bytes())?.expect(&rt, "no path");
@@ -76,6 +94,23 @@ fn documents_are_those_of_the_reference(rt: HostRuntime) -> Result<(), Fail> {
             continue;
         }
         assert!(&rt; *appended == *bytes_of(&rt, answer)?);
+    }
+    Ok(())
+}
+
+// These are no texts of these keys; what was in the buffer is still there.
+#[test]
+fn what_is_no_text_of_the_key_has_no_document(rt: HostRuntime) -> Result<(), Fail> {
+    for (text, word) in [
+        ("", "a114"),
+        ("1", "d2a114"),
+        ("\"", "a114"),
+        ("[1]", "d2a114a11400"),
+    ] {
+        let mut out = bytes_of(&rt, "78")?;
+        let made = append_document(&mut out, text.as_bytes(), &bytes_of(&rt, word)?);
+        assert!(&rt; matches!(made, Err(DocumentError::NoDocument)), "{text}");
+        assert_eq!(&rt; out.as_slice(), b"x".as_slice());
     }
     Ok(())
 }

@@ -1,0 +1,19 @@
+use Rattle.std.proofs.Common.{◌≡◌, ◌≤◌, Bool, [], length}
+use Rattle.jsonb_stored.specs.Open.{Open, is_object, open_key, IsOpen}
+use Rattle.stored_text.specs.Writes.{Preserves}
+use Rattle.stored_zeros.proofs.Counting.{Walked}
+use Rattle.key_document.specs.Numbering.{Due, counts_open, numbers_open, to_write}
+use Rattle.key_document.proofs.Numbering.{Todo}
+use Rattle.key_document.proofs.numbers.append_parts.Given as goal
+
+abbrev pub invariant-parts : goal.invariant-parts
+invariant-parts l = record {
+  todo : (by_bytes : Bool) (o : Open) → is_object o ≡ l.object → IsOpen o 511 → l.bytes ≡ open_key o → Due by_bytes l.begun (length l.bytes) (counts_open o) (numbers_open o)
+      → Walked l.objects l.depth l.rest [] (Todo by_bytes (to_write by_bytes l.begun (length l.bytes) (counts_open o) (numbers_open o)) l.fn.out.items l.out.items l.passing (length l.rest));
+  preserves : Preserves l.fn.out l.out;
+  deep : l.depth ≤ 512;
+  size : length l.objects ≡ 512;
+}
+
+abbrev pub decreases-parts : goal.decreases-parts
+decreases-parts l = length l.rest
