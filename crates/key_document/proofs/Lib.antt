@@ -17,3 +17,4 @@ pub mod ItemsJoined
 pub mod MembersJoined
 pub mod NoZeros
 pub mod Numbering
+pub mod Texts

@@ -1,5 +1,5 @@
 -- Values without zeros, merged.
-use Rattle.std.proofs.Common.{◌≡◌, ℕ, zero, suc, ◌==◌, Some, List, [], ◌∷◌, ◌++◌, length, replicate, refl, sym, ap, subst, ◌∙◌, arith, length-append}
+use Rattle.std.proofs.Common.{◌≡◌, ℕ, zero, suc, ◌+◌, ◌==◌, inl, inr, Some, List, [], ◌∷◌, ◌++◌, length, replicate, refl, sym, ap, subst, ◌∙◌, arith, length-append}
 use Rattle.std.proofs.lemmas.Bool.{cond-false, ne_eqb}
 use Rattle.std.specs.Ordering.{match_ordering}
 use Rattle.std.specs.declared.cmp.Ordering.{Ordering}
@@ -8,14 +8,18 @@ use Rattle.jsonb_key.specs.Readable.{IsReadable}
 use Rattle.jsonb_spec.specs.Order.{bytes_cmp}
 use Rattle.jsonb_spec.specs.PartAt.{part_at}
 use Rattle.jsonb_spec.specs.SortKey.{text_key}
-use Rattle.jsonb_spec.specs.Tree.{Tree, object, Members, no_members, more_members, put}
-use Rattle.key_document.specs.Document.{counts_at, counts_at_members, zeros_at}
+use Rattle.jsonb_spec.specs.Text.{tree_text}
+use Rattle.jsonb_spec.specs.Tree.{Tree, null, boolean, string, number, array, object, binary, date, timestamp, timestamp_tz, interval, Trees, no_trees, more_trees, Members, no_members, more_members, put}
+use Rattle.key_document.specs.Document.{counts_at, counts_at_items, counts_at_members, zeros_at}
 use Rattle.key_document.specs.Merging.{counts_of_items}
 use Rattle.key_document.proofs.ItemsJoined.{items_within, joined_array}
 use Rattle.key_document.proofs.Slots.{part_inside}
 use Rattle.key_document.proofs.Merging.{joined_counts, items_counts_end}
 use Rattle.stored_edit.specs.Edit.{as_items, merge, merged_members}
-use Rattle.stored_zeros.specs.Zeros.{entry_of, in_sevens, plain_behind, zeros_of}
+use Rattle.stored_text.specs.FewestDigits.{with_fewest_digits}
+use Rattle.stored_zeros.specs.Zeros.{counts_in, counts_in_items, counts_in_members, entry_of, in_sevens, plain_behind, zeros_in, zeros_of}
+use Rattle.stored_zeros.proofs.NumberedTexts.{counts_of, numbers_of}
+use Rattle.stored_zeros.proofs.Splitting.{split}
 
 -- no number has zeros
 abbrev AllZero : List ℕ → Type 0
@@ -100,3 +104,40 @@ pub none_within : (t : Tree) (names : List (List ℕ)) (part : Tree) → IsReada
 none_within t names part r e none =
     let b = (part_inside t names part r e).1 in
     no_zeros 0 (counts_at part) (first_zero (counts_at part) b.counts_behind (second_zero b.counts_before (counts_at part ++ b.counts_behind) (subst AllZero b.counts_are (all_zero 0 (counts_at t) none))))
+
+-- ---- the text of a value without zeros
+
+mutual
+  numbers_have_none : (t : Tree) → AllZero (counts_at t) → AllZero (counts_in t)
+  numbers_have_none (number n) a = (a.0, tt)
+  numbers_have_none (array ts) a = items_have_none ts a.1
+  numbers_have_none (object ms) a = members_have_none ms a.1
+  numbers_have_none null a = tt
+  numbers_have_none (boolean b) a = tt
+  numbers_have_none (string mark bytes) a = tt
+  numbers_have_none (binary bytes) a = tt
+  numbers_have_none (date days) a = tt
+  numbers_have_none (timestamp micros) a = tt
+  numbers_have_none (timestamp_tz offset micros) a = tt
+  numbers_have_none (interval months days micros) a = tt
+
+  items_have_none : (ts : Trees) → AllZero (counts_at_items ts) → AllZero (counts_in_items ts)
+  items_have_none no_trees a = tt
+  items_have_none (more_trees t ts) a =
+      both_zero (counts_in t) (counts_in_items ts) (numbers_have_none t (first_zero (counts_at t) (counts_at_items ts) a)) (items_have_none ts (second_zero (counts_at t) (counts_at_items ts) a))
+
+  members_have_none : (ms : Members) → AllZero (counts_at_members ms) → AllZero (counts_in_members ms)
+  members_have_none no_members a = tt
+  members_have_none (more_members k t ms) a =
+      both_zero (counts_in t) (counts_in_members ms) (numbers_have_none t (value_zero k t ms a))
+      (members_have_none ms (second_zero (counts_at t) (counts_at_members ms) (second_zero (replicate (length (text_key k)) 0) (counts_at t ++ counts_at_members ms) a)))
+
+-- it has the fewest digits
+pub text_shortest : (t : Tree) → IsReadable t → length (zeros_at t) ≡ 0 → tree_text t ≡ tree_text (with_fewest_digits t)
+text_shortest t r none =
+    let x = numbers_of t r in
+    let z : zeros_in t ≡ [] = no_zeros 0 (counts_in t) (numbers_have_none t (all_zero 0 (counts_at t) none)) in
+    elim (split 0 x.text x.is_numbered) [
+      | inl p ↦ x.full ∙ p.same ∙ sym x.shortest
+      | inr n ↦ absurd (omega (arith, ap length (sym n.zeros ∙ sym (ap (zeros_of 0) x.counts) ∙ z), length-append (in_sevens 8 (0 + n.before)) (n.zeros_there ∷ zeros_of 0 (counts_of n.later))))
+    ]

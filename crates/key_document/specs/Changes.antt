@@ -4,6 +4,8 @@ use Rattle.std.specs.Borrow.{Bor}
 use Rattle.std.specs.Vec.{vec_capacity}
 use Rattle.std.specs.declared.alloc.Global.{Global}
 use Rattle.jsonb_key.specs.Readable.{IsAnyNumber, IsReadable}
+use Rattle.jsonb_key.specs.declared.key.KeyError.{KeyError}
+use Rattle.jsonb_key.specs.declared.key.KeyError.TheVariants as key_errors
 use Rattle.jsonb_spec.specs.Grammar.{max_depth}
 use Rattle.jsonb_spec.specs.SortKey.{key_of}
 use Rattle.jsonb_spec.specs.Text.Range.{IsWithin}
@@ -16,6 +18,8 @@ use Rattle.key_document.specs.declared.error.DocumentError.{DocumentError}
 use Rattle.key_document.specs.declared.error.DocumentError.TheVariants.{NoDocument, TooDeep, OutOfMemory}
 use Rattle.stored_edit.specs.declared.error.EditError.{EditError}
 use Rattle.stored_edit.specs.declared.error.EditError.TheVariants as edits
+use Rattle.stored_zeros.specs.declared.error.ZerosError.{ZerosError}
+use Rattle.stored_zeros.specs.declared.error.ZerosError.TheVariants as zeros_errors
 
 -- Why the document of the value isn't appended: it has too many arrays and objects in one another, or the capacity for
 -- the document is missing.
@@ -99,6 +103,16 @@ abbrev pub as_document_error : EditError → DocumentError
 as_document_error edits.NoKey = NoDocument
 as_document_error edits.TooDeep = TooDeep
 as_document_error edits.OutOfMemory = OutOfMemory
+
+-- the error of what is made of a key, as one of what is made of a document
+abbrev pub of_key_error : KeyError → DocumentError
+of_key_error key_errors.Invalid = NoDocument
+of_key_error key_errors.OutOfMemory = OutOfMemory
+
+-- and that of what is made of zeros
+abbrev pub of_zeros_error : ZerosError → DocumentError
+of_zeros_error zeros_errors.Invalid = NoDocument
+of_zeros_error zeros_errors.OutOfMemory = OutOfMemory
 
 -- Whichever value's serialized form and key these are, this is so of the value.
 abbrev pub OfTextAndKey : List ℕ → List ℕ → (Tree → Type 0) → Type 0

@@ -1,8 +1,10 @@
 //! Errors of calls on documents.
 
+use jsonb_key::KeyError;
 use jsonb_stored::find::NoKey;
 use std::alloc::AllocError;
 use stored_edit::EditError;
+use stored_zeros::ZerosError;
 
 /// Why nothing is appended.
 #[derive(Clone, Copy, Debug, PartialEq, Eq, Drop)]
@@ -48,6 +50,34 @@ impl From<EditError> for DocumentError {
             EditError::NoKey => DocumentError::NoDocument,
             EditError::TooDeep => DocumentError::TooDeep,
             EditError::OutOfMemory => DocumentError::OutOfMemory,
+        }
+    }
+}
+
+impl From<KeyError> for DocumentError {
+    ghost use Rattle.std.specs.Prelude.{◌≡◌};
+    ghost use Rattle.key_document.specs.Changes.{of_key_error};
+
+    ghost from_gives = { λ error e. e ≡ of_key_error error };
+
+    fn from(error: KeyError) -> DocumentError {
+        match error {
+            KeyError::Invalid => DocumentError::NoDocument,
+            KeyError::OutOfMemory => DocumentError::OutOfMemory,
+        }
+    }
+}
+
+impl From<ZerosError> for DocumentError {
+    ghost use Rattle.std.specs.Prelude.{◌≡◌};
+    ghost use Rattle.key_document.specs.Changes.{of_zeros_error};
+
+    ghost from_gives = { λ error e. e ≡ of_zeros_error error };
+
+    fn from(error: ZerosError) -> DocumentError {
+        match error {
+            ZerosError::Invalid => DocumentError::NoDocument,
+            ZerosError::OutOfMemory => DocumentError::OutOfMemory,
         }
     }
 }

@@ -21,4 +21,4 @@ pub use error::DocumentError;
 pub use merge::append_merged;
 pub use order::compare_documents;
 pub use part::{append_part, append_range};
-pub use text::append_document;
+pub use text::{append_document, append_text_of_document};

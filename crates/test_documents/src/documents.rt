@@ -1,8 +1,8 @@
 use crate::rows::ROWS;
 use jsonb_path::read_keys;
 use key_document::{
-    DocumentError, append_document, append_merged, append_part, append_with_item,
-    append_with_member, append_with_part, append_without_part, compare_documents,
+    DocumentError, append_document, append_merged, append_part, append_text_of_document,
+    append_with_item, append_with_member, append_with_part, append_without_part, compare_documents,
 };
 use std::cmp::Ordering;
 use std::process::Abort;
@@ -41,13 +41,17 @@ fn order_of(left: &[u8], right: &[u8]) -> &'static str {
     }
 }
 
-// The document is that of the text and the key.
-fn expect_document(
+// The text is the document's, and the document that of the text and the key.
+fn expect_text(
     rt: &(impl AllocGlobal + Abort),
     document: &[u8],
     key: &[u8],
     text: &[u8],
 ) -> Result<(), Fail> {
+    let mut out = bytes_of(rt, "78")?;
+    assert!(rt; append_text_of_document(rt.alloc(), &mut out, document).is_ok());
+    let (_, written) = out.split_first().expect(rt, "what was there is gone");
+    assert!(rt; *written == *text);
     let mut again = bytes_of(rt, "78")?;
     assert!(rt; append_document(&mut again, text, key).is_ok());
     let (_, made) = again.split_first().expect(rt, "what was there is gone");
@@ -70,7 +74,7 @@ fn documents_are_those_of_the_reference(rt: HostRuntime) -> Result<(), Fail> {
             continue;
         }
         if call == "text" {
-            expect_document(&rt, &document, &other, &bytes_of(&rt, answer)?)?;
+            expect_text(&rt, &document, &other, &bytes_of(&rt, answer)?)?;
             continue;
         }
         let names = read_keys(rt.alloc(), path.as_bytes())?.expect(&rt, "no path");
@@ -98,9 +102,20 @@ fn documents_are_those_of_the_reference(rt: HostRuntime) -> Result<(), Fail> {
     Ok(())
 }
 
-// These are no texts of these keys; what was in the buffer is still there.
+// Each of these is no document, or its text isn't that of the key; what was in the buffer is still there.
 #[test]
-fn what_is_no_text_of_the_key_has_no_document(rt: HostRuntime) -> Result<(), Fail> {
+fn what_is_no_document_has_no_text(rt: HostRuntime) -> Result<(), Fail> {
+    // No bytes, a key with bytes behind it, one that ends early, an entry that ends early, and one without zeros.
+    for word in ["-", "1616", "d2a114", "a1140001ff", "a114000002ff"] {
+        let bytes = match word {
+            "-" => Vec::new(rt.alloc()),
+            word => bytes_of(&rt, word)?,
+        };
+        let mut out = bytes_of(&rt, "78")?;
+        let made = append_text_of_document(rt.alloc(), &mut out, &bytes);
+        assert!(&rt; matches!(made, Err(DocumentError::NoDocument)), "{word}");
+        assert_eq!(&rt; out.as_slice(), b"x".as_slice());
+    }
     for (text, word) in [
         ("", "a114"),
         ("1", "d2a114"),
