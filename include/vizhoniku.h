@@ -406,7 +406,7 @@ uint32_t vizhoniku_zeros_of_numbers(const unsigned char *zeros, size_t zeros_siz
  * ends.
  *
  * The calls over sort keys, above, take a document's key, which is its first bytes. The ranges that they give are those
- * of vizhoniku_document_range. Calls that write a document write it to the start of the buffer:
+ * of vizhoniku_document_range. Calls that write a document or a text write it to the start of the buffer:
  *
  *  - VIZHONIKU_ACCEPTED: *size bytes were written. The rest of the buffer is as before.
  *  - VIZHONIKU_TOO_SHORT: *size bytes are needed, and nothing was written.
@@ -418,6 +418,15 @@ uint32_t vizhoniku_zeros_of_numbers(const unsigned char *zeros, size_t zeros_siz
  *
  * Any bytes may be passed as a document; they aren't checked as a whole, and of bytes that are none any bytes may be
  * written. */
+
+/* Writes the document of the text's value. The statuses and the error are those of vizhoniku_text. */
+uint32_t vizhoniku_document(uint32_t mode, const unsigned char *text, size_t text_size, unsigned char *buffer,
+                            size_t buffer_size, size_t *size, struct vizhoniku_error *error);
+
+/* Writes the serialized form of the document's value, as vizhoniku_text wrote it of the text that the document was made
+ * of. */
+uint32_t vizhoniku_document_text(const unsigned char *document, size_t document_size, unsigned char *buffer,
+                                 size_t buffer_size, size_t *size);
 
 /* Returns how many of the document's first bytes are its key. It looks at the last ten bytes alone. Of any bytes it is at
  * most their number. */

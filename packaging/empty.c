@@ -68,6 +68,10 @@ uint32_t proved_key_numbers(const unsigned char *key, size_t key_size, size_t of
                             size_t *numbers);
 uint32_t proved_zeros_of_numbers(const unsigned char *zeros, size_t zeros_size, size_t first, size_t numbers,
                                  size_t *plain, unsigned char *buffer, size_t buffer_size, size_t *size);
+uint32_t proved_document(uint32_t mode, const unsigned char *text, size_t text_size, unsigned char *buffer,
+                         size_t buffer_size, size_t *size, struct vizhoniku_error *error);
+uint32_t proved_document_text(const unsigned char *document, size_t document_size, unsigned char *buffer,
+                              size_t buffer_size, size_t *size);
 size_t proved_document_key(const unsigned char *document, size_t document_size);
 int32_t proved_document_compare(const unsigned char *left, size_t left_size, const unsigned char *right,
                                 size_t right_size);
@@ -274,6 +278,18 @@ uint32_t vizhoniku_zeros_of_numbers(const unsigned char *zeros, size_t zeros_siz
                                     size_t *plain, unsigned char *buffer, size_t buffer_size, size_t *size) {
   return proved_zeros_of_numbers(bytes_at(zeros, zeros_size), zeros_size, first, numbers, plain,
                                  buffer_at(buffer, buffer_size), buffer_size, size);
+}
+
+uint32_t vizhoniku_document(uint32_t mode, const unsigned char *text, size_t text_size, unsigned char *buffer,
+                            size_t buffer_size, size_t *size, struct vizhoniku_error *error) {
+  return proved_document(mode, bytes_at(text, text_size), text_size, buffer_at(buffer, buffer_size), buffer_size, size,
+                         error);
+}
+
+uint32_t vizhoniku_document_text(const unsigned char *document, size_t document_size, unsigned char *buffer,
+                                 size_t buffer_size, size_t *size) {
+  return proved_document_text(bytes_at(document, document_size), document_size, buffer_at(buffer, buffer_size),
+                              buffer_size, size);
 }
 
 size_t vizhoniku_document_key(const unsigned char *document, size_t document_size) {

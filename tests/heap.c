@@ -222,11 +222,11 @@ static size_t bound_of(const struct text *text) {
 }
 
 /* Each function of the library that takes memory, by a number. */
-enum function { CHECK, TEXT, SORT_KEY, TEXT_AND_KEY, PART, COMPARE, MESSAGE, REASON, FUNCTIONS };
+enum function { CHECK, TEXT, SORT_KEY, TEXT_AND_KEY, DOCUMENT, PART, COMPARE, MESSAGE, REASON, FUNCTIONS };
 
 static const char *const functions[] = {
-    "vizhoniku_check", "vizhoniku_text", "vizhoniku_sort_key", "vizhoniku_text_and_key", "vizhoniku_part",
-    "vizhoniku_compare", "vizhoniku_message", "vizhoniku_reason",
+    "vizhoniku_check", "vizhoniku_text", "vizhoniku_sort_key", "vizhoniku_text_and_key", "vizhoniku_document",
+    "vizhoniku_part",    "vizhoniku_compare", "vizhoniku_message", "vizhoniku_reason",
 };
 
 /* Calls the function, with buffers of so much room. *written is the size of all that it writes, and *status what it
@@ -244,6 +244,9 @@ static void call(enum function function, const struct text *text, unsigned char 
     case TEXT_AND_KEY:
       *status = vizhoniku_text_and_key(mode, text->bytes, text->size, buffer, room, &size, key_buffer, room, &key_size,
                                        &error);
+      break;
+    case DOCUMENT:
+      *status = vizhoniku_document(mode, text->bytes, text->size, buffer, room, &size, &error);
       break;
     case PART: *status = vizhoniku_part(mode, NULL, 0, text->bytes, text->size, buffer, room, &size, &error); break;
     case COMPARE:
@@ -289,7 +292,8 @@ static void measure(enum kind kind, int count, const struct text *text, uint32_t
     asked = held = most = 0;
     call(function, text, buffer, key_buffer, i % 2 ? 0 : room, &written, &status);
     calls++;
-    int writes = function == TEXT || function == SORT_KEY || function == TEXT_AND_KEY || function == PART;
+    int writes = function == TEXT || function == SORT_KEY || function == TEXT_AND_KEY ||
+                 function == DOCUMENT || function == PART;
     uint32_t due = wanted == VIZHONIKU_ACCEPTED ? (i % 2 && writes ? VIZHONIKU_TOO_SHORT : VIZHONIKU_ACCEPTED)
                                                 : (i % 2 && function >= MESSAGE ? VIZHONIKU_TOO_SHORT : wanted);
     if (status != due) {
@@ -301,10 +305,10 @@ static void measure(enum kind kind, int count, const struct text *text, uint32_t
       printf("%s kept %zu bytes: %s, %d\n", functions[function], held, kinds[kind], count);
     }
     /* What is written, in a vector for each, and of an object that is out of order once more. Of two texts the sort
-     * keys are held, and of a part two copies beside the whole. */
+     * keys are held, of a document the text and the key, and of a part two copies beside the whole. */
     size_t one = bound;
     if (function != CHECK && function < MESSAGE) one += 2 * (text->size + 1);
-    if (function == COMPARE || function == PART) one += text->size + 1;
+    if (function == COMPARE || function == PART || function == DOCUMENT) one += text->size + 1;
     if (function == PART) one += text->size + 1;
     compare(function, kind, count, 0, most, one + ROOM(written));
     /* A vector that grows to its room by doubling asks for twice that. */
@@ -332,6 +336,7 @@ enum key_function {
   KEY_PUT,
   KEY_PUSH,
   KEY_MERGE,
+  DOCUMENT_TEXT,
   DOCUMENT_PART,
   DOCUMENT_RANGE,
   DOCUMENT_SET,
@@ -356,7 +361,8 @@ static const char *const key_functions[] = {
     "vizhoniku_key_check", "vizhoniku_key_count", "vizhoniku_key_next", "vizhoniku_key_member", "vizhoniku_key_item",
     "vizhoniku_key_part", "vizhoniku_key_string", "vizhoniku_key_contains", "vizhoniku_key_numbers",
     "vizhoniku_key_part with an escape", "vizhoniku_key_text", "vizhoniku_key_set", "vizhoniku_key_remove",
-    "vizhoniku_key_put", "vizhoniku_key_push", "vizhoniku_key_merge", "vizhoniku_document_part",
+    "vizhoniku_key_put", "vizhoniku_key_push", "vizhoniku_key_merge", "vizhoniku_document_text",
+    "vizhoniku_document_part",
     "vizhoniku_document_range", "vizhoniku_document_set", "vizhoniku_document_remove", "vizhoniku_document_put",
     "vizhoniku_document_push", "vizhoniku_document_merge", "vizhoniku_zeros_of_text",
     "vizhoniku_text_with_zeros", "vizhoniku_zeros_of_numbers", "vizhoniku_plain_numbers", "vizhoniku_masked_numbers",
@@ -410,6 +416,7 @@ static uint32_t call_over_key(enum key_function function, const struct text *key
       return vizhoniku_key_put(key->bytes, key->size, NAME, 4, null_key, sizeof null_key, buffer, room, size);
     case KEY_PUSH:
       return vizhoniku_key_push(key->bytes, key->size, null_key, sizeof null_key, buffer, room, size);
+    case DOCUMENT_TEXT: return vizhoniku_document_text(key->bytes, key->size, buffer, room, size);
     case DOCUMENT_PART: return vizhoniku_document_part(key->bytes, key->size, PATH, 2, buffer, room, size);
     case DOCUMENT_RANGE: return vizhoniku_document_range(key->bytes, key->size, 0, key->size, buffer, room, size);
     case DOCUMENT_SET:

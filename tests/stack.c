@@ -193,19 +193,20 @@ static struct text make(const struct shape *shape) {
 /* Each function of the library that reads a text, then those that read a sort key, and then those that reject no text,
  * by a number. */
 enum function {
-  CHECK, TEXT, SORT_KEY, TEXT_AND_KEY, PART, COMPARE, MESSAGE, REASON, KEY_CHECK, KEY_TEXT, KEY_PART, KEY_COUNT,
-  KEY_CONTAINS, KEY_SET, KEY_REMOVE, KEY_MERGE, KEY_NUMBERS, DOCUMENT_PART, DOCUMENT_SET, DOCUMENT_REMOVE,
-  DOCUMENT_MERGE, ZEROS, TEXT_WITH_ZEROS,
+  CHECK, TEXT, SORT_KEY, TEXT_AND_KEY, DOCUMENT, PART, COMPARE, MESSAGE, REASON, KEY_CHECK, KEY_TEXT, KEY_PART,
+  KEY_COUNT, KEY_CONTAINS, KEY_SET, KEY_REMOVE, KEY_MERGE, KEY_NUMBERS, DOCUMENT_TEXT, DOCUMENT_PART, DOCUMENT_SET,
+  DOCUMENT_REMOVE, DOCUMENT_MERGE, ZEROS, TEXT_WITH_ZEROS,
   PLAIN_NUMBERS, MASKED_NUMBERS, ERROR_PATH, FUNCTIONS
 };
 
 static const char *const functions[] = {
-    "vizhoniku_check", "vizhoniku_text", "vizhoniku_sort_key", "vizhoniku_text_and_key", "vizhoniku_part",
+    "vizhoniku_check", "vizhoniku_text", "vizhoniku_sort_key", "vizhoniku_text_and_key", "vizhoniku_document",
+    "vizhoniku_part",
     "vizhoniku_compare", "vizhoniku_message", "vizhoniku_reason", "vizhoniku_key_check", "vizhoniku_key_text",
     "vizhoniku_key_part",
     "vizhoniku_key_count", "vizhoniku_key_contains", "vizhoniku_key_set", "vizhoniku_key_remove", "vizhoniku_key_merge",
-    "vizhoniku_key_numbers", "vizhoniku_document_part", "vizhoniku_document_set", "vizhoniku_document_remove",
-    "vizhoniku_document_merge", "vizhoniku_zeros_of_text", "vizhoniku_text_with_zeros",
+    "vizhoniku_key_numbers", "vizhoniku_document_text", "vizhoniku_document_part", "vizhoniku_document_set",
+    "vizhoniku_document_remove", "vizhoniku_document_merge", "vizhoniku_zeros_of_text", "vizhoniku_text_with_zeros",
     "vizhoniku_plain_numbers", "vizhoniku_masked_numbers", "vizhoniku_error_path",
 };
 
@@ -217,7 +218,7 @@ static const size_t told[FUNCTIONS][2] = {
     [KEY_SET] = {2, 0},       [KEY_REMOVE] = {2, 0},   [KEY_MERGE] = {2, 0},       [KEY_NUMBERS] = {2, 0},
     [ZEROS] = {2, 0},         [TEXT_WITH_ZEROS] = {2, 0}, [PLAIN_NUMBERS] = {2, 0},   [MASKED_NUMBERS] = {2, 0},
     [ERROR_PATH] = {2, 0},    [REASON] = {22, 0},      [DOCUMENT_PART] = {2, 0},   [DOCUMENT_SET] = {2, 0},
-    [DOCUMENT_REMOVE] = {2, 0}, [DOCUMENT_MERGE] = {2, 0},
+    [DOCUMENT] = {22, 110},   [DOCUMENT_TEXT] = {2, 0},  [DOCUMENT_REMOVE] = {2, 0}, [DOCUMENT_MERGE] = {2, 0},
 };
 
 struct call {
@@ -282,6 +283,12 @@ static void *run(void *given) {
       break;
     case KEY_NUMBERS:
       call->status = vizhoniku_key_numbers(call->key, call->key_size, 0, call->key_size, &size, &key_size);
+      break;
+    case DOCUMENT:
+      call->status = vizhoniku_document(call->mode, bytes, text_size, call->buffer, call->room, &size, &error);
+      break;
+    case DOCUMENT_TEXT:
+      call->status = vizhoniku_document_text(call->key, call->key_size, call->buffer, call->room, &size);
       break;
     case DOCUMENT_PART:
       call->status = vizhoniku_document_part(call->key, call->key_size, call->path->bytes, call->path->size,

@@ -408,6 +408,22 @@ static void change_documents(void) {
   static const unsigned char number[] = {0xA1, 0x28, 0, 1, 2, 0xFF}, null[] = {0xD3}, array[] = {0xD2, 0};
   unsigned char out[40];
   size_t size = 99;
+  uint32_t status;
+  struct vizhoniku_error error;
+  status = vizhoniku_document(VIZHONIKU_EXTENDED, BYTES("{a: [1.50]}"), out, sizeof out, &size, &error);
+  print_key("document", status, out, size);
+  status = vizhoniku_document(VIZHONIKU_EXTENDED, BYTES("{a: [1.50]}"), out, 13, &size, &error);
+  print_key("too short", status, out, size);
+  status = vizhoniku_document(VIZHONIKU_STANDARD, BYTES("[1 2]"), out, sizeof out, &size, &error);
+  printf("no document: %u size %zu code %u position %zu\n", (unsigned)status, size, (unsigned)error.code, error.position);
+  status = vizhoniku_document(2, NULL, 0, NULL, 0, &size, &error);
+  printf("no mode: %u size %zu code %u\n", (unsigned)status, size, (unsigned)error.code);
+  status = vizhoniku_document_text(document, sizeof document, out, sizeof out, &size);
+  printf("text: %u %.*s\n", (unsigned)status, (int)size, (const char *)out);
+  status = vizhoniku_document_text(document, sizeof document, out, 11, &size);
+  printf("too short: %u size %zu\n", (unsigned)status, size);
+  status = vizhoniku_document_text(NULL, 0, NULL, 0, &size);
+  printf("null text: %u size %zu\n", (unsigned)status, size);
   printf("document's key: %zu, of none: %zu, null: %zu\n", vizhoniku_document_key(document, sizeof document),
          vizhoniku_document_key(BYTES("x\xFF")), vizhoniku_document_key(NULL, 0));
   printf("order: %d %d %d, null: %d\n", (int)vizhoniku_document_compare(document, sizeof document, number,
@@ -415,7 +431,7 @@ static void change_documents(void) {
          (int)vizhoniku_document_compare(number, sizeof number, number, 2),
          (int)vizhoniku_document_compare(null, sizeof null, number, sizeof number),
          (int)vizhoniku_document_compare(NULL, 0, NULL, 0));
-  uint32_t status = vizhoniku_document_part(document, sizeof document, BYTES("/a"), out, sizeof out, &size);
+  status = vizhoniku_document_part(document, sizeof document, BYTES("/a"), out, sizeof out, &size);
   print_key("part", status, out, size);
   status = vizhoniku_document_part(document, sizeof document, BYTES("/a/1"), out, sizeof out, &size);
   print_key("no part", status, out, size);

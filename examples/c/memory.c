@@ -49,7 +49,7 @@ static const char *const texts[] = {
 };
 
 /* Each function of the library that takes memory, by a number below this one. */
-#define FUNCTIONS 27
+#define FUNCTIONS 29
 
 static uint32_t call(int which, uint32_t mode, const unsigned char *text, size_t text_size, size_t capacity) {
   static const unsigned char path[] = {'/', 'c', '/', 'k'};
@@ -102,6 +102,8 @@ static uint32_t call(int which, uint32_t mode, const unsigned char *text, size_t
                                     &size);
     case 25:
       return vizhoniku_document_merge(document, sizeof document, document, sizeof document, buffer, capacity, &size);
+    case 26: return vizhoniku_document(mode, text, text_size, buffer, capacity, &size, &error);
+    case 27: return vizhoniku_document_text(document, sizeof document, buffer, capacity, &size);
     default: return vizhoniku_compare(mode, text, text_size, text, text_size, &order, &error);
   }
 }

@@ -8,3 +8,4 @@ pub mod PartsAt
 pub mod Reasons
 pub mod Texts
 pub mod Scalars
+pub mod Documents

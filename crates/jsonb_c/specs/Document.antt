@@ -2,6 +2,7 @@
 use Rattle.std.specs.Prelude.{◌≡◌, ◌⊎◌, ℕ, List, Option, Some, None}
 use Rattle.jsonb_key.specs.Readable.{IsReadable}
 use Rattle.jsonb_spec.specs.Tree.{Tree}
+use Rattle.jsonb_c.specs.Interface.{IsDocumentOf}
 use Rattle.jsonb_c.specs.KeyEdit.{IsAnswer}
 use Rattle.key_document.specs.Document.{document_of}
 use Rattle.key_document.specs.declared.error.DocumentError.{DocumentError}
@@ -11,6 +12,12 @@ use Rattle.key_document.specs.declared.error.DocumentError.TheVariants as errors
 pub record IsTreeDocument (document : List ℕ) (t : Tree) : Type 0 where
   pub readable : IsReadable t
   pub is_document : document ≡ document_of t
+
+-- The bytes are the document of the tree of the text.
+pub record IsDocumentOfText (number : ℕ) (text bytes : List ℕ) : Type 0 where
+  pub tree : Tree
+  pub read : IsDocumentOf number text tree
+  pub is_document : bytes ≡ document_of tree
 
 -- The same of documents: the answer's is at the front of the buffer, or the status says why it isn't.
 abbrev pub IsDocumentAnswer : Option Tree → ℕ → ℕ → List ℕ → List ℕ → Type 0

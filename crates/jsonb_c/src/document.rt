@@ -1,22 +1,77 @@
-//! Documents: sort keys with the zeros that end decimals behind them. Their keys, their order, and parts of them.
+//! Documents: sort keys with the zeros that end decimals behind them. Documents of texts, and texts of documents; their
+//! keys, their order, and parts of them.
 //!
 //! Any bytes are safe to pass. What a call writes is promised for the documents of values of JSON's kinds with at most
 //! 512 nested arrays and objects; of other bytes it may be `NO_DOCUMENT` or any bytes.
-ghost use Rattle.std.specs.Prelude.{◌≡◌, ◌⊎◌, ◌≤◌, ℕ, List, [], length, map, string_bytes, Option, Some, Vec};
+ghost use Rattle.std.specs.Prelude.{◌≡◌, ◌⊎◌, ◌≤◌, IfOk, ℕ, List, [], length, map, string_bytes, Option, Some, Vec};
 ghost use Rattle.std.specs.declared.alloc.Global.{Global as GlobalAlloc};
-ghost use Rattle.jsonb_c.specs.Document.{document_status_of, IsDocumentAnswer, IsDocumentStatus, IsTreeDocument};
-ghost use Rattle.jsonb_c.specs.Interface.{sign, IsNoPath, PreservesBuffer, ReportsPath};
+ghost use Rattle.jsonb_c.specs.Document.{document_status_of, IsDocumentAnswer, IsDocumentOfText, IsDocumentStatus, IsTreeDocument};
+ghost use Rattle.jsonb_c.specs.Interface.{sign, FailsFor, FillsBuffer, FormMayAllocate, IsRejected, IsStatusOfForm, PreservesBuffer, Reports, ReportsPath};
+ghost use Rattle.jsonb_c.specs.KeyParts.{IsWritten};
 ghost use Rattle.jsonb_key.specs.Readable.{IsReadable};
 ghost use Rattle.jsonb_path.specs.Path.{IsPath};
 ghost use Rattle.jsonb_spec.specs.Order.{tree_cmp};
 ghost use Rattle.jsonb_spec.specs.PartAt.{part_at};
 ghost use Rattle.jsonb_spec.specs.SortKey.{key_of};
+ghost use Rattle.jsonb_spec.specs.Text.{text_of};
 ghost use Rattle.jsonb_spec.specs.Tree.{Tree};
 ghost use Rattle.key_document.specs.Changes.{Answers, AppendsDocument, IsPartAt};
 
-use crate::{NO_DOCUMENT, NO_PART, NO_PATH, OUT_OF_MEMORY, TOO_DEEP, names_of, put, sign};
-use key_document::{DocumentError, append_part, append_range, compare_documents, split_document};
+use crate::{
+    ACCEPTED, Failure, NO_DOCUMENT, NO_PART, NO_PATH, NOTHING, OUT_OF_MEMORY, Rejection, TOO_DEEP,
+    TOO_SHORT, names_of, put, report, sign, text_and_key_of,
+};
+use key_document::{
+    DocumentError, append_document, append_part, append_range, append_text_of_document,
+    compare_documents, split_document,
+};
 use std::alloc::Global;
+
+/// Writes the document of the text's value to the start of `out`, and its size to `size`. Where `out` is too
+/// short, it stays as it is, and `size` is what is needed.
+#[unsafe(no_mangle)]
+pub extern "C" fn vizhoniku_document(
+    alloc: Global,
+    mode: u32,
+    text: &[u8],
+    out: &mut [u8],
+    size: &mut usize,
+    rejection: &mut Rejection,
+) -> u32
+    // A document is accepted, unless memory ran out.
+    ensures status { IsStatusOfForm mode text.now result }
+
+    // What is written is the document of the text's tree, and no other byte of the buffer changes.
+    ensures fills { FillsBuffer (IsDocumentOfText mode text.now) ACCEPTED result size.new out.old out.new }
+
+    // Which fault it is, and where.
+    ensures reports { Reports (IsRejected mode text.now 1) result rejection.new }
+{
+    match document_of_text(alloc, mode, text) {
+        Ok(bytes) => {
+            *rejection = NOTHING;
+            *size = bytes.len();
+            put(&bytes, out)
+        }
+        Err(rejected) => {
+            *size = 0;
+            report(rejected, rejection)
+        }
+    }
+}
+
+// The document of the value of a text.
+fn document_of_text(alloc: Global, mode: u32, text: &[u8]) -> Result<Vec<u8>, Failure>
+    ensures document { IfOk result (λ bytes. IsDocumentOfText mode text.now bytes.items) }
+    ensures fails { FailsFor mode (IsRejected mode text.now 1) (FormMayAllocate mode text.now) result }
+{
+    let both = text_and_key_of(alloc, mode, text)?;
+    let mut bytes = Vec::new(alloc);
+    match append_document(&mut bytes, &both.text, &both.key) {
+        Ok(()) => Ok(bytes),
+        Err(_) => Err(Failure::OutOfMemory),
+    }
+}
 
 /// Returns how many of the document's first bytes are its key. It looks at the last ten bytes alone.
 #[unsafe(no_mangle)]
@@ -35,6 +90,35 @@ pub extern "C" fn vizhoniku_document_compare<'d>(left: &'d [u8], right: &'d [u8]
         → result ≡ sign (tree_cmp t u) }
 {
     sign(compare_documents(left, right))
+}
+
+/// Writes the text of the document's value, with each number's digits, to the start of `out`, and its size to
+/// `size`. Where `out` is too short, it stays as it is, and `size` is what is needed.
+#[unsafe(no_mangle)]
+pub extern "C" fn vizhoniku_document_text(
+    alloc: Global,
+    document: &[u8],
+    out: &mut [u8],
+    size: &mut usize,
+) -> u32
+    ensures status { IsDocumentStatus result }
+
+    // What is written is the text of the value, digits and all, and no other byte of the buffer changes.
+    ensures written { (t : Tree) → IsTreeDocument document.now t → (result ≡ OUT_OF_MEMORY)
+        ⊎ IsWritten (text_of t) result size.new out.old out.new }
+    ensures preserves { PreservesBuffer result size.new out.old out.new }
+{
+    let mut bytes = Vec::new(alloc);
+    match append_text_of_document(alloc, &mut bytes, document) {
+        Ok(()) => {
+            *size = bytes.len();
+            put(&bytes, out)
+        }
+        Err(error) => {
+            *size = 0;
+            document_status(&error)
+        }
+    }
 }
 
 /// Writes the document of the part at the path to the start of `out`, and its size to `size`. Where `out` is too short,

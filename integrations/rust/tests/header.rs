@@ -4,7 +4,7 @@
 use std::collections::BTreeMap;
 use std::path::Path;
 
-const LEFT_OUT: [&str; 17] = [
+const LEFT_OUT: [&str; 19] = [
     "vizhoniku_zeros_of_text",
     "vizhoniku_text_with_zeros",
     "vizhoniku_key_numbers",
@@ -13,6 +13,8 @@ const LEFT_OUT: [&str; 17] = [
     "vizhoniku_key_boolean",
     "vizhoniku_key_of_string",
     "vizhoniku_path_step",
+    "vizhoniku_document",
+    "vizhoniku_document_text",
     "vizhoniku_document_key",
     "vizhoniku_document_compare",
     "vizhoniku_document_part",
