@@ -1,9 +1,13 @@
+pub mod Inverted
+pub mod JsonWords
 pub mod LaidOut
 pub mod LaidOutTexts
 pub mod NumberTexts
 pub mod Numbers
 pub mod PlainTexts
+pub mod PlainWords
 pub mod Readings
 pub mod StrictTexts
 pub mod Strings
+pub mod Taken
 pub mod Tokens

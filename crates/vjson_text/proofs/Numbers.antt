@@ -34,7 +34,7 @@ none_first : (b : ℕ) (bytes : List ℕ) → is_ascii_digit b ≡ false → dig
 unfolding digits_length
 none_first b bytes h = cond-false (is_ascii_digit b) (1 + prefix_len is_ascii_digit bytes) 0 h
 
-none_none : digits_length [] ≡ 0
+pub none_none : digits_length [] ≡ 0
 unfolding digits_length
 none_none = refl
 
@@ -150,11 +150,11 @@ number_is_word bytes t = last_one (is_literal bytes (codes "true")) (is_literal 
 -- ---- the bytes of a number
 
 module _ (P : ℕ → Type 0) (digit : (d : ℕ) → IsInRange 48 57 d → P d) (minus : P 45) (plus : P 43) (point : P 46) where
-  all_then : (xs ys : List ℕ) → AllByRecursion P xs → AllByRecursion P ys → AllByRecursion P (xs ++ ys)
+  pub all_then : (xs ys : List ℕ) → AllByRecursion P xs → AllByRecursion P ys → AllByRecursion P (xs ++ ys)
   all_then [] ys h k = k
   all_then (x ∷ xs) ys h k = (h.0, all_then xs ys h.1 k)
 
-  all_digits : (ds : List ℕ) → AllDigits 10 ds → AllByRecursion P ds
+  pub all_digits : (ds : List ℕ) → AllDigits 10 ds → AllByRecursion P ds
   all_digits [] h = tt
   all_digits (d ∷ ds) h = (digit d (digit_from_value d h.0), all_digits ds h.1)
 
@@ -166,17 +166,17 @@ module _ (P : ℕ → Type 0) (digit : (d : ℕ) → IsInRange 48 57 d → P d) 
   all_fraction fraction (inl e) = subst (AllByRecursion P) (sym e) tt
   all_fraction fraction (inr (ds, e, h)) = subst (AllByRecursion P) (sym e) (point, all_digits ds h.1)
 
-  all_signed : (sign : List ℕ) → IsSign sign → AllByRecursion P sign
+  pub all_signed : (sign : List ℕ) → IsSign sign → AllByRecursion P sign
   all_signed sign (inl e) = subst (AllByRecursion P) (sym e) tt
   all_signed sign (inr (inl e)) = subst (AllByRecursion P) (sym e) (plus, tt)
   all_signed sign (inr (inr e)) = subst (AllByRecursion P) (sym e) (minus, tt)
 
-  all_exponent : ((m : ℕ) → IsExponentMark m → P m) → (exponent : List ℕ) → IsExponent exponent → AllByRecursion P exponent
+  pub all_exponent : ((m : ℕ) → IsExponentMark m → P m) → (exponent : List ℕ) → IsExponent exponent → AllByRecursion P exponent
   all_exponent mark exponent (inl e) = subst (AllByRecursion P) (sym e) tt
   all_exponent mark exponent (inr m) =
       subst (AllByRecursion P) (sym m.joined) (mark m.mark m.is_mark, all_then m.sign m.digits (all_signed m.sign m.is_sign) (all_digits m.digits m.are_digits.1))
 
-  all_bytes : (bytes : List ℕ) (t : IsStandardText bytes) → AllByRecursion P t.exponent → AllByRecursion P bytes
+  pub all_bytes : (bytes : List ℕ) (t : IsStandardText bytes) → AllByRecursion P t.exponent → AllByRecursion P bytes
   all_bytes bytes t h =
       subst (AllByRecursion P) (sym t.joined)
       (all_then (sign_text t.negative) (t.whole ++ (t.fraction ++ t.exponent)) (all_sign t.negative)

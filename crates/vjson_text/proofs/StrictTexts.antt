@@ -19,7 +19,7 @@ use Rattle.vjson_text.specs.Texts.{IsSpace, AreSpaces, IsStrictItem, IsString, I
 use Rattle.vjson_text.specs.Word.{is_word_byte, word_length, is_json_word}
 
 -- what may be before a value
-abbrev can_begin : Last → Bool
+abbrev pub can_begin : Last → Bool
 can_begin nothing = true
 can_begin opened = true
 can_begin comma = true
@@ -29,7 +29,7 @@ can_begin ended_word = false
 can_begin value = false
 
 -- what may be last behind one
-abbrev ends_value : Last → Bool
+abbrev pub ends_value : Last → Bool
 ends_value word = true
 ends_value ended_word = true
 ends_value value = true
@@ -39,7 +39,7 @@ ends_value comma = false
 ends_value colon = false
 
 -- no byte of a word is first
-abbrev EndsWord : List ℕ → Type 0
+abbrev pub EndsWord : List ℕ → Type 0
 EndsWord [] = Unit {0}
 EndsWord (b ∷ bytes) = is_word_byte b ≡ false
 
@@ -55,7 +55,7 @@ IsPassed bytes = (last : Last) → can_begin last ≡ true → (rest : List ℕ)
 
 -- ---- whitespace
 
-space_passed : (b : ℕ) → IsSpace b → (last : Last) (bytes : List ℕ) → is_strict_from last (b ∷ bytes) ≡ is_strict_from (blank_after last) bytes
+pub space_passed : (b : ℕ) → IsSpace b → (last : Last) (bytes : List ℕ) → is_strict_from last (b ∷ bytes) ≡ is_strict_from (blank_after last) bytes
 space_passed b (inl e) last bytes = ap (λ (n : ℕ). is_strict_from last (n ∷ bytes)) e
 space_passed b (inr (inl e)) last bytes = ap (λ (n : ℕ). is_strict_from last (n ∷ bytes)) e
 space_passed b (inr (inr (inl e))) last bytes = ap (λ (n : ℕ). is_strict_from last (n ∷ bytes)) e
@@ -76,7 +76,7 @@ spaces_passed [] rest last stays h = refl
 spaces_passed (b ∷ spaces) rest last stays h =
     space_passed b h.0 last (spaces ++ rest) ∙ ap (λ l. is_strict_from l (spaces ++ rest)) stays ∙ spaces_passed spaces rest last stays h.1
 
-before_value : (last : Last) → can_begin last ≡ true → blank_after last ≡ last
+pub before_value : (last : Last) → can_begin last ≡ true → blank_after last ≡ last
 before_value nothing h = refl
 before_value opened h = refl
 before_value comma h = refl
@@ -85,7 +85,7 @@ before_value word h = absurd (true≢false (sym h))
 before_value ended_word h = absurd (true≢false (sym h))
 before_value value h = absurd (true≢false (sym h))
 
-still_ends : (last : Last) → ends_value last ≡ true → ends_value (blank_after last) ≡ true
+pub still_ends : (last : Last) → ends_value last ≡ true → ends_value (blank_after last) ≡ true
 still_ends word h = refl
 still_ends ended_word h = refl
 still_ends value h = refl
@@ -102,7 +102,7 @@ spaces_behind (b ∷ spaces) rest last ends h =
 
 -- ---- what is behind a value
 
-comma_behind : (last : Last) → ends_value last ≡ true → (bytes : List ℕ) → is_strict_from last (44 ∷ bytes) ≡ is_strict_from comma bytes
+pub comma_behind : (last : Last) → ends_value last ≡ true → (bytes : List ℕ) → is_strict_from last (44 ∷ bytes) ≡ is_strict_from comma bytes
 comma_behind word h bytes = refl
 comma_behind ended_word h bytes = refl
 comma_behind value h bytes = refl
@@ -111,7 +111,7 @@ comma_behind opened h bytes = absurd (true≢false (sym h))
 comma_behind comma h bytes = absurd (true≢false (sym h))
 comma_behind colon h bytes = absurd (true≢false (sym h))
 
-bracket_behind : (last : Last) → ends_value last ≡ true → (bytes : List ℕ) → is_strict_from last (93 ∷ bytes) ≡ is_strict_from value bytes
+pub bracket_behind : (last : Last) → ends_value last ≡ true → (bytes : List ℕ) → is_strict_from last (93 ∷ bytes) ≡ is_strict_from value bytes
 bracket_behind word h bytes = refl
 bracket_behind ended_word h bytes = refl
 bracket_behind value h bytes = refl
@@ -120,7 +120,7 @@ bracket_behind opened h bytes = absurd (true≢false (sym h))
 bracket_behind comma h bytes = absurd (true≢false (sym h))
 bracket_behind colon h bytes = absurd (true≢false (sym h))
 
-brace_behind : (last : Last) → ends_value last ≡ true → (bytes : List ℕ) → is_strict_from last (125 ∷ bytes) ≡ is_strict_from value bytes
+pub brace_behind : (last : Last) → ends_value last ≡ true → (bytes : List ℕ) → is_strict_from last (125 ∷ bytes) ≡ is_strict_from value bytes
 brace_behind word h bytes = refl
 brace_behind ended_word h bytes = refl
 brace_behind value h bytes = refl
@@ -140,7 +140,7 @@ text_ends colon h = refl
 
 -- ---- strings
 
-hex_digit : (b : ℕ) → IsHexDigit b → is_ascii_hexdigit b ≡ true
+pub hex_digit : (b : ℕ) → IsHexDigit b → is_ascii_hexdigit b ≡ true
 hex_digit b h = grind (arith, nat_tests)
 
 digits_passed : (digits more : List ℕ) → AllByRecursion IsHexDigit digits → in_string (length digits) (digits ++ more) ≡ in_string 0 more
@@ -182,14 +182,14 @@ unfolding word_length
 no_more [] e = refl
 no_more (b ∷ bytes) e = cond-false (is_word_byte b) _ 0 e
 
-whole_length : (bytes more : List ℕ) → AllByRecursion (λ b. is_word_byte b ≡ true) bytes → EndsWord more → word_length (bytes ++ more) ≡ length bytes
+pub whole_length : (bytes more : List ℕ) → AllByRecursion (λ b. is_word_byte b ≡ true) bytes → EndsWord more → word_length (bytes ++ more) ≡ length bytes
 unfolding word_length
 whole_length [] more h e = no_more more e
 whole_length (b ∷ bytes) more h e =
     let rest : word_length (bytes ++ more) ≡ length bytes = whole_length bytes more h.1 e in
     cond-true (is_word_byte b) (1 + word_length (bytes ++ more)) 0 h.0 ∙ omega (arith, rest)
 
-rest_passed : (bytes more : List ℕ) → AllByRecursion (λ b. is_word_byte b ≡ true) bytes → is_strict_from word (bytes ++ more) ≡ is_strict_from word more
+pub rest_passed : (bytes more : List ℕ) → AllByRecursion (λ b. is_word_byte b ≡ true) bytes → is_strict_from word (bytes ++ more) ≡ is_strict_from word more
 rest_passed [] more h = refl
 rest_passed (b ∷ bytes) more h = cond-true (is_word_byte b) _ _ h.0 ∙ rest_passed bytes more h.1
 
