@@ -1,9 +1,11 @@
+pub mod Exponents
 pub mod Inverted
 pub mod JsonWords
 pub mod LaidOut
 pub mod LaidOutTexts
 pub mod NumberTexts
 pub mod Numbers
+pub mod PassedWords
 pub mod PlainTexts
 pub mod PlainWords
 pub mod Readings

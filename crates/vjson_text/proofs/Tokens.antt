@@ -8,7 +8,7 @@ use Rattle.vjson_text.specs.declared.strict.Last as code
 use Rattle.vjson_text.specs.declared.strict.Last.TheVariants.{Nothing, Opened, Comma, Colon, Word, Value}
 
 -- how long a word is that begins with these bytes
-length_at : (b : ℕ) (bytes : List ℕ) → is_word_byte b ≡ true → word_length (b ∷ bytes) ≡ 1 + word_length bytes
+pub length_at : (b : ℕ) (bytes : List ℕ) → is_word_byte b ≡ true → word_length (b ∷ bytes) ≡ 1 + word_length bytes
 unfolding word_length
 length_at b bytes h = cond-true (is_word_byte b) _ _ h
 

@@ -1,4 +1,6 @@
+pub mod Exponents
 pub mod Json
+pub mod PlainWord
 pub mod Raw
 pub mod Read
 pub mod Strict

@@ -4,6 +4,7 @@
 pub mod fault;
 pub mod laws;
 pub mod mask;
+mod plain_word;
 pub mod reader;
 pub mod strict;
 pub mod word;

@@ -12,10 +12,10 @@ ghost use Rattle.vjson_text.specs.Read.{IsReadAs, Rejects, parser_mode, read_tex
 
 use crate::fault::{Fault, fault_at, fault_of};
 use crate::mask::masked;
-use crate::strict::strict_fault;
+use crate::strict::look_through;
 use jsonb::parser::Mode;
 use jsonb::{Error, ParseErrorCode, Value};
-use plain_numbers::{PlainError, has_exponent, write_masked_numbers, write_plain_numbers};
+use plain_numbers::{PlainError, write_masked_numbers, write_plain_numbers};
 use std::alloc::Global;
 
 /// Which texts are read.
@@ -91,11 +91,13 @@ fn prepare_json(alloc: Global, text: &[u8], plain: &mut Vec<u8>) -> Result<bool,
     ensures ok { IfOk result (λ written. IsReadAs Grammar.Json text.now (read_text written text.now plain.new.items)) }
     ensures rejected { Rejects Grammar.Json text.now result }
 {
-    if let Some(offset) = strict_fault(text) {
-        return Err(json_fault(alloc, text, offset));
-    }
-    if !has_exponent(text) {
-        return Ok(false);
+    match look_through(text) {
+        Ok(true) => {}
+        Ok(false) => return Ok(false),
+        Err(left) => {
+            let offset = text.len().saturating_sub(left);
+            return Err(json_fault(alloc, text, offset));
+        }
     }
     plain.clear();
     match write_plain_numbers(text, plain) {

@@ -2,10 +2,12 @@
 
 ghost use Rattle.std.specs.Prelude.{◌≡◌, ◌≢◌, ◌<◌, ◌≤◌, ◌∷◌, ℕ, suc, List, length, true, false, IfOk, IfSome, IfNone, OnOk, OnErr};
 ghost use Rattle.jsonb_spec.specs.Ascii as ascii;
+ghost use Rattle.vjson_text.specs.Exponents.{exponent_escaped, exponent_from, exponent_inside};
 ghost use Rattle.vjson_text.specs.Strict.{in_escape, in_string, is_strict, is_strict_from, value};
 ghost use Rattle.vjson_text.specs.View.{last_view};
 ghost use Rattle.vjson_text.specs.Word.{is_word_byte};
 
+use crate::plain_word::after_plain_word;
 use crate::word::{closes, is_json_word, is_word_byte, opens, word_len};
 use jsonb_value::plain::plain_len;
 
@@ -26,6 +28,7 @@ fn after_digit(bytes: &[u8]) -> Option<&[u8]>
     ensures within { IfSome result (λ rest. length rest.now < length bytes.now) }
     ensures some { IfSome result (λ rest. (due : ℕ) → in_string (suc due) bytes.now ≡ in_string due rest.now) }
     ensures none { IfNone result ((due : ℕ) → in_string (suc due) bytes.now ≡ false) }
+    ensures exponent { IfSome result (λ rest. exponent_inside bytes.now ≡ exponent_inside rest.now) }
 {
     let (digit, rest) = bytes.split_first()?;
     if digit.is_ascii_hexdigit() {
@@ -40,6 +43,7 @@ fn after_escape(bytes: &[u8]) -> Option<&[u8]>
     ensures within { IfSome result (λ rest. length rest.now < length bytes.now) }
     ensures some { IfSome result (λ rest. in_escape bytes.now ≡ in_string 0 rest.now) }
     ensures none { IfNone result (in_escape bytes.now ≡ false) }
+    ensures exponent { IfSome result (λ rest. exponent_escaped bytes.now ≡ exponent_inside rest.now) }
 {
     match bytes.split_first()? {
         (b'"' | b'\\' | b'/' | b'b' | b'f' | b'n' | b'r' | b't', rest) => Some(rest),
@@ -56,6 +60,7 @@ fn after_string(bytes: &[u8]) -> Result<&[u8], usize>
     ensures within { IfOk result (λ rest. length rest.now ≤ length bytes.now) }
     ensures ok { IfOk result (λ rest. in_string 0 bytes.now ≡ is_strict_from value rest.now) }
     ensures err { OnErr result (in_string 0 bytes.now ≡ false) }
+    ensures exponent { IfOk result (λ rest. exponent_inside bytes.now ≡ exponent_from rest.now) }
 {
     let mut rest = bytes;
     'runs: loop {
@@ -77,18 +82,6 @@ fn after_string(bytes: &[u8]) -> Result<&[u8], usize>
             return Err(behind.len());
         }
         rest = more;
-    }
-}
-
-/// The offset of a position that no text of RFC 8259 has; `None` where only its tokens are where it may have
-/// them.
-pub fn strict_fault(text: &[u8]) -> Option<usize>
-    ensures none { IfNone result (is_strict text.now ≡ true) }
-    ensures some { IfSome result (λ _. is_strict text.now ≡ false) }
-{
-    match look_through(text) {
-        Ok(()) => None,
-        Err(left) => Some(text.len().saturating_sub(left)),
     }
 }
 
@@ -125,19 +118,32 @@ fn after_mark(last: Last, byte: u8, here: usize) -> Result<Last, usize>
     Ok(last)
 }
 
-// Looks through the text. How many bytes there are from a fault on, where there is one.
-fn look_through(text: &[u8]) -> Result<(), usize>
+/// Looks through the tokens of a text: whether some number may have an exponent.
+///
+/// # Errors
+///
+/// How many bytes there are from a position on that no text of RFC 8259 has. Without an error the tokens are those of
+/// RFC 8259, where it may have them.
+pub fn look_through(text: &[u8]) -> Result<bool, usize>
     ensures ok { OnOk result (is_strict text.now ≡ true) }
     ensures err { OnErr result (is_strict text.now ≡ false) }
+    ensures plain { IfOk result (λ marked. marked ≡ false → exponent_from text.now ≡ false) }
 {
     let mut rest = text;
     let mut last = Last::Nothing;
+    let mut marked = false;
     'tokens: while let Some((byte, more)) = rest.split_first() {
         if is_word_byte(*byte) {
+            if let Some(behind) = after_plain_word(rest) {
+                last = Last::Word(rest.len());
+                rest = behind;
+                continue;
+            }
             let (word, behind) = rest.split_at(1 + word_len(more));
             if !is_json_word(word) {
                 return Err(rest.len());
             }
+            marked = true;
             last = Last::Word(rest.len());
             rest = behind;
             continue;
@@ -152,6 +158,6 @@ fn look_through(text: &[u8]) -> Result<(), usize>
     }
     match last {
         Last::Nothing => Err(0),
-        _ => Ok(()),
+        _ => Ok(marked),
     }
 }

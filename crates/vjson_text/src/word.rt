@@ -64,8 +64,9 @@ pub fn word_len(bytes: &[u8]) -> usize
     len
 }
 
-// How many digits the bytes begin with.
-fn digits_len(bytes: &[u8]) -> usize
+/// How many digits the bytes begin with.
+#[inline(always)]
+pub(crate) fn digits_len(bytes: &[u8]) -> usize
     ensures len { result ≡ digits_length bytes.now }
     ensures within { result ≤ length bytes.now }
 {
