@@ -51,7 +51,7 @@ whole_word last rest front back b more n is inside count first behind =
     ap (is_strict_from (last_view last)) is ∙ cond-true (is_word_byte b) _ _ inside ∙ ap (λ t. t && is_strict_from word more) (begins last (b ∷ more) ∙ ap is_json_word word_is)
     ∙ ap (λ t. is_json_word front && t) step
 
-stays : (last : code.Last) → blank_after (last_view last) ≡ last_view last
+pub stays : (last : code.Last) → blank_after (last_view last) ≡ last_view last
 stays Nothing = refl
 stays Opened = refl
 stays Comma = refl

@@ -55,8 +55,28 @@ fn after_escape(bytes: &[u8]) -> Option<&[u8]>
     }
 }
 
-// What is behind a string whose first quote is before the bytes, or how many bytes there are from a fault on.
+// What is behind a string whose first quote is before the bytes, or how many bytes there are from a fault on. It is
+// short where it is inlined: most strings have no escapes.
+#[inline(always)]
 fn after_string(bytes: &[u8]) -> Result<&[u8], usize>
+    ensures within { IfOk result (λ rest. length rest.now ≤ length bytes.now) }
+    ensures ok { IfOk result (λ rest. in_string 0 bytes.now ≡ is_strict_from value rest.now) }
+    ensures err { OnErr result (in_string 0 bytes.now ≡ false) }
+    ensures exponent { IfOk result (λ rest. exponent_inside bytes.now ≡ exponent_from rest.now) }
+{
+    let (_, behind) = bytes.split_at(plain_len(bytes));
+    let Some((byte, more)) = behind.split_first() else {
+        return Err(0);
+    };
+    if *byte == b'"' {
+        return Ok(more);
+    }
+    after_runs(behind)
+}
+
+// The same, run by run.
+#[inline(never)]
+fn after_runs(bytes: &[u8]) -> Result<&[u8], usize>
     ensures within { IfOk result (λ rest. length rest.now ≤ length bytes.now) }
     ensures ok { IfOk result (λ rest. in_string 0 bytes.now ≡ is_strict_from value rest.now) }
     ensures err { OnErr result (in_string 0 bytes.now ≡ false) }
@@ -87,6 +107,7 @@ fn after_string(bytes: &[u8]) -> Result<&[u8], usize>
 
 // What was read last once a byte of punctuation or whitespace is read, which is so many bytes before the end; or
 // how many bytes there are from a fault on.
+#[inline(always)]
 fn after_mark(last: Last, byte: u8, here: usize) -> Result<Last, usize>
     requires word { is_word_byte byte ≡ false }
     requires quote { byte ≢ ascii.quote }
@@ -133,6 +154,15 @@ pub fn look_through(text: &[u8]) -> Result<bool, usize>
     let mut last = Last::Nothing;
     let mut marked = false;
     'tokens: while let Some((byte, more)) = rest.split_first() {
+        if *byte == b' ' {
+            rest = more;
+            continue;
+        }
+        if *byte == b'"' {
+            rest = after_string(more)?;
+            last = Last::Value;
+            continue;
+        }
         if is_word_byte(*byte) {
             if let Some(behind) = after_plain_word(rest) {
                 last = Last::Word(rest.len());
@@ -146,11 +176,6 @@ pub fn look_through(text: &[u8]) -> Result<bool, usize>
             marked = true;
             last = Last::Word(rest.len());
             rest = behind;
-            continue;
-        }
-        if *byte == b'"' {
-            rest = after_string(more)?;
-            last = Last::Value;
             continue;
         }
         last = after_mark(last, *byte, rest.len())?;

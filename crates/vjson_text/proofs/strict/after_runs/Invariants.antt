@@ -1,7 +1,7 @@
 use Rattle.std.proofs.Common.{◌≡◌, ◌≤◌, length}
 use Rattle.vjson_text.specs.Exponents.{exponent_inside}
 use Rattle.vjson_text.specs.Strict.{in_string}
-use Rattle.vjson_text.proofs.strict.after_string.Given as goal
+use Rattle.vjson_text.proofs.strict.after_runs.Given as goal
 
 abbrev pub invariant-runs : goal.invariant-runs
 invariant-runs l = record {
