@@ -1,4 +1,5 @@
 pub mod Arranged
+pub mod Buffered
 pub mod Cuts
 pub mod Down
 pub mod Fed

@@ -1,6 +1,6 @@
 //! Lines in the order of their values, and lines behind their sort keys.
 
-ghost use Rattle.std.specs.Prelude.{◌≡◌, ◌<◌, ◌++◌, ◌∷◌, [], ℕ, List, OnOk, true, false};
+ghost use Rattle.std.specs.Prelude.{◌≡◌, ◌<◌, ◌/◌, ◌%◌, ◌++◌, ◌∷◌, [], ℕ, List, OnOk, true, false};
 ghost use Rattle.std.specs.List.{flat_map};
 ghost use Rattle.jsonb_spec.specs.Ascii as ascii;
 ghost use Rattle.std.specs.Ordering.{ordering_then};
@@ -154,18 +154,64 @@ pub fn append_key_line(key: &[u8], text: &[u8], out: &mut Vec<u8>) -> Result<(),
     append_line(text, out)
 }
 
-// Appends the bytes in hexadecimal.
+// Appends the bytes in hexadecimal, four at once.
 fn append_hex(bytes: &[u8], out: &mut Vec<u8>) -> Result<(), AllocError>
     ensures ok { OnOk result (out.new.items ≡ out.old.items ++ flat_map hex_text bytes.now) }
 {
+    let mut rest = bytes;
+    'fours: while let [a, b, c, d, more @ ..] = rest {
+        append_four(*a, *b, *c, *d, out)?;
+        rest = more;
+    }
+    append_few(rest, out)
+}
+
+// Appends four bytes in hexadecimal.
+#[inline(always)]
+fn append_four(a: u8, b: u8, c: u8, d: u8, out: &mut Vec<u8>) -> Result<(), AllocError>
+    ensures ok { OnOk result (out.new.items ≡ out.old.items ++ flat_map hex_text (a ∷ b ∷ c ∷ d ∷ [])) }
+{
+    out.extend_from_slice(&[
+        high_digit(a),
+        low_digit(a),
+        high_digit(b),
+        low_digit(b),
+        high_digit(c),
+        low_digit(c),
+        high_digit(d),
+        low_digit(d),
+    ])
+}
+
+// Appends the bytes in hexadecimal, one by one.
+fn append_few(bytes: &[u8], out: &mut Vec<u8>) -> Result<(), AllocError>
+    ensures ok { OnOk result (out.new.items ≡ out.old.items ++ flat_map hex_text bytes.now) }
+{
     'bytes: for byte in bytes {
-        out.push(hex_digit(*byte / 16))?;
-        out.push(hex_digit(*byte % 16))?;
+        out.push(high_digit(*byte))?;
+        out.push(low_digit(*byte))?;
     }
     Ok(())
 }
 
+// The first hexadecimal digit of a byte.
+#[inline(always)]
+fn high_digit(byte: u8) -> u8
+    ensures { result ≡ hex_digit (byte / 16) }
+{
+    hex_digit(byte / 16)
+}
+
+// The second one.
+#[inline(always)]
+fn low_digit(byte: u8) -> u8
+    ensures { result ≡ hex_digit (byte % 16) }
+{
+    hex_digit(byte % 16)
+}
+
 // A hexadecimal digit.
+#[inline(always)]
 fn hex_digit(half: u8) -> u8
     requires { half < 16 }
     ensures { result ≡ hex_digit half }

@@ -26,7 +26,7 @@ ghost use Rattle.vjson_run.specs.Runs.{
 
 use crate::answers;
 use crate::answers::Buffers;
-use crate::input::{is_blank_line, without_end, without_mark};
+use crate::input::{is_blank_line, read_line, without_end, without_mark};
 use crate::lines::{Line, arrange, may_follow};
 use crate::options::{Command, Options};
 use crate::report::{Output, Spot, print_lines, report_fault, report_memory, report_stream};
@@ -167,7 +167,7 @@ impl<'o, W: Write, E: Write> Session<'o, W, E> {
             (λ bytes. Takes W.contents self.old (text_lines (without_mark bytes)) self.new)) }
     {
         let mut bytes = Vec::new(self.alloc);
-        if input.read_until(b'\n', &mut bytes)? == 0 {
+        if read_line(input, &mut bytes)? == 0 {
             return Ok(());
         }
         self.take_line(name, 1, without_mark(&bytes));
@@ -176,7 +176,7 @@ impl<'o, W: Write, E: Write> Session<'o, W, E> {
                 return Ok(());
             }
             bytes.clear();
-            if input.read_until(b'\n', &mut bytes)? == 0 {
+            if read_line(input, &mut bytes)? == 0 {
                 return Ok(());
             }
             self.take_line(name, number, &bytes);

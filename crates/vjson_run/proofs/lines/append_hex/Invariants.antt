@@ -1,7 +1,10 @@
-use Rattle.std.proofs.Common.{◌≡◌, ◌++◌, take}
+use Rattle.std.proofs.Common.{◌≡◌, ◌++◌, length}
 use Rattle.std.specs.List.{flat_map}
 use Rattle.vjson_run.specs.Lines.{hex_text}
 use Rattle.vjson_run.proofs.lines.append_hex.Given as goal
 
-abbrev pub invariant-bytes : goal.invariant-bytes
-invariant-bytes l = l.out.items ≡ l.fn.out.items ++ flat_map hex_text (take l.byte-index l.bytes)
+abbrev pub invariant-fours : goal.invariant-fours
+invariant-fours l = l.out.items ++ flat_map hex_text l.rest ≡ l.fn.out.items ++ flat_map hex_text l.bytes
+
+abbrev pub decreases-fours : goal.decreases-fours
+decreases-fours l = length l.rest

@@ -1,0 +1,7 @@
+use Rattle.std.proofs.Common.{◌≡◌, ◌++◌, take}
+use Rattle.std.specs.List.{flat_map}
+use Rattle.vjson_run.specs.Lines.{hex_text}
+use Rattle.vjson_run.proofs.lines.append_few.Given as goal
+
+abbrev pub invariant-bytes : goal.invariant-bytes
+invariant-bytes l = l.out.items ≡ l.fn.out.items ++ flat_map hex_text (take l.byte-index l.bytes)
