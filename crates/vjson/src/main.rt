@@ -8,7 +8,7 @@ use std::fs::File;
 use std::io::{BufReader, IsTerminal, Read, Write};
 use std::process::ExitCode;
 use std::rt::Env;
-use std::{env, io};
+use std::{env, io, mem};
 use vjson_run::options::{Asked, HELP, Options, Progress, read_words};
 use vjson_run::session::Session;
 
@@ -83,7 +83,10 @@ fn run(rt: &HostRuntime, options: &Options) -> u8 {
         }
         feed(rt, &mut session, name.as_str(), delay);
     }
-    session.finish()
+    let status = session.finish();
+    // The program ends here, and its memory with it: freeing millions of lines one by one takes time.
+    mem::forget(session);
+    status
 }
 
 fn main(rt: HostRuntime) -> ExitCode {
