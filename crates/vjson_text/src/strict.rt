@@ -3,7 +3,7 @@
 ghost use Rattle.std.specs.Prelude.{◌≡◌, ◌≢◌, ◌<◌, ◌≤◌, ◌∷◌, ℕ, suc, List, length, true, false, IfOk, IfSome, IfNone, OnOk, OnErr};
 ghost use Rattle.jsonb_spec.specs.Ascii as ascii;
 ghost use Rattle.vjson_text.specs.Exponents.{exponent_escaped, exponent_from, exponent_inside};
-ghost use Rattle.vjson_text.specs.Strict.{in_escape, in_string, is_strict, is_strict_from, value};
+ghost use Rattle.vjson_text.specs.Strict.{ended_word, in_escape, in_string, is_strict, is_strict_from, value};
 ghost use Rattle.vjson_text.specs.View.{last_view};
 ghost use Rattle.vjson_text.specs.Word.{is_word_byte};
 
@@ -139,6 +139,34 @@ fn after_mark(last: Last, byte: u8, here: usize) -> Result<Last, usize>
     Ok(last)
 }
 
+// What was read last, and what is behind it, once a value is behind the start of the bytes: a colon or a comma and a
+// space are passed at once.
+#[inline(always)]
+fn after_value(bytes: &[u8]) -> (Last, &[u8])
+    ensures within { length result.1.now ≤ length bytes.now }
+    ensures same { is_strict_from value bytes.now ≡ is_strict_from (last_view result.0) result.1.now }
+    ensures exponent { exponent_from bytes.now ≡ exponent_from result.1.now }
+{
+    match bytes {
+        [b':', b' ', rest @ ..] => (Last::Colon, rest),
+        [b',', b' ', rest @ ..] => (Last::Comma, rest),
+        _ => (Last::Value, bytes),
+    }
+}
+
+// The same once a word is behind the start of the bytes, which begins with so many bytes before the end.
+#[inline(always)]
+fn after_word(start: usize, bytes: &[u8]) -> (Last, &[u8])
+    ensures within { length result.1.now ≤ length bytes.now }
+    ensures same { is_strict_from ended_word bytes.now ≡ is_strict_from (last_view result.0) result.1.now }
+    ensures exponent { exponent_from bytes.now ≡ exponent_from result.1.now }
+{
+    match bytes {
+        [b',', b' ', rest @ ..] => (Last::Comma, rest),
+        _ => (Last::Word(start), bytes),
+    }
+}
+
 /// Looks through the tokens of a text: whether some number may have an exponent.
 ///
 /// # Errors
@@ -159,14 +187,17 @@ pub fn look_through(text: &[u8]) -> Result<bool, usize>
             continue;
         }
         if *byte == b'"' {
-            rest = after_string(more)?;
-            last = Last::Value;
+            let behind = after_string(more)?;
+            let (next, later) = after_value(behind);
+            last = next;
+            rest = later;
             continue;
         }
         if is_word_byte(*byte) {
             if let Some(behind) = after_plain_word(rest) {
-                last = Last::Word(rest.len());
-                rest = behind;
+                let (next, later) = after_word(rest.len(), behind);
+                last = next;
+                rest = later;
                 continue;
             }
             let (word, behind) = rest.split_at(1 + word_len(more));

@@ -10,16 +10,17 @@ use Rattle.vjson_text.proofs.strict.look_through.Goals as goal
 pub tokens-preserved-in-Some-after_plain_word : goal.tokens-preserved-in-Some-after_plain_word
 tokens-preserved-in-Some-after_plain_word c = record {
   same = c.tokens.invariant.same ∙ word_passed c.tokens.last c.tokens.rest.now c.in-Some-after_plain_word.behind.now c.in-Some.byte.now c.in-Some.more.now
-      c.in-Some.ensures.cases.0 (sym c.is_word_byte.ensures ∙ c.if-is_word_byte.true) c.in-Some-after_plain_word.ensures.some;
-  within = omega (arith, c.tokens.invariant.within, passed_within c.tokens.rest.now c.in-Some-after_plain_word.behind.now c.in-Some-after_plain_word.ensures.some);
+      c.in-Some.ensures.cases.0 (sym c.is_word_byte.ensures ∙ c.if-is_word_byte.true) c.in-Some-after_plain_word.ensures.some ∙ c.after_word-next.ensures.same;
+  within = omega (arith, c.tokens.invariant.within, passed_within c.tokens.rest.now c.in-Some-after_plain_word.behind.now c.in-Some-after_plain_word.ensures.some, c.after_word-next.ensures.within);
   plain = λ e. exponent_passed c.args.text.now c.tokens.rest.now c.in-Some-after_plain_word.behind.now c.in-Some.byte.now c.in-Some.more.now
-      (c.tokens.invariant.plain e) c.in-Some.ensures.cases.0 (sym c.is_word_byte.ensures ∙ c.if-is_word_byte.true) c.in-Some-after_plain_word.ensures.some;
+      (c.tokens.invariant.plain e) c.in-Some.ensures.cases.0 (sym c.is_word_byte.ensures ∙ c.if-is_word_byte.true) c.in-Some-after_plain_word.ensures.some ∙ c.after_word-next.ensures.exponent;
 }
 
 pub tokens-smaller-in-Some-after_plain_word : goal.tokens-smaller-in-Some-after_plain_word
 tokens-smaller-in-Some-after_plain_word c =
-    passed_below c.tokens.rest.now c.in-Some-after_plain_word.behind.now c.in-Some.byte.now c.in-Some.more.now
-    c.in-Some.ensures.cases.0 (sym c.is_word_byte.ensures ∙ c.if-is_word_byte.true) c.in-Some-after_plain_word.ensures.some
+    let below = passed_below c.tokens.rest.now c.in-Some-after_plain_word.behind.now c.in-Some.byte.now c.in-Some.more.now
+    c.in-Some.ensures.cases.0 (sym c.is_word_byte.ensures ∙ c.if-is_word_byte.true) c.in-Some-after_plain_word.ensures.some in
+    omega (arith, below, c.after_word-next.ensures.within)
 
 pub tokens-preserved-then-is_word_byte : goal.tokens-preserved-then-is_word_byte
 tokens-preserved-then-is_word_byte c = record {
@@ -42,9 +43,10 @@ tokens-preserved-then-byte-eq32 c = record {
 pub tokens-preserved-then-byte-eq34 : goal.tokens-preserved-then-byte-eq34
 tokens-preserved-then-byte-eq34 c = record {
   same = c.tokens.invariant.same ∙ ap (is_strict_from (last_view c.tokens.last)) c.in-Some.ensures.cases.0
-      ∙ ap (λ (n : ℕ). is_strict_from (last_view c.tokens.last) (n ∷ c.in-Some.more.now)) c.if-byte-eq34.true ∙ c.in_ok-rest.ensures.ok;
-  within = omega (arith, c.tokens.invariant.within, c.in_ok-rest.ensures.within, c.in-Some.ensures.cases.1);
-  plain = λ e. from_quote c.args.text.now c.tokens.rest.now c.in-Some.byte.now c.in-Some.more.now c.in_ok-rest.rest.now (c.tokens.invariant.plain e) c.in-Some.ensures.cases.0 c.if-byte-eq34.true c.in_ok-rest.ensures.exponent;
+      ∙ ap (λ (n : ℕ). is_strict_from (last_view c.tokens.last) (n ∷ c.in-Some.more.now)) c.if-byte-eq34.true ∙ c.in_ok-behind.ensures.ok ∙ c.after_value-next.ensures.same;
+  within = omega (arith, c.tokens.invariant.within, c.in_ok-behind.ensures.within, c.in-Some.ensures.cases.1, c.after_value-next.ensures.within);
+  plain = λ e. from_quote c.args.text.now c.tokens.rest.now c.in-Some.byte.now c.in-Some.more.now c.in_ok-behind.behind.now (c.tokens.invariant.plain e) c.in-Some.ensures.cases.0 c.if-byte-eq34.true c.in_ok-behind.ensures.exponent
+      ∙ c.after_value-next.ensures.exponent;
 }
 
 pub tokens-preserved : goal.tokens-preserved
