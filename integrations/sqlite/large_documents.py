@@ -17,7 +17,8 @@ sys.path.insert(0, os.path.join(os.path.dirname(os.path.abspath(__file__)), ".."
 import growth
 
 # The columns of a table with one row, of so many parts and with decimals that end so: o and a: the texts of an object
-# and of an array; e: that of numbers with exponents; f: o with a fault at the end; ok, ak: the keys of o and a.
+# and of an array; e: that of numbers with exponents; f: o with a fault at the end; ok, ak: the keys of o and a;
+# od, ad: their documents.
 TABLE = """CREATE TABLE {table} AS WITH RECURSIVE n(i) AS (SELECT 1 UNION ALL SELECT i + 1 FROM n WHERE i < {size}),
     made(o, a, e) AS (SELECT
       '{{' || group_concat('"k' || i || '":' || CASE i % 4 WHEN 0 THEN 'null' WHEN 1 THEN '"x"'
@@ -25,7 +26,8 @@ TABLE = """CREATE TABLE {table} AS WITH RECURSIVE n(i) AS (SELECT 1 UNION ALL SE
       '[' || group_concat(CASE i % 3 WHEN 0 THEN '"a"' WHEN 1 THEN '{{"id":' || i || ',"price":' || i || '.{end}}}'
         ELSE i || '.{end}' END) || ']',
       '[' || group_concat(i || '.{end}e-3') || ']' FROM n)
-  SELECT o, a, e, o || 'x' AS f, vjson_key(o) AS ok, vjson_key(a) AS ak FROM made;"""
+  SELECT o, a, e, o || 'x' AS f, vjson_key(o) AS ok, vjson_key(a) AS ak, vjson_document(o) AS od,
+    vjson_document(a) AS ad FROM made;"""
 
 COLUMNS = ("key", "value", "type", "atom", "id", "parent", "fullkey", "path", "part")
 
@@ -45,6 +47,14 @@ TIMED = {
     "vjson_key": ["vjson_key(o)", "vjson_key(a)", "vjson_key(e)"],
     "VJSON": ["o = o || ' ' COLLATE VJSON", "a < a || ' ' COLLATE VJSON", "f < f || ' ' COLLATE VJSON",
               "e = e || ' ' COLLATE VJSON"],
+    "vjson_document": ["vjson_document(o)", "vjson_document(a)", "vjson_document(e)"],
+    "vjson_document_text": ["vjson_document_text(od)", "vjson_document_text(ad)", "vjson_document_text(od, '/k9998')"],
+    "vjson_document_key": ["vjson_document_key(od)"],
+    "vjson_document_get": ["vjson_document_get(od, '/k9998/0')", "vjson_document_get(ad, '/LAST')",
+                           "vjson_document_get(od, '/none') IS NULL"],
+    "vjson_document_set": ["vjson_document_set(od, '/k9998/0', od)", "vjson_document_set(ad, '/LAST', od)"],
+    "vjson_document_remove": ["vjson_document_remove(od, '/k9998')", "vjson_document_remove(ad, '/-1')"],
+    "vjson_document_merge": ["vjson_document_merge(od, od)", "vjson_document_merge(ad, od)"],
     "vjson_key_valid": ["vjson_key_valid(ok)", "vjson_key_valid(ak)"],
     "vjson_key_get": ["vjson_key_get(ok, '/k9998/0')", "vjson_key_get(ak, '/LAST')",
                       "vjson_key_get(ok, '/none') IS NULL"],

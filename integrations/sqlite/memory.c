@@ -99,6 +99,9 @@ static const char *const statements[] = {
     "SELECT hex(vjson_key_get(vjson_key(body), '')), vjson_key_value(vjson_key(body)), vjson_key_type(vjson_key(body)),"
     " vjson_key_text(vjson_key(body), ''), vjson_key_valid(vjson_key(body)) FROM docs",
     "SELECT hex(vjson_key_get(vjson_key('{\"a~/\":[1,2.5]}'), '/a~0~1/1')), vjson_key_text(x'00')",
+    "SELECT vjson_document_text(vjson_document_set(vjson_document('{\"a\":[1.50]}'), '/a~0', vjson_document('7.0')), '/a')",
+    "SELECT hex(vjson_document_remove(vjson_document_merge(vjson_document('[1.0]'), vjson_document('[2.0]')), '/0')),"
+    " length(vjson_document_text(vjson_document('[\"' || hex(zeroblob(700)) || '\", 1.50]'), '/0'))",
     "SELECT length(vjson_key_text(k)), length(vjson_key_value(k)) FROM"
     " (SELECT vjson_key('\"' || hex(zeroblob(700)) || '\"') AS k)",
     "SELECT key, value, type, atom, id, parent, fullkey, path, hex(part), root FROM docs, vjson_each(vjson_key(body))",

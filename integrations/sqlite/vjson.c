@@ -7,9 +7,10 @@
  *   vjson_error_path(X [, MODE])      the path of the innermost part at which X is wrong; NULL where X is a document
  *   vjson_get(X, PATH [, MODE])       the text of X's part at the path (RFC 6901); NULL where nothing is there
  *   vjson_key(X [, MODE])             the sort key of X's value, a BLOB: for indexes on expressions
+ *   vjson_document(X [, MODE])        the document of X's value, a BLOB: its sort key with all digits kept
  *   COLLATE VJSON                     texts in the order of their values
  *
- * vjson_key.c has what takes a sort key apart.
+ * vjson_key.c has what takes a sort key apart, and vjson_document.c what is made of a document.
  *
  * A mode is 'extended', also where none is given, or 'standard'. Each function returns NULL where X is NULL. A number
  * is taken as its text, and a BLOB as the bytes of a text in UTF-8. */
@@ -277,7 +278,7 @@ static void call_error_path(sqlite3_context *context, int count, sqlite3_value *
   sqlite3_result_error_nomem(context);
 }
 
-enum what { TEXT, KEY, PART };
+enum what { TEXT, KEY, DOCUMENT, PART };
 
 /* Gives what is written of the text as the result, or the error. The size of what is written isn't known before: where
  * the text is short a short buffer is tried first, and where a buffer is too short the text is read again. */
@@ -299,6 +300,8 @@ static void give_written(sqlite3_context *context, enum what what, uint32_t mode
       status = vizhoniku_text(mode, read.at, read.size, buffer, capacity, &written, &error);
     else if (what == KEY)
       status = vizhoniku_sort_key(mode, read.at, read.size, buffer, capacity, &written, &error);
+    else if (what == DOCUMENT)
+      status = vizhoniku_document(mode, read.at, read.size, buffer, capacity, &written, &error);
     else
       status = vizhoniku_part(mode, path, path_size, read.at, read.size, buffer, capacity, &written, &error);
     if (read_again(mode, &status, &error, &read))
@@ -312,7 +315,7 @@ static void give_written(sqlite3_context *context, enum what what, uint32_t mode
   if (status == VIZHONIKU_ACCEPTED) {
     sqlite3_free(read.made);
     void (*destroy)(void *) = buffer == small ? SQLITE_TRANSIENT : sqlite3_free;
-    if (what == KEY) {
+    if (what == KEY || what == DOCUMENT) {
       sqlite3_result_blob64(context, buffer, written, destroy);
     } else {
       sqlite3_result_text64(context, (char *)buffer, written, destroy, SQLITE_UTF8);
@@ -342,6 +345,14 @@ static void call_key(sqlite3_context *context, int count, sqlite3_value **values
   const unsigned char *text;
   if (read_arguments(context, count, values, &text, &size, &mode))
     give_written(context, KEY, mode, NULL, 0, text, size);
+}
+
+static void call_document(sqlite3_context *context, int count, sqlite3_value **values) {
+  uint32_t mode;
+  size_t size;
+  const unsigned char *text;
+  if (read_arguments(context, count, values, &text, &size, &mode))
+    give_written(context, DOCUMENT, mode, NULL, 0, text, size);
 }
 
 static void call_get(sqlite3_context *context, int count, sqlite3_value **values) {
@@ -416,6 +427,7 @@ int sqlite3_vjson_init(sqlite3 *database, char **message, const sqlite3_api_rout
       {"vjson_error_path", 1, 0, call_error_path},
       {"vjson_get", 2, SQLITE_RESULT_SUBTYPE, call_get},
       {"vjson_key", 1, 0, call_key},
+      {"vjson_document", 1, 0, call_document},
   };
   SQLITE_EXTENSION_INIT2(routines);
   if (vizhoniku_version() < VIZHONIKU_VERSION) {
@@ -430,5 +442,6 @@ int sqlite3_vjson_init(sqlite3 *database, char **message, const sqlite3_api_rout
                                         NULL, functions[i / 2].call, NULL, NULL, NULL);
   if (status == SQLITE_OK)
     status = sqlite3_create_collation_v2(database, "VJSON", SQLITE_UTF8, database, collate, NULL);
-  return status == SQLITE_OK ? vjson_add_key_functions(database) : status;
+  if (status == SQLITE_OK) status = vjson_add_key_functions(database);
+  return status == SQLITE_OK ? vjson_add_document_functions(database) : status;
 }

@@ -21,4 +21,7 @@ int vjson_read_bytes(sqlite3_context *context, sqlite3_value *value, const unsig
 /* Adds the functions over sort keys, and the tables vjson_each and vjson_tree. */
 int vjson_add_key_functions(sqlite3 *database);
 
+/* Adds the functions over documents. */
+int vjson_add_document_functions(sqlite3 *database);
+
 #endif
