@@ -1,5 +1,5 @@
 -- An extended document that has the tokens of RFC 8259 alone is a text of RFC 8259.
-use Rattle.std.proofs.Common.{◌≡◌, ◌≢◌, ◌⊎◌, inl, inr, ⊎_elim, ℕ, zero, suc, ◌+◌, ◌<◌, ◌≤◌, ◌==◌, Bool, true, false, true≢false, Option, Some, None, List, [], ◌∷◌, ◌++◌, length, take, cond, ltb, refl, sym, subst, ap, ◌∙◌, arith, append-nil, append_assoc, length-append}
+use Rattle.std.proofs.Common.{◌&&◌, ◌≡◌, ◌≢◌, ◌⊎◌, inl, inr, ⊎_elim, ℕ, zero, suc, ◌+◌, ◌<◌, ◌≤◌, ◌==◌, Bool, true, false, true≢false, Option, Some, None, List, [], ◌∷◌, ◌++◌, length, take, cond, ltb, refl, sym, subst, ap, ◌∙◌, arith, append-nil, append_assoc, length-append}
 use Rattle.std.specs.Prelude.{◌/◌}
 use Rattle.std.specs.Char.{IsAsciiAlphanumeric, encode_utf8, is_ascii_hexdigit}
 use Rattle.std.specs.List.{AllByRecursion, flat_map}
@@ -29,11 +29,11 @@ use Rattle.vjson_text.specs.Word.{is_word_byte, word_length, is_json_word}
 -- ---- what may follow
 
 -- no word goes on where one was read last
-abbrev Fits : Last → List ℕ → Type 0
+abbrev pub Fits : Last → List ℕ → Type 0
 Fits last bytes = last ≡ word → EndsWord bytes
 
 -- what is first is no byte of RFC 8259's words
-abbrev IsClean : List ℕ → Type 0
+abbrev pub IsClean : List ℕ → Type 0
 IsClean [] = Unit {0}
 IsClean (b ∷ bytes) = is_word_byte b ≡ true → IsGood b → ⊥
 
@@ -46,7 +46,7 @@ begin_fits word bytes h e = absurd (true≢false (sym h))
 begin_fits ended_word bytes h e = cc
 begin_fits value bytes h e = cc
 
-blank_fits : (last : Last) (bytes : List ℕ) → Fits (blank_after last) bytes
+pub blank_fits : (last : Last) (bytes : List ℕ) → Fits (blank_after last) bytes
 blank_fits nothing bytes e = cc
 blank_fits opened bytes e = cc
 blank_fits comma bytes e = cc
@@ -66,7 +66,7 @@ still_no_name value h = h
 
 -- ---- words
 
-begins : (last : Last) (bytes : List ℕ) → (last ≡ word → ⊥) → may_begin last bytes ≡ is_json_word (take (word_length bytes) bytes)
+pub begins : (last : Last) (bytes : List ℕ) → (last ≡ word → ⊥) → may_begin last bytes ≡ is_json_word (take (word_length bytes) bytes)
 begins nothing bytes h = refl
 begins opened bytes h = refl
 begins comma bytes h = refl
@@ -95,14 +95,14 @@ json_front last b bytes other inside h =
     let both = and_parts (may_begin last (b ∷ bytes)) (is_strict_from word bytes) (sym (cond-true (is_word_byte b) _ _ inside) ∙ h) in
     (sym (begins last (b ∷ bytes) other) ∙ both.0, both.1)
 
-first_good : (last : Last) (b : ℕ) (bytes : List ℕ) → (last ≡ word → ⊥) → is_word_byte b ≡ true → is_strict_from last (b ∷ bytes) ≡ true → IsGood b
+pub first_good : (last : Last) (b : ℕ) (bytes : List ℕ) → (last ≡ word → ⊥) → is_word_byte b ≡ true → is_strict_from last (b ∷ bytes) ≡ true → IsGood b
 first_good last b bytes other inside h =
     let front = json_front last b bytes other inside h in
     let all = json_good (take (word_length (b ∷ bytes)) (b ∷ bytes)) front.0 in
     (subst (λ (n : ℕ). AllByRecursion IsGood (take n (b ∷ bytes))) (length_at b bytes inside) all).0
 
 -- a byte that begins no word of RFC 8259
-bad_first : (last : Last) (b : ℕ) (bytes : List ℕ) → Fits last (b ∷ bytes) → is_word_byte b ≡ true → (IsGood b → ⊥) → is_strict_from last (b ∷ bytes) ≡ true → ⊥
+pub bad_first : (last : Last) (b : ℕ) (bytes : List ℕ) → Fits last (b ∷ bytes) → is_word_byte b ≡ true → (IsGood b → ⊥) → is_strict_from last (b ∷ bytes) ≡ true → ⊥
 bad_first nothing b bytes fits inside bad h = bad (first_good nothing b bytes (λ e. cc) inside h)
 bad_first opened b bytes fits inside bad h = bad (first_good opened b bytes (λ e. cc) inside h)
 bad_first comma b bytes fits inside bad h = bad (first_good comma b bytes (λ e. cc) inside h)
@@ -119,12 +119,12 @@ good_behind (c ∷ core) b bytes words inside all =
     good_behind core b bytes words.1 inside (subst (λ (n : ℕ). AllByRecursion IsGood (take n (c ∷ (core ++ b ∷ bytes)))) (length_at c (core ++ b ∷ bytes) words.0) all).1
 
 -- a word before what is clean
-record IsWordBefore (core rest : List ℕ) : Type 0 where
-  ends : EndsWord rest
-  json : is_json_word core ≡ true
-  strict : is_strict_from word rest ≡ true
+pub record IsWordBefore (core rest : List ℕ) : Type 0 where
+  pub ends : EndsWord rest
+  pub json : is_json_word core ≡ true
+  pub strict : is_strict_from word rest ≡ true
 
-word_before : (last : Last) (core rest : List ℕ) → (last ≡ word → ⊥) → 0 < length core → AllByRecursion (λ c. is_word_byte c ≡ true) core → IsClean rest → is_strict_from last (core ++ rest) ≡ true → IsWordBefore core rest
+pub word_before : (last : Last) (core rest : List ℕ) → (last ≡ word → ⊥) → 0 < length core → AllByRecursion (λ c. is_word_byte c ≡ true) core → IsClean rest → is_strict_from last (core ++ rest) ≡ true → IsWordBefore core rest
 word_before last [] rest other some words clean h = absurd (omega (arith, some))
 word_before last (c ∷ core) rest other some words clean h =
     let front = json_front last c (core ++ rest) other words.0 h in
@@ -142,6 +142,16 @@ word_before last (c ∷ core) rest other some words clean h =
     ends_of : (rest : List ℕ) → IsClean rest → AllByRecursion IsGood (take (word_length ((c ∷ core) ++ rest)) ((c ∷ core) ++ rest)) → EndsWord rest
     ends_of [] clean all = tt
     ends_of (b ∷ bytes) clean all = by b bytes (λ inside. clean inside (good_behind (c ∷ core) b bytes words inside all)) (is_word_byte b) refl
+
+-- a word is passed
+pub word_same : (last : Last) (bytes rest : List ℕ) → (last ≡ word → ⊥) → 0 < length bytes → AllByRecursion (λ c. is_word_byte c ≡ true) bytes → is_json_word bytes ≡ true → EndsWord rest
+    → is_strict_from last (bytes ++ rest) ≡ is_strict_from word rest
+word_same last [] rest other some words json ends = absurd (omega (arith, some))
+word_same last (b ∷ bytes) rest other some words json ends =
+    let whole = (b ∷ bytes) ++ rest in
+    let front : take (word_length whole) whole ≡ b ∷ bytes = ap (λ (n : ℕ). take n whole) (whole_length (b ∷ bytes) rest words ends) ∙ take-append_seam (b ∷ bytes) rest in
+    let first : may_begin last whole ≡ true = begins last whole other ∙ ap is_json_word front ∙ json in
+    cond-true (is_word_byte b) _ _ words.0 ∙ ap (λ t. t && is_strict_from word (bytes ++ rest)) first ∙ rest_passed bytes rest words.1
 
 -- ---- whitespace
 
@@ -167,7 +177,7 @@ space_more last b spaces rest one r = record {
 }
 
 not_good : (b n : ℕ) → b ≡ n → (n ≡ 12) ⊎ ((n ≡ 92) ⊎ ((n ≡ 47) ⊎ (n ≡ 39))) → IsGood b → ⊥
-not_good b n e (inl f) g = g.0 (e ∙ f)
+not_good b n e (inl f) g = omega (arith, g.0, e, f)
 not_good b n e (inr (inl f)) g = g.1 (e ∙ f)
 not_good b n e (inr (inr (inl f))) g = g.2 (e ∙ f)
 not_good b n e (inr (inr (inr f))) g = g.3 (e ∙ f)

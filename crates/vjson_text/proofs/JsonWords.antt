@@ -151,35 +151,26 @@ json_word_is word h =
     (cases_Bool (is_literal word (codes "false"))))
     (cases_Bool (is_literal word (codes "true")))
 
--- no form feed, no backslash, no slash and no single quote
+-- no control character, no space, no backslash, no slash and no single quote
 abbrev pub IsGood : ℕ → Type 0
-IsGood b = (b ≢ 12) × (b ≢ 92) × (b ≢ 47) × (b ≢ 39)
+IsGood b = (32 < b) × (b ≢ 92) × (b ≢ 47) × (b ≢ 39)
 
 good_digit : (d : ℕ) → IsInRange 48 57 d → IsGood d
-good_digit d r = ((λ e. omega (arith, e, r)), (λ e. omega (arith, e, r)), (λ e. omega (arith, e, r)), (λ e. omega (arith, e, r)))
-
-good_at : (b n : ℕ) → b ≡ n → n ≢ 12 → n ≢ 92 → n ≢ 47 → n ≢ 39 → IsGood b
-good_at b n e p q r s = ((λ f. p (sym e ∙ f)), (λ f. q (sym e ∙ f)), (λ f. r (sym e ∙ f)), (λ f. s (sym e ∙ f)))
-
-good : (n : ℕ) → n ≢ 12 → n ≢ 92 → n ≢ 47 → n ≢ 39 → IsGood n
-good n p q r s = (p, q, r, s)
+good_digit d r = (omega (arith, r), (λ e. omega (arith, e, r)), (λ e. omega (arith, e, r)), (λ e. omega (arith, e, r)))
 
 good_mark : (m : ℕ) → IsExponentMark m → IsGood m
-good_mark m (inl e) = good_at m 101 e (λ f. omega (arith, f)) (λ f. omega (arith, f)) (λ f. omega (arith, f)) (λ f. omega (arith, f))
-good_mark m (inr e) = good_at m 69 e (λ f. omega (arith, f)) (λ f. omega (arith, f)) (λ f. omega (arith, f)) (λ f. omega (arith, f))
+good_mark m (inl e) = (omega (arith, e), (λ f. omega (arith, e, f)), (λ f. omega (arith, e, f)), (λ f. omega (arith, e, f)))
+good_mark m (inr e) = (omega (arith, e), (λ f. omega (arith, e, f)), (λ f. omega (arith, e, f)), (λ f. omega (arith, e, f)))
 
-good_letter : (n : ℕ) → 97 < n → IsGood n
-good_letter n h = ((λ f. omega (arith, f, h)), (λ f. omega (arith, f, h)), (λ f. omega (arith, f, h)), (λ f. omega (arith, f, h)))
-
-good_a : IsGood 97
-good_a = ((λ f. omega (arith, f)), (λ f. omega (arith, f)), (λ f. omega (arith, f)), (λ f. omega (arith, f)))
+good_letter : (n : ℕ) → 96 < n → IsGood n
+good_letter n h = (omega (arith, h), (λ f. omega (arith, f, h)), (λ f. omega (arith, f, h)), (λ f. omega (arith, f, h)))
 
 good_sign : (n : ℕ) → 42 < n → n < 47 → IsGood n
-good_sign n low high = ((λ f. omega (arith, f, low)), (λ f. omega (arith, f, high)), (λ f. omega (arith, f, high)), (λ f. omega (arith, f, low)))
+good_sign n low high = (omega (arith, low), (λ f. omega (arith, f, high)), (λ f. omega (arith, f, high)), (λ f. omega (arith, f, low)))
 
 word_good : (word : List ℕ) → IsJsonWord word → AllByRecursion IsGood word
 word_good word (is_true e) = subst (AllByRecursion IsGood) (sym e) (good_letter 116 (omega arith), (good_letter 114 (omega arith), (good_letter 117 (omega arith), (good_letter 101 (omega arith), tt))))
-word_good word (is_false e) = subst (AllByRecursion IsGood) (sym e) (good_letter 102 (omega arith), (good_a, (good_letter 108 (omega arith), (good_letter 115 (omega arith), (good_letter 101 (omega arith), tt)))))
+word_good word (is_false e) = subst (AllByRecursion IsGood) (sym e) (good_letter 102 (omega arith), (good_letter 97 (omega arith), (good_letter 108 (omega arith), (good_letter 115 (omega arith), (good_letter 101 (omega arith), tt)))))
 word_good word (is_null e) = subst (AllByRecursion IsGood) (sym e) (good_letter 110 (omega arith), (good_letter 117 (omega arith), (good_letter 108 (omega arith), (good_letter 108 (omega arith), tt))))
 word_good word (is_a_number t) =
     let minus = good_sign 45 (omega arith) (omega arith) in

@@ -6,10 +6,12 @@ pub mod LaidOutTexts
 pub mod NumberTexts
 pub mod Numbers
 pub mod PassedWords
+pub mod Pieces
 pub mod PlainTexts
 pub mod PlainWords
 pub mod Readings
+pub mod Sources
 pub mod StrictTexts
 pub mod Strings
-pub mod Taken
 pub mod Tokens
+pub mod Written

@@ -144,7 +144,7 @@ or_true false = refl
 last_one : (a b c d : Bool) → d ≡ true → (a || (b || (c || d))) ≡ true
 last_one a b c d h = ap (λ x. a || (b || (c || x))) h ∙ ap (λ x. a || (b || x)) (or_true c) ∙ ap (λ x. a || x) (or_true b) ∙ or_true a
 
-number_is_word : (bytes : List ℕ) → IsStandardText bytes → is_json_word bytes ≡ true
+pub number_is_word : (bytes : List ℕ) → IsStandardText bytes → is_json_word bytes ≡ true
 number_is_word bytes t = last_one (is_literal bytes (codes "true")) (is_literal bytes (codes "false")) (is_literal bytes (codes "null")) (is_number bytes) (number_pass bytes t)
 
 -- ---- the bytes of a number
@@ -204,7 +204,7 @@ mark_word : (m : ℕ) → IsExponentMark m → is_word_byte m ≡ true
 mark_word m (inl e) = ap is_word_byte e
 mark_word m (inr e) = ap is_word_byte e
 
-number_words : (bytes : List ℕ) → IsStandardText bytes → AllByRecursion (λ b. is_word_byte b ≡ true) bytes
+pub number_words : (bytes : List ℕ) → IsStandardText bytes → AllByRecursion (λ b. is_word_byte b ≡ true) bytes
 number_words bytes t =
     let P = λ (b : ℕ). is_word_byte b ≡ true in
     all_bytes P digit_word refl refl refl bytes t (all_exponent P digit_word refl refl refl mark_word t.exponent t.is_exponent)
@@ -229,7 +229,7 @@ plain_mark : (m : ℕ) → IsExponentMark m → plain.is_word_byte m ≡ true
 plain_mark m (inl e) = ap plain.is_word_byte e
 plain_mark m (inr e) = ap plain.is_word_byte e
 
-plain_words : (bytes : List ℕ) → IsStandardText bytes → AllByRecursion (λ b. plain.is_word_byte b ≡ true) bytes
+pub plain_words : (bytes : List ℕ) → IsStandardText bytes → AllByRecursion (λ b. plain.is_word_byte b ≡ true) bytes
 plain_words bytes t =
     let P = λ (b : ℕ). plain.is_word_byte b ≡ true in
     all_bytes P plain_digit refl refl refl bytes t (all_exponent P plain_digit refl refl refl plain_mark t.exponent t.is_exponent)
@@ -274,7 +274,7 @@ parts_text bytes p h = record {
 }
 
 -- a number without an exponent has none of its parts
-lacks_parts : (bytes : List ℕ) → AllByRecursion IsNoMark bytes → (p : Option Parts) → parts_of bytes ≡ p → parts_of bytes ≡ None
+pub lacks_parts : (bytes : List ℕ) → AllByRecursion IsNoMark bytes → (p : Option Parts) → parts_of bytes ≡ p → parts_of bytes ≡ None
 lacks_parts bytes none None e = e
 lacks_parts bytes none (Some p) e =
     let h = read bytes p e in
@@ -283,7 +283,7 @@ lacks_parts bytes none (Some p) e =
     let split : bytes ≡ front ++ h.mark ∷ tail = h.joined ∙ ap (λ l. sign_text p.negative ++ l) (sym (append_assoc p.whole h.fraction (h.mark ∷ tail))) ∙ sym (append_assoc (sign_text p.negative) (p.whole ++ h.fraction) (h.mark ∷ tail)) in
     absurd (no_mark_at front tail h.mark (subst (AllByRecursion IsNoMark) split none) h.is_mark)
 
-no_marks : (bytes : List ℕ) (t : IsStandardText bytes) → t.exponent ≡ [] → AllByRecursion IsNoMark bytes
+pub no_marks : (bytes : List ℕ) (t : IsStandardText bytes) → t.exponent ≡ [] → AllByRecursion IsNoMark bytes
 no_marks bytes t none =
     all_bytes IsNoMark (λ d r. no_mark d d (omega (arith, r)) refl) (no_mark 45 45 (omega arith) refl) (no_mark 43 43 (omega arith) refl) (no_mark 46 46 (omega arith) refl) bytes t
     (subst (AllByRecursion IsNoMark) (sym none) tt)

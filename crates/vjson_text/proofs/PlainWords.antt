@@ -128,7 +128,7 @@ first_low bytes text = by text.negative text.whole text.is_whole.digits text.joi
         low : (d : ℕ) → digit_value d < 10 → d < 58
         low d h = grind (arith, nat_tests)
 
-no_letter : (bytes small : List ℕ) (first : ℕ) → 97 ≤ first → map to_ascii_lowercase bytes ≡ first ∷ small → IsStandardText bytes → ⊥
+pub no_letter : (bytes small : List ℕ) (first : ℕ) → 97 ≤ first → map to_ascii_lowercase bytes ≡ first ∷ small → IsStandardText bytes → ⊥
 no_letter bytes small first high e text =
     let f = first_low bytes text in
     let same : to_ascii_lowercase f.0 ≡ first = heads (to_ascii_lowercase f.0) first (map to_ascii_lowercase f.1) small (ap (map to_ascii_lowercase) (sym f.2) ∙ e) in

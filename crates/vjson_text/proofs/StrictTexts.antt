@@ -147,7 +147,7 @@ digits_passed : (digits more : List ℕ) → AllByRecursion IsHexDigit digits �
 digits_passed [] more h = refl
 digits_passed (d ∷ digits) more h = ap (λ b. b && in_string (length digits) (digits ++ more)) (hex_digit d h.0) ∙ digits_passed digits more h.1
 
-by_recursion : (ds : List ℕ) → All IsHexDigit ds → AllByRecursion IsHexDigit ds
+pub by_recursion : (ds : List ℕ) → All IsHexDigit ds → AllByRecursion IsHexDigit ds
 by_recursion [] h = tt
 by_recursion (d ∷ ds) h = (h 0 0 (omega arith), by_recursion ds (λ k x low. h (suc k) x (omega (arith, low))))
 
