@@ -281,8 +281,8 @@ func TestVectors(t *testing.T) {
 		t.Skip("tests/vectors.jsonl is missing")
 	}
 	type answer struct {
-		Refused, Text, Printed string
-		Position               int
+		Rejected, Text, Printed string
+		Position                int
 	}
 	var documents [][]byte
 	accepted, rejected := 0, 0

@@ -230,6 +230,8 @@ pub enum Error {
     NoPath,
     /// The bytes aren't a sort key.
     NoKey,
+    /// The bytes aren't a document.
+    NoDocument,
     /// The value would have more than 512 nested arrays and objects.
     TooDeep,
     /// Memory ran out.
@@ -254,6 +256,14 @@ impl Error {
             _ => Error::NoKey,
         }
     }
+
+    /// The error of a status of a call over documents.
+    pub(crate) fn of_document(status: u32) -> Error {
+        match Error::of_key(status) {
+            Error::NoKey => Error::NoDocument,
+            error => error,
+        }
+    }
 }
 
 impl From<Rejection> for Error {
@@ -268,6 +278,7 @@ impl fmt::Display for Error {
             Error::Rejected(rejection) => rejection.fmt(out),
             Error::NoPath => out.write_str("the path isn't a JSON Pointer (RFC 6901)"),
             Error::NoKey => out.write_str("the bytes aren't a sort key"),
+            Error::NoDocument => out.write_str("the bytes aren't a document"),
             Error::TooDeep => out.write_str("the value would have more than 512 nested arrays and objects"),
             Error::OutOfMemory => out.write_str("memory ran out"),
         }

@@ -1,5 +1,5 @@
 //! JSON documents by value, over the library libvizhoniku: whether a text is a document, its value written in one form,
-//! sort keys whose bytes compare as the values do, and sort keys as documents whose parts are found and changed.
+//! sort keys whose bytes compare as the values do, and sort keys and documents whose parts are found and changed.
 //!
 //! Equal values have equal keys, and `9.5` is below `10`:
 //!
@@ -25,11 +25,13 @@
 #[doc = include_str!("../README.md")]
 struct Readme;
 
+mod document;
 mod error;
 mod ffi;
 mod key;
 mod parse;
 
+pub use document::Document;
 pub use error::{Code, Error, Rejection};
 pub use key::{Items, Key, KeyRef, Kind, Members};
 use parse::parse;
@@ -139,6 +141,22 @@ pub fn sort_key(text: impl AsRef<[u8]>, mode: Mode) -> Result<Key, Error> {
     })?;
     accept(status)?;
     Ok(Key::of(written))
+}
+
+/// The document of the text's value: its sort key with all digits kept.
+///
+/// # Errors
+///
+/// [`Error::Rejected`] for a text that is no document of the mode, and [`Error::OutOfMemory`].
+pub fn document(text: impl AsRef<[u8]>, mode: Mode) -> Result<Document, Error> {
+    let (written, status) = parse([text.as_ref()], mode, |[text], error| {
+        write(text.len().saturating_add(16), |buffer, capacity, size| {
+            // SAFETY: as in `text`.
+            unsafe { ffi::vizhoniku_document(mode as u32, text.as_ptr(), text.len(), buffer, capacity, size, error) }
+        })
+    })?;
+    accept(status)?;
+    Ok(Document::of(written))
 }
 
 /// What [`text`] and [`sort_key`] return.

@@ -1,10 +1,10 @@
-//! The functions and the structs of src/ffi.rs are those of vizhoniku.h. The crate has no call for documents and for the
-//! zeros of decimals, and makes keys and paths of Rust's own types.
+//! The functions and the structs of src/ffi.rs are those of vizhoniku.h. The crate has no call for the zeros of decimals,
+//! compares documents and makes keys and paths by Rust's own types.
 
 use std::collections::BTreeMap;
 use std::path::Path;
 
-const LEFT_OUT: [&str; 19] = [
+const LEFT_OUT: [&str; 10] = [
     "vizhoniku_zeros_of_text",
     "vizhoniku_text_with_zeros",
     "vizhoniku_key_numbers",
@@ -13,17 +13,8 @@ const LEFT_OUT: [&str; 19] = [
     "vizhoniku_key_boolean",
     "vizhoniku_key_of_string",
     "vizhoniku_path_step",
-    "vizhoniku_document",
-    "vizhoniku_document_text",
-    "vizhoniku_document_key",
     "vizhoniku_document_compare",
-    "vizhoniku_document_part",
     "vizhoniku_document_range",
-    "vizhoniku_document_set",
-    "vizhoniku_document_remove",
-    "vizhoniku_document_put",
-    "vizhoniku_document_push",
-    "vizhoniku_document_merge",
 ];
 
 fn between<'a>(text: &'a str, left: &str, right: &str) -> Vec<(&'a str, &'a str)> {
@@ -80,7 +71,8 @@ fn the_declarations_are_those_of_the_header() {
     let (header, ours) = (without_comments(&header), include_str!("../src/ffi.rs"));
 
     let mut wanted = BTreeMap::new();
-    for (result, begin) in [("uint32_t ", " -> u32"), ("void ", "")] {
+    for (result, begin) in [("uint32_t ", " -> u32"), ("int32_t ", " -> i32"), ("size_t ", " -> usize"), ("void ", "")]
+    {
         for (name, parameters) in between(&header, &format!("\n{result}"), ");") {
             let parameters = words(parameters);
             let parameters: Vec<String> = match parameters.as_str() {

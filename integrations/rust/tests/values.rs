@@ -3,7 +3,10 @@
 use std::cmp::Ordering;
 use std::collections::{hash_map::DefaultHasher, BTreeSet, HashSet};
 use std::hash::{Hash, Hasher};
-use vizhoniku::{check, compare, part, sort_key, text, text_and_key, version, Code, Error, Key, KeyRef, Kind, Mode};
+use vizhoniku::{
+    check, compare, document, part, sort_key, text, text_and_key, version, Code, Document, Error, Key, KeyRef, Kind,
+    Mode,
+};
 
 /// Documents in the order of their values; those of one line are equal.
 const IN_ORDER: [&[&str]; 24] = [
@@ -223,4 +226,68 @@ fn deep() {
         let error = check(format!("{front}{given}{back}"), Mode::Standard).expect_err("an error");
         assert_eq!(error.rejection().map(|it| it.code()), Some(Code::DepthLimitExceeded));
     }
+}
+
+fn kept(text: &str) -> Document {
+    document(text, Mode::Extended).expect(text)
+}
+
+#[test]
+fn documents_keep_all_digits() {
+    for (text, bytes) in [
+        ("1.5", &[0xA1, 0x1E][..]),
+        ("1.50", &[0xA1, 0x1E, 0, 1, 2, 0xFF]),
+        ("[1,2.500,\"x\"]", &[0xD2, 0xA1, 0x14, 0xA1, 0x32, 0xD0, 0x78, 0, 1, 0, 3, 2, 2, 0xFF]),
+    ] {
+        assert_eq!(kept(text).as_bytes(), bytes);
+        assert_eq!(kept(text).to_text().as_deref(), Ok(text));
+        assert_eq!(kept(text).key(), &*key(text));
+        assert_eq!(Document::from_trusted_bytes(bytes.to_vec()), kept(text));
+    }
+    assert_eq!(kept("1.50e1").to_string(), "15.0");
+    assert_eq!(format!("{:?}", kept("[2.0]")), "Document([2.0])");
+    assert_eq!(Document::from(key("[1.50]")).to_string(), "[1.5]");
+    assert_eq!(document("[1,", Mode::Standard).unwrap_err().to_string(), "line 1, column 4: EOF while parsing a value");
+}
+
+#[test]
+fn documents_have_the_order_of_values() {
+    for (i, left) in IN_ORDER.iter().enumerate() {
+        for (j, right) in IN_ORDER.iter().enumerate() {
+            for (one, two) in left.iter().flat_map(|one| right.iter().map(move |two| (one, two))) {
+                assert_eq!(kept(one).key().cmp(kept(two).key()), i.cmp(&j), "{one} {two}");
+                if i != j {
+                    assert_eq!(kept(one).cmp(&kept(two)), i.cmp(&j), "{one} {two}");
+                }
+            }
+        }
+    }
+    assert!(kept("1.5") < kept("1.50") && kept("1.50") < kept("1.51"));
+}
+
+#[test]
+fn documents_are_changed() {
+    let shown = |made: Result<Option<Document>, Error>| made.expect("no error").map(|made| made.to_string());
+    let (price, tax) = (kept("{net: 1.50, tax: [0.10, 2]}"), kept("7.0"));
+    for (made, text) in [
+        (price.set("/tax/-1", &tax, false), Some(r#"{"net":1.50,"tax":[0.10,7.0]}"#)),
+        (price.set("/tax/2", &tax, true), Some(r#"{"net":1.50,"tax":[0.10,2,7.0]}"#)),
+        (price.set("/sum", &tax, false), None),
+        (price.remove("/net"), Some(r#"{"tax":[0.10,2]}"#)),
+        (price.remove("/sum"), None),
+        (price.put("sum", &tax), Some(r#"{"net":1.50,"sum":7.0,"tax":[0.10,2]}"#)),
+        (price.push(&tax), None),
+        (kept("[1.0]").push(&tax), Some("[1.0,7.0]")),
+        (price.pointer("/tax"), Some("[0.10,2]")),
+        (price.pointer("/tax/2"), None),
+        (price.merge(&kept("{net: 2.00}")).map(Some), Some(r#"{"net":2.00,"tax":[0.10,2]}"#)),
+        (tax.merge(&kept("[1.0]")).map(Some), Some("[7.0,1.0]")),
+    ] {
+        assert_eq!(shown(made).as_deref(), text);
+    }
+    assert_eq!(price.remove("net"), Err(Error::NoPath));
+    let deep = kept(&("[".repeat(512) + &"]".repeat(512)));
+    assert_eq!(kept("[0]").set("/0", &deep, false), Err(Error::TooDeep));
+    assert_eq!(Document::from_trusted_bytes(vec![0]).to_text(), Err(Error::NoDocument));
+    assert_eq!(Error::NoDocument.to_string(), "the bytes aren't a document");
 }

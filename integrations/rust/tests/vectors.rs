@@ -26,7 +26,7 @@ fn each_text_has_its_answer() {
         let input = bytes_of(&string(&row, "/input").expect("an input"));
         for (name, mode) in [("standard", Mode::Standard), ("extended", Mode::Extended)] {
             let answer = row.get(name).expect("an answer");
-            let not_carried = string(answer, "/refused").map_or(false, |it| it.to_lowercase() == "numbernotcarried");
+            let not_carried = string(answer, "/rejected").map_or(false, |it| it.to_lowercase() == "numbernotcarried");
             if mode == Mode::Extended && not_carried {
                 continue; // of these tests/exponents.rs tries some
             }
@@ -49,7 +49,7 @@ fn each_text_has_its_answer() {
                 let printed = format!("{}, pos {position}", rejection.message());
                 assert_eq!(printed, string(answer, "/printed").expect("a message"));
                 let code = format!("{:?}", rejection.code()).to_lowercase();
-                assert_eq!(code, string(answer, "/refused").expect("a code").to_lowercase());
+                assert_eq!(code, string(answer, "/rejected").expect("a code").to_lowercase());
                 assert!(rejection.offset() <= input.len());
                 let front = &input[..rejection.offset()];
                 assert_eq!(rejection.line(), 1 + front.iter().filter(|&&byte| byte == b'\n').count());
