@@ -47,6 +47,12 @@ static inline struct outcome call_sort_key(uint32_t mode, bytes text, size_t tex
   return outcome;
 }
 
+static inline struct outcome call_document(uint32_t mode, bytes text, size_t text_size, buffer to, size_t capacity) {
+  struct outcome outcome = {0};
+  outcome.status = vizhoniku_document(mode, text, text_size, to, capacity, &outcome.size, &outcome.error);
+  return outcome;
+}
+
 static inline struct outcome call_text_and_key(uint32_t mode, bytes text, size_t text_size, buffer to, size_t capacity,
                                                buffer key_to, size_t key_capacity) {
   struct outcome outcome = {0};
@@ -180,6 +186,57 @@ static inline struct outcome call_key_merge(bytes left, size_t left_size, bytes 
                                             size_t capacity) {
   struct outcome outcome = {0};
   outcome.status = vizhoniku_key_merge(left, left_size, right, right_size, to, capacity, &outcome.size);
+  return outcome;
+}
+
+static inline struct outcome call_document_text(bytes document, size_t document_size, buffer to, size_t capacity) {
+  struct outcome outcome = {0};
+  outcome.status = vizhoniku_document_text(document, document_size, to, capacity, &outcome.size);
+  return outcome;
+}
+
+static inline struct outcome call_document_part(bytes document, size_t document_size, bytes path, size_t path_size,
+                                                buffer to, size_t capacity) {
+  struct outcome outcome = {0};
+  outcome.status = vizhoniku_document_part(document, document_size, path, path_size, to, capacity, &outcome.size);
+  return outcome;
+}
+
+static inline struct outcome call_document_set(bytes document, size_t document_size, bytes path, size_t path_size,
+                                               bytes part, size_t part_size, uint32_t create, buffer to,
+                                               size_t capacity) {
+  struct outcome outcome = {0};
+  outcome.status = vizhoniku_document_set(document, document_size, path, path_size, part, part_size, create, to,
+                                          capacity, &outcome.size);
+  return outcome;
+}
+
+static inline struct outcome call_document_remove(bytes document, size_t document_size, bytes path, size_t path_size,
+                                                  buffer to, size_t capacity) {
+  struct outcome outcome = {0};
+  outcome.status = vizhoniku_document_remove(document, document_size, path, path_size, to, capacity, &outcome.size);
+  return outcome;
+}
+
+static inline struct outcome call_document_put(bytes document, size_t document_size, bytes name, size_t name_size,
+                                               bytes value, size_t value_size, buffer to, size_t capacity) {
+  struct outcome outcome = {0};
+  outcome.status = vizhoniku_document_put(document, document_size, name, name_size, value, value_size, to, capacity,
+                                          &outcome.size);
+  return outcome;
+}
+
+static inline struct outcome call_document_push(bytes document, size_t document_size, bytes item, size_t item_size,
+                                                buffer to, size_t capacity) {
+  struct outcome outcome = {0};
+  outcome.status = vizhoniku_document_push(document, document_size, item, item_size, to, capacity, &outcome.size);
+  return outcome;
+}
+
+static inline struct outcome call_document_merge(bytes left, size_t left_size, bytes right, size_t right_size, buffer to,
+                                                 size_t capacity) {
+  struct outcome outcome = {0};
+  outcome.status = vizhoniku_document_merge(left, left_size, right, right_size, to, capacity, &outcome.size);
   return outcome;
 }
 

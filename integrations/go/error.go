@@ -33,6 +33,7 @@ var (
 	ErrNoPart      = errors.New("vizhoniku: there is no such part")
 	ErrPath        = errors.New("vizhoniku: the path isn't a JSON Pointer (RFC 6901)")
 	ErrKey         = errors.New("vizhoniku: the bytes aren't a sort key")
+	ErrDocument    = errors.New("vizhoniku: the bytes aren't a document")
 	ErrTooDeep     = errors.New("vizhoniku: the value would have more than 512 nested arrays and objects")
 	ErrOutOfMemory = errors.New("vizhoniku: memory ran out")
 	ErrMode        = errors.New("vizhoniku: no mode has this number")
@@ -119,6 +120,8 @@ func errorOfStatus(status C.uint32_t) error {
 		return ErrPath
 	case C.VIZHONIKU_NO_KEY:
 		return ErrKey
+	case C.VIZHONIKU_NO_DOCUMENT:
+		return ErrDocument
 	case C.VIZHONIKU_TOO_DEEP:
 		return ErrTooDeep
 	case C.VIZHONIKU_UNKNOWN_MODE:

@@ -274,6 +274,71 @@ func TestJSON(t *testing.T) {
 	equal(t, fmt.Sprint(err), "line 1, column 4: number not carried")
 }
 
+func documentOf(t *testing.T, text string) Document {
+	t.Helper()
+	document, err := DocumentOf([]byte(text), Extended)
+	equal(t, err, nil)
+	return document
+}
+
+// Documents keep all digits.
+func TestDocuments(t *testing.T) {
+	for text, bytes := range map[string]string{
+		"1.5":             "\xA1\x1E",
+		"1.50":            "\xA1\x1E\x00\x01\x02\xFF",
+		"[1,2.500,\"x\"]": "\xD2\xA1\x14\xA1\x32\xD0\x78\x00\x01\x00\x03\x02\x02\xFF",
+	} {
+		document := documentOf(t, text)
+		equal(t, document, Document(bytes))
+		equal(t, document.String(), text)
+		key, err := SortKey([]byte(text), Extended)
+		equal(t, []any{document.Key(), err}, []any{key, nil})
+	}
+	equal(t, documentOf(t, "1.50e1").String(), "15.0")
+	equal(t, documentOf(t, "1.5") < documentOf(t, "1.50") && documentOf(t, "1.50") < documentOf(t, "1.51"), true)
+	_, err := DocumentOf([]byte("[1,"), Standard)
+	equal(t, err.Error(), "line 1, column 4: EOF while parsing a value")
+	var prices struct{ Net, Tax Document }
+	equal(t, json.Unmarshal([]byte(`{"Net": 1.50, "Tax": [0.10]}`), &prices), nil)
+	written, err := json.Marshal(prices)
+	equal(t, []any{string(written), err}, []any{`{"Net":1.50,"Tax":[0.10]}`, nil})
+}
+
+// Changes of documents.
+func TestDocumentChanges(t *testing.T) {
+	price, tax := documentOf(t, "{net: 1.50, tax: [0.10, 2]}"), documentOf(t, "7.0")
+	deep := documentOf(t, strings.Repeat("[", 512)+strings.Repeat("]", 512))
+	for _, row := range []struct {
+		made func() (Document, error)
+		text string
+		err  error
+	}{
+		{func() (Document, error) { return price.Set("/tax/-1", tax, false) }, `{"net":1.50,"tax":[0.10,7.0]}`, nil},
+		{func() (Document, error) { return price.Set("/tax/2", tax, true) }, `{"net":1.50,"tax":[0.10,2,7.0]}`, nil},
+		{func() (Document, error) { return price.Set("/sum", tax, false) }, "", ErrNoPart},
+		{func() (Document, error) { return price.Remove("/net") }, `{"tax":[0.10,2]}`, nil},
+		{func() (Document, error) { return price.Remove("net") }, "", ErrPath},
+		{func() (Document, error) { return price.Put("sum", tax) }, `{"net":1.50,"sum":7.0,"tax":[0.10,2]}`, nil},
+		{func() (Document, error) { return price.Put("\xff", tax) }, "", ErrPath},
+		{func() (Document, error) { return price.Push(tax) }, "", ErrNoPart},
+		{func() (Document, error) { return documentOf(t, "[1.0]").Push(tax) }, "[1.0,7.0]", nil},
+		{func() (Document, error) { return price.Part("/tax") }, "[0.10,2]", nil},
+		{func() (Document, error) { return price.Part("/tax/2") }, "", ErrNoPart},
+		{func() (Document, error) { return price.Merge(documentOf(t, "{net: 2.00}")) }, `{"net":2.00,"tax":[0.10,2]}`, nil},
+		{func() (Document, error) { return tax.Merge(documentOf(t, "[1.0]")) }, "[7.0,1.0]", nil},
+		{func() (Document, error) { return documentOf(t, "[0]").Set("/0", deep, false) }, "", ErrTooDeep},
+	} {
+		made, err := row.made()
+		equal(t, err, row.err)
+		if err == nil {
+			equal(t, made.String(), row.text)
+		}
+	}
+	_, err := Document("\x00").Text()
+	equal(t, err, ErrDocument)
+	equal(t, Document("").Key(), Key(""))
+}
+
 // The texts of tests/vectors.jsonl with their answers.
 func TestVectors(t *testing.T) {
 	file, err := os.ReadFile("../../tests/vectors.jsonl")
