@@ -182,10 +182,6 @@ pub fn look_through(text: &[u8]) -> Result<bool, usize>
     let mut last = Last::Nothing;
     let mut marked = false;
     'tokens: while let Some((byte, more)) = rest.split_first() {
-        if *byte == b' ' {
-            rest = more;
-            continue;
-        }
         if *byte == b'"' {
             let behind = after_string(more)?;
             let (next, later) = after_value(behind);

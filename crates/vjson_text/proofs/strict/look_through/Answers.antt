@@ -1,10 +1,9 @@
 use Rattle.std.proofs.Common.{ℕ, ◌∷◌, ◌&&◌, true≢false, sym, ap, ◌∙◌, arith}
 use Rattle.vjson_text.specs.Strict.{is_strict_from, ended_word}
-use Rattle.vjson_text.specs.Word.{is_word_byte}
 use Rattle.vjson_text.specs.View.{last_view}
 use Rattle.vjson_text.proofs.Exponents.{from_mark, from_quote}
 use Rattle.vjson_text.proofs.PassedWords.{exponent_passed, passed_below, passed_within, word_passed}
-use Rattle.vjson_text.proofs.Tokens.{stays, whole_word}
+use Rattle.vjson_text.proofs.Tokens.{whole_word}
 use Rattle.vjson_text.proofs.strict.look_through.Goals as goal
 
 pub tokens-preserved-in-Some-after_plain_word : goal.tokens-preserved-in-Some-after_plain_word
@@ -29,15 +28,6 @@ tokens-preserved-then-is_word_byte c = record {
       ∙ ap (λ t. t && is_strict_from ended_word c.split_at.result.1.now) (sym c.is_json_word.ensures ∙ c.if-not-is_json_word.false);
   within = omega (arith, c.tokens.invariant.within, c.split_at.ensures.back_len);
   plain = λ e. absurd (true≢false e);
-}
-
-pub tokens-preserved-then-byte-eq32 : goal.tokens-preserved-then-byte-eq32
-tokens-preserved-then-byte-eq32 c = record {
-  same = c.tokens.invariant.same ∙ ap (is_strict_from (last_view c.tokens.last)) c.in-Some.ensures.cases.0
-      ∙ ap (λ (n : ℕ). is_strict_from (last_view c.tokens.last) (n ∷ c.in-Some.more.now)) c.if-byte-eq32.true ∙ ap (λ l. is_strict_from l c.in-Some.more.now) (stays c.tokens.last);
-  within = omega (arith, c.tokens.invariant.within, c.in-Some.ensures.cases.1);
-  plain = λ e. from_mark c.args.text.now c.tokens.rest.now c.in-Some.byte.now c.in-Some.more.now (c.tokens.invariant.plain e) c.in-Some.ensures.cases.0
-      (ap (λ (n : ℕ). is_word_byte n) c.if-byte-eq32.true) (λ q. omega (arith, q, c.if-byte-eq32.true));
 }
 
 pub tokens-preserved-then-byte-eq34 : goal.tokens-preserved-then-byte-eq34
