@@ -393,9 +393,11 @@ uint32_t vizhoniku_zeros_of_numbers(const unsigned char *zeros, size_t zeros_siz
  * decimals, these behind it. So
  *
  *  - a sort key is the document of a value without such zeros: what was stored as a key is a document;
- *  - documents compare, as memcmp does and the shorter first, as their values do; of equal values, by their zeros;
- *  - two values are equal exactly where the keys of their documents are equal. An index by value is one over the keys,
- *    whose size vizhoniku_document_key returns.
+ *  - documents compare, as memcmp does and the shorter first, as their values do; of equal values, by their zeros. The
+ *    key of a value is not above any document of that value or of one above it, and above all those of values below it:
+ *    so keys bound a range of documents;
+ *  - two values are equal exactly where the keys of their documents are equal, and have one text exactly where the
+ *    documents are. An index by value is one over the keys, whose size vizhoniku_document_key returns.
  *
  * A document ends where the store says: nothing follows it, as it may follow a key. In a composite key take the
  * document's key.

@@ -18,3 +18,5 @@ pub mod MembersJoined
 pub mod NoZeros
 pub mod Numbering
 pub mod Texts
+pub mod Twins
+pub mod Apart

@@ -14,12 +14,12 @@ but_last key zeros = (key ++ zeros) ++ reverse (in_sevens 8 (length zeros))
 regroup : (a b c d : List ℕ) → a ++ (b ++ (c ++ d)) ≡ ((a ++ b) ++ c) ++ d
 regroup a b c d = simp append_assoc
 
-tail_cases : (key zeros document : List ℕ) → document ≡ key ++ behind_key zeros → ((zeros ≡ []) × (document ≡ key)) ⊎ (document ≡ but_last key zeros ++ 255 ∷ [])
+pub tail_cases : (key zeros document : List ℕ) → document ≡ key ++ behind_key zeros → ((zeros ≡ []) × (document ≡ key)) ⊎ (document ≡ but_last key zeros ++ 255 ∷ [])
 tail_cases key [] document e = inl (refl, e ∙ append-nil key)
 tail_cases key (z ∷ zs) document e =
     inr (e ∙ ap (λ l. key ++ ((z ∷ zs) ++ l)) (reverse-append (255 ∷ []) (in_sevens 8 (length (z ∷ zs)))) ∙ regroup key (z ∷ zs) (reverse (in_sevens 8 (length (z ∷ zs)))) (255 ∷ []))
 
-same_last : (a b : List ℕ) (x y : ℕ) → a ++ x ∷ [] ≡ b ++ y ∷ [] → (a ≡ b) × (x ≡ y)
+pub same_last : (a b : List ℕ) (x y : ℕ) → a ++ x ∷ [] ≡ b ++ y ∷ [] → (a ≡ b) × (x ≡ y)
 same_last a b x y e =
     let r : x ∷ reverse a ≡ y ∷ reverse b = sym (reverse-append a (x ∷ [])) ∙ ap reverse e ∙ reverse-append b (y ∷ []) in
     (turned_back a b (tails x y (reverse a) (reverse b) r), heads x y (reverse a) (reverse b) r)

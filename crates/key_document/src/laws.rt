@@ -9,6 +9,8 @@ ghost use Rattle.std.specs.Ordering.{ordering_then};
 ghost use Rattle.jsonb_spec.specs.Order.{bytes_cmp, tree_cmp};
 ghost use Rattle.jsonb_spec.specs.Proper.{IsProper};
 ghost use Rattle.jsonb_spec.specs.SortKey.{key_of};
+ghost use Rattle.jsonb_spec.specs.Text.{tree_text};
+ghost use Rattle.jsonb_spec.specs.Text.Range.{IsInRange};
 ghost use Rattle.jsonb_spec.specs.Tree.{Tree, Trees, Members, more_members};
 ghost use Rattle.key_document.specs.Changes.{IsPartBehind};
 ghost use Rattle.key_document.specs.Document.{behind_key, counts_at, counts_at_items, document_of, zeros_at, zeros_mark, EndsUnlike};
@@ -79,4 +81,13 @@ pub fn keys_end_unlike_zeros()
 /// What is behind a key is short: at most two bytes for each byte of the key, and ten.
 pub fn tails_are_short()
     ensures { (t : Tree) → IsProper t → length (behind_key (zeros_at t)) ≤ 2 * length (key_of t) + 10 }
+{}
+
+/// Values that have one document have one serialized form. Those in range, as the values of texts are, have one document
+/// where they have one serialized form.
+pub fn documents_tell_texts_apart()
+    ensures text { (t u : Tree) → IsReadable t → IsReadable u → document_of t ≡ document_of u
+        → tree_text t ≡ tree_text u }
+    ensures document { (t u : Tree) → IsProper t → IsProper u → IsInRange t → IsInRange u
+        → tree_text t ≡ tree_text u → document_of t ≡ document_of u }
 {}

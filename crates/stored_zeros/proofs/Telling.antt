@@ -16,7 +16,7 @@ use Rattle.stored_zeros.proofs.Splitting.{NextEntry, split}
 use Rattle.stored_zeros.proofs.Restoring.{same_number}
 
 -- a number in groups of seven bits is separated from what follows
-sevens_same : (more n m : ℕ) (xs ys : List ℕ) → in_sevens more n ++ xs ≡ in_sevens more m ++ ys → (n ≡ m) × (xs ≡ ys)
+pub sevens_same : (more n m : ℕ) (xs ys : List ℕ) → in_sevens more n ++ xs ≡ in_sevens more m ++ ys → (n ≡ m) × (xs ≡ ys)
 sevens_same zero n m xs ys e =
     let there : n ∷ xs ≡ m ∷ ys = sym (ap (λ t. t ++ xs) (last n)) ∙ e ∙ ap (λ t. t ++ ys) (last m) in
     (heads n m xs ys there, tails n m xs ys there)
