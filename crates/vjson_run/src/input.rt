@@ -74,6 +74,10 @@ fn append_buffered_line<R: BufRead>(input: &mut R, buf: &mut Vec<u8>) -> io::Res
 
 /// Appends what the input has up to its next line feed, and that, as `read_until` does; a line that the input holds is
 /// found at once. Returns how many bytes it appended.
+///
+/// # Errors
+///
+/// Where the input fails, or memory runs out.
 pub fn read_line<R: BufRead>(input: &mut R, buf: &mut Vec<u8>) -> io::Result<usize>
     ensures ok { IfOk result (λ n. vec_len buf.new ≡ vec_len buf.old + n) }
     ensures bytes { OnOk result (IfSome (R.remaining input.old)
