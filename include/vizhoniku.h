@@ -419,11 +419,17 @@ uint32_t vizhoniku_zeros_of_numbers(const unsigned char *zeros, size_t zeros_siz
  *  - VIZHONIKU_TOO_DEEP, VIZHONIKU_NO_PATH, VIZHONIKU_OUT_OF_MEMORY: *size is 0, and nothing was written.
  *
  * Any bytes may be passed as a document; they aren't checked as a whole, and of bytes that are none any bytes may be
- * written. */
+ * written. A document from outside is checked by vizhoniku_document_check first. */
 
 /* Writes the document of the text's value. The statuses and the error are those of vizhoniku_text. */
 uint32_t vizhoniku_document(uint32_t mode, const unsigned char *text, size_t text_size, unsigned char *buffer,
                             size_t buffer_size, size_t *size, struct vizhoniku_error *error);
+
+/* Checks whether bytes are the document of a value that a text can have: JSON, with at most 512 nested arrays and objects,
+ * and numbers of at most 38 digits, before and behind the point. VIZHONIKU_NO_DOCUMENT: they aren't. Each text has one
+ * document. The text is written for that and its document made, so of bytes that are none it may take memory for the
+ * zeros that they have, at most 255 for each two bytes. */
+uint32_t vizhoniku_document_check(const unsigned char *document, size_t document_size);
 
 /* Writes the serialized form of the document's value, as vizhoniku_text wrote it of the text that the document was made
  * of. */

@@ -70,6 +70,7 @@ uint32_t proved_zeros_of_numbers(const unsigned char *zeros, size_t zeros_size, 
                                  size_t *plain, unsigned char *buffer, size_t buffer_size, size_t *size);
 uint32_t proved_document(uint32_t mode, const unsigned char *text, size_t text_size, unsigned char *buffer,
                          size_t buffer_size, size_t *size, struct vizhoniku_error *error);
+uint32_t proved_document_check(const unsigned char *document, size_t document_size);
 uint32_t proved_document_text(const unsigned char *document, size_t document_size, unsigned char *buffer,
                               size_t buffer_size, size_t *size);
 size_t proved_document_key(const unsigned char *document, size_t document_size);
@@ -284,6 +285,10 @@ uint32_t vizhoniku_document(uint32_t mode, const unsigned char *text, size_t tex
                             size_t buffer_size, size_t *size, struct vizhoniku_error *error) {
   return proved_document(mode, bytes_at(text, text_size), text_size, buffer_at(buffer, buffer_size), buffer_size, size,
                          error);
+}
+
+uint32_t vizhoniku_document_check(const unsigned char *document, size_t document_size) {
+  return proved_document_check(bytes_at(document, document_size), document_size);
 }
 
 uint32_t vizhoniku_document_text(const unsigned char *document, size_t document_size, unsigned char *buffer,

@@ -336,6 +336,7 @@ enum key_function {
   KEY_PUT,
   KEY_PUSH,
   KEY_MERGE,
+  DOCUMENT_CHECK,
   DOCUMENT_TEXT,
   DOCUMENT_PART,
   DOCUMENT_RANGE,
@@ -361,7 +362,7 @@ static const char *const key_functions[] = {
     "vizhoniku_key_check", "vizhoniku_key_count", "vizhoniku_key_next", "vizhoniku_key_member", "vizhoniku_key_item",
     "vizhoniku_key_part", "vizhoniku_key_string", "vizhoniku_key_contains", "vizhoniku_key_numbers",
     "vizhoniku_key_part with an escape", "vizhoniku_key_text", "vizhoniku_key_set", "vizhoniku_key_remove",
-    "vizhoniku_key_put", "vizhoniku_key_push", "vizhoniku_key_merge", "vizhoniku_document_text",
+    "vizhoniku_key_put", "vizhoniku_key_push", "vizhoniku_key_merge", "vizhoniku_document_check", "vizhoniku_document_text",
     "vizhoniku_document_part",
     "vizhoniku_document_range", "vizhoniku_document_set", "vizhoniku_document_remove", "vizhoniku_document_put",
     "vizhoniku_document_push", "vizhoniku_document_merge", "vizhoniku_zeros_of_text",
@@ -416,6 +417,7 @@ static uint32_t call_over_key(enum key_function function, const struct text *key
       return vizhoniku_key_put(key->bytes, key->size, NAME, 4, null_key, sizeof null_key, buffer, room, size);
     case KEY_PUSH:
       return vizhoniku_key_push(key->bytes, key->size, null_key, sizeof null_key, buffer, room, size);
+    case DOCUMENT_CHECK: return vizhoniku_document_check(key->bytes, key->size);
     case DOCUMENT_TEXT: return vizhoniku_document_text(key->bytes, key->size, buffer, room, size);
     case DOCUMENT_PART: return vizhoniku_document_part(key->bytes, key->size, PATH, 2, buffer, room, size);
     case DOCUMENT_RANGE: return vizhoniku_document_range(key->bytes, key->size, 0, key->size, buffer, room, size);
@@ -470,11 +472,13 @@ static size_t levels_of(const struct text *text) {
 }
 
 /* What the key of each function may hold at most: nothing, or what is written of it. A text is at most six times as
- * long as its key, and the others twice. A path takes some bytes more. Zeros take what is written of them alone, and so
+ * long as its key, and the others twice. A path takes some bytes more. A document is checked by its
+ * text, of which the serialized form, the key and the document are made. Zeros take what is written of them alone, and so
  * do numbers with exponents, beside the text. For the path of an error the text is copied into a vector. */
 static size_t bound_over_key(enum key_function function, const struct text *key, size_t written) {
   if (function < TAKES_MEMORY) return 0;
   if (function == KEY_ESCAPED_PART) return 256;
+  if (function == DOCUMENT_CHECK) return 512 + 12 * key->size;
   if (function == PLAIN_NUMBERS) return 512 + key->size + ROOM(written);
   if (function == MASKED_NUMBERS) return 512 + key->size;
   if (function == ERROR_PATH) return 512 + ROOM(key->size) + ROOM(written) + levels_of(key) * STEP;

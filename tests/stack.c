@@ -194,7 +194,7 @@ static struct text make(const struct shape *shape) {
  * by a number. */
 enum function {
   CHECK, TEXT, SORT_KEY, TEXT_AND_KEY, DOCUMENT, PART, COMPARE, MESSAGE, REASON, KEY_CHECK, KEY_TEXT, KEY_PART,
-  KEY_COUNT, KEY_CONTAINS, KEY_SET, KEY_REMOVE, KEY_MERGE, KEY_NUMBERS, DOCUMENT_TEXT, DOCUMENT_PART, DOCUMENT_SET,
+  KEY_COUNT, KEY_CONTAINS, KEY_SET, KEY_REMOVE, KEY_MERGE, KEY_NUMBERS, DOCUMENT_CHECK, DOCUMENT_TEXT, DOCUMENT_PART, DOCUMENT_SET,
   DOCUMENT_REMOVE, DOCUMENT_MERGE, ZEROS, TEXT_WITH_ZEROS,
   PLAIN_NUMBERS, MASKED_NUMBERS, ERROR_PATH, FUNCTIONS
 };
@@ -205,7 +205,7 @@ static const char *const functions[] = {
     "vizhoniku_compare", "vizhoniku_message", "vizhoniku_reason", "vizhoniku_key_check", "vizhoniku_key_text",
     "vizhoniku_key_part",
     "vizhoniku_key_count", "vizhoniku_key_contains", "vizhoniku_key_set", "vizhoniku_key_remove", "vizhoniku_key_merge",
-    "vizhoniku_key_numbers", "vizhoniku_document_text", "vizhoniku_document_part", "vizhoniku_document_set",
+    "vizhoniku_key_numbers", "vizhoniku_document_check", "vizhoniku_document_text", "vizhoniku_document_part", "vizhoniku_document_set",
     "vizhoniku_document_remove", "vizhoniku_document_merge", "vizhoniku_zeros_of_text", "vizhoniku_text_with_zeros",
     "vizhoniku_plain_numbers", "vizhoniku_masked_numbers", "vizhoniku_error_path",
 };
@@ -218,7 +218,7 @@ static const size_t told[FUNCTIONS][2] = {
     [KEY_SET] = {2, 0},       [KEY_REMOVE] = {2, 0},   [KEY_MERGE] = {2, 0},       [KEY_NUMBERS] = {2, 0},
     [ZEROS] = {2, 0},         [TEXT_WITH_ZEROS] = {2, 0}, [PLAIN_NUMBERS] = {2, 0},   [MASKED_NUMBERS] = {2, 0},
     [ERROR_PATH] = {2, 0},    [REASON] = {22, 0},      [DOCUMENT_PART] = {2, 0},   [DOCUMENT_SET] = {2, 0},
-    [DOCUMENT] = {22, 110},   [DOCUMENT_TEXT] = {2, 0},  [DOCUMENT_REMOVE] = {2, 0}, [DOCUMENT_MERGE] = {2, 0},
+    [DOCUMENT] = {22, 110},   [DOCUMENT_CHECK] = {5, 0}, [DOCUMENT_TEXT] = {2, 0},  [DOCUMENT_REMOVE] = {2, 0}, [DOCUMENT_MERGE] = {2, 0},
 };
 
 struct call {
@@ -287,6 +287,7 @@ static void *run(void *given) {
     case DOCUMENT:
       call->status = vizhoniku_document(call->mode, bytes, text_size, call->buffer, call->room, &size, &error);
       break;
+    case DOCUMENT_CHECK: call->status = vizhoniku_document_check(call->key, call->key_size); break;
     case DOCUMENT_TEXT:
       call->status = vizhoniku_document_text(call->key, call->key_size, call->buffer, call->room, &size);
       break;

@@ -424,6 +424,10 @@ static void change_documents(void) {
   printf("too short: %u size %zu\n", (unsigned)status, size);
   status = vizhoniku_document_text(NULL, 0, NULL, 0, &size);
   printf("null text: %u size %zu\n", (unsigned)status, size);
+  printf("check: %u %u %u, cut off: %u %u, none: %u\n", (unsigned)vizhoniku_document_check(document, sizeof document),
+         (unsigned)vizhoniku_document_check(number, sizeof number), (unsigned)vizhoniku_document_check(array, sizeof array),
+         (unsigned)vizhoniku_document_check(document, sizeof document - 1),
+         (unsigned)vizhoniku_document_check(document, 9), (unsigned)vizhoniku_document_check(NULL, 0));
   printf("document's key: %zu, of none: %zu, null: %zu\n", vizhoniku_document_key(document, sizeof document),
          vizhoniku_document_key(BYTES("x\xFF")), vizhoniku_document_key(NULL, 0));
   printf("order: %d %d %d, null: %d\n", (int)vizhoniku_document_compare(document, sizeof document, number,

@@ -49,7 +49,7 @@ static const char *const texts[] = {
 };
 
 /* Each function of the library that takes memory, by a number below this one. */
-#define FUNCTIONS 29
+#define FUNCTIONS 30
 
 static uint32_t call(int which, uint32_t mode, const unsigned char *text, size_t text_size, size_t capacity) {
   static const unsigned char path[] = {'/', 'c', '/', 'k'};
@@ -104,6 +104,7 @@ static uint32_t call(int which, uint32_t mode, const unsigned char *text, size_t
       return vizhoniku_document_merge(document, sizeof document, document, sizeof document, buffer, capacity, &size);
     case 26: return vizhoniku_document(mode, text, text_size, buffer, capacity, &size, &error);
     case 27: return vizhoniku_document_text(document, sizeof document, buffer, capacity, &size);
+    case 28: return vizhoniku_document_check(document, sizeof document);
     default: return vizhoniku_compare(mode, text, text_size, text, text_size, &order, &error);
   }
 }

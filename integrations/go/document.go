@@ -27,6 +27,16 @@ func DocumentOf(text []byte, mode Mode) (Document, error) {
 	return Document(stringOf(written)), nil
 }
 
+// CheckDocument returns the document of stored bytes, which are checked as a whole. The error is ErrDocument where they
+// aren't the document of a text.
+func CheckDocument(stored []byte) (Document, error) {
+	status := C.vizhoniku_document_check(begin(stored), size(len(stored)))
+	if status != C.VIZHONIKU_ACCEPTED {
+		return "", errorOfStatus(status)
+	}
+	return Document(stored), nil
+}
+
 func (document Document) begin() *C.uchar { return beginOf(string(document)) }
 
 func (document Document) size() C.size_t { return C.size_t(len(document)) }

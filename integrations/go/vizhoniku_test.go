@@ -290,6 +290,10 @@ func TestDocuments(t *testing.T) {
 	} {
 		document := documentOf(t, text)
 		equal(t, document, Document(bytes))
+		checked, err := CheckDocument([]byte(bytes))
+		equal(t, []any{checked, err}, []any{document, nil})
+		_, err = CheckDocument([]byte(bytes + "\x00"))
+		equal(t, err, ErrDocument)
 		equal(t, document.String(), text)
 		key, err := SortKey([]byte(text), Extended)
 		equal(t, []any{document.Key(), err}, []any{key, nil})

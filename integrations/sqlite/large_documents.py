@@ -48,6 +48,7 @@ TIMED = {
     "VJSON": ["o = o || ' ' COLLATE VJSON", "a < a || ' ' COLLATE VJSON", "f < f || ' ' COLLATE VJSON",
               "e = e || ' ' COLLATE VJSON"],
     "vjson_document": ["vjson_document(o)", "vjson_document(a)", "vjson_document(e)"],
+    "vjson_document_valid": ["vjson_document_valid(od)", "vjson_document_valid(ad)"],
     "vjson_document_text": ["vjson_document_text(od)", "vjson_document_text(ad)", "vjson_document_text(od, '/k9998')"],
     "vjson_document_key": ["vjson_document_key(od)"],
     "vjson_document_get": ["vjson_document_get(od, '/k9998/0')", "vjson_document_get(ad, '/LAST')",

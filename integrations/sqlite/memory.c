@@ -100,6 +100,7 @@ static const char *const statements[] = {
     " vjson_key_text(vjson_key(body), ''), vjson_key_valid(vjson_key(body)) FROM docs",
     "SELECT hex(vjson_key_get(vjson_key('{\"a~/\":[1,2.5]}'), '/a~0~1/1')), vjson_key_text(x'00')",
     "SELECT vjson_document_text(vjson_document_set(vjson_document('{\"a\":[1.50]}'), '/a~0', vjson_document('7.0')), '/a')",
+    "SELECT vjson_document_valid(vjson_document('[1.50, \"x\"]'))",
     "SELECT hex(vjson_document_remove(vjson_document_merge(vjson_document('[1.0]'), vjson_document('[2.0]')), '/0')),"
     " length(vjson_document_text(vjson_document('[\"' || hex(zeroblob(700)) || '\", 1.50]'), '/0'))",
     "SELECT length(vjson_key_text(k)), length(vjson_key_value(k)) FROM"

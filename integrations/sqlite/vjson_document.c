@@ -1,5 +1,6 @@
 /* Documents: values in their order, with all digits of their numbers. A sort key has 1.5 for 1.50, a document has 1.50.
  *
+ *   vjson_document_valid(DOCUMENT)             1 where it is a document, else 0
  *   vjson_document_text(DOCUMENT [, PATH])     the text of the value, or of the part at the path (RFC 6901)
  *   vjson_document_key(DOCUMENT)               the sort key of the value, a BLOB: for a UNIQUE index by value
  *   vjson_document_get(DOCUMENT, PATH)         the document of the part, a BLOB; NULL where there is none
@@ -155,6 +156,21 @@ static void call_any(sqlite3_context *context, int count, sqlite3_value **values
   free_written(&part);
 }
 
+static void call_valid(sqlite3_context *context, int count, sqlite3_value **values) {
+  struct bytes document;
+  (void)count;
+  if (sqlite3_value_type(values[0]) == SQLITE_NULL) return;
+  if (sqlite3_value_type(values[0]) != SQLITE_BLOB) {
+    sqlite3_result_int(context, 0);
+  } else if (read_document(context, values[0], &document)) {
+    uint32_t status = vizhoniku_document_check(document.at, document.size);
+    if (status == VIZHONIKU_OUT_OF_MEMORY)
+      sqlite3_result_error_nomem(context);
+    else
+      sqlite3_result_int(context, status == VIZHONIKU_ACCEPTED);
+  }
+}
+
 int vjson_add_document_functions(sqlite3 *database) {
   static const struct {
     const char *name;
@@ -165,7 +181,9 @@ int vjson_add_document_functions(sqlite3 *database) {
       [PART] = {"vjson_document_get", 2, 2, 0},                      [SET] = {"vjson_document_set", 3, 3, 0},
       [REMOVE] = {"vjson_document_remove", 2, 2, 0},                 [MERGE] = {"vjson_document_merge", 2, 2, 0},
   };
-  int status = SQLITE_OK;
+  int status = sqlite3_create_function_v2(database, "vjson_document_valid", 1,
+                                          SQLITE_UTF8 | SQLITE_DETERMINISTIC | SQLITE_INNOCUOUS, NULL, call_valid, NULL,
+                                          NULL, NULL);
   for (uintptr_t i = 0; i < sizeof functions / sizeof *functions; i++)
     for (int count = functions[i].least; count <= functions[i].most && status == SQLITE_OK; count++)
       status = sqlite3_create_function_v2(database, functions[i].name, count,

@@ -28,6 +28,20 @@ impl Document {
         Document(bytes.into_boxed_slice())
     }
 
+    /// The document whose bytes these are. They are checked as a whole: [`Document::to_text`] of a document that is
+    /// accepted is a document of extended mode, whose document it is.
+    ///
+    /// # Errors
+    ///
+    /// [`Error::NoDocument`] where they aren't a document, and [`Error::OutOfMemory`].
+    pub fn from_bytes(bytes: Vec<u8>) -> Result<Document, Error> {
+        // SAFETY: the bytes have their size.
+        match unsafe { ffi::vizhoniku_document_check(bytes.as_ptr(), bytes.len()) } {
+            ffi::ACCEPTED => Ok(Document::of(bytes)),
+            status => Err(Error::of_document(status)),
+        }
+    }
+
     /// The document whose bytes these are, which aren't checked: for bytes that a store gives back as they were put. Of
     /// other bytes the calls find nothing, or something in them; no call reads or writes past its memory.
     pub fn from_trusted_bytes(bytes: Vec<u8>) -> Document {

@@ -69,6 +69,7 @@ extern "C" {
     pub fn vizhoniku_key_push(key: *const u8, key_size: usize, item: *const u8, item_size: usize, buffer: *mut u8, buffer_size: usize, size: *mut usize) -> u32;
     pub fn vizhoniku_key_merge(left: *const u8, left_size: usize, right: *const u8, right_size: usize, buffer: *mut u8, buffer_size: usize, size: *mut usize) -> u32;
     pub fn vizhoniku_document(mode: u32, text: *const u8, text_size: usize, buffer: *mut u8, buffer_size: usize, size: *mut usize, error: *mut TextError) -> u32;
+    pub fn vizhoniku_document_check(document: *const u8, document_size: usize) -> u32;
     pub fn vizhoniku_document_text(document: *const u8, document_size: usize, buffer: *mut u8, buffer_size: usize, size: *mut usize) -> u32;
     pub fn vizhoniku_document_key(document: *const u8, document_size: usize) -> usize;
     pub fn vizhoniku_document_part(document: *const u8, document_size: usize, path: *const u8, path_size: usize, buffer: *mut u8, buffer_size: usize, size: *mut usize) -> u32;

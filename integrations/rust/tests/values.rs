@@ -243,6 +243,8 @@ fn documents_keep_all_digits() {
         assert_eq!(kept(text).to_text().as_deref(), Ok(text));
         assert_eq!(kept(text).key(), &*key(text));
         assert_eq!(Document::from_trusted_bytes(bytes.to_vec()), kept(text));
+        assert_eq!(Document::from_bytes(bytes.to_vec()), Ok(kept(text)));
+        assert_eq!(Document::from_bytes([bytes, &[0]].concat()), Err(Error::NoDocument));
     }
     assert_eq!(kept("1.50e1").to_string(), "15.0");
     assert_eq!(format!("{:?}", kept("[2.0]")), "Document([2.0])");
