@@ -47,7 +47,7 @@ try:
 except ImportError:
     lmdb = None
 
-VERSION = 8  # of the interface that is needed
+VERSION = 9  # of the interface that is needed
 TOP = os.path.join(HERE, "..", "..")
 VECTORS = os.path.join(TOP, "tests", "vectors.jsonl")
 
@@ -593,7 +593,7 @@ class Values(unittest.TestCase):
         deep: Any = 0
         for _ in range(513):
             deep = [deep]
-        a_value = "a value is a dict, list, tuple, str, int, float, Decimal, bool, None or Key, and not "
+        a_value = "a value is a dict, list, tuple, str, int, float, Decimal, bool, None, Key or Document, and not "
 
         class Same(str):
             __hash__ = object.__hash__
@@ -881,13 +881,247 @@ class Changed(unittest.TestCase):
             self.assertRaises(TypeError, missing)
 
 
+class Digits(unittest.TestCase):
+    """Documents, which keep the zeros that end decimals."""
+
+    def test_bytes(self) -> None:
+        for text, data in (("1.5", "a11e"), ("1.50", "a11e000102ff"),
+                           ('[1,2.500,"x"]', "d2a114a132d0780001000302" "02ff")):
+            document = v.Document(text)
+            self.assertEqual((bytes(document), document.text()), (bytes.fromhex(data), text))
+            self.assertEqual((document.key, type(document.key)), (v.Key(text), v.Key))
+            for given in (bytes(document), bytearray(bytes(document)), memoryview(b"x" + bytes(document))[1:]):
+                self.assertEqual(v.Document.from_bytes(given), document)
+            again = pickle.loads(pickle.dumps(document))
+            self.assertEqual((again, type(again)), (document, v.Document))
+            self.assertEqual(repr(document), f"Document({text!r})")
+            self.assertIs(v.Document.of(document), document)
+        self.assertEqual(v.Document("1.50e1").text(), "15.0")
+        self.assertEqual(v.Document(text=b"[1]", mode=v.STANDARD).text(), "[1]")
+        self.assertEqual(v.Document.from_bytes(bytes(v.Key("[1.50]"))).text(), "[1.5]")
+        wrongs: List[Any] = ["1", 1, None, [0x80]]
+        for wrong in wrongs:
+            with self.assertRaises(TypeError) as raised:
+                v.Document.from_bytes(wrong)
+            self.assertEqual(str(raised.exception), "a document is bytes, a bytearray or a memoryview, and not "
+                                                    + type(wrong).__name__)
+        for name in ("key", "other"):
+            with self.assertRaises(AttributeError):
+                setattr(v.Document("1"), name, "x")
+
+    def test_rejected(self) -> None:
+        for text, mode, words in (("[1,", v.STANDARD, "line 1, column 4: EOF while parsing a value"),
+                                  ("[1,\n1.50]", v.STANDARD, "line 2, column 4: number not carried"),
+                                  ('{"a": [1e5, 1e300]}', v.EXTENDED, "line 1, column 17: number not carried"),
+                                  ("1." + "0" * 38, v.EXTENDED, "line 1, column 40: number not carried")):
+            with self.assertRaises(v.RejectedText) as raised:
+                v.Document(text, mode)
+            self.assertEqual(str(raised.exception), words)
+        self.assertRaises(ValueError, v.Document, "1", 2)
+
+    def test_order(self) -> None:
+        lines = [["-1.5", "-1.50", "-1.500"], ["0", "0.0", "0.00"], ["1", "1.0"], ["1.5", "1.50"], ["1.51"],
+                 ["[1.50]", "[1.500]"], ["[1.50,0]"]]
+        documents = [[v.Document(text) for text in line] for line in lines]
+        in_order = [document for line in documents for document in line]
+        shuffled = random.Random(10).sample(in_order, len(in_order))
+        self.assertEqual([one.text() for one in sorted(shuffled)], [text for line in lines for text in line])
+        for i, one in enumerate(in_order):
+            for j, two in enumerate(in_order):
+                two = v.Document.from_bytes(bytes(two))
+                self.assertEqual((one < two, one <= two, one == two, one != two, one >= two, one > two),
+                                 (i < j, i <= j, i == j, i != j, i >= j, i > j))
+                self.assertEqual(hash(one) == hash(two), i == j)
+        self.assertEqual([len({one.key for one in line}) for line in documents], [1] * len(lines))
+        for other in (v.Key("1"), "1", b"1", None, 1):
+            self.assertNotEqual(v.Document("1"), other)
+            with self.assertRaises(TypeError):
+                v.Document("1") < other  # type: ignore[operator]
+
+    def test_of(self) -> None:
+        """Of values each number has the digits that it has in Python, also where the value isn't of the usual types."""
+        class Float(float):
+            pass
+
+        rows: List[Tuple[Any, str]] = [
+            (Decimal("1.50"), "1.50"), (Decimal("1.50E+1"), "15.0"), (Decimal("1.50E+5"), "150000"), (2.0, "2.0"),
+            (Decimal("0.00"), "0.00"), (Decimal("-0.0"), "0.0"), (Decimal("0E+400"), "0"), (-0.0, "0.0"), (2, "2"),
+            (Decimal("1.0E-36"), "0." + "0" * 35 + "10"), (1e22, "1" + "0" * 22), (Float(2.0), "2.0"),
+            (Decimal("1." + "0" * 37), "1." + "0" * 37), (Decimal("0E-38"), "0." + "0" * 38),
+            (None, "null"), ("1.50", '"1.50"'), ({"b": (Decimal("1.0"), True), "a": {}}, '{"a":{},"b":[1.0,true]}'),
+            (v.Key("[1.50]"), "[1.5]"), (v.Document("[1.50]"), "[1.50]"),
+            ([v.Key("[1.50]"), {"k": v.Document("{a: 1.50}")}], '[[1.5],{"k":{"a":1.50}}]')]
+        for value, text in rows:
+            for one in (value, collections.OrderedDict(a=value)):  # the latter isn't of the usual types
+                whole = text if one is value else '{"a":%s}' % text
+                self.assertEqual((v.Document.of(one).text(), v.Document.of(one)), (whole, v.Document(whole)))
+                self.assertEqual(v.Key.of(one), v.Document.of(one).key)
+        for value, error, words in (
+                ([Decimal("1." + "0" * 38)], ValueError, "number not carried at /0"),
+                (Decimal("0E-39"), ValueError, "number not carried"),
+                ([float("nan")], ValueError, "NaN is no number of JSON at /0"), ({1}, TypeError, "a value is "),
+                ([v.Document("[" * 512 + "1.0" + "]" * 512)], ValueError, "more than 512 nested arrays and objects")):
+            with self.assertRaises(error) as raised:
+                v.Document.of(value)
+            self.assertTrue(str(raised.exception).startswith(words), raised.exception)
+
+    def test_value(self) -> None:
+        document = v.Document('{"b": [1, 2.50, 0.00, 1e2, "1.50"], "a": {"": null, "é": [true, 3.0]}}')
+        self.assertEqual(str(document.value()), "{'a': {'': None, 'é': [True, Decimal('3.0')]}, "
+                                                "'b': [1, Decimal('2.50'), Decimal('0.00'), 100, '1.50']}")
+        self.assertEqual(v.Document.of(document.value()), document)
+        for front, back in (("[", "]"), ('{"a":', "}"), ('[1.0,"\\"2\\\\",{"b":-2.50,"a":', "}]")):
+            levels = 256 if len(front) > 5 else 512
+            document = v.Document(front * levels + "3.00" + back * levels)
+
+            def at(depth: int) -> None:
+                if depth:
+                    at(depth - 1)
+                else:
+                    self.assertEqual(v.Document.of(document.value()), document)
+
+            for depth in (0, sys.getrecursionlimit() * 2 // 3):
+                at(depth)
+
+    def test_changes(self) -> None:
+        price, tax = v.Document("{net: 1.50, tax: [0.10, 2]}"), v.Document("7.0")
+        rows: List[Tuple[v.Document, str]] = [
+            (price.set("/tax/-1", tax, False), '{"net":1.50,"tax":[0.10,7.0]}'),
+            (price.set(path=b"/tax/2", value=tax), '{"net":1.50,"tax":[0.10,2,7.0]}'),
+            (price.set("/tax/0", Decimal("0.1000")), '{"net":1.50,"tax":[0.1000,2]}'),
+            (price.set("/tax/0", v.Key("0.10")), '{"net":1.50,"tax":[0.1,2]}'),
+            (price.set("/net", "2.50"), '{"net":"2.50","tax":[0.10,2]}'),
+            (price.remove("/net"), '{"tax":[0.10,2]}'), (price.remove("/tax/0"), '{"net":1.50,"tax":[2]}'),
+            (price.put("sum", tax), '{"net":1.50,"sum":7.0,"tax":[0.10,2]}'),
+            (v.Document("[1.0]").push(tax), "[1.0,7.0]"), (v.Document("[1.0]").push({"a": [2.0]}), '[1.0,{"a":[2.0]}]'),
+            (price.merge({"net": Decimal("2.00")}), '{"net":2.00,"tax":[0.10,2]}'),
+            (tax.merge(v.Document("[1.0]")), "[7.0,1.0]")]
+        for changed, text in rows:
+            self.assertEqual((changed.text(), changed, type(changed)), (text, v.Document(text), v.Document))
+        for same in (price.set("/sum", tax, create=False), price.remove("/sum"), price.remove(""), price.set("", tax)):
+            self.assertIs(same, price)
+        for path, found in (("/tax", "[0.10,2]"), ("/tax/0", "0.10"), ("", price.text()), ("/net", "1.50")):
+            part = price.get(path)
+            assert part is not None
+            self.assertEqual((part.text(), part), (found, v.Document(found)))
+        self.assertIsNone(price.get("/tax/2"))
+        long = v.Document('["%s",1.50]' % ("x" * 5000))
+        self.assertEqual(long.get("/0"), v.Document('"%s"' % ("x" * 5000)))
+        self.assertEqual(v.Document("[1.0]").set("/0", long).get("/0"), long)
+        self.assertTrue(price.contains({"tax": [0.1]}) and price.contains(v.Document("{net: 1.500}")))
+        self.assertTrue(price.contains(v.Key("{}")) and price.key.contains(v.Document("{net: 1.500}")))
+        self.assertFalse(price.contains({"tax": [3]}))
+        self.assertEqual(v.Key("[1]").push(v.Document("2.50")), v.Key("[1,2.5]"))
+        self.assertIs(v.Key.of(v.Document("1.50")) == v.Key("1.5"), True)
+
+    def test_against_values(self) -> None:
+        """Changes are those of keys, and each number that stays keeps its digits."""
+        draw = random.Random(11)
+
+        def drawn(depth: int) -> Any:
+            kind = draw.randrange(2, 5) if depth else draw.randrange(2)
+            if kind > 3:
+                return {draw.choice(("a", "b", "", "é")): drawn(depth - 1) for _ in range(draw.randrange(4))}
+            if kind > 1:
+                return [drawn(draw.randrange(depth)) for _ in range(draw.randrange(4))]
+            return draw.choice((None, "x", 1, Decimal("1.0"), Decimal("1.50"), Decimal("-20.00")))
+
+        def texts(value: Any) -> Any:
+            """The value with its numbers as texts, so that equal ones have equal digits."""
+            if isinstance(value, dict):
+                return {name: texts(part) for name, part in value.items()}
+            return [texts(part) for part in value] if isinstance(value, list) else str(value)
+
+        wanted, changes = Changed(), 0
+        for _ in range(2000):
+            value, other = drawn(3), drawn(2)
+            document = v.Document.of(value)
+            given = draw.choice((other, v.Document.of(other)))
+            path = "".join("/" + draw.choice(("a", "b", "", "é", "0", "1", "-1", "7", "01"))
+                           for _ in range(draw.randrange(4)))
+            create = draw.random() < .5
+            rows = [(document, value), (document.set(path, given, create), wanted.set(value, path, other, create)),
+                    (document.remove(path), wanted.remove(value, path)),
+                    (document.merge(given), wanted.merge(value, other))]
+            if isinstance(value, dict):
+                rows.append((document.put("n", given), {**value, "n": other}))
+            if isinstance(value, list):
+                rows.append((document.push(given), [*value, other]))
+            part = document.get(path)
+            if part is None:
+                self.assertIsNone(document.key.get(path))
+            elif "-1" not in path:
+                rows.append((part, wanted.find(value, wanted.steps(path))))
+            for made, one in rows:
+                self.assertEqual(texts(made.value()), texts(one))
+                self.assertEqual((made, made.key), (v.Document(made.text()), v.Key.of(one)))
+                changes += made != document
+            self.assertEqual(document.contains(given), document.key.contains(other))
+        self.assertGreater(changes, 3000)
+
+    def test_errors(self) -> None:
+        number, array, whole = v.Document("1.0"), v.Document("[1.0]"), v.Document('{"a":1.0}')
+        wrong: Any = 1
+        deepest = v.Document("[" * 512 + "]" * 512)
+        a_text = "a text is a str, bytes, a bytearray or a memoryview, and not int"
+        too_deep, none = "more than 512 nested arrays and objects", v.Document.from_bytes(b"")
+        no_document = "the bytes aren't a document"
+        calls: List[Tuple[Callable[[], Any], Any, str]] = [
+            (lambda: array.put("a", 1), TypeError, "array is no object"),
+            (lambda: number.put("a", 1), TypeError, "number is no object"),
+            (lambda: whole.push(1), TypeError, "object is no array"),
+            (lambda: whole.put(wrong, 1), TypeError, "a name is a str, and not int"),
+            (lambda: whole.put("\ud800", 1), ValueError, "the name isn't UTF-8"),
+            (lambda: whole.set("a", 1), v.PathError, v._common.BAD_PATH),
+            (lambda: whole.remove("/~"), v.PathError, v._common.BAD_PATH),
+            (lambda: whole.get("a"), v.PathError, v._common.BAD_PATH),
+            (lambda: whole.get(wrong), TypeError, a_text), (lambda: whole.set(wrong, 1), TypeError, a_text),
+            (lambda: array.push(deepest), ValueError, too_deep),
+            (lambda: whole.put("a", deepest), ValueError, too_deep),
+            (lambda: whole.set("/a", deepest), ValueError, too_deep),
+            (none.text, ValueError, no_document), (none.value, ValueError, no_document),
+            (lambda: none.push(1), ValueError, no_document), (lambda: none.put("a", 1), ValueError, no_document),
+            (v.Document.from_bytes(b"\x00\xff").text, ValueError, no_document),
+            (lambda: v.Document.of([none]), ValueError, no_document)]
+        for call, error, words in calls:
+            with self.assertRaises(error) as raised:
+                call()
+            self.assertEqual((type(raised.exception), str(raised.exception)), (error, words))
+        self.assertEqual((repr(none), bytes(none.key)), ("Document.from_bytes(b'')", b""))
+        untyped: Any = whole
+        for missing in (lambda: untyped.set("/a"), lambda: untyped.put("a"), lambda: untyped.push(),
+                        lambda: untyped.of(), lambda: untyped.remove(), lambda: untyped.merge(1, 2),
+                        lambda: untyped.get(), lambda: untyped.set("/a", 1, make=True),
+                        lambda: v.Document(), lambda: v.Document("1", 1, 1)):  # type: ignore[call-arg]
+            self.assertRaises(TypeError, missing)
+
+    def test_damaged_bytes(self) -> None:
+        """Of bytes that are no document the calls find nothing, or something in them, or raise ValueError."""
+        whole = bytes(v.Document('{"a":[1.50,-2.00,"x",null,{"b":[[0.0]]}],"é":12345678901234567890.10}'))
+        passed = 0
+        for i in range(len(whole)):
+            for byte in (0, 1, 2, 0x14, 0x80, 0xA1, 0xD0, 0xD1, 0xD2, 0xFF):
+                document = v.Document.from_bytes(whole[:i] + bytes([byte]) + whole[i + 1:])
+                for call in (document.text, document.value, lambda: document.get("/a/0"),
+                             lambda: document.remove("/a/1"), lambda: document.set("/a/0", document),
+                             lambda: document.put("c", 1.0), lambda: document.merge([1.0]),
+                             lambda: v.Document("[1.0]").push(document),
+                             lambda: document.contains([1]), lambda: repr(document), lambda: hash(document.key)):
+                    try:
+                        call()
+                        passed += 1
+                    except (ValueError, TypeError):
+                        pass
+        self.assertGreater(passed, 1000)
+
+
 class Both(unittest.TestCase):
     """The module in C and that by ctypes."""
 
     def test_which_is_tried(self) -> None:
         self.assertEqual(v.NATIVE, PACKAGES != HERE)
         self.assertEqual(inspect.isbuiltin(v.check), v.NATIVE)
-        self.assertEqual(v.Key.__module__, "vizhoniku")
+        self.assertEqual((v.Key.__module__, v.Document.__module__), ("vizhoniku", "vizhoniku"))
 
     def test_names_of_arguments(self) -> None:
         self.assertEqual(v.text(text="1", mode=v.STANDARD), "1")
@@ -931,7 +1165,7 @@ class Both(unittest.TestCase):
                     outcome = [(name, one.default) for name, one in inspect.signature(found).parameters.items()]
                     self.assertEqual(outcome, self.parameters_of(call), call.name)
                     compared += 1
-        self.assertEqual(compared, 20)
+        self.assertEqual(compared, 32)
 
     def test_words_of_help(self) -> None:
         """What help() tells is the same by ctypes and by the module in C."""
@@ -968,8 +1202,11 @@ class Both(unittest.TestCase):
 
         thread = threading.Thread(target=turn)
         thread.start()
-        calls: List[Callable[[str], Any]] = [v.check, v.text, v.sort_key, v.text_and_key, v.is_valid, v.Key,
-                                             lambda one: v.get(one, "/7/n"), lambda one: v.compare(one, one)]
+        document = v.Document(text)
+        calls: List[Callable[[str], Any]] = [v.check, v.text, v.sort_key, v.text_and_key, v.is_valid, v.Key, v.Document,
+                                             lambda one: v.get(one, "/7/n"), lambda one: v.compare(one, one),
+                                             lambda one: document.text(), lambda one: document.get("/399999"),
+                                             lambda one: document.remove("/399999")]
         try:
             for call in calls:
                 begin = time.monotonic()
@@ -983,6 +1220,7 @@ class Both(unittest.TestCase):
     def test_references(self) -> None:
         """Calls keep nothing of their arguments, nor of what they make."""
         text, path, key = "[%s]" % ",".join("1" * 400), "/1", v.Key('{"a":[1,2],"b":"x"}')
+        document, none = v.Document('{"a":[1.50,2],"b":"x"}'), v.Document.from_bytes(b"")
         number: Any = 5
         wrongs: List[Callable[[], Any]] = [
             lambda: v.text("[x"), lambda: v.text(number), lambda: v.text("1", 7), lambda: key["zz"], lambda: key[0],
@@ -990,6 +1228,10 @@ class Both(unittest.TestCase):
             lambda: key.set("a", 1), lambda: key.set(number, 1), lambda: key.set("/a", wrongs), lambda: key.push(1),
             lambda: key.put("\ud800", key), lambda: key.put("a", wrongs), lambda: key.remove("a"),
             lambda: v.check("[1e5, x]"), lambda: v.compare("1e1", "[1e5, x]"), lambda: v.check("[1e300]"),
+            lambda: document.get("a"), lambda: document.get(number), lambda: document.set("a", 1), none.text,
+            lambda: document.put("\ud800", key), lambda: document.put("a", wrongs), lambda: document.push(1),
+            lambda: v.Document.from_bytes("x"), lambda: v.Document.of(wrongs), lambda: none.push(1),  # type: ignore
+            lambda: v.Document.of([none]), lambda: v.Document("[x"), lambda: v.Document("[1e5, x]"),
             lambda: key.merge(wrongs), lambda: key.contains(wrongs), lambda: key.set("/a", 1, 1, 1)]  # type: ignore
 
         def calls() -> None:
@@ -1001,13 +1243,21 @@ class Both(unittest.TestCase):
             v.Key.of(key), v.Key.of({"a": [text, 1.5, key]}), key.value(), key.contains(key), key.contains({"b": "x"})
             key.set("/a/0", key), key.set("/c/d", path), key.remove("/a"), key.remove("/c"), key.put("n", key)
             key["a"].push(key), key.merge(key), key.merge({"b": path})
+            document.text(), document.key, none.key, document.get("/a"), document.get("/c"), document.value()
+            hash(document), document == document, repr(document), repr(none), document == key
+            v.Document.from_bytes(bytes(document)), v.Document.of(document), v.Document.of(key), v.Document(text)
+            v.Document.of({"a": [text, 1.5, key, document]}), v.Key.of(document), v.Key.of([document])
+            document.contains(document), document.contains({"b": "x"}), document.set("/a/0", document)
+            document.set("/c/d", path), document.remove("/a"), document.remove("/c"), document.put("n", key)
+            v.Document("[1.0]").push(document), document.merge(document), document.merge({"b": path})
+            pickle.loads(pickle.dumps(document))
             for wrong in wrongs:
                 try:
                     wrong()
                 except (ValueError, TypeError, KeyError):
                     pass
 
-        watched: List[Any] = [text, path, key, v.Key, v.EXTENDED, v.STANDARD]
+        watched: List[Any] = [text, path, key, document, none, v.Key, v.Document, v.EXTENDED, v.STANDARD]
         if sys.version_info < (3, 12):  # from then on None isn't counted by all
             watched.append(None)
         for _ in range(50):
@@ -1021,7 +1271,7 @@ class Both(unittest.TestCase):
     def test_memory_is_given_back(self) -> None:
         """Calls with longer texts than those that are written to the stack keep none of the memory that they take."""
         text, zeros = "[%s]" % ",".join("1" * 4000), '"' + "\0" * 4000 + '"'
-        key = v.Key(text)
+        key, document = v.Key(text), v.Document(text.replace("1", "1.50"))
 
         def calls() -> None:
             copied = bytearray(text, "ascii")
@@ -1031,6 +1281,11 @@ class Both(unittest.TestCase):
             v.Key.of(key.value()), key.set("/1", key), key.remove("/1"), key.push(key), key.merge(key)
             key.contains(key)
             v.Key("{}").put("x" * 4000, key).contains({})
+            v.Document(copied), document.text(), repr(document), document.get("/1"), document.get(""), document.key
+            v.Document.from_bytes(bytearray(bytes(document))), v.Document.of(document.value())
+            document.set("/1", document), document.remove("/1"), document.push(document), document.merge(document)
+            document.contains(document), repr(v.Document.from_bytes(bytes(document)[1:]))
+            v.Document("{}").put("x" * 4000, document), v.Key.of(document)
             self.assertRaises(v.RejectedText, v.check, '{"%s":1,"%s":1}' % ("x" * 4000, "x" * 4000))
             self.assertRaises(v.RejectedText, v.compare, "1e1", '{"%s":1e5, "%s":[x]}' % ("x" * 4000, "y" * 4000))
 
@@ -1053,7 +1308,8 @@ class Growth(unittest.TestCase):
     # Calls that look at no document, or at its first byte alone, and operators that are made as one that is timed is.
     LEFT_OUT = {"Mode", "PathError", "RejectedText", "Text", "EXTENDED", "STANDARD", "NATIVE", "Key.kind",
                 "Key.__bool__", "Key.__setattr__", "Key.__new__", "Key.__le__", "Key.__gt__", "Key.__ge__",
-                "Key.__ne__"}
+                "Key.__ne__", "Document.__setattr__", "Document.__new__", "Document.__le__", "Document.__gt__",
+                "Document.__ge__", "Document.__ne__"}
 
     def calls(self, size: int, end: str) -> List[Tuple[str, str, Callable[[], Any]]]:
         """Calls over documents of so many parts, with decimals that end so: what is called, of what, and the call."""
@@ -1067,7 +1323,7 @@ class Growth(unittest.TestCase):
             calls.append((called, what, functools.partial(function, *arguments)))
 
         for what, text in (("object", "{%s}" % members), ("array", "[%s]" % items), ("exponents", exponents)):
-            for function in (v.check, v.is_valid, v.text, v.sort_key, v.text_and_key, v.Key):
+            for function in (v.check, v.is_valid, v.text, v.sort_key, v.text_and_key, v.Key, v.Document):
                 add(function.__name__, what, function, text)
             add("get", what, v.get, text, "")
             add("get", what + ", a path", v.get, text, last)
@@ -1106,10 +1362,37 @@ class Growth(unittest.TestCase):
                 add("Key.__getitem__", what, operator.getitem, key, -1)
                 add("Key.__getitem__", what + ", from the front", operator.getitem, key, size - 1)
                 add("Key.__contains__", what, operator.contains, key, none)
+            document = v.Document(text)
+            data, kept, part_of = bytes(document), v.Document.from_bytes(bytes(document)), v.Document("[1.50]")
+            path = last if key.kind == "array" else f"/{name}"
+            add("Document.from_bytes", what, v.Document.from_bytes, data)
+            add("Document.__bytes__", what, bytes, document)
+            add("Document.text", what, document.text)
+            add("Document.__repr__", what, repr, document)
+            add("Document.key", what, lambda one: one.key, document)
+            add("Document.get", what, document.get, path)
+            add("Document.get", what + ", the whole", document.get, "")
+            add("Document.__eq__", what, operator.eq, document, kept)
+            add("Document.__lt__", what, operator.lt, document, kept)
+            add("Document.__hash__", what, lambda one: hash(v.Document.from_bytes(one)), data)
+            add("Document.__reduce__", what, pickle.dumps, document)
+            value = document.value()
+            add("Document.of", what, v.Document.of, value)
+            add("Document.value", what, document.value)
+            add("Document.contains", what, document.contains, part_of if key.kind == "array" else kept)
+            add("Document.set", what, document.set, path, part_of)
+            add("Document.remove", what, document.remove, path)
+            add("Document.merge", what, document.merge, kept)
+            if key.kind == "object":
+                add("Document.put", what, document.put, "new", part_of)
+            else:
+                add("Document.push", what, document.push, part_of)
         return calls
 
     def test_calls(self) -> None:
-        there = set(v.__all__) | {"Key." + name for name, one in vars(v.Key).items() if not name.startswith("_") or
+        there = set(v.__all__) | {f"{kind.__name__}.{name}" for kind in (v.Key, v.Document)
+                                  for base in kind.__mro__[:-1] for name, one in vars(base).items()
+                                  if not name.startswith("_") or
                                   (name.startswith("__") and (callable(one) or isinstance(one, staticmethod)))}
         for kind, end in (("zeros", "50"), ("plain", "25")):
             documents = {size: self.calls(size, end) for size in (growth.SMALL, growth.LARGE)}
@@ -1270,6 +1553,19 @@ uint32_t vizhoniku_reason(uint32_t mode, const char *text, size_t text_size, cha
 KEY(check) KEY(kind) KEY(count) KEY(member) KEY(item) KEY(part) KEY(begin) KEY(next) KEY(name) KEY(text)
 KEY(contains) KEY(set) KEY(remove) KEY(put) KEY(push) KEY(merge)
 
+uint32_t vizhoniku_document(uint32_t mode, const char *text, size_t text_size, char *buffer, size_t room, size_t *size,
+                            struct error *error) {
+  return vizhoniku_text(mode, text, text_size, buffer, room, size, error);
+}
+
+size_t vizhoniku_document_key(const char *document, size_t size) {
+  (void)document;
+  return size;
+}
+
+#define DOCUMENT(name) uint32_t vizhoniku_document_##name(void) { return status; }
+DOCUMENT(text) DOCUMENT(part) DOCUMENT(set) DOCUMENT(remove) DOCUMENT(put) DOCUMENT(push) DOCUMENT(merge)
+
 void vizhoniku_locate(const char *text, size_t text_size, const struct error *error, struct location *location) {
   (void)text, (void)text_size, (void)error;
   location->index = 0, location->line = location->column = 1;
@@ -1289,7 +1585,8 @@ path_status = ctypes.c_uint32.in_dll(_library, "path_status")
 waits, is_waiting, goes_on = (ctypes.c_int.in_dll(_library, name) for name in ("waits", "is_waiting", "goes_on"))
 calls = {"check": lambda: v.check("1"), "is_valid": lambda: v.is_valid("1"), "text": lambda: v.text("1"),
          "sort_key": lambda: v.sort_key("1"), "text_and_key": lambda: v.text_and_key("1"),
-         "get": lambda: v.get("1", ""), "compare": lambda: v.compare("1", "1")}
+         "get": lambda: v.get("1", ""), "compare": lambda: v.compare("1", "1"),
+         "Document": lambda: bytes(v.Document("1"))}
 
 def told(call):
     try:
@@ -1374,14 +1671,14 @@ for path_status.value in (0, 2, 3):
 """, VIZHONIKU=self.library_of(VERSION))
         self.assertEqual(outcome.splitlines(), [
             "2 MemoryError", "3 RuntimeError", "4000000000 RuntimeError",
-            "RejectedText False" + " RejectedText" * 5, "MemoryError False" + " MemoryError" * 5,
+            "RejectedText False" + " RejectedText" * 6, "MemoryError False" + " MemoryError" * 6,
             "''", "MemoryError", "None",
         ])
 
     def goes_on(self, **environment: str) -> None:
         outcome = self.run_with(WHILE_A_CALL_READS, **environment)
         self.assertEqual(outcome.splitlines(), ["check None", "is_valid True", "text ", "sort_key b''",
-                                             "text_and_key ('', b'')", "get ", "compare 0"])
+                                             "text_and_key ('', b'')", "get ", "compare 0", "Document b''"])
 
     def test_other_threads_go_on(self) -> None:
         self.goes_on(VIZHONIKU=self.library_of(VERSION))

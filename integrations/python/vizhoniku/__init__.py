@@ -1,5 +1,5 @@
 """JSON documents by value, over the library libvizhoniku: check, text, sort key, part and comparison; sort keys as
-stored documents.
+stored documents, and with all digits of their numbers.
 
 A document is a str or bytes in UTF-8. Every call takes a mode: EXTENDED, the default, or STANDARD. A text that is no
 document of the mode raises RejectedText, a ValueError with line and column. A call that runs out of memory raises
@@ -16,8 +16,8 @@ from typing import TYPE_CHECKING
 from ._common import EXTENDED, STANDARD, Mode, PathError, RejectedText, Text
 
 __all__ = [
-    "EXTENDED", "NATIVE", "STANDARD", "Key", "Mode", "PathError", "RejectedText", "Text", "check", "compare", "get",
-    "is_valid", "sort_key", "text", "text_and_key",
+    "EXTENDED", "NATIVE", "STANDARD", "Document", "Key", "Mode", "PathError", "RejectedText", "Text", "check",
+    "compare", "get", "is_valid", "sort_key", "text", "text_and_key",
 ]
 
 __version__ = "0.2.0"
@@ -25,6 +25,6 @@ __version__ = "0.2.0"
 NATIVE = not os.environ.get("VIZHONIKU") and importlib.util.find_spec(__name__ + "._native") is not None
 
 if TYPE_CHECKING or NATIVE:
-    from ._native import Key, check, compare, get, is_valid, sort_key, text, text_and_key
+    from ._native import Document, Key, check, compare, get, is_valid, sort_key, text, text_and_key
 else:
-    from ._by_ctypes import Key, check, compare, get, is_valid, sort_key, text, text_and_key
+    from ._by_ctypes import Document, Key, check, compare, get, is_valid, sort_key, text, text_and_key

@@ -8,17 +8,17 @@ import ctypes
 import functools
 import os
 import subprocess
-from typing import Any, Callable, Iterator, List, Optional, Tuple, Union
+from typing import Any, Callable, Iterator, List, Optional, Tuple, TypeVar, Union
 
-from ._common import (BAD_PATH, EXTENDED, NO_KEY, NO_NAME, STANDARD, TOO_DEEP, Mode, PathError, RejectedText, Text,
-                      rejection)
+from ._common import (BAD_PATH, EXTENDED, NO_DOCUMENT, NO_KEY, NO_NAME, STANDARD, TOO_DEEP, Mode, PathError,
+                      RejectedText, Text, rejection)
 from ._values import text_of, value_of
 
 _SONAME = "libvizhoniku.so.0"
-_VERSION = 8  # the version of the interface, VIZHONIKU_VERSION of the header; a later one only adds to it
+_VERSION = 9  # the version of the interface, VIZHONIKU_VERSION of the header; a later one only adds to it
 
 (_ACCEPTED, _REJECTED, _OUT_OF_MEMORY, _UNKNOWN_MODE, _TOO_SHORT, _NO_PART, _NO_PATH, _NO_KEY,
- _TOO_DEEP) = range(9)
+ _TOO_DEEP, _NO_ZEROS, _NO_DOCUMENT) = range(11)
 _KINDS = ("", "null", "boolean", "number", "string", "array", "object")
 
 
@@ -97,11 +97,22 @@ def _load() -> ctypes.CDLL:
         library.vizhoniku_key_put.argtypes = [*text_in, *text_in, *text_in, *text_out]
         library.vizhoniku_key_push.argtypes = [*text_in, *text_in, *text_out]
         library.vizhoniku_key_merge.argtypes = [*text_in, *text_in, *text_out]
+        library.vizhoniku_document.argtypes = [mode, *text_in, *text_out, error]
+        library.vizhoniku_document_text.argtypes = [*text_in, *text_out]
+        library.vizhoniku_document_key.argtypes = text_in
+        library.vizhoniku_document_part.argtypes = [*text_in, *text_in, *text_out]
+        library.vizhoniku_document_set.argtypes = [*text_in, *text_in, *text_in, ctypes.c_uint32, *text_out]
+        library.vizhoniku_document_remove.argtypes = [*text_in, *text_in, *text_out]
+        library.vizhoniku_document_put.argtypes = [*text_in, *text_in, *text_in, *text_out]
+        library.vizhoniku_document_push.argtypes = [*text_in, *text_in, *text_out]
+        library.vizhoniku_document_merge.argtypes = [*text_in, *text_in, *text_out]
         for name in ("check", "text", "part", "sort_key", "text_and_key", "compare", "reason", "key_check", "key_kind",
                      "key_count", "key_member", "key_item", "key_part", "key_begin", "key_next", "key_name",
                      "key_text", "key_contains", "key_set", "key_remove", "key_put", "key_push", "key_merge",
-                     "plain_numbers", "masked_numbers", "error_path"):
+                     "plain_numbers", "masked_numbers", "error_path", "document", "document_text", "document_part",
+                     "document_set", "document_remove", "document_put", "document_push", "document_merge"):
             getattr(library, "vizhoniku_" + name).restype = status
+        library.vizhoniku_document_key.restype = size
         library.vizhoniku_locate.restype = None
     except AttributeError as error:
         raise ImportError(f"the library lacks a function: {error}") from None
@@ -269,11 +280,22 @@ def text(text: Text, mode: int = EXTENDED) -> str:
 @_reads_exponents
 def sort_key(text: Text, mode: int = EXTENDED) -> bytes:
     """Bytes that compare as the values of documents do: equal for equal values, and none the beginning of others."""
+    return _made(_library.vizhoniku_sort_key, text, mode)
+
+
+@_reads_exponents
+def _document(text: Text, mode: int = EXTENDED) -> bytes:
+    """The bytes of a document."""
+    return _made(_library.vizhoniku_document, text, mode)
+
+
+def _made(call: Callable[..., int], text: Text, mode: int) -> bytes:
+    """The bytes that the call makes of the text."""
     mode, data, error, size = _mode(mode), _bytes(text), _Error(), ctypes.c_size_t()
     capacity = len(data) + 64
     while True:
         buffer = ctypes.create_string_buffer(capacity)
-        status = _library.vizhoniku_sort_key(mode, data, len(data), buffer, capacity, size, error)
+        status = call(mode, data, len(data), buffer, capacity, size, error)
         if status != _TOO_SHORT:
             break
         capacity = size.value
@@ -338,7 +360,92 @@ def compare(left: Text, right: Text, mode: int = EXTENDED) -> int:
     return order.value
 
 
-class Key:
+_S = TypeVar("_S", bound="_Stored")
+
+
+class _Stored:
+    """Bytes that a value is stored as, which are those of a key or of a document."""
+
+    __slots__ = ("_data",)
+    _data: bytes
+    _noun = ""
+
+    @classmethod
+    def _of(cls: "type[_S]", data: bytes) -> _S:
+        self = object.__new__(cls)
+        object.__setattr__(self, "_data", data)
+        return self
+
+    def __setattr__(self, name: str, value: Any) -> None:
+        raise AttributeError(f"a {self._noun}'s attribute {name!r} can't be set")
+
+    def __bytes__(self) -> bytes:
+        return self._data
+
+    def _written(self, call: Callable[..., int], capacity: int) -> Optional[bytes]:
+        """What the call writes, with space for so many bytes at first; None where it finds no part."""
+        size = ctypes.c_size_t()
+        while True:
+            buffer = ctypes.create_string_buffer(capacity)
+            status = call(buffer, capacity, size)
+            if status != _TOO_SHORT:
+                break
+            capacity = size.value
+        if status == _NO_PART:
+            return None
+        _raise_of_key(status)
+        return ctypes.string_at(buffer, size.value)
+
+    def _text(self, call: Callable[..., int]) -> str:
+        text = self._written(functools.partial(call, self._data, len(self._data)), len(self._data) + 64)
+        if text is None:
+            raise RuntimeError(f"unknown status {_NO_PART}")
+        return text.decode()
+
+    def _changed(self: _S, call: Callable[..., int], more: int) -> _S:
+        """What the call writes, of as many bytes more than these, or a few more; the same where nothing changes."""
+        data = self._written(call, len(self._data) + more + 64)
+        return self if data is None else self._of(data)
+
+    def _kind(self) -> str:
+        return _KINDS[_library.vizhoniku_key_kind(self._data, len(self._data))]
+
+    def _needs(self, *kinds: str) -> str:
+        kind = self._kind()
+        if kind not in kinds:
+            raise TypeError(f"{kind} is no {' and no '.join(kinds)}")
+        return kind
+
+    def __eq__(self, other: object) -> bool:
+        if not isinstance(other, type(self)):
+            return NotImplemented
+        return self._data == other._data
+
+    def __lt__(self: _S, other: _S) -> bool:
+        if not isinstance(other, type(self)):
+            return NotImplemented
+        return self._data < other._data
+
+    def __le__(self: _S, other: _S) -> bool:
+        if not isinstance(other, type(self)):
+            return NotImplemented
+        return self._data <= other._data
+
+    def __gt__(self: _S, other: _S) -> bool:
+        if not isinstance(other, type(self)):
+            return NotImplemented
+        return self._data > other._data
+
+    def __ge__(self: _S, other: _S) -> bool:
+        if not isinstance(other, type(self)):
+            return NotImplemented
+        return self._data >= other._data
+
+    def __hash__(self) -> int:
+        return hash(self._data)
+
+
+class Key(_Stored):
     """A document as its sort key: bytes that compare as the values do. Its parts are found in them.
 
     Keys are compared and hashed by their bytes, so by value. An array is iterated over its items, which are keys, and
@@ -346,17 +453,11 @@ class Key:
     """
 
     __module__ = "vizhoniku"  # for pickles, which either way to call the library takes
-    __slots__ = ("_data",)
-    _data: bytes
+    __slots__ = ()
+    _noun = "key"
 
     def __new__(cls, text: Text, mode: int = EXTENDED) -> "Key":
         return cls._of(sort_key(text, mode))
-
-    @classmethod
-    def _of(cls, data: bytes) -> "Key":
-        self = object.__new__(cls)
-        object.__setattr__(self, "_data", data)
-        return self
 
     @classmethod
     def from_bytes(cls, data: Union[bytes, bytearray, memoryview]) -> "Key":
@@ -368,15 +469,12 @@ class Key:
             raise ValueError(NO_KEY)
         return cls._of(data)
 
-    def __setattr__(self, name: str, value: Any) -> None:
-        raise AttributeError(f"a key's attribute {name!r} can't be set")
-
     def __reduce__(self) -> Tuple[Any, Tuple[bytes]]:
         return Key.from_bytes, (self._data,)
 
     @classmethod
     def of(cls, value: Any) -> "Key":
-        """The key of a value: a dict, list, tuple, str, int, float, Decimal, bool, None or a key.
+        """The key of a value: a dict, list, tuple, str, int, float, Decimal, bool, None, a key or a document.
 
         The names of a dict are str. A float is the decimal that repr shows, and a Decimal is exact. TypeError is raised
         for another type, and ValueError for a number of more than 38 digits, NaN, infinity, half of a surrogate pair
@@ -384,7 +482,9 @@ class Key:
         """
         if isinstance(value, Key):
             return value
-        text = text_of(value, Key)
+        if isinstance(value, Document):
+            return value.key
+        text = text_of(value, (Key, Document), False)
         try:
             return Key(text)
         except RejectedText:  # of a key in the value, whose arrays and objects are within those of the value
@@ -397,22 +497,11 @@ class Key:
     @property
     def kind(self) -> str:
         """null, boolean, number, string, array or object."""
-        return _KINDS[_library.vizhoniku_key_kind(self._data, len(self._data))]
-
-    def __bytes__(self) -> bytes:
-        return self._data
+        return self._kind()
 
     def text(self) -> str:
         """The text of the value, with the fewest digits in each number."""
-        capacity, size = len(self._data) + 64, ctypes.c_size_t()
-        while True:
-            buffer = ctypes.create_string_buffer(capacity)
-            status = _library.vizhoniku_key_text(self._data, len(self._data), buffer, capacity, size)
-            if status != _TOO_SHORT:
-                break
-            capacity = size.value
-        _raise_of_key(status)
-        return ctypes.string_at(buffer, size.value).decode()
+        return self._text(_library.vizhoniku_key_text)
 
     def get(self, path: Text) -> "Optional[Key]":
         """The part at the path, a JSON Pointer (RFC 6901), or None. Raises PathError where the path is none."""
@@ -476,31 +565,11 @@ class Key:
         return self._changed(functools.partial(
             _library.vizhoniku_key_merge, self._data, len(self._data), data, len(data)), len(data))
 
-    def _changed(self, call: Callable[..., int], more: int) -> "Key":
-        """What the call writes, of as many bytes more than the key has, or a few more."""
-        capacity, size = len(self._data) + more + 64, ctypes.c_size_t()
-        while True:
-            buffer = ctypes.create_string_buffer(capacity)
-            status = call(buffer, capacity, size)
-            if status != _TOO_SHORT:
-                break
-            capacity = size.value
-        if status == _NO_PART:
-            return self
-        _raise_of_key(status)
-        return Key._of(ctypes.string_at(buffer, size.value))
-
     def _found(self, status: int, offset: ctypes.c_size_t, size: ctypes.c_size_t) -> "Optional[Key]":
         if status == _NO_PART:
             return None
         _raise_of_key(status)
         return Key._of(self._data[offset.value:offset.value + size.value])
-
-    def _needs(self, *kinds: str) -> str:
-        kind = self.kind
-        if kind not in kinds:
-            raise TypeError(f"{kind} is no {' and no '.join(kinds)}")
-        return kind
 
     def _member(self, name: str) -> "Optional[Key]":
         offset, size, data = ctypes.c_size_t(), ctypes.c_size_t(), _bytes(name)
@@ -571,28 +640,131 @@ class Key:
             raise TypeError(f"an item is a Key, and not {type(part).__name__}")
         return any(part._data == item._data for _, item in self._parts())
 
-    def __eq__(self, other: object) -> bool:
-        if not isinstance(other, Key):
-            return NotImplemented
-        return self._data == other._data
-
-    def __lt__(self, other: "Key") -> bool:
-        return self._data < other._data if isinstance(other, Key) else NotImplemented
-
-    def __le__(self, other: "Key") -> bool:
-        return self._data <= other._data if isinstance(other, Key) else NotImplemented
-
-    def __gt__(self, other: "Key") -> bool:
-        return self._data > other._data if isinstance(other, Key) else NotImplemented
-
-    def __ge__(self, other: "Key") -> bool:
-        return self._data >= other._data if isinstance(other, Key) else NotImplemented
-
-    def __hash__(self) -> int:
-        return hash(self._data)
-
     def __repr__(self) -> str:
         return f"Key({self.text()!r})"
+
+
+class Document(_Stored):
+    """A value as a store keeps it: its sort key, and behind it the zeros that end its decimals, so 1.50 stays 1.50.
+
+    Documents are compared and hashed by their bytes: they are in the order of their values, and those of equal values
+    in that of these zeros. Two are equal where their texts are. A key's bytes are the document of a value without such
+    zeros.
+    """
+
+    __module__ = "vizhoniku"
+    __slots__ = ()
+    _noun = "document"
+
+    def __new__(cls, text: Text, mode: int = EXTENDED) -> "Document":
+        return cls._of(_document(text, mode))
+
+    @classmethod
+    def from_bytes(cls, data: Union[bytes, bytearray, memoryview]) -> "Document":
+        """The document that bytes(document) was, or the one that bytes(key) is.
+
+        The bytes aren't checked. Of others the calls find nothing, or something in them, or raise ValueError.
+        """
+        if not isinstance(data, (bytes, bytearray, memoryview)):
+            raise TypeError(f"a document is bytes, a bytearray or a memoryview, and not {type(data).__name__}")
+        return cls._of(bytes(data))
+
+    def __reduce__(self) -> Tuple[Any, Tuple[bytes]]:
+        return Document.from_bytes, (self._data,)
+
+    @classmethod
+    def of(cls, value: Any) -> "Document":
+        """The document of a value: a dict, list, tuple, str, int, float, Decimal, bool, None, a key or a document.
+
+        It is as Key.of, but a Decimal has all its digits, and a float those that repr shows. ValueError is raised where
+        these are more than 38.
+        """
+        if isinstance(value, Document):
+            return value
+        if isinstance(value, Key):
+            return Document._of(value._data)
+        text = text_of(value, (Key, Document), True)
+        try:
+            return Document(text)
+        except RejectedText:  # of a part whose arrays and objects are within those of the value
+            raise ValueError(TOO_DEEP) from None
+
+    @property
+    def key(self) -> Key:
+        """The sort key of the value."""
+        return Key._of(self._data[:_library.vizhoniku_document_key(self._data, len(self._data))])
+
+    def value(self) -> Any:
+        """The value: a dict, list, str, int, Decimal, bool or None. A Decimal has all digits of the number."""
+        return value_of(self)
+
+    def text(self) -> str:
+        """The text of the value, with all digits of each number."""
+        return self._text(_library.vizhoniku_document_text)
+
+    def get(self, path: Text) -> "Optional[Document]":
+        """The part at the path, a JSON Pointer (RFC 6901), or None. Raises PathError where the path is none."""
+        path_data = _bytes(path)
+        data = self._written(functools.partial(
+            _library.vizhoniku_document_part, self._data, len(self._data), path_data, len(path_data)), 256)
+        return None if data is None else Document._of(data)
+
+    def contains(self, other: Any) -> bool:
+        """Whether the value contains another one, as @> of PostgreSQL's jsonb: zeros at the end don't count."""
+        return self.key.contains(other)
+
+    def set(self, path: Text, value: Any, create: bool = True) -> "Document":
+        """The document with the part at the path set to the value, a document or what Document.of takes.
+
+        It is as Key.set, with all digits. The document itself where nothing changes.
+        """
+        path_data, data = _bytes(path), Document.of(value)._data
+        return self._changed(functools.partial(
+            _library.vizhoniku_document_set, self._data, len(self._data), path_data, len(path_data), data, len(data),
+            bool(create)), len(path_data) + len(data))
+
+    def remove(self, path: Text) -> "Document":
+        """The document without the part at the path, or the document itself where there is none."""
+        data = _bytes(path)
+        return self._changed(functools.partial(
+            _library.vizhoniku_document_remove, self._data, len(self._data), data, len(data)), 0)
+
+    def put(self, name: str, value: Any) -> "Document":
+        """The document of an object with a member of this name and value, a document or what Document.of takes."""
+        if not isinstance(name, str):
+            raise TypeError(f"a name is a str, and not {type(name).__name__}")
+        self._needs("object")
+        name_data, data = _bytes(name), Document.of(value)._data
+        try:
+            return self._changed(functools.partial(
+                _library.vizhoniku_document_put, self._data, len(self._data), name_data, len(name_data), data,
+                len(data)), 2 * len(name_data) + len(data))
+        except PathError:
+            raise ValueError(NO_NAME) from None
+
+    def push(self, item: Any) -> "Document":
+        """The document of an array with an item more at its end, a document or what Document.of takes."""
+        self._needs("array")
+        data = Document.of(item)._data
+        return self._changed(functools.partial(
+            _library.vizhoniku_document_push, self._data, len(self._data), data, len(data)), len(data))
+
+    def merge(self, other: Any) -> "Document":
+        """The document merged with another value, as Key.merge has it: a document or what Document.of takes."""
+        data = Document.of(other)._data
+        return self._changed(functools.partial(
+            _library.vizhoniku_document_merge, self._data, len(self._data), data, len(data)), len(data))
+
+    def _needs(self, *kinds: str) -> str:
+        if not self._kind():
+            raise ValueError(NO_DOCUMENT)
+        return super()._needs(*kinds)
+
+    def __repr__(self) -> str:
+        try:
+            return f"Document({self.text()!r})"
+        except ValueError:
+            return f"Document.from_bytes({self._data!r})"
 
 
 def _raise_of_key(status: int) -> None:
@@ -602,6 +774,8 @@ def _raise_of_key(status: int) -> None:
         raise PathError(BAD_PATH)
     if status == _NO_KEY:
         raise ValueError(NO_KEY)
+    if status == _NO_DOCUMENT:
+        raise ValueError(NO_DOCUMENT)
     if status == _TOO_DEEP:
         raise ValueError(TOO_DEEP)
     if status != _ACCEPTED:

@@ -7,6 +7,7 @@ Text = Union[str, bytes, bytearray, memoryview]
 
 BAD_PATH = ("the path is no JSON Pointer (RFC 6901): it is empty or begins with /, and ~ occurs only in ~0 and ~1")
 NO_KEY = "the bytes aren't a sort key"
+NO_DOCUMENT = "the bytes aren't a document"
 TOO_DEEP = "more than 512 nested arrays and objects"
 NO_NAME = "the name isn't UTF-8"
 

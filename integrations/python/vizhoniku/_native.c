@@ -27,14 +27,17 @@ struct state {
   PyObject *path_error;
   PyObject *rejection; /* makes a RejectedText */
   PyObject *rejected;  /* the class RejectedText */
-  PyObject *text_of;   /* the text of what Key.of takes */
-  PyObject *value_of;  /* the value of a key */
+  PyObject *text_of;   /* the text of what Key.of and Document.of take */
+  PyObject *value_of;  /* the value of a key or a document */
   PyObject *decimal;   /* the class Decimal */
   PyObject *bad_path;  /* words */
   PyObject *no_key;
+  PyObject *no_document;
   PyObject *no_name;
   PyObject *too_deep;
   PyObject *key_type;
+  PyObject *document_type;
+  PyObject *stored; /* both types, as a tuple */
   PyObject *parts_type;
   PyObject *kinds[VIZHONIKU_OBJECT + 1]; /* names of kinds */
 };
@@ -85,6 +88,7 @@ static int read_text(PyObject *object, const char *words, struct text *text) {
 
 #define A_TEXT "a text is a str, bytes, a bytearray or a memoryview, and not %U"
 #define A_KEY "a key is bytes, a bytearray or a memoryview, and not %U"
+#define A_DOCUMENT "a document is bytes, a bytearray or a memoryview, and not %U"
 
 /* Sorts the arguments of a call by the names of the parameters; those that aren't given are NULL. Returns 0 where an
  * exception is raised. */
@@ -234,6 +238,8 @@ static void raise_status(const struct state *state, uint32_t status) {
     PyErr_SetObject(state->path_error, state->bad_path);
   else if (status == VIZHONIKU_NO_KEY)
     PyErr_SetObject(PyExc_ValueError, state->no_key);
+  else if (status == VIZHONIKU_NO_DOCUMENT)
+    PyErr_SetObject(PyExc_ValueError, state->no_document);
   else if (status == VIZHONIKU_TOO_DEEP)
     PyErr_SetObject(PyExc_ValueError, state->too_deep);
   else
@@ -308,7 +314,7 @@ static int write_plain(uint32_t mode, uint32_t *status, struct vizhoniku_error *
 }
 
 /* What a call of the library does with a text. */
-enum what { CHECK, TEXT, SORT_KEY, TEXT_AND_KEY, PART };
+enum what { CHECK, TEXT, SORT_KEY, DOCUMENT, TEXT_AND_KEY, PART };
 
 /* Calls the library once. */
 static uint32_t call_once(enum what what, uint32_t mode, const struct text *path, const struct text *text,
@@ -320,6 +326,8 @@ static uint32_t call_once(enum what what, uint32_t mode, const struct text *path
     return vizhoniku_text(mode, text->at, text->size, written->at, written->capacity, &written->size, error);
   case SORT_KEY:
     return vizhoniku_sort_key(mode, text->at, text->size, key->at, key->capacity, &key->size, error);
+  case DOCUMENT:
+    return vizhoniku_document(mode, text->at, text->size, key->at, key->capacity, &key->size, error);
   case TEXT_AND_KEY:
     return vizhoniku_text_and_key(mode, text->at, text->size, written->at, written->capacity, &written->size, key->at,
                                   key->capacity, &key->size, error);
@@ -421,14 +429,14 @@ static PyObject *py_text(PyObject *module, PyObject *const *given, Py_ssize_t co
   return result;
 }
 
-/* The sort key of a text, as bytes. */
-static PyObject *key_of_text(const struct state *state, PyObject *object, uint32_t mode) {
+/* The sort key or the document of a text, as bytes. */
+static PyObject *data_of_text(const struct state *state, enum what what, PyObject *object, uint32_t mode) {
   PyObject *result = NULL;
   struct text text;
   struct written key;
   if (!read_text(object, A_TEXT, &text)) return NULL;
   begin_written(&key);
-  if (call_library(state, SORT_KEY, mode, NULL, object, &text, NULL, &key, 0, NULL) >= 0) result = bytes_of(&key);
+  if (call_library(state, what, mode, NULL, object, &text, NULL, &key, 0, NULL) >= 0) result = bytes_of(&key);
   free_written(&key);
   free_text(&text);
   return result;
@@ -439,7 +447,7 @@ static PyObject *py_sort_key(PyObject *module, PyObject *const *given, Py_ssize_
   PyObject *arguments[MOST];
   uint32_t mode;
   if (!sort_arguments("sort_key", text_and_mode, 1, given, count, keywords, arguments)) return NULL;
-  return read_mode(state, arguments[1], &mode) ? key_of_text(state, arguments[0], mode) : NULL;
+  return read_mode(state, arguments[1], &mode) ? data_of_text(state, SORT_KEY, arguments[0], mode) : NULL;
 }
 
 static PyObject *py_text_and_key(PyObject *module, PyObject *const *given, Py_ssize_t count, PyObject *keywords) {
@@ -543,10 +551,10 @@ static PyObject *py_compare(PyObject *module, PyObject *const *given, Py_ssize_t
   return result;
 }
 
-/* A document as its sort key. */
+/* A document as its sort key, or with the zeros that end its decimals behind that: Key or Document. */
 struct key {
   PyObject_HEAD
-  PyObject *data; /* bytes, which are a sort key */
+  PyObject *data; /* bytes, which are a sort key or a document */
 };
 
 /* An array or an object that is walked through. */
@@ -559,22 +567,40 @@ struct parts {
 
 static const struct state *state_of(PyObject *self) { return PyType_GetModuleState(Py_TYPE(self)); }
 
-/* The bytes of a key. */
+/* The bytes of a key or a document. */
 static struct text key_text(PyObject *data) {
   struct text key = {(const unsigned char *)PyBytes_AsString(data), (size_t)PyBytes_Size(data), NULL};
   return key;
 }
 
-/* Makes a key of bytes, to which it takes the caller's reference. */
-static PyObject *make_key(const struct state *state, PyObject *data) {
+/* What makes an object of a type: SORT_KEY of a key, DOCUMENT of a document. */
+static enum what what_of(const struct state *state, PyTypeObject *type) {
+  return type == (PyTypeObject *)state->document_type ? DOCUMENT : SORT_KEY;
+}
+
+static enum what what_is(PyObject *self) { return what_of(state_of(self), Py_TYPE(self)); }
+
+/* The bytes of the key that a key is, or that a document begins with. */
+static struct text key_in(PyObject *self) {
+  struct text key = key_text(((struct key *)self)->data);
+  if (what_is(self) == DOCUMENT) key.size = vizhoniku_document_key(key.at, key.size);
+  return key;
+}
+
+/* Makes a key or a document of bytes, to which it takes the caller's reference. */
+static PyObject *make_stored(PyTypeObject *type, PyObject *data) {
   if (!data) return NULL;
-  allocfunc allocate = (allocfunc)PyType_GetSlot((PyTypeObject *)state->key_type, Py_tp_alloc);
-  PyObject *self = allocate((PyTypeObject *)state->key_type, 0);
+  allocfunc allocate = (allocfunc)PyType_GetSlot(type, Py_tp_alloc);
+  PyObject *self = allocate(type, 0);
   if (self)
     ((struct key *)self)->data = data;
   else
     Py_DECREF(data);
   return self;
+}
+
+static PyObject *make_key(const struct state *state, PyObject *data) {
+  return make_stored((PyTypeObject *)state->key_type, data);
 }
 
 static PyObject *make_key_of(const struct state *state, const unsigned char *at, size_t size) {
@@ -584,10 +610,12 @@ static PyObject *make_key_of(const struct state *state, const unsigned char *at,
 static PyObject *key_new(PyTypeObject *type, PyObject *given, PyObject *keywords) {
   static char *names[] = {"text", "mode", NULL};
   const struct state *state = PyType_GetModuleState(type);
+  enum what what = what_of(state, type);
+  const char *format = what == DOCUMENT ? "O|O:Document" : "O|O:Key";
   PyObject *object, *mode_object = NULL;
   uint32_t mode;
-  if (!PyArg_ParseTupleAndKeywords(given, keywords, "O|O:Key", names, &object, &mode_object)) return NULL;
-  return read_mode(state, mode_object, &mode) ? make_key(state, key_of_text(state, object, mode)) : NULL;
+  if (!PyArg_ParseTupleAndKeywords(given, keywords, format, names, &object, &mode_object)) return NULL;
+  return read_mode(state, mode_object, &mode) ? make_stored(type, data_of_text(state, what, object, mode)) : NULL;
 }
 
 /* What holds an object of bytes, and no cycle. */
@@ -634,6 +662,17 @@ static PyObject *key_from_bytes(PyObject *type, PyObject *const *given, Py_ssize
   return NULL;
 }
 
+static PyObject *document_from_bytes(PyObject *type, PyObject *const *given, Py_ssize_t count, PyObject *keywords) {
+  struct text text = {NULL, 0, NULL};
+  PyObject *object = read_one("from_bytes", "data", given, count, keywords);
+  if (!object) return NULL;
+  if (PyUnicode_Check(object)) {
+    raise_type(A_DOCUMENT, object);
+    return NULL;
+  }
+  return read_text(object, A_DOCUMENT, &text) ? make_stored((PyTypeObject *)type, text.holder) : NULL;
+}
+
 static PyObject *key_bytes(PyObject *self, PyObject *none) {
   (void)none;
   Py_INCREF(((struct key *)self)->data);
@@ -658,7 +697,19 @@ static PyObject *key_kind(PyObject *self, void *unused) {
   return kind;
 }
 
+/* The key of a document. */
+static PyObject *document_key(PyObject *self, void *unused) {
+  PyObject *data = ((struct key *)self)->data;
+  struct text key = key_in(self);
+  (void)unused;
+  if (key.size < (size_t)PyBytes_Size(data)) return make_key_of(state_of(self), key.at, key.size);
+  Py_INCREF(data);
+  return make_key(state_of(self), data);
+}
+
 static PyObject *key_py_text(PyObject *self, PyObject *none) {
+  uint32_t (*call)(const unsigned char *, size_t, unsigned char *, size_t, size_t *) =
+      what_is(self) == DOCUMENT ? vizhoniku_document_text : vizhoniku_key_text;
   struct text key = key_text(((struct key *)self)->data);
   struct written written;
   PyObject *result = NULL;
@@ -669,10 +720,10 @@ static PyObject *key_py_text(PyObject *self, PyObject *none) {
   for (;;) {
     if (key.size >= RELEASED) {
       Py_BEGIN_ALLOW_THREADS
-      status = vizhoniku_key_text(key.at, key.size, written.at, written.capacity, &written.size);
+      status = call(key.at, key.size, written.at, written.capacity, &written.size);
       Py_END_ALLOW_THREADS
     } else {
-      status = vizhoniku_key_text(key.at, key.size, written.at, written.capacity, &written.size);
+      status = call(key.at, key.size, written.at, written.capacity, &written.size);
     }
     if (status != VIZHONIKU_TOO_SHORT) break;
     if (!ensure_capacity(&written, written.size)) return NULL;
@@ -703,12 +754,47 @@ static PyObject *key_get(PyObject *self, PyObject *const *given, Py_ssize_t coun
   return found(state_of(self), key, status, offset, size);
 }
 
-/* Raises TypeError unless the key's kind is one of two. Returns the kind, or 0 where an exception is raised. */
+static PyObject *document_get(PyObject *self, PyObject *const *given, Py_ssize_t count, PyObject *keywords) {
+  struct text document = key_text(((struct key *)self)->data), path;
+  struct written part;
+  PyObject *result = NULL;
+  uint32_t status;
+  PyObject *object = read_one("get", "path", given, count, keywords);
+  if (!object || !read_text(object, A_TEXT, &path)) return NULL;
+  begin_written(&part);
+  do {
+    if (document.size >= RELEASED) {
+      Py_BEGIN_ALLOW_THREADS
+      status = vizhoniku_document_part(document.at, document.size, path.at, path.size, part.at, part.capacity,
+                                       &part.size);
+      Py_END_ALLOW_THREADS
+    } else {
+      status = vizhoniku_document_part(document.at, document.size, path.at, path.size, part.at, part.capacity,
+                                       &part.size);
+    }
+  } while (status == VIZHONIKU_TOO_SHORT && ensure_capacity(&part, part.size));
+  if (status == VIZHONIKU_ACCEPTED) {
+    result = make_stored(Py_TYPE(self), bytes_of(&part));
+  } else if (status == VIZHONIKU_NO_PART) {
+    result = Py_None;
+    Py_INCREF(result);
+  } else if (status != VIZHONIKU_TOO_SHORT) {
+    raise_status(state_of(self), status);
+  }
+  free_written(&part);
+  free_text(&path);
+  return result;
+}
+
+/* Raises TypeError unless the kind of a key or a document is one of two. Returns the kind, or 0 where an exception is
+ * raised. */
 static uint32_t need_kind(PyObject *self, uint32_t one, uint32_t other) {
   const struct state *state = state_of(self);
   uint32_t kind = kind_of(self);
   if (kind == one || kind == other) return kind;
-  if (one == other)
+  if (!kind && what_is(self) == DOCUMENT)
+    raise_status(state, VIZHONIKU_NO_DOCUMENT);
+  else if (one == other)
     PyErr_Format(PyExc_TypeError, "%U is no %U", state->kinds[kind], state->kinds[one]);
   else
     PyErr_Format(PyExc_TypeError, "%U is no %U and no %U", state->kinds[kind], state->kinds[one], state->kinds[other]);
@@ -817,8 +903,12 @@ static Py_hash_t key_hash(PyObject *self) { return PyObject_Hash(((struct key *)
 
 static PyObject *key_repr(PyObject *self) {
   PyObject *text = key_py_text(self, NULL);
-  if (!text) return NULL;
-  PyObject *result = PyUnicode_FromFormat("Key(%R)", text);
+  if (!text) {
+    if (what_is(self) != DOCUMENT || !PyErr_ExceptionMatches(PyExc_ValueError)) return NULL;
+    PyErr_Clear();
+    return PyUnicode_FromFormat("Document.from_bytes(%R)", ((struct key *)self)->data);
+  }
+  PyObject *result = PyUnicode_FromFormat(what_is(self) == DOCUMENT ? "Document(%R)" : "Key(%R)", text);
   Py_DECREF(text);
   return result;
 }
@@ -1011,15 +1101,15 @@ static int put_usual(const struct state *state, struct written *out, PyObject *v
   return is_put;
 }
 
-/* The bytes of the key of a value of the usual types, or NULL, also where an exception is raised. */
-static PyObject *data_of_usual(const struct state *state, PyObject *value) {
+/* The bytes of the key or the document of a value of the usual types, or NULL, also where an exception is raised. */
+static PyObject *data_of_usual(const struct state *state, enum what what, PyObject *value) {
   struct written text, key;
   PyObject *data = NULL;
   begin_written(&text);
   begin_written(&key);
   if (put_usual(state, &text, value)) {
     struct text read = {text.at, text.size, NULL};
-    if (call_library(state, SORT_KEY, VIZHONIKU_EXTENDED, NULL, NULL, &read, NULL, &key, 1, NULL) == VIZHONIKU_ACCEPTED)
+    if (call_library(state, what, VIZHONIKU_EXTENDED, NULL, NULL, &read, NULL, &key, 1, NULL) == VIZHONIKU_ACCEPTED)
       data = bytes_of(&key);
   }
   free_written(&text);
@@ -1027,29 +1117,41 @@ static PyObject *data_of_usual(const struct state *state, PyObject *value) {
   return data;
 }
 
-/* The bytes of a key, or of the key that Key.of makes of another value. */
-static PyObject *data_of(const struct state *state, PyObject *value) {
-  if (Py_TYPE(value) == (PyTypeObject *)state->key_type) {
-    Py_INCREF(((struct key *)value)->data);
-    return ((struct key *)value)->data;
-  }
-  PyObject *data = data_of_usual(state, value);
+/* The bytes of a key or a document: all, or of a document those of its key. NULL for another object, and where an
+ * exception is raised. */
+static PyObject *data_of_stored(const struct state *state, enum what what, PyObject *value) {
+  PyTypeObject *type = Py_TYPE(value);
+  if (type != (PyTypeObject *)state->key_type && type != (PyTypeObject *)state->document_type) return NULL;
+  PyObject *data = ((struct key *)value)->data;
+  struct text key = what == SORT_KEY ? key_in(value) : key_text(data);
+  if (key.size < (size_t)PyBytes_Size(data))
+    return PyBytes_FromStringAndSize((const char *)key.at, (Py_ssize_t)key.size);
+  Py_INCREF(data);
+  return data;
+}
+
+/* The bytes of a key or a document, or of what Key.of or Document.of makes of another value. */
+static PyObject *data_of(const struct state *state, enum what what, PyObject *value) {
+  PyObject *data = data_of_stored(state, what, value);
+  if (data || PyErr_Occurred()) return data;
+  data = data_of_usual(state, what, value);
   if (data) return data;
   PyErr_Clear();
-  PyObject *text = PyObject_CallFunctionObjArgs(state->text_of, value, state->key_type, NULL);
+  PyObject *text = PyObject_CallFunctionObjArgs(state->text_of, value, state->stored,
+                                                what == DOCUMENT ? Py_True : Py_False, NULL);
   if (!text) return NULL;
-  data = key_of_text(state, text, VIZHONIKU_EXTENDED);
+  data = data_of_text(state, what, text, VIZHONIKU_EXTENDED);
   Py_DECREF(text);
   if (data || !PyErr_ExceptionMatches(state->rejected)) return data;
-  /* Of a key in the value, whose arrays and objects are within those of the value. */
+  /* Of a key or a document in the value, whose arrays and objects are within those of the value. */
   PyErr_Clear();
   PyErr_SetObject(PyExc_ValueError, state->too_deep);
   return NULL;
 }
 
-/* Reads a key, or a value that Key.of takes. Returns 0 where an exception is raised. */
-static int read_value(const struct state *state, PyObject *value, struct text *text) {
-  PyObject *data = data_of(state, value);
+/* Reads a key or a document, or a value that Key.of or Document.of takes. Returns 0 where an exception is raised. */
+static int read_value(const struct state *state, enum what what, PyObject *value, struct text *text) {
+  PyObject *data = data_of(state, what, value);
   if (!data) return 0;
   *text = key_text(data);
   text->holder = data;
@@ -1058,9 +1160,10 @@ static int read_value(const struct state *state, PyObject *value, struct text *t
 
 static PyObject *key_of(PyObject *type, PyObject *const *given, Py_ssize_t count, PyObject *keywords) {
   const struct state *state = PyType_GetModuleState((PyTypeObject *)type);
+  enum what what = what_of(state, (PyTypeObject *)type);
   PyObject *value = read_one("of", "value", given, count, keywords);
   if (!value) return NULL;
-  if (Py_TYPE(value) != (PyTypeObject *)state->key_type) return make_key(state, data_of(state, value));
+  if (Py_TYPE(value) != (PyTypeObject *)type) return make_stored((PyTypeObject *)type, data_of(state, what, value));
   Py_INCREF(value);
   return value;
 }
@@ -1071,10 +1174,10 @@ static PyObject *key_value(PyObject *self, PyObject *none) {
 }
 
 static PyObject *key_py_contains(PyObject *self, PyObject *const *given, Py_ssize_t count, PyObject *keywords) {
-  struct text key = key_text(((struct key *)self)->data), other;
+  struct text key = key_in(self), other;
   uint32_t status;
   PyObject *value = read_one("contains", "other", given, count, keywords);
-  if (!value || !read_value(state_of(self), value, &other)) return NULL;
+  if (!value || !read_value(state_of(self), SORT_KEY, value, &other)) return NULL;
   if (key.size >= RELEASED) {
     Py_BEGIN_ALLOW_THREADS
     status = vizhoniku_key_contains(key.at, key.size, other.at, other.size);
@@ -1089,7 +1192,7 @@ static PyObject *key_py_contains(PyObject *self, PyObject *const *given, Py_ssiz
   return NULL;
 }
 
-/* A change of a key: what is done, where, and with the key of what. */
+/* A change of a key or a document: what is done, where, and with the key or the document of what. */
 struct change {
   enum { SET, REMOVE, PUT, PUSH, MERGE } what;
   struct text step; /* a path or a name */
@@ -1102,8 +1205,8 @@ static void free_change(struct change *change) {
   free_text(&change->part);
 }
 
-/* Calls the library once. */
-static uint32_t change_once(const struct change *change, const struct text *key, struct written *written) {
+/* Calls the library once, of a key. */
+static uint32_t change_key(const struct change *change, const struct text *key, struct written *written) {
   const struct text *step = &change->step, *part = &change->part;
   switch (change->what) {
   case SET:
@@ -1123,8 +1226,32 @@ static uint32_t change_once(const struct change *change, const struct text *key,
   }
 }
 
-/* The changed key, or the key itself where nothing changes. */
+/* Calls the library once, of a document. */
+static uint32_t change_document(const struct change *change, const struct text *document, struct written *written) {
+  const struct text *step = &change->step, *part = &change->part;
+  switch (change->what) {
+  case SET:
+    return vizhoniku_document_set(document->at, document->size, step->at, step->size, part->at, part->size,
+                                  change->create, written->at, written->capacity, &written->size);
+  case REMOVE:
+    return vizhoniku_document_remove(document->at, document->size, step->at, step->size, written->at,
+                                     written->capacity, &written->size);
+  case PUT:
+    return vizhoniku_document_put(document->at, document->size, step->at, step->size, part->at, part->size,
+                                  written->at, written->capacity, &written->size);
+  case PUSH:
+    return vizhoniku_document_push(document->at, document->size, part->at, part->size, written->at, written->capacity,
+                                   &written->size);
+  default:
+    return vizhoniku_document_merge(document->at, document->size, part->at, part->size, written->at,
+                                    written->capacity, &written->size);
+  }
+}
+
+/* The changed key or document, or the same where nothing changes. */
 static PyObject *changed(PyObject *self, const struct change *change) {
+  uint32_t (*call)(const struct change *, const struct text *, struct written *) =
+      what_is(self) == DOCUMENT ? change_document : change_key;
   const struct state *state = state_of(self);
   struct text key = key_text(((struct key *)self)->data);
   struct written written;
@@ -1135,16 +1262,16 @@ static PyObject *changed(PyObject *self, const struct change *change) {
   for (;;) {
     if (key.size >= RELEASED) {
       Py_BEGIN_ALLOW_THREADS
-      status = change_once(change, &key, &written);
+      status = call(change, &key, &written);
       Py_END_ALLOW_THREADS
     } else {
-      status = change_once(change, &key, &written);
+      status = call(change, &key, &written);
     }
     if (status != VIZHONIKU_TOO_SHORT) break;
     if (!ensure_capacity(&written, written.size)) return NULL;
   }
   if (status == VIZHONIKU_ACCEPTED) {
-    result = make_key(state, bytes_of(&written));
+    result = make_stored(Py_TYPE(self), bytes_of(&written));
   } else if (status == VIZHONIKU_NO_PART) {
     Py_INCREF(self);
     result = self;
@@ -1165,7 +1292,7 @@ static PyObject *key_set(PyObject *self, PyObject *const *given, Py_ssize_t coun
   int create = arguments[2] ? PyObject_IsTrue(arguments[2]) : 1;
   change.create = create != 0;
   if (create >= 0 && read_text(arguments[0], A_TEXT, &change.step) &&
-      read_value(state_of(self), arguments[1], &change.part))
+      read_value(state_of(self), what_is(self), arguments[1], &change.part))
     result = changed(self, &change);
   free_change(&change);
   return result;
@@ -1190,7 +1317,7 @@ static PyObject *key_put(PyObject *self, PyObject *const *given, Py_ssize_t coun
     return NULL;
   }
   if (need_kind(self, VIZHONIKU_OBJECT, VIZHONIKU_OBJECT) && read_text(arguments[0], A_TEXT, &change.step) &&
-      read_value(state_of(self), arguments[1], &change.part))
+      read_value(state_of(self), what_is(self), arguments[1], &change.part))
     result = changed(self, &change);
   free_change(&change);
   return result;
@@ -1199,7 +1326,8 @@ static PyObject *key_put(PyObject *self, PyObject *const *given, Py_ssize_t coun
 static PyObject *key_push(PyObject *self, PyObject *const *given, Py_ssize_t count, PyObject *keywords) {
   struct change change = {PUSH, {NULL, 0, NULL}, {NULL, 0, NULL}, 0};
   PyObject *item = read_one("push", "item", given, count, keywords);
-  if (!item || !need_kind(self, VIZHONIKU_ARRAY, VIZHONIKU_ARRAY) || !read_value(state_of(self), item, &change.part))
+  if (!item || !need_kind(self, VIZHONIKU_ARRAY, VIZHONIKU_ARRAY) ||
+      !read_value(state_of(self), what_is(self), item, &change.part))
     return NULL;
   PyObject *result = changed(self, &change);
   free_change(&change);
@@ -1209,7 +1337,7 @@ static PyObject *key_push(PyObject *self, PyObject *const *given, Py_ssize_t cou
 static PyObject *key_merge(PyObject *self, PyObject *const *given, Py_ssize_t count, PyObject *keywords) {
   struct change change = {MERGE, {NULL, 0, NULL}, {NULL, 0, NULL}, 0};
   PyObject *other = read_one("merge", "other", given, count, keywords);
-  if (!other || !read_value(state_of(self), other, &change.part)) return NULL;
+  if (!other || !read_value(state_of(self), what_is(self), other, &change.part)) return NULL;
   PyObject *result = changed(self, &change);
   free_change(&change);
   return result;
@@ -1229,7 +1357,7 @@ static PyMethodDef key_methods[] = {
           "The key that bytes(key) was. Raises ValueError where the bytes aren't a sort key.")},
     {"of", CALL(key_of) | METH_CLASS,
      HELP("of($type, value)",
-          "The key of a value: a dict, list, tuple, str, int, float, Decimal, bool, None or a key.\n\n"
+          "The key of a value: a dict, list, tuple, str, int, float, Decimal, bool, None, a key or a document.\n\n"
           "The names of a dict are str. A float is the decimal that repr shows, and a Decimal is exact. TypeError is\n"
           "raised for another type, and ValueError for a number of more than 38 digits, NaN, infinity, half of a\n"
           "surrogate pair and more than 512 nested arrays and objects.")},
@@ -1301,6 +1429,74 @@ static PyType_Slot key_slots[] = {
 static PyType_Spec key_spec = {"vizhoniku.Key", sizeof(struct key), 0,
                                Py_TPFLAGS_DEFAULT | Py_TPFLAGS_IMMUTABLETYPE, key_slots};
 
+static PyMethodDef document_methods[] = {
+    {"from_bytes", CALL(document_from_bytes) | METH_CLASS,
+     HELP("from_bytes($type, data)",
+          "The document that bytes(document) was, or the one that bytes(key) is.\n\n"
+          "The bytes aren't checked. Of others the calls find nothing, or something in them, or raise ValueError.")},
+    {"of", CALL(key_of) | METH_CLASS,
+     HELP("of($type, value)",
+          "The document of a value: a dict, list, tuple, str, int, float, Decimal, bool, None, a key or a\n"
+          "document.\n\n"
+          "It is as Key.of, but a Decimal has all its digits, and a float those that repr shows. ValueError is\n"
+          "raised where these are more than 38.")},
+    {"value", key_value, METH_NOARGS,
+     HELP("value($self)",
+          "The value: a dict, list, str, int, Decimal, bool or None. A Decimal has all digits of the number.")},
+    {"__bytes__", key_bytes, METH_NOARGS, HELP("__bytes__($self)", "The bytes that from_bytes takes.")},
+    {"__reduce__", key_reduce, METH_NOARGS, HELP("__reduce__($self)", "For pickle.")},
+    {"text", key_py_text, METH_NOARGS,
+     HELP("text($self)", "The text of the value, with all digits of each number.")},
+    {"get", CALL(document_get),
+     HELP("get($self, path)",
+          "The part at the path, a JSON Pointer (RFC 6901), or None. Raises PathError where the path is none.")},
+    {"contains", CALL(key_py_contains),
+     HELP("contains($self, other)",
+          "Whether the value contains another one, as @> of PostgreSQL's jsonb: zeros at the end don't count.")},
+    {"set", CALL(key_set),
+     HELP("set($self, path, value, create=True)",
+          "The document with the part at the path set to the value, a document or what Document.of takes.\n\n"
+          "It is as Key.set, with all digits. The document itself where nothing changes.")},
+    {"remove", CALL(key_remove),
+     HELP("remove($self, path)",
+          "The document without the part at the path, or the document itself where there is none.")},
+    {"put", CALL(key_put),
+     HELP("put($self, name, value)",
+          "The document of an object with a member of this name and value, a document or what Document.of takes.")},
+    {"push", CALL(key_push),
+     HELP("push($self, item)",
+          "The document of an array with an item more at its end, a document or what Document.of takes.")},
+    {"merge", CALL(key_merge),
+     HELP("merge($self, other)",
+          "The document merged with another value, as Key.merge has it: a document or what Document.of takes.")},
+    {NULL, NULL, 0, NULL},
+};
+
+static PyGetSetDef document_properties[] = {
+    {"key", document_key, NULL, "The sort key of the value.", NULL},
+    {NULL, NULL, NULL, NULL, NULL},
+};
+
+static PyType_Slot document_slots[] = {
+    {Py_tp_doc, "Document(text, mode=EXTENDED)\n--\n\n"
+                "A value as a store keeps it: its sort key, and behind it the zeros that end its decimals, so 1.50\n"
+                "stays 1.50.\n\n"
+                "Documents are compared and hashed by their bytes: they are in the order of their values, and those\n"
+                "of equal values in that of these zeros. Two are equal where their texts are. A key's bytes are the\n"
+                "document of a value without such zeros."},
+    {Py_tp_new, SLOT(key_new)},
+    {Py_tp_dealloc, SLOT(key_free)},
+    {Py_tp_methods, document_methods},
+    {Py_tp_getset, document_properties},
+    {Py_tp_richcompare, SLOT(key_compare)},
+    {Py_tp_hash, SLOT(key_hash)},
+    {Py_tp_repr, SLOT(key_repr)},
+    {0, NULL},
+};
+
+static PyType_Spec document_spec = {"vizhoniku.Document", sizeof(struct key), 0,
+                                    Py_TPFLAGS_DEFAULT | Py_TPFLAGS_IMMUTABLETYPE, document_slots};
+
 static PyType_Slot parts_slots[] = {
     {Py_tp_dealloc, SLOT(parts_free)},
     {Py_tp_iter, SLOT(parts_iterate)},
@@ -1350,6 +1546,7 @@ static int fill_state(PyObject *module, struct state *state) {
   state->rejected = PyObject_GetAttrString(common, "RejectedText");
   state->bad_path = PyObject_GetAttrString(common, "BAD_PATH");
   state->no_key = PyObject_GetAttrString(common, "NO_KEY");
+  state->no_document = PyObject_GetAttrString(common, "NO_DOCUMENT");
   state->no_name = PyObject_GetAttrString(common, "NO_NAME");
   state->too_deep = PyObject_GetAttrString(common, "TOO_DEEP");
   Py_DECREF(common);
@@ -1364,11 +1561,14 @@ static int fill_state(PyObject *module, struct state *state) {
   }
   if (PyErr_Occurred()) return -1;
   state->key_type = PyType_FromModuleAndSpec(module, &key_spec, NULL);
+  state->document_type = PyType_FromModuleAndSpec(module, &document_spec, NULL);
   state->parts_type = PyType_FromModuleAndSpec(module, &parts_spec, NULL);
-  if (!state->key_type || !state->parts_type) return -1;
+  if (!state->key_type || !state->document_type || !state->parts_type) return -1;
+  if (!(state->stored = PyTuple_Pack(2, state->key_type, state->document_type))) return -1;
   /* The default of a parameter is looked up by its name. */
   if (PyModule_AddObjectRef(module, "EXTENDED", state->extended) < 0) return -1;
-  return PyModule_AddObjectRef(module, "Key", state->key_type);
+  if (PyModule_AddObjectRef(module, "Key", state->key_type) < 0) return -1;
+  return PyModule_AddObjectRef(module, "Document", state->document_type);
 }
 
 static int execute(PyObject *module) {
@@ -1392,6 +1592,8 @@ static int traverse(PyObject *module, visitproc visit, void *arg) {
   Py_VISIT(state->value_of);
   Py_VISIT(state->decimal);
   Py_VISIT(state->key_type);
+  Py_VISIT(state->document_type);
+  Py_VISIT(state->stored);
   Py_VISIT(state->parts_type);
   return 0;
 }
@@ -1409,9 +1611,12 @@ static int clear(PyObject *module) {
   Py_CLEAR(state->decimal);
   Py_CLEAR(state->bad_path);
   Py_CLEAR(state->no_key);
+  Py_CLEAR(state->no_document);
   Py_CLEAR(state->no_name);
   Py_CLEAR(state->too_deep);
   Py_CLEAR(state->key_type);
+  Py_CLEAR(state->document_type);
+  Py_CLEAR(state->stored);
   Py_CLEAR(state->parts_type);
   for (size_t i = 0; i < sizeof state->kinds / sizeof *state->kinds; i++) Py_CLEAR(state->kinds[i]);
   return 0;

@@ -1,9 +1,11 @@
-"""Values of Python and documents: what Key.value returns, and the text of what Key.of takes.
+"""Values of Python and documents: what Key.value and Document.value return, and the text of what Key.of and Document.of
+take.
 
 Neither calls itself, so that a document of 512 levels takes no more of the stack than a flat one.
 """
 
 import json
+import re
 from decimal import Decimal
 from typing import Any, Iterable, Iterator, List, NoReturn, Optional, Set, Tuple, Type, Union
 
@@ -16,23 +18,29 @@ _decode = json.JSONDecoder(parse_float=Decimal).decode
 _quote = json.JSONEncoder(ensure_ascii=False).encode  # of a str
 
 
-def value_of(key: Any) -> Any:
-    """The value of a key: a number without a fraction is an int, any other a Decimal."""
-    text: str = key.text()
+def value_of(stored: Any) -> Any:
+    """The value of a key or a document: a number that has a point in the text is a Decimal, any other an int."""
+    text: str = stored.text()
     try:
         return _decode(text)
     except RecursionError:  # which json raises where the caller's calls are deep already
-        return _value_by_parts(key)
+        return _value_by_parts(getattr(stored, "key", stored), text)
 
 
-def _value_by_parts(key: Any) -> Any:
+_NUMBERS = re.compile(r'"(?:[^"\\]|\\.)*"|(-?[0-9.]+)')
+
+
+def _value_by_parts(key: Any, text: str) -> Any:
+    """The value of a key, with the numbers of the text, which come in the order of the key's parts."""
+    numbers = (found[1] for found in _NUMBERS.finditer(text) if found[1])
     whole: List[Any] = []
     open_ones: List[Tuple[Iterator[Tuple[Any, Any]], Any]] = [(iter([(None, key)]), whole)]
     while open_ones:
         parts, into = open_ones[-1]
         for name, part in parts:
             kind = part.kind
-            made: Any = {} if kind == "object" else [] if kind == "array" else _decode(part.text())
+            made: Any = {} if kind == "object" else [] if kind == "array" else \
+                _decode(next(numbers) if kind == "number" else part.text())
             if isinstance(into, list):
                 into.append(made)
             else:
@@ -45,17 +53,18 @@ def _value_by_parts(key: Any) -> Any:
     return whole[0]
 
 
-def text_of(value: object, key_type: type) -> str:
-    """The JSON text of a value, where a key in it stands for its document. TypeError or ValueError where it has none,
-    with the path of what has none."""
-    return _Writer(key_type).write(value)
+def text_of(value: object, stored: Tuple[type, ...], keeps_zeros: bool) -> str:
+    """The JSON text of a value, where one of the types in it, keys and documents, stands for its value. TypeError or
+    ValueError where it has none, with the path of what has none."""
+    return _Writer(stored, keeps_zeros).write(value)
 
 
-def _decimal(value: Decimal) -> Optional[str]:
-    """The text of a finite number, exactly, without zeros at its end; None where it has too many digits."""
+def _decimal(value: Decimal, keeps_zeros: bool) -> Optional[str]:
+    """The text of a finite number, exactly, perhaps with the zeros that end its decimals; None where it has too many
+    digits."""
     sign, digits, exponent = value.as_tuple()
     text = "".join(map(str, digits))
-    kept = text.rstrip("0")
+    kept = text if keeps_zeros and int(exponent) < 0 else text.rstrip("0")
     power = int(exponent) + len(text) - len(kept)  # the value is the kept digits times 10 to this
     if not kept:
         return "0"
@@ -80,8 +89,9 @@ class _Level:
 
 
 class _Writer:
-    def __init__(self, key_type: type) -> None:
-        self._key_type = key_type
+    def __init__(self, stored: Tuple[type, ...], keeps_zeros: bool) -> None:
+        self._stored = stored
+        self._keeps_zeros = keeps_zeros
         self._out: List[str] = []
         self._levels: List[_Level] = []
         self._open: Set[int] = set()  # the identities of the containers
@@ -123,11 +133,11 @@ class _Writer:
             self._begin(value, self._members(value), "{", "}")
         elif isinstance(value, (list, tuple)):
             self._begin(value, enumerate(value), "[", "]")
-        elif isinstance(value, self._key_type):
+        elif isinstance(value, self._stored):
             self._out.append(value.text())  # type: ignore[attr-defined]
         else:
-            self._fail(TypeError, "a value is a dict, list, tuple, str, int, float, Decimal, bool, None or Key, and not"
-                       f" {type(value).__name__}")
+            self._fail(TypeError, "a value is a dict, list, tuple, str, int, float, Decimal, bool, None, Key or"
+                       f" Document, and not {type(value).__name__}")
 
     def _number(self, value: Union[int, float, Decimal]) -> str:
         if isinstance(value, int):
@@ -136,7 +146,7 @@ class _Writer:
             exact = Decimal(float.__repr__(value)) if isinstance(value, float) else value
             if not exact.is_finite():
                 self._fail(ValueError, f"{exact} is no number of JSON")
-            text = _decimal(exact)
+            text = _decimal(exact, self._keeps_zeros)
         if text is None:
             self._fail(ValueError, "number not carried")
         return text
