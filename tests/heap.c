@@ -478,7 +478,7 @@ static size_t levels_of(const struct text *text) {
 static size_t bound_over_key(enum key_function function, const struct text *key, size_t written) {
   if (function < TAKES_MEMORY) return 0;
   if (function == KEY_ESCAPED_PART) return 256;
-  if (function == DOCUMENT_CHECK) return 512 + 12 * key->size;
+  if (function == DOCUMENT_CHECK) return 8192 + 12 * key->size;
   if (function == PLAIN_NUMBERS) return 512 + key->size + ROOM(written);
   if (function == MASKED_NUMBERS) return 512 + key->size;
   if (function == ERROR_PATH) return 512 + ROOM(key->size) + ROOM(written) + levels_of(key) * STEP;
