@@ -55,7 +55,8 @@ enum vizhoniku_status {
   VIZHONIKU_NO_KEY = 7,        /* the bytes aren't the sort key of a value */
   VIZHONIKU_TOO_DEEP = 8,      /* the value would have more than 512 nested arrays and objects */
   VIZHONIKU_NO_ZEROS = 9,      /* the bytes aren't the text of a value, or not the zeros of one */
-  VIZHONIKU_NO_DOCUMENT = 10   /* the bytes aren't the document of a value */
+  VIZHONIKU_NO_DOCUMENT = 10,  /* the bytes aren't the document of a value */
+  VIZHONIKU_PRESENT = 11       /* a member that is to be inserted is there already */
 };
 
 /* Names of earlier versions, which the next one drops. */
@@ -276,6 +277,17 @@ uint32_t vizhoniku_key_name(const unsigned char *name, size_t name_size, unsigne
 /* Returns the boolean of a key in *value: 1 for true, 0 for false. VIZHONIKU_NO_PART: the value is no boolean. */
 uint32_t vizhoniku_key_boolean(const unsigned char *key, size_t key_size, uint32_t *value);
 
+/* Finds the integer that a number is. VIZHONIKU_NO_PART: the value is no number, or not a whole one, or it has more than 64
+ * bits. *value is 0 then, and with VIZHONIKU_NO_KEY. */
+uint32_t vizhoniku_key_integer(const unsigned char *key, size_t key_size, int64_t *value);
+
+/* Writes the sort key of an integer to the start of the buffer, of at most 11 bytes.
+ *
+ *  - VIZHONIKU_ACCEPTED: *size bytes were written. The rest of the buffer is as before.
+ *  - VIZHONIKU_TOO_SHORT: *size bytes are needed, and nothing was written.
+ *  - VIZHONIKU_OUT_OF_MEMORY: *size is 0, and nothing was written. */
+uint32_t vizhoniku_key_of_integer(int64_t value, unsigned char *buffer, size_t buffer_size, size_t *size);
+
 /* Writes the sort key of a string to the start of the buffer, from its text in UTF-8, with no quotes and escapes.
  *
  *  - VIZHONIKU_ACCEPTED: *size bytes were written. The rest of the buffer is as before.
@@ -454,6 +466,29 @@ uint32_t vizhoniku_document_part(const unsigned char *document, size_t document_
 uint32_t vizhoniku_document_range(const unsigned char *document, size_t document_size, size_t offset, size_t part_size,
                                   unsigned char *buffer, size_t buffer_size, size_t *size);
 
+/* Which item or member of a document comes next, and what is left of its zeros there. It is the caller's, and may be
+ * copied. */
+struct vizhoniku_document_cursor {
+  struct vizhoniku_key_cursor parts; /* in the document's key */
+  size_t before;                     /* how many bytes of the key come before the next number with zeros */
+  size_t entries;                    /* where in the document's zeros the entries behind that number begin */
+  unsigned char count;               /* how many zeros that number has; 0 where none with zeros is left */
+};
+
+/* Puts the cursor before the first item or member. VIZHONIKU_NO_PART: the value is neither an array nor an object. It
+ * takes no memory. */
+uint32_t vizhoniku_document_begin(const unsigned char *document, size_t document_size,
+                                  struct vizhoniku_document_cursor *cursor);
+
+/* Writes the document of the next item or of the next member's value, in the order of vizhoniku_key_next, and moves the
+ * cursor behind it. The entry has its ranges in the document's key. The document is that of vizhoniku_document_begin.
+ * VIZHONIKU_NO_PART: there is none any more. With each status but VIZHONIKU_ACCEPTED the cursor stays where it is, and
+ * the entry is all 0; after VIZHONIKU_TOO_SHORT the same call with a longer buffer writes the part. The zeros are
+ * passed once: all parts take time linear in the document. */
+uint32_t vizhoniku_document_next(const unsigned char *document, size_t document_size,
+                                 struct vizhoniku_document_cursor *cursor, struct vizhoniku_key_entry *entry,
+                                 unsigned char *buffer, size_t buffer_size, size_t *size);
+
 /* Sets the part at the path, as vizhoniku_key_set does. */
 uint32_t vizhoniku_document_set(const unsigned char *document, size_t document_size, const unsigned char *path,
                                 size_t path_size, const unsigned char *part, size_t part_size, uint32_t create,
@@ -472,9 +507,30 @@ uint32_t vizhoniku_document_put(const unsigned char *document, size_t document_s
 uint32_t vizhoniku_document_push(const unsigned char *document, size_t document_size, const unsigned char *item,
                                  size_t item_size, unsigned char *buffer, size_t buffer_size, size_t *size);
 
+/* Inserts the part at the path. Where the last step leads into an array, the part is put before the item of that index,
+ * or behind it if after isn't 0; at the end where there are fewer items; and before all of them where there are fewer
+ * than an index with a minus sign counts from the end. Where it leads into an object, the part is a new member:
+ * VIZHONIKU_PRESENT, where the object has one of that name; *size is 0, and nothing was written. The path is as that of
+ * vizhoniku_key_set; VIZHONIKU_NO_PART: a step before the last one leads nowhere, or the last one is no index of an
+ * array. So jsonb_insert of PostgreSQL does with jsonb. */
+uint32_t vizhoniku_document_insert(const unsigned char *document, size_t document_size, const unsigned char *path,
+                                   size_t path_size, const unsigned char *part, size_t part_size, uint32_t after,
+                                   unsigned char *buffer, size_t buffer_size, size_t *size);
+
 /* Merges two values, as vizhoniku_key_merge does. */
 uint32_t vizhoniku_document_merge(const unsigned char *left, size_t left_size, const unsigned char *right,
                                   size_t right_size, unsigned char *buffer, size_t buffer_size, size_t *size);
+
+/* Leaves out what an object names, of which the document or the key is passed, as `-` of PostgreSQL's jsonb does: of an
+ * object the members that have one of its names, of an array the items that are strings equal to one of them.
+ * VIZHONIKU_NO_PART: there are none, or what names isn't an object. */
+uint32_t vizhoniku_document_without(const unsigned char *document, size_t document_size, const unsigned char *names,
+                                    size_t names_size, unsigned char *buffer, size_t buffer_size, size_t *size);
+
+/* Leaves out the members that are null, at all depths, and the items that are too if in_arrays isn't 0, as
+ * jsonb_strip_nulls of PostgreSQL does. A null alone stays. Where there are none, the same document is written. */
+uint32_t vizhoniku_document_strip_nulls(const unsigned char *document, size_t document_size, uint32_t in_arrays,
+                                        unsigned char *buffer, size_t buffer_size, size_t *size);
 
 /* Writes a text of RFC 8259 to the start of the buffer, with each number that has an exponent written out as the decimal
  * of exactly its value, as PostgreSQL's jsonb shows it: 1e-7 is 0.0000001, 1.50e1 is 15.0, and 6.02e23 is
@@ -493,6 +549,13 @@ uint32_t vizhoniku_document_merge(const unsigned char *left, size_t left_size, c
  * quotes, all bytes are as they were: so nothing in a comment and in a string in single quotes changes. */
 uint32_t vizhoniku_plain_numbers(const unsigned char *text, size_t text_size, unsigned char *buffer, size_t buffer_size,
                                  size_t *size, struct vizhoniku_error *error);
+
+/* Returns 1 where each token of the text is one of RFC 8259, where it may be, and else 0: so there is no comment, no name
+ * without double quotes, no comma but between two values, no word but true, false, null and numbers, and in strings no
+ * control character and no other escape. It takes no memory. A text is JSON exactly where this is 1 and
+ * VIZHONIKU_EXTENDED takes what vizhoniku_plain_numbers writes of it, but for what no mode takes: a name that is there
+ * twice, a number of more than 38 digits, and more than 512 nested arrays and objects. */
+uint32_t vizhoniku_is_strict(const unsigned char *text, size_t text_size);
 
 /* Writes a text to the start of the buffer with each number masked that vizhoniku_plain_numbers writes out: a 0, and
  * as many spaces as the number has bytes more. A number that takes more than 38 digits stays as it is. All other bytes

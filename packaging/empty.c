@@ -43,6 +43,8 @@ uint32_t proved_key_string(const unsigned char *key, size_t key_size, unsigned c
 uint32_t proved_key_name(const unsigned char *name, size_t name_size, unsigned char *buffer, size_t buffer_size,
                          size_t *size);
 uint32_t proved_key_boolean(const unsigned char *key, size_t key_size, uint32_t *value);
+uint32_t proved_key_integer(const unsigned char *key, size_t key_size, int64_t *value);
+uint32_t proved_key_of_integer(int64_t value, unsigned char *buffer, size_t buffer_size, size_t *size);
 uint32_t proved_key_of_string(const unsigned char *text, size_t text_size, unsigned char *buffer, size_t buffer_size,
                               size_t *size);
 uint32_t proved_path_step(const unsigned char *name, size_t name_size, unsigned char *buffer, size_t buffer_size,
@@ -80,6 +82,11 @@ uint32_t proved_document_part(const unsigned char *document, size_t document_siz
                               size_t path_size, unsigned char *buffer, size_t buffer_size, size_t *size);
 uint32_t proved_document_range(const unsigned char *document, size_t document_size, size_t offset, size_t part_size,
                                unsigned char *buffer, size_t buffer_size, size_t *size);
+uint32_t proved_document_begin(const unsigned char *document, size_t document_size,
+                               struct vizhoniku_document_cursor *cursor);
+uint32_t proved_document_next(const unsigned char *document, size_t document_size,
+                              struct vizhoniku_document_cursor *cursor, struct vizhoniku_key_entry *entry,
+                              unsigned char *buffer, size_t buffer_size, size_t *size);
 uint32_t proved_document_set(const unsigned char *document, size_t document_size, const unsigned char *path,
                              size_t path_size, const unsigned char *part, size_t part_size, uint32_t create,
                              unsigned char *buffer, size_t buffer_size, size_t *size);
@@ -90,10 +97,18 @@ uint32_t proved_document_put(const unsigned char *document, size_t document_size
                              size_t buffer_size, size_t *size);
 uint32_t proved_document_push(const unsigned char *document, size_t document_size, const unsigned char *item,
                               size_t item_size, unsigned char *buffer, size_t buffer_size, size_t *size);
+uint32_t proved_document_insert(const unsigned char *document, size_t document_size, const unsigned char *path,
+                                size_t path_size, const unsigned char *part, size_t part_size, uint32_t after,
+                                unsigned char *buffer, size_t buffer_size, size_t *size);
 uint32_t proved_document_merge(const unsigned char *left, size_t left_size, const unsigned char *right,
                                size_t right_size, unsigned char *buffer, size_t buffer_size, size_t *size);
+uint32_t proved_document_without(const unsigned char *document, size_t document_size, const unsigned char *names,
+                                 size_t names_size, unsigned char *buffer, size_t buffer_size, size_t *size);
+uint32_t proved_document_strip_nulls(const unsigned char *document, size_t document_size, uint32_t in_arrays,
+                                     unsigned char *buffer, size_t buffer_size, size_t *size);
 uint32_t proved_plain_numbers(const unsigned char *text, size_t text_size, unsigned char *buffer, size_t buffer_size,
                               size_t *size, struct vizhoniku_error *error);
+uint32_t proved_is_strict(const unsigned char *text, size_t text_size);
 uint32_t proved_masked_numbers(const unsigned char *text, size_t text_size, unsigned char *buffer, size_t buffer_size,
                                size_t *size);
 uint32_t proved_error_path(uint32_t mode, const unsigned char *text, size_t text_size,
@@ -211,6 +226,14 @@ uint32_t vizhoniku_key_boolean(const unsigned char *key, size_t key_size, uint32
   return proved_key_boolean(bytes_at(key, key_size), key_size, value);
 }
 
+uint32_t vizhoniku_key_integer(const unsigned char *key, size_t key_size, int64_t *value) {
+  return proved_key_integer(bytes_at(key, key_size), key_size, value);
+}
+
+uint32_t vizhoniku_key_of_integer(int64_t value, unsigned char *buffer, size_t buffer_size, size_t *size) {
+  return proved_key_of_integer(value, buffer_at(buffer, buffer_size), buffer_size, size);
+}
+
 uint32_t vizhoniku_key_of_string(const unsigned char *text, size_t text_size, unsigned char *buffer, size_t buffer_size,
                                  size_t *size) {
   return proved_key_of_string(bytes_at(text, text_size), text_size, buffer_at(buffer, buffer_size), buffer_size, size);
@@ -318,6 +341,18 @@ uint32_t vizhoniku_document_range(const unsigned char *document, size_t document
                                buffer_at(buffer, buffer_size), buffer_size, size);
 }
 
+uint32_t vizhoniku_document_begin(const unsigned char *document, size_t document_size,
+                                  struct vizhoniku_document_cursor *cursor) {
+  return proved_document_begin(bytes_at(document, document_size), document_size, cursor);
+}
+
+uint32_t vizhoniku_document_next(const unsigned char *document, size_t document_size,
+                                 struct vizhoniku_document_cursor *cursor, struct vizhoniku_key_entry *entry,
+                                 unsigned char *buffer, size_t buffer_size, size_t *size) {
+  return proved_document_next(bytes_at(document, document_size), document_size, cursor, entry,
+                              buffer_at(buffer, buffer_size), buffer_size, size);
+}
+
 uint32_t vizhoniku_document_set(const unsigned char *document, size_t document_size, const unsigned char *path,
                                 size_t path_size, const unsigned char *part, size_t part_size, uint32_t create,
                                 unsigned char *buffer, size_t buffer_size, size_t *size) {
@@ -346,16 +381,40 @@ uint32_t vizhoniku_document_push(const unsigned char *document, size_t document_
                               buffer_at(buffer, buffer_size), buffer_size, size);
 }
 
+uint32_t vizhoniku_document_insert(const unsigned char *document, size_t document_size, const unsigned char *path,
+                                   size_t path_size, const unsigned char *part, size_t part_size, uint32_t after,
+                                   unsigned char *buffer, size_t buffer_size, size_t *size) {
+  return proved_document_insert(bytes_at(document, document_size), document_size, bytes_at(path, path_size), path_size,
+                                bytes_at(part, part_size), part_size, after, buffer_at(buffer, buffer_size),
+                                buffer_size, size);
+}
+
 uint32_t vizhoniku_document_merge(const unsigned char *left, size_t left_size, const unsigned char *right,
                                   size_t right_size, unsigned char *buffer, size_t buffer_size, size_t *size) {
   return proved_document_merge(bytes_at(left, left_size), left_size, bytes_at(right, right_size), right_size,
                                buffer_at(buffer, buffer_size), buffer_size, size);
 }
 
+uint32_t vizhoniku_document_without(const unsigned char *document, size_t document_size, const unsigned char *names,
+                                    size_t names_size, unsigned char *buffer, size_t buffer_size, size_t *size) {
+  return proved_document_without(bytes_at(document, document_size), document_size, bytes_at(names, names_size),
+                                 names_size, buffer_at(buffer, buffer_size), buffer_size, size);
+}
+
+uint32_t vizhoniku_document_strip_nulls(const unsigned char *document, size_t document_size, uint32_t in_arrays,
+                                        unsigned char *buffer, size_t buffer_size, size_t *size) {
+  return proved_document_strip_nulls(bytes_at(document, document_size), document_size, in_arrays,
+                                     buffer_at(buffer, buffer_size), buffer_size, size);
+}
+
 uint32_t vizhoniku_plain_numbers(const unsigned char *text, size_t text_size, unsigned char *buffer, size_t buffer_size,
                                  size_t *size, struct vizhoniku_error *error) {
   return proved_plain_numbers(bytes_at(text, text_size), text_size, buffer_at(buffer, buffer_size), buffer_size, size,
                               error);
+}
+
+uint32_t vizhoniku_is_strict(const unsigned char *text, size_t text_size) {
+  return proved_is_strict(bytes_at(text, text_size), text_size);
 }
 
 uint32_t vizhoniku_masked_numbers(const unsigned char *text, size_t text_size, unsigned char *buffer,

@@ -1,9 +1,12 @@
-"""Changes of the reference's trees: parts set and removed, members and items added, two values merged; and documents,
-which are sort keys with the zeros that end decimals behind them (docs/SORT_KEYS.md)."""
+"""Changes of the reference's trees: parts set and removed, members and items added, two values merged, names and nulls
+left out; and documents, which are sort keys with the zeros that end decimals behind them (docs/SORT_KEYS.md)."""
 
 from reference import EXTENDED, number_text, read, sort_key, text_key
 
 REMOVE = object()
+
+# A member that is to be inserted is there already.
+PRESENT = object()
 
 # What values are made of.
 NUMBERS = ["0", "0.0", "1", "1.0", "1.50", "2.25", "-3.000", "100", "1200.00", "0.010", "-0.5", "12345.67890", "7"]
@@ -57,11 +60,80 @@ def changed(tree, path, new, create):
     return (tree[0], parts)
 
 
+def inserted(tree, path, new, after):
+    """The tree with a part inserted at the path, as jsonb_insert of PostgreSQL has it: before the item that the path
+    leads to, or behind it, or as the member of its last name. PRESENT where that member is there, and None where the
+    path leads nowhere."""
+    if not path or tree[0] not in ("array", "object"):
+        return None
+    step, rest = path[0], path[1:]
+    parts = list(tree[1])
+    if tree[0] == "object":
+        at = next((i for i, member in enumerate(parts) if member[1] == step), None)
+    else:
+        at = index_of(step)
+        if at is None:
+            return None
+        before_all = at < -len(parts)
+        at += len(parts) if at < 0 else 0
+    if rest:
+        if at is None or not 0 <= at < len(parts):
+            return None
+        inner = inserted(parts[at][3] if tree[0] == "object" else parts[at], rest, new, after)
+        if inner is None or inner is PRESENT:
+            return inner
+        parts[at] = inner if tree[0] == "array" else (*parts[at][:3], inner)
+    elif tree[0] == "array":
+        parts.insert(0 if before_all else min(at + after, len(parts)), new)
+    elif at is not None:
+        return PRESENT
+    else:
+        parts = sorted(parts + [("owned", step, 0, new)], key=lambda member: member[1])
+    return (tree[0], parts)
+
+
 def merged(left, right):
     if left[0] == right[0] == "object":
         members = {member[1]: member for member in (*left[1], *right[1])}
         return ("object", [members[name] for name in sorted(members)])
     return ("array", [item for tree in (left, right) for item in (tree[1] if tree[0] == "array" else [tree])])
+
+
+def named(tree):
+    """The names of an object's members, or the strings of an array."""
+    if tree[0] == "object":
+        return [member[1] for member in tree[1]]
+    return [item[2] for item in tree[1] if item[0] == "string"] if tree[0] == "array" else []
+
+
+def names_of(tree, chance):
+    """An object to leave out by: some of what the tree has as names or strings, and others."""
+    odd = [b"", b"a", b"aa", b"x", b"zz", b"a\0", "\u00e9".encode()]
+    picked = {name for name in named(tree) if chance.random() < 0.5} | set(chance.sample(odd, chance.randrange(3)))
+    return ("object", [("owned", name, 0, ("null",)) for name in sorted(picked)])
+
+
+def without_names(tree, names):
+    """The tree without the members, or the strings among the items, that the object names; None where nothing goes."""
+    if names[0] != "object" or tree[0] not in ("array", "object"):
+        return None
+    gone = set(named(names))
+    if tree[0] == "object":
+        stay = [member for member in tree[1] if member[1] not in gone]
+    else:
+        stay = [item for item in tree[1] if item[0] != "string" or item[2] not in gone]
+    return (tree[0], stay) if len(stay) < len(tree[1]) else None
+
+
+def without_nulls(tree, in_arrays):
+    """The tree without its members that are null, and without its items that are if `in_arrays`."""
+    if tree[0] == "object":
+        return ("object", [(*member[:3], without_nulls(member[3], in_arrays)) for member in tree[1]
+                           if member[3] != ("null",)])
+    if tree[0] == "array":
+        return ("array", [without_nulls(item, in_arrays) for item in tree[1]
+                          if not in_arrays or item != ("null",)])
+    return tree
 
 
 def depth(tree):

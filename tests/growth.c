@@ -1,7 +1,8 @@
 /* Calls a function of the library over the sort key, or the document, of the text on standard input: growth FUNCTION
- * [PATH]; or over the text: growth plain_numbers, growth masked_numbers, and growth error_path for a text that
- * extended mode rejects with its numbers masked. The status is the one that the call returns. tests/growth counts the
- * instructions of the call. */
+ * [PATH], where growth document_without leaves out all members by their names; or over the text: growth plain_numbers,
+ * growth masked_numbers, and growth error_path for a text that extended mode rejects with its numbers masked; or growth
+ * document_next over all parts of the text's document. The status is the one that the call returns, and 0 where the
+ * parts have ended. tests/growth counts the instructions of the call. */
 #include <stdio.h>
 #include <stdlib.h>
 #include <string.h>
@@ -30,8 +31,25 @@ int main(int count, char **words) {
       return 2;
     return (int)vizhoniku_error_path(VIZHONIKU_EXTENDED, text, text_size, &error, buffer, ROOM, &size);
   }
-  if (vizhoniku_sort_key(VIZHONIKU_STANDARD, text, text_size, key, ROOM, &key_size, &error)) return 2;
+  if (!strcmp(words[1], "document_next")) {
+    struct vizhoniku_document_cursor cursor;
+    struct vizhoniku_key_entry entry;
+    if (vizhoniku_document(VIZHONIKU_EXTENDED, text, text_size, key, ROOM, &key_size, &error)) return 2;
+    uint32_t status = vizhoniku_document_begin(key, key_size, &cursor);
+    while (status == VIZHONIKU_ACCEPTED)
+      status = vizhoniku_document_next(key, key_size, &cursor, &entry, buffer, ROOM, &size);
+    return status == VIZHONIKU_NO_PART ? 0 : 2;
+  }
+  if (!strncmp(words[1], "document_", 9) && count < 3) {
+    if (vizhoniku_document(VIZHONIKU_EXTENDED, text, text_size, key, ROOM, &key_size, &error)) return 2;
+  } else if (vizhoniku_sort_key(VIZHONIKU_STANDARD, text, text_size, key, ROOM, &key_size, &error)) {
+    return 2;
+  }
   if (!strcmp(words[1], "key_count")) return (int)vizhoniku_key_count(key, key_size, &size);
+  if (!strcmp(words[1], "document_without"))
+    return (int)vizhoniku_document_without(key, key_size, key, key_size, buffer, ROOM, &size);
+  if (!strcmp(words[1], "document_strip_nulls"))
+    return (int)vizhoniku_document_strip_nulls(key, key_size, 1, buffer, ROOM, &size);
   if (count < 3) return 2;
   const unsigned char *path = (const unsigned char *)words[2];
   size_t path_size = strlen(words[2]);
@@ -39,6 +57,9 @@ int main(int count, char **words) {
     return (int)vizhoniku_key_set(key, key_size, path, path_size, null_key, sizeof null_key, 0, buffer, ROOM, &size);
   if (!strcmp(words[1], "key_remove"))
     return (int)vizhoniku_key_remove(key, key_size, path, path_size, buffer, ROOM, &size);
+  if (!strcmp(words[1], "document_insert"))
+    return (int)vizhoniku_document_insert(key, key_size, path, path_size, with_zero, sizeof with_zero, 0, buffer, ROOM,
+                                          &size);
   uint32_t status =
       vizhoniku_document_set(key, key_size, path, path_size, with_zero, sizeof with_zero, 0, buffer, ROOM, &size);
   if (!strcmp(words[1], "document_set")) return (int)status;

@@ -340,17 +340,22 @@ enum key_function {
   DOCUMENT_TEXT,
   DOCUMENT_PART,
   DOCUMENT_RANGE,
+  DOCUMENT_NEXT,
   DOCUMENT_SET,
   DOCUMENT_REMOVE,
   DOCUMENT_PUT,
   DOCUMENT_PUSH,
+  DOCUMENT_INSERT,
   DOCUMENT_MERGE,
+  DOCUMENT_WITHOUT,
+  DOCUMENT_STRIP,
   ZEROS_OF_TEXT,
   TEXT_WITH_ZEROS,
   ZEROS_OF_NUMBERS,
   PLAIN_NUMBERS,
   MASKED_NUMBERS,
   KEY_OF_STRING,
+  KEY_OF_INTEGER,
   PATH_STEP,
   ERROR_PATH,
   KEY_FUNCTIONS
@@ -364,10 +369,11 @@ static const char *const key_functions[] = {
     "vizhoniku_key_part with an escape", "vizhoniku_key_text", "vizhoniku_key_set", "vizhoniku_key_remove",
     "vizhoniku_key_put", "vizhoniku_key_push", "vizhoniku_key_merge", "vizhoniku_document_check", "vizhoniku_document_text",
     "vizhoniku_document_part",
-    "vizhoniku_document_range", "vizhoniku_document_set", "vizhoniku_document_remove", "vizhoniku_document_put",
-    "vizhoniku_document_push", "vizhoniku_document_merge", "vizhoniku_zeros_of_text",
+    "vizhoniku_document_range", "vizhoniku_document_next", "vizhoniku_document_set", "vizhoniku_document_remove",
+    "vizhoniku_document_put", "vizhoniku_document_push", "vizhoniku_document_insert", "vizhoniku_document_merge",
+    "vizhoniku_document_without", "vizhoniku_document_strip_nulls", "vizhoniku_zeros_of_text",
     "vizhoniku_text_with_zeros", "vizhoniku_zeros_of_numbers", "vizhoniku_plain_numbers", "vizhoniku_masked_numbers",
-    "vizhoniku_key_of_string", "vizhoniku_path_step", "vizhoniku_error_path",
+    "vizhoniku_key_of_string", "vizhoniku_key_of_integer", "vizhoniku_path_step", "vizhoniku_error_path",
 };
 
 /* The zeros of the text that the functions over zeros take, which is passed in the place of a key as that of the
@@ -384,8 +390,9 @@ static struct vizhoniku_error why;
 /* Calls the function over the key. *size is the size of what it writes, 0 where it writes nothing. */
 static uint32_t call_over_key(enum key_function function, const struct text *key, unsigned char *buffer, size_t room,
                               size_t *size) {
-  static const unsigned char null_key[] = {0xD3};
+  static const unsigned char null_key[] = {0xD3}, names[] = {0xD1, 'k', 'e', 'y', '0', 0, 1, 0xD3, 0, 0};
   struct vizhoniku_key_cursor cursor;
+  struct vizhoniku_document_cursor document_cursor;
   struct vizhoniku_key_entry entry;
   struct vizhoniku_error error;
   size_t offset, part_size;
@@ -421,6 +428,10 @@ static uint32_t call_over_key(enum key_function function, const struct text *key
     case DOCUMENT_TEXT: return vizhoniku_document_text(key->bytes, key->size, buffer, room, size);
     case DOCUMENT_PART: return vizhoniku_document_part(key->bytes, key->size, PATH, 2, buffer, room, size);
     case DOCUMENT_RANGE: return vizhoniku_document_range(key->bytes, key->size, 0, key->size, buffer, room, size);
+    case DOCUMENT_NEXT:
+      status = vizhoniku_document_begin(key->bytes, key->size, &document_cursor);
+      if (status != VIZHONIKU_ACCEPTED) return status;
+      return vizhoniku_document_next(key->bytes, key->size, &document_cursor, &entry, buffer, room, size);
     case DOCUMENT_SET:
       return vizhoniku_document_set(key->bytes, key->size, PATH, 2, null_key, sizeof null_key, 1, buffer, room, size);
     case DOCUMENT_REMOVE: return vizhoniku_document_remove(key->bytes, key->size, PATH, 2, buffer, room, size);
@@ -428,8 +439,14 @@ static uint32_t call_over_key(enum key_function function, const struct text *key
       return vizhoniku_document_put(key->bytes, key->size, NAME, 4, null_key, sizeof null_key, buffer, room, size);
     case DOCUMENT_PUSH:
       return vizhoniku_document_push(key->bytes, key->size, null_key, sizeof null_key, buffer, room, size);
+    case DOCUMENT_INSERT:
+      return vizhoniku_document_insert(key->bytes, key->size, PATH, 2, null_key, sizeof null_key, 1, buffer, room,
+                                       size);
     case DOCUMENT_MERGE:
       return vizhoniku_document_merge(key->bytes, key->size, key->bytes, key->size, buffer, room, size);
+    case DOCUMENT_WITHOUT:
+      return vizhoniku_document_without(key->bytes, key->size, names, sizeof names, buffer, room, size);
+    case DOCUMENT_STRIP: return vizhoniku_document_strip_nulls(key->bytes, key->size, 1, buffer, room, size);
     case ZEROS_OF_TEXT: return vizhoniku_zeros_of_text(key->bytes, key->size, buffer, room, size);
     case TEXT_WITH_ZEROS:
       return vizhoniku_text_with_zeros(shortest.bytes, shortest.size, zeros.bytes, zeros.size, buffer, room, size);
@@ -439,6 +456,7 @@ static uint32_t call_over_key(enum key_function function, const struct text *key
     case PLAIN_NUMBERS: return vizhoniku_plain_numbers(key->bytes, key->size, buffer, room, size, &error);
     case MASKED_NUMBERS: return vizhoniku_masked_numbers(key->bytes, key->size, buffer, room, size);
     case KEY_OF_STRING: return vizhoniku_key_of_string(key->bytes, key->size, buffer, room, size);
+    case KEY_OF_INTEGER: return vizhoniku_key_of_integer((int64_t)key->size, buffer, room, size);
     case PATH_STEP: return vizhoniku_path_step(key->bytes, key->size, buffer, room, size);
     case ERROR_PATH:
       return vizhoniku_error_path(VIZHONIKU_EXTENDED, key->bytes, key->size, &why, buffer, room, size);
@@ -472,12 +490,14 @@ static size_t levels_of(const struct text *text) {
 }
 
 /* What the key of each function may hold at most: nothing, or what is written of it. A text is at most six times as
- * long as its key, and the others twice. A path takes some bytes more. A document is checked by its
- * text, of which the serialized form, the key and the document are made. Zeros take what is written of them alone, and so
- * do numbers with exponents, beside the text. For the path of an error the text is copied into a vector. */
+ * long as its key, and the others twice. A path takes some bytes more. A document is checked by its text, of which the
+ * serialized form, the key and the document are made. The key of an integer has at most 11 bytes. Zeros take what is
+ * written of them alone, and so do numbers with exponents, beside the text. For the path of an error the text is copied
+ * into a vector. */
 static size_t bound_over_key(enum key_function function, const struct text *key, size_t written) {
   if (function < TAKES_MEMORY) return 0;
   if (function == KEY_ESCAPED_PART) return 256;
+  if (function == KEY_OF_INTEGER) return 16;
   if (function == DOCUMENT_CHECK) return 8192 + 12 * key->size;
   if (function == PLAIN_NUMBERS) return 512 + key->size + ROOM(written);
   if (function == MASKED_NUMBERS) return 512 + key->size;

@@ -194,8 +194,8 @@ static struct text make(const struct shape *shape) {
  * by a number. */
 enum function {
   CHECK, TEXT, SORT_KEY, TEXT_AND_KEY, DOCUMENT, PART, COMPARE, MESSAGE, REASON, KEY_CHECK, KEY_TEXT, KEY_PART,
-  KEY_COUNT, KEY_CONTAINS, KEY_SET, KEY_REMOVE, KEY_MERGE, KEY_NUMBERS, DOCUMENT_CHECK, DOCUMENT_TEXT, DOCUMENT_PART, DOCUMENT_SET,
-  DOCUMENT_REMOVE, DOCUMENT_MERGE, ZEROS, TEXT_WITH_ZEROS,
+  KEY_COUNT, KEY_CONTAINS, KEY_SET, KEY_REMOVE, KEY_MERGE, KEY_NUMBERS, DOCUMENT_CHECK, DOCUMENT_TEXT, DOCUMENT_PART,
+  DOCUMENT_NEXT, DOCUMENT_SET, DOCUMENT_REMOVE, DOCUMENT_INSERT, DOCUMENT_MERGE, DOCUMENT_STRIP, ZEROS, TEXT_WITH_ZEROS,
   PLAIN_NUMBERS, MASKED_NUMBERS, ERROR_PATH, FUNCTIONS
 };
 
@@ -205,8 +205,9 @@ static const char *const functions[] = {
     "vizhoniku_compare", "vizhoniku_message", "vizhoniku_reason", "vizhoniku_key_check", "vizhoniku_key_text",
     "vizhoniku_key_part",
     "vizhoniku_key_count", "vizhoniku_key_contains", "vizhoniku_key_set", "vizhoniku_key_remove", "vizhoniku_key_merge",
-    "vizhoniku_key_numbers", "vizhoniku_document_check", "vizhoniku_document_text", "vizhoniku_document_part", "vizhoniku_document_set",
-    "vizhoniku_document_remove", "vizhoniku_document_merge", "vizhoniku_zeros_of_text", "vizhoniku_text_with_zeros",
+    "vizhoniku_key_numbers", "vizhoniku_document_check", "vizhoniku_document_text", "vizhoniku_document_part",
+    "vizhoniku_document_next", "vizhoniku_document_set", "vizhoniku_document_remove", "vizhoniku_document_insert",
+    "vizhoniku_document_merge", "vizhoniku_document_strip_nulls", "vizhoniku_zeros_of_text", "vizhoniku_text_with_zeros",
     "vizhoniku_plain_numbers", "vizhoniku_masked_numbers", "vizhoniku_error_path",
 };
 
@@ -218,7 +219,9 @@ static const size_t told[FUNCTIONS][2] = {
     [KEY_SET] = {2, 0},       [KEY_REMOVE] = {2, 0},   [KEY_MERGE] = {2, 0},       [KEY_NUMBERS] = {2, 0},
     [ZEROS] = {2, 0},         [TEXT_WITH_ZEROS] = {2, 0}, [PLAIN_NUMBERS] = {2, 0},   [MASKED_NUMBERS] = {2, 0},
     [ERROR_PATH] = {2, 0},    [REASON] = {22, 0},      [DOCUMENT_PART] = {2, 0},   [DOCUMENT_SET] = {2, 0},
-    [DOCUMENT] = {22, 110},   [DOCUMENT_CHECK] = {5, 0}, [DOCUMENT_TEXT] = {2, 0},  [DOCUMENT_REMOVE] = {2, 0}, [DOCUMENT_MERGE] = {2, 0},
+    [DOCUMENT_NEXT] = {2, 0}, [DOCUMENT_INSERT] = {2, 0},
+    [DOCUMENT] = {22, 110},   [DOCUMENT_CHECK] = {5, 0}, [DOCUMENT_TEXT] = {2, 0},  [DOCUMENT_REMOVE] = {2, 0}, [DOCUMENT_MERGE] = {3, 0},
+    [DOCUMENT_STRIP] = {2, 0},
 };
 
 struct call {
@@ -237,6 +240,8 @@ static void *run(void *given) {
   const unsigned char *bytes = call->text->bytes;
   size_t text_size = call->text->size, size, key_size;
   struct vizhoniku_error error;
+  struct vizhoniku_document_cursor cursor;
+  struct vizhoniku_key_entry entry;
   int32_t order;
   call->top = __builtin_frame_address(0);
   switch (call->function) {
@@ -295,6 +300,13 @@ static void *run(void *given) {
       call->status = vizhoniku_document_part(call->key, call->key_size, call->path->bytes, call->path->size,
                                              call->buffer, call->room, &size);
       break;
+    case DOCUMENT_NEXT:
+      call->status = vizhoniku_document_begin(call->key, call->key_size, &cursor);
+      while (call->status == VIZHONIKU_ACCEPTED)
+        call->status = vizhoniku_document_next(call->key, call->key_size, &cursor, &entry, call->buffer, call->room,
+                                               &size);
+      if (call->status == VIZHONIKU_NO_PART) call->status = VIZHONIKU_ACCEPTED; /* all parts were written */
+      break;
     case DOCUMENT_SET:
       call->status = vizhoniku_document_set(call->key, call->key_size, call->path->bytes, call->path->size, call->key,
                                             call->key_size, 1, call->buffer, call->room, &size);
@@ -303,9 +315,17 @@ static void *run(void *given) {
       call->status = vizhoniku_document_remove(call->key, call->key_size, call->path->bytes, call->path->size,
                                                call->buffer, call->room, &size);
       break;
+    case DOCUMENT_INSERT:
+      call->status = vizhoniku_document_insert(call->key, call->key_size, call->path->bytes, call->path->size,
+                                               call->key, call->key_size, 0, call->buffer, call->room, &size);
+      if (call->status == VIZHONIKU_PRESENT) call->status = VIZHONIKU_ACCEPTED; /* nothing is put over a member */
+      break;
     case DOCUMENT_MERGE:
       call->status = vizhoniku_document_merge(call->key, call->key_size, call->key, call->key_size, call->buffer,
                                               call->room, &size);
+      break;
+    case DOCUMENT_STRIP:
+      call->status = vizhoniku_document_strip_nulls(call->key, call->key_size, 1, call->buffer, call->room, &size);
       break;
     case ZEROS: call->status = vizhoniku_zeros_of_text(bytes, text_size, call->buffer, call->room, &size); break;
     case TEXT_WITH_ZEROS:
@@ -399,7 +419,8 @@ static void measure(const struct shape *shape, const struct stack *stack) {
     /* A comment is refused in standard mode, and a fault in both. */
     int is_read = shape->end == WHOLE || (shape->end == COMMENT && call.mode == VIZHONIKU_EXTENDED) ||
                   call.function >= PLAIN_NUMBERS;
-    int is_deep = (call.function == KEY_SET || call.function == DOCUMENT_SET) && whole == VIZHONIKU_TOO_DEEP;
+    int is_deep = (call.function == KEY_SET || call.function == DOCUMENT_SET || call.function == DOCUMENT_INSERT) &&
+                  whole == VIZHONIKU_TOO_DEEP;
     if (!is_deep && whole != (is_read ? VIZHONIKU_ACCEPTED : VIZHONIKU_REJECTED)) wrong++;
   }
   refused = -1;

@@ -402,6 +402,37 @@ static void change_keys(void) {
   print_key("null pushed", status, out, size);
 }
 
+/* Leaves parts out of the documents {"a":[null,2.0],"b":null} and ["a",1.50], by the names of {"a":null} and {"b":null}. */
+static void leave_out(unsigned char *out, size_t out_size) {
+  static const unsigned char object[] = {0xD1, 'a', 0, 1, 0xD2, 0xD3, 0xA1, 0x28, 0, 'b', 0, 1, 0xD3, 0, 0, 6, 1, 2, 0xFF};
+  static const unsigned char array[] = {0xD2, 0xD0, 'a', 0, 1, 0xA1, 0x1E, 0, 5, 1, 2, 0xFF};
+  static const unsigned char a[] = {0xD1, 'a', 0, 1, 0xD3, 0, 0}, b[] = {0xD1, 'b', 0, 1, 0xD3, 0, 0};
+  size_t size = 99;
+  uint32_t status;
+  status = vizhoniku_document_without(object, sizeof object, b, sizeof b, out, out_size, &size);
+  print_key("without b", status, out, size);
+  status = vizhoniku_document_without(object, sizeof object, b, sizeof b, out, 14, &size);
+  print_key("too short", status, out, size);
+  status = vizhoniku_document_without(object, sizeof object, a, sizeof a, out, out_size, &size);
+  print_key("without a", status, out, size);
+  status = vizhoniku_document_without(array, sizeof array, a, sizeof a, out, out_size, &size);
+  print_key("without items", status, out, size);
+  status = vizhoniku_document_without(array, sizeof array, b, sizeof b, out, out_size, &size);
+  print_key("none left out", status, out, size);
+  status = vizhoniku_document_without(object, sizeof object, array, sizeof array, out, out_size, &size);
+  print_key("no names", status, out, size);
+  status = vizhoniku_document_strip_nulls(object, sizeof object, 0, out, out_size, &size);
+  print_key("stripped", status, out, size);
+  status = vizhoniku_document_strip_nulls(object, sizeof object, 1, out, out_size, &size);
+  print_key("items stripped", status, out, size);
+  status = vizhoniku_document_strip_nulls(object, sizeof object, 1, out, 13, &size);
+  print_key("too short", status, out, size);
+  status = vizhoniku_document_strip_nulls(array, sizeof array, 1, out, out_size, &size);
+  print_key("none stripped", status, out, size);
+  status = vizhoniku_document_strip_nulls(a + 4, 1, 1, out, out_size, &size);
+  print_key("null alone", status, out, size);
+}
+
 /* Documents: {"a":[1.50]}, and 2.0 and null, of docs/SORT_KEYS.md's format. */
 static void change_documents(void) {
   static const unsigned char document[] = {0xD1, 'a', 0, 1, 0xD2, 0xA1, 0x1E, 0, 0, 0, 5, 1, 2, 0xFF};
@@ -464,8 +495,27 @@ static void change_documents(void) {
   print_key("pushed", status, out, size);
   status = vizhoniku_document_push(number, sizeof number, number, sizeof number, out, sizeof out, &size);
   print_key("not pushed", status, out, size);
+  status = vizhoniku_document_insert(document, sizeof document, BYTES("/a/0"), number, sizeof number, 0, out,
+                                     sizeof out, &size);
+  print_key("inserted", status, out, size);
+  status = vizhoniku_document_insert(document, sizeof document, BYTES("/a/-1"), number, sizeof number, 1, out,
+                                     sizeof out, &size);
+  print_key("inserted behind", status, out, size);
+  status = vizhoniku_document_insert(document, sizeof document, BYTES("/a/-3"), null, sizeof null, 1, out, sizeof out,
+                                     &size);
+  print_key("inserted in front", status, out, size);
+  status = vizhoniku_document_insert(document, sizeof document, BYTES("/b"), null, sizeof null, 0, out, sizeof out,
+                                     &size);
+  print_key("a member inserted", status, out, size);
+  status = vizhoniku_document_insert(document, sizeof document, BYTES("/a"), null, sizeof null, 0, out, sizeof out,
+                                     &size);
+  print_key("present", status, out, size);
+  status = vizhoniku_document_insert(document, sizeof document, BYTES("/a/x"), null, sizeof null, 0, out, sizeof out,
+                                     &size);
+  print_key("not inserted", status, out, size);
   status = vizhoniku_document_merge(number, sizeof number, document, sizeof document, out, sizeof out, &size);
   print_key("merged", status, out, size);
+  leave_out(out, sizeof out);
   status = vizhoniku_document_part(NULL, 0, NULL, 0, NULL, 0, &size);
   print_key("null part", status, out, size);
   status = vizhoniku_document_range(NULL, 0, 0, 0, NULL, 0, &size);
@@ -478,11 +528,91 @@ static void change_documents(void) {
   print_key("null put", status, out, size);
   status = vizhoniku_document_push(NULL, 0, NULL, 0, NULL, 0, &size);
   print_key("null pushed", status, out, size);
+  status = vizhoniku_document_insert(NULL, 0, NULL, 0, NULL, 0, 0, NULL, 0, &size);
+  print_key("null inserted", status, out, size);
   status = vizhoniku_document_merge(NULL, 0, NULL, 0, NULL, 0, &size);
   print_key("null merged", status, out, size);
+  status = vizhoniku_document_without(NULL, 0, NULL, 0, NULL, 0, &size);
+  print_key("null without", status, out, size);
+  status = vizhoniku_document_strip_nulls(NULL, 0, 0, NULL, 0, &size);
+  print_key("null stripped", status, out, size);
 }
 
-/* Booleans, keys of strings, steps of paths, and what is wrong with a text, without its offset. */
+/* The parts of documents one after the other: of [1.50,null,2.0], and of {"a":[1.50]}. */
+static void walk_documents(void) {
+  static const unsigned char array[] = {0xD2, 0xA1, 0x1E, 0xD3, 0xA1, 0x28, 0, 1, 1, 2, 1, 4, 0xFF};
+  static const unsigned char object[] = {0xD1, 'a', 0, 1, 0xD2, 0xA1, 0x1E, 0, 0, 0, 5, 1, 2, 0xFF};
+  unsigned char out[40];
+  size_t size = 99;
+  struct vizhoniku_document_cursor cursor;
+  struct vizhoniku_key_entry entry;
+  uint32_t status = vizhoniku_document_begin(array, sizeof array, &cursor);
+  printf("begin: %u kind %u offset %zu\n", (unsigned)status, (unsigned)cursor.parts.kind, cursor.parts.offset);
+  for (int part = 0; part < 4; part++) {
+    size_t capacity = part == 2 ? 5 : sizeof out;
+    status = vizhoniku_document_next(array, sizeof array, &cursor, &entry, out, capacity, &size);
+    if (part == 2) {
+      printf("too short: %u size %zu, cursor %zu\n", (unsigned)status, size, cursor.parts.offset);
+      status = vizhoniku_document_next(array, sizeof array, &cursor, &entry, out, size, &size);
+    }
+    print_key("next", status, out, size);
+    printf("value %zu %zu, cursor %zu\n", entry.offset, entry.size, cursor.parts.offset);
+  }
+  status = vizhoniku_document_begin(object, sizeof object, &cursor);
+  printf("begin: %u kind %u offset %zu\n", (unsigned)status, (unsigned)cursor.parts.kind, cursor.parts.offset);
+  status = vizhoniku_document_next(object, sizeof object, &cursor, &entry, out, sizeof out, &size);
+  print_key("next", status, out, size);
+  printf("name %zu %zu, value %zu %zu\n", entry.name_offset, entry.name_size, entry.offset, entry.size);
+  status = vizhoniku_document_next(object, sizeof object, &cursor, &entry, out, sizeof out, &size);
+  print_key("end", status, out, size);
+  status = vizhoniku_document_begin(array + 1, 2, &cursor);
+  printf("begin of a number: %u kind %u\n", (unsigned)status, (unsigned)cursor.parts.kind);
+  status = vizhoniku_document_next(array + 1, 2, &cursor, &entry, out, sizeof out, &size);
+  print_key("no cursor", status, out, size);
+  status = vizhoniku_document_begin(NULL, 0, &cursor);
+  printf("null begin: %u kind %u\n", (unsigned)status, (unsigned)cursor.parts.kind);
+  status = vizhoniku_document_next(NULL, 0, &cursor, &entry, NULL, 0, &size);
+  print_key("null next", status, out, size);
+}
+
+/* Which texts have the tokens of RFC 8259 alone. */
+static void look_for_json(void) {
+  static const char *const texts[] = {"[1,2.5e3,\"\\u0041\"]", "{\"a\": null}", " 7 ", "", "[1,]", "[,1]", "{a:1}", "'a'",
+                                      "[1] // one", "[01]", "[+1]", "[0x1]", "[nan]", "\"\\x\"", "\"\t\""};
+  printf("strict:");
+  for (size_t i = 0; i < sizeof texts / sizeof *texts; i++)
+    printf(" %u", (unsigned)vizhoniku_is_strict((const unsigned char *)texts[i], strlen(texts[i])));
+  printf(", null %u\n", (unsigned)vizhoniku_is_strict(NULL, 0));
+}
+
+/* Integers from keys, and keys of integers. */
+static void pass_integers(void) {
+  static const int64_t integers[] = {0, -1, 1500, INT64_MAX, INT64_MIN};
+  static const unsigned char half[] = {0xA0, 0x64}, null[] = {0xD3};
+  static const unsigned char above[] = {0xB3, 0xB9, 0x2F, 0x4B, 0x29, 0x49, 0xAB, 0x5F, 0x97, 0xA1, 0xA0};
+  unsigned char out[40];
+  int64_t value = 99;
+  size_t size = 99;
+  uint32_t status;
+  for (size_t i = 0; i < sizeof integers / sizeof *integers; i++) {
+    status = vizhoniku_key_of_integer(integers[i], out, sizeof out, &size);
+    print_key("integer", status, out, size);
+    status = vizhoniku_key_integer(out, size, &value);
+    printf("back: %u %d\n", (unsigned)status, value == integers[i]);
+  }
+  status = vizhoniku_key_of_integer(1500, out, 1, &size);
+  print_key("too short", status, out, size);
+  status = vizhoniku_key_integer(half, sizeof half, &value);
+  printf("half: %u %d", (unsigned)status, (int)value);
+  status = vizhoniku_key_integer(above, sizeof above, &value);
+  printf(", above: %u %d", (unsigned)status, (int)value);
+  status = vizhoniku_key_integer(null, sizeof null, &value);
+  printf(", no number: %u %d", (unsigned)status, (int)value);
+  status = vizhoniku_key_integer(NULL, 0, &value);
+  printf(", null: %u %d\n", (unsigned)status, (int)value);
+}
+
+/* Booleans, integers, keys of strings, steps of paths, and what is wrong with a text, without its offset. */
 static void pass_scalars(void) {
   static const unsigned char yes[] = {0x16}, no[] = {0x15}, null[] = {0xD3}, text[] = {'a', 0, 'b'};
   unsigned char out[40];
@@ -495,6 +625,7 @@ static void pass_scalars(void) {
   printf(", %u %u", (unsigned)status, (unsigned)value);
   status = vizhoniku_key_boolean(NULL, 0, &value);
   printf(", %u %u\n", (unsigned)status, (unsigned)value);
+  pass_integers();
   status = vizhoniku_key_of_string(text, sizeof text, out, sizeof out, &size);
   print_key("string", status, out, size);
   status = vizhoniku_key_of_string(text, sizeof text, out, 6, &size);
@@ -598,6 +729,8 @@ int main(void) {
   pass_null_keys();
   change_keys();
   change_documents();
+  walk_documents();
+  look_for_json();
   pass_scalars();
 
   printf("version: %u\n", (unsigned)vizhoniku_version());

@@ -49,7 +49,7 @@ static const char *const texts[] = {
 };
 
 /* Each function of the library that takes memory, by a number below this one. */
-#define FUNCTIONS 30
+#define FUNCTIONS 35
 
 static uint32_t call(int which, uint32_t mode, const unsigned char *text, size_t text_size, size_t capacity) {
   static const unsigned char path[] = {'/', 'c', '/', 'k'};
@@ -59,6 +59,8 @@ static uint32_t call(int which, uint32_t mode, const unsigned char *text, size_t
   static const unsigned char decimals[] = "[1.50,2,4.000,5.0]", shortest[] = "[1.5,2,4,5]", zeros[] = {0, 1, 1, 3, 0, 1};
   unsigned char buffer[400], key_buffer[400];
   struct vizhoniku_error error;
+  struct vizhoniku_document_cursor cursor;
+  struct vizhoniku_key_entry entry;
   size_t size, key_size;
   int32_t order;
   switch (which) {
@@ -105,6 +107,16 @@ static uint32_t call(int which, uint32_t mode, const unsigned char *text, size_t
     case 26: return vizhoniku_document(mode, text, text_size, buffer, capacity, &size, &error);
     case 27: return vizhoniku_document_text(document, sizeof document, buffer, capacity, &size);
     case 28: return vizhoniku_document_check(document, sizeof document);
+    case 29:
+      if (vizhoniku_document_begin(document, sizeof document, &cursor)) return VIZHONIKU_NO_DOCUMENT;
+      return vizhoniku_document_next(document, sizeof document, &cursor, &entry, buffer, capacity, &size);
+    case 30: return vizhoniku_key_of_integer(-1500, buffer, capacity, &size);
+    case 31:
+      return vizhoniku_document_without(object_key, sizeof object_key, document, sizeof document, buffer, capacity, &size);
+    case 32: return vizhoniku_document_strip_nulls(document, sizeof document, 1, buffer, capacity, &size);
+    case 33:
+      return vizhoniku_document_insert(document, sizeof document, path, sizeof path, document, sizeof document, 0,
+                                       buffer, capacity, &size);
     default: return vizhoniku_compare(mode, text, text_size, text, text_size, &order, &error);
   }
 }

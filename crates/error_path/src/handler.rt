@@ -3,10 +3,10 @@ ghost use Rattle.std.specs.Prelude.{◌≡◌, [], false, true};
 ghost use Rattle.error_path.specs.Handler.{IsAnyValue};
 
 use crate::steps::{Level, Steps};
-use jsonb_parse::{Failed, Handler, Mode, OpenObject, Scalar, Text, Wants};
-use jsonb_scan::util::check_contents;
 use jsonb_value::error::Error;
 use std::alloc::{AllocError, Global};
+use text_parse::{Failed, Handler, Mode, OpenObject, Scalar, Text, Wants};
+use text_scan::util::check_contents;
 
 /// A value of the text.
 #[derive(Drop)]

@@ -4,10 +4,10 @@ ghost use Rattle.jsonb_path.specs.Path.{encoded_byte, encoded_key, encoded_keys,
 
 use crate::handler::PassedPart;
 use crate::steps::Steps;
-use jsonb_parse::{Mode, parse_text};
 use jsonb_value::error::{Error, ParseErrorCode};
 use plain_numbers::write_masked_numbers;
 use std::alloc::{AllocError, Global};
+use text_parse::{Mode, parse_text};
 
 /// Appends the path (RFC 6901) of these keys.
 ///

@@ -5,8 +5,8 @@ use Rattle.jsonb_spec.specs.Ascii as ascii
 use Rattle.jsonb_value.specs.Error.ErrorText.{error_text}
 use Rattle.jsonb_spec.specs.Grammar.{IsDocument, IsNoDocument}
 use Rattle.jsonb_spec.specs.Mode.{extended}
-use Rattle.jsonb_scan.specs.Answer.{Fails, MayAllocate}
-use Rattle.jsonb_scan.specs.Parsing.Document.{document_of}
+use Rattle.text_scan.specs.Answer.{Fails, MayAllocate}
+use Rattle.text_scan.specs.Parsing.Document.{document_of}
 use Rattle.jsonb_spec.specs.Tree.{Tree}
 use Rattle.jsonb_spec.specs.Order.{Same}
 use Rattle.jsonb_spec.specs.Text.{text_of}

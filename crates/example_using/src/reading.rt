@@ -3,7 +3,7 @@
 ghost use Rattle.std.specs.Prelude.{◌≡◌, ◌≢◌, false, true, IfOk, IfErr};
 ghost use Rattle.jsonb_spec.specs.Grammar.{IsDocument, IsNoDocument};
 ghost use Rattle.jsonb_spec.specs.Mode.{standard};
-ghost use Rattle.jsonb_scan.specs.Answer.{mode_of};
+ghost use Rattle.text_scan.specs.Answer.{mode_of};
 ghost use Rattle.jsonb_spec.specs.Tree.{Tree};
 ghost use Rattle.jsonb_value.specs.View.{view};
 

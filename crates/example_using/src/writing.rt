@@ -8,8 +8,8 @@ ghost use Rattle.jsonb_spec.specs.Tree.{Tree};
 ghost use Rattle.jsonb_spec.specs.Indented.{indented_text};
 
 use jsonb::{Error, Mode, Result, Value};
-use jsonb_pretty::write_text_indented;
 use std::alloc::Global;
+use text_pretty::write_text_indented;
 
 /// The text without whitespace and comments, its members in the order of their keys.
 pub fn tidy(alloc: Global, text: &[u8]) -> Result<Vec<u8>>

@@ -2,10 +2,10 @@
 use Rattle.std.proofs.Common.{ℕ, true, false, List, subst}
 use Rattle.std.specs.declared.borrow.CowStr.TheVariants.{Borrowed, Owned}
 use Rattle.jsonb_spec.specs.Source.{Source}
-use Rattle.jsonb_scan.specs.Encoded as scan
-use Rattle.jsonb_write.specs.TextSink.{IsEncoded, SeesPart}
-use Rattle.jsonb_write.specs.declared.text.Part.{Part}
-use Rattle.jsonb_write.specs.declared.text.Part.TheVariants as part
+use Rattle.text_scan.specs.Encoded as scan
+use Rattle.text_write.specs.TextSink.{IsEncoded, SeesPart}
+use Rattle.text_write.specs.declared.text.Part.{Part}
+use Rattle.text_write.specs.declared.text.Part.TheVariants as part
 
 pub encoded_part : (text : List ℕ) (from to : ℕ) (p : Part) (s : Source) → SeesPart p s → scan.IsEncodedAt text from to s → IsEncoded text from to p
 encoded_part text from to part.Null s sees h = subst (λ u. scan.IsEncodedAt text from to u) sees h

@@ -1,10 +1,10 @@
 -- A scalar that is given to be put in, and is held or not.
 use Rattle.std.proofs.Common.{◌≡◌, ◌⊎◌, ℕ, List, Option, None, Some, inl, inr, sym, subst}
-use Rattle.jsonb_parse.specs.Scalars.{IsVerbatimAs}
-use Rattle.jsonb_scan.specs.Encoded.{IsEncodedAt}
+use Rattle.text_parse.specs.Scalars.{IsVerbatimAs}
+use Rattle.text_scan.specs.Encoded.{IsEncodedAt}
 use Rattle.jsonb_spec.specs.Source.{Source}
-use Rattle.jsonb_write.specs.TextSink.{SeesPart}
-use Rattle.jsonb_write.specs.declared.text.Part.{Part}
+use Rattle.text_write.specs.TextSink.{SeesPart}
+use Rattle.text_write.specs.declared.text.Part.{Part}
 use Rattle.jsonb.specs.Held.{IsScalarAt}
 use Rattle.jsonb.proofs.Encoded.{encoded_part}
 use Rattle.text_common.specs.declared.verbatim.Verbatim.{Verbatim}

@@ -5,7 +5,7 @@ use Rattle.jsonb_spec.specs.Mode.{Mode}
 use Rattle.jsonb_spec.specs.SortKey.{key_of}
 use Rattle.jsonb_spec.specs.Text.{AppendsText, tree_text}
 use Rattle.jsonb_spec.specs.Tree.{Tree}
-use Rattle.jsonb_scan.specs.Parsing.Document.{document_of}
+use Rattle.text_scan.specs.Parsing.Document.{document_of}
 use Rattle.jsonb_spec.specs.PartAt.{part_at}
 
 -- The text is a document of this tree and of no other, which is what parsing gives.

@@ -3,8 +3,8 @@ use Rattle.std.specs.Prelude.{ℕ, List, Result, IfErr}
 use Rattle.jsonb_spec.specs.Mode.{Mode}
 use Rattle.jsonb_spec.specs.Tree.{Tree}
 use Rattle.jsonb_value.specs.declared.error.Error.{Error}
-use Rattle.jsonb_scan.specs.Answer.{Fails, Gives}
-use Rattle.jsonb_scan.specs.Parsing.Document.{document_of}
+use Rattle.text_scan.specs.Answer.{Fails, Gives}
+use Rattle.text_scan.specs.Parsing.Document.{document_of}
 use Rattle.jsonb.specs.Explained.{IsExplained}
 
 -- What is returned, seen by view, is what the executable specification gives, and so are the code and the offset of an

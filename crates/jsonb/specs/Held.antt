@@ -1,11 +1,11 @@
 -- What is held of a text while it is written to a sink, or only checked.
 use Rattle.std.specs.Prelude.{ℕ, List, Option, Some, None}
-use Rattle.jsonb_parse.specs.declared.parser.frame.Frame.{Frame}
-use Rattle.jsonb_parse.specs.declared.parser.frame.Frame.TheVariants as frames
+use Rattle.text_parse.specs.declared.parser.frame.Frame.{Frame}
+use Rattle.text_parse.specs.declared.parser.frame.Frame.TheVariants as frames
 use Rattle.jsonb_spec.specs.Source.{Source}
-use Rattle.jsonb_write.specs.KeySink as key
-use Rattle.jsonb_write.specs.TextSink.{IsEncoded, SeesPart}
-use Rattle.jsonb_write.specs.declared.text.Part.{Part}
+use Rattle.text_write.specs.KeySink as key
+use Rattle.text_write.specs.TextSink.{IsEncoded, SeesPart}
+use Rattle.text_write.specs.declared.text.Part.{Part}
 use Rattle.text_common.specs.VerbatimScalar.{IsVerbatimAt}
 use Rattle.text_common.specs.declared.verbatim.Verbatim.{Verbatim}
 

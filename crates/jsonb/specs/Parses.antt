@@ -6,7 +6,7 @@ use Rattle.jsonb_spec.specs.Mode.{Mode}
 use Rattle.jsonb_spec.specs.Tree.{Tree}
 use Rattle.jsonb_value.specs.declared.error.Error.{Error}
 use Rattle.jsonb_value.specs.declared.error.Error.TheVariants.{OutOfMemory}
-use Rattle.jsonb_scan.specs.Answer.{IsTextError, MayAllocate}
+use Rattle.text_scan.specs.Answer.{IsTextError, MayAllocate}
 
 -- What is returned, seen by view, is the one tree of the document. What is rejected is no document, unless memory ran
 -- out, which takes a text that may allocate. The error is a fault of the text or want of memory.

@@ -6,9 +6,6 @@ pub mod parser;
 pub mod part;
 pub mod util;
 
-pub use jsonb_scan::line;
-pub use jsonb_scan::line::{fault_index, line_and_column};
-pub use jsonb_scan::util::parse_string;
 pub use jsonb_value::error::{Error, ParseErrorCode, Result};
 pub use jsonb_value::extension::{Date, ExtensionValue, Interval, Timestamp, TimestampTz};
 pub use jsonb_value::number::{Decimal64, Decimal128, Number};
@@ -20,3 +17,6 @@ pub use parser::{
     parse_value_standard_mode,
 };
 pub use part::part_at;
+pub use text_scan::line;
+pub use text_scan::line::{fault_index, line_and_column};
+pub use text_scan::util::parse_string;

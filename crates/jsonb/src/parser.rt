@@ -8,11 +8,11 @@ ghost use Rattle.jsonb_spec.specs.Proper.{IsProper};
 ghost use Rattle.jsonb_spec.specs.Text.Range.{IsInRange, IsIntegerRange};
 ghost use Rattle.jsonb_spec.specs.Tree.{Tree};
 ghost use Rattle.jsonb_value.specs.View.{view};
-ghost use Rattle.jsonb_scan.specs.Answer.{mode_of, MayAllocate};
-ghost use Rattle.jsonb_scan.specs.Parsing.Document.{source_of};
+ghost use Rattle.text_scan.specs.Answer.{mode_of, MayAllocate};
+ghost use Rattle.text_scan.specs.Parsing.Document.{source_of};
 ghost use Rattle.jsonb.specs.Follows.{FollowsSpecification};
 ghost use Rattle.jsonb.specs.Parses.{Parses};
-ghost use Rattle.jsonb_parse.specs.Handler.{Misses};
+ghost use Rattle.text_parse.specs.Handler.{Misses};
 
 mod ast;
 mod handler;
@@ -22,13 +22,13 @@ mod straight;
 
 pub use ast::JsonAst;
 use handler::ValuePart;
-use jsonb_parse::parse_text;
-pub use jsonb_scan::parser::{Mode, modes_compare};
 use jsonb_value::error::{Error, Result};
 use jsonb_value::value::Value;
 pub use part::append_part;
 use std::alloc::Global;
 pub use straight::{append_sort_key, append_text, check, may_allocate};
+use text_parse::parse_text;
+pub use text_scan::parser::{Mode, modes_compare};
 
 /// Parses a whole text of standard JSON.
 ///

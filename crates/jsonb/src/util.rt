@@ -1,3 +1,3 @@
 //! The decoder of strings.
 
-pub use jsonb_scan::util::parse_string;
+pub use text_scan::util::parse_string;

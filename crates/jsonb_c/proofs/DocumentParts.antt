@@ -6,7 +6,7 @@ use Rattle.jsonb_spec.specs.Text.{text_of}
 use Rattle.jsonb_spec.specs.Text.ReadsBack.{ReadsBackAs}
 use Rattle.jsonb_spec.specs.Tree.{Tree}
 use Rattle.jsonb.specs.Appends.{AppendsPartOf, IsParsed, LacksCapacityForPart}
-use Rattle.jsonb_scan.specs.Answer.{MayAllocate}
+use Rattle.text_scan.specs.Answer.{MayAllocate}
 use Rattle.jsonb_spec.specs.PartAt.{IsAt}
 use Rattle.jsonb_c.proofs.ArraySizes.{document_below}
 use Rattle.jsonb_c.proofs.PartsAt.{part_found, part_there}

@@ -1,7 +1,7 @@
 -- The document of a text's tree.
 use Rattle.std.proofs.Common.{◌≡◌, ℕ, List, [], ◌++◌, Some, refl, sym, subst, ap, ◌∙◌, arith}
-use Rattle.jsonb_key.proofs.Texts.{some_same}
-use Rattle.jsonb_key.specs.Readable.{IsAnyNumber, IsReadable}
+use Rattle.key_value.proofs.Texts.{some_same}
+use Rattle.key_value.specs.Readable.{IsAnyNumber, IsReadable}
 use Rattle.jsonb_spec.specs.Grammar.{max_depth, IsDocument}
 use Rattle.jsonb_spec.specs.Mode.{Mode, standard, extended}
 use Rattle.jsonb_spec.specs.SortKey.{key_of}
@@ -11,7 +11,7 @@ use Rattle.jsonb_spec.specs.Text.Range.{HasFewDigits, IsInRange, IsInRangeOf, Is
 use Rattle.jsonb_spec.specs.Text.ReadsBack.{ReadsBackAs}
 use Rattle.jsonb_spec.specs.Tree.{Tree}
 use Rattle.jsonb_value.proofs.Trees.RangeTexts.{document_in_range, range_reads_back, text_in_range}
-use Rattle.jsonb_stored.specs.Checked.{IsSortKey}
+use Rattle.key_walk.specs.Checked.{IsSortKey}
 use Rattle.key_document.specs.Document.{document_of, OfDocument}
 use Rattle.key_document.proofs.Apart.{one_document}
 use Rattle.jsonb_c.specs.Document.{IsDocumentInRange, IsDocumentOfText}

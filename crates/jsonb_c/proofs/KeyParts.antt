@@ -1,14 +1,14 @@
--- What the clauses of jsonb_stored say of the key of a value.
+-- What the clauses of key_walk say of the key of a value.
 use Rattle.std.proofs.Common.{◌≡◌, ℕ, ◌+◌, ◌-◌, Bool, List, [], ◌∷◌, ◌++◌, Bor, Option, Some, None, Result, Ok, Err, drop, length, if◌then◌else◌, ◌==◌, sym, subst, refl, ap, ◌∙◌, arith, append_assoc, append-nil}
 use Rattle.std.proofs.Math.Seq.{drop-append_seam}
 use Rattle.std.proofs.lemmas.List.{length-append}
-use Rattle.jsonb_key.specs.Readable.{IsReadable}
+use Rattle.key_value.specs.Readable.{IsReadable}
 use Rattle.jsonb_spec.specs.SortKey.{key_of, items_key, members_key, text_key}
 use Rattle.jsonb_spec.specs.Tree.{Tree, null, boolean, string, number, array, object, no_trees, more_trees, no_members, more_members}
-use Rattle.jsonb_stored.specs.declared.find.NoKey.{NoKey}
-use Rattle.jsonb_stored.specs.Found.{IsLeftOf, IsNext}
-use Rattle.jsonb_stored.specs.Open.{Open, items, members, is_object, open_key, opening_byte, IsOpen, IsScalar}
-use Rattle.jsonb_stored.specs.Parts.{kind_of_tree, opened_tree}
+use Rattle.key_walk.specs.declared.find.NoKey.{NoKey}
+use Rattle.key_walk.specs.Found.{IsLeftOf, IsNext}
+use Rattle.key_walk.specs.Open.{Open, items, members, is_object, open_key, opening_byte, IsOpen, IsScalar}
+use Rattle.key_walk.specs.Parts.{kind_of_tree, opened_tree}
 use Rattle.jsonb_c.specs.declared.key.Cursor.{Cursor}
 use Rattle.jsonb_c.specs.declared.key.Entry.{Entry}
 use Rattle.jsonb_c.specs.KeyParts.{kind_number, open_number, text_of_tree, IsBegun, IsCounted, IsNextPart, IsTreeKey, IsWritten, OccursBefore}

@@ -9,3 +9,5 @@ pub mod Reasons
 pub mod Texts
 pub mod Scalars
 pub mod Documents
+pub mod DocumentCursor
+pub mod Integers

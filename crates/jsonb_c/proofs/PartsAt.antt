@@ -8,7 +8,7 @@ use Rattle.jsonb_spec.specs.PartAt.{IsAt, IsChild, child_at, part_at}
 use Rattle.jsonb_path.proofs.PartIndex.{is_named}
 use Rattle.jsonb_c.proofs.ArraySizes.{AreBelow, ItemsBelow, MembersBelow}
 use Rattle.jsonb.proofs.Children.{item_within}
-use Rattle.jsonb_stored.proofs.Finds.{child_there}
+use Rattle.key_walk.proofs.Finds.{child_there}
 
 same_tree : (t u : Tree) → Some t ≡ Some u → t ≡ u
 same_tree t u e = cc

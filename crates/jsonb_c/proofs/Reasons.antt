@@ -5,8 +5,8 @@ use Rattle.jsonb_spec.specs.Grammar.{IsDocument, IsNoDocument}
 use Rattle.jsonb_spec.specs.Mode.{Mode}
 use Rattle.jsonb_value.specs.declared.error.Error.{Error}
 use Rattle.jsonb_value.specs.declared.error.Error.TheVariants as errors
-use Rattle.jsonb_scan.specs.Answer.{Fails}
-use Rattle.jsonb_scan.specs.Parsing.Document.{document_of}
+use Rattle.text_scan.specs.Answer.{Fails}
+use Rattle.text_scan.specs.Parsing.Document.{document_of}
 use Rattle.jsonb.specs.Explained.{IsExplained}
 use Rattle.jsonb_c.specs.declared.Rejection.{Rejection}
 use Rattle.jsonb_c.specs.declared.Failure.{Failure}

@@ -1,9 +1,9 @@
 -- What is said of the booleans of keys.
 use Rattle.std.proofs.Common.{◌≡◌, ℕ, Bool, Option, Some, None, sym, subst, refl, ap, ◌∙◌, if◌then◌else◌}
-use Rattle.jsonb_key.specs.Readable.{IsReadable}
+use Rattle.key_value.specs.Readable.{IsReadable}
 use Rattle.jsonb_spec.specs.Tree.{Tree}
-use Rattle.jsonb_stored.specs.declared.walk.Kind.{Kind}
-use Rattle.jsonb_stored.specs.Parts.{kind_of_tree}
+use Rattle.key_walk.specs.declared.walk.Kind.{Kind}
+use Rattle.key_walk.specs.Parts.{kind_of_tree}
 use Rattle.jsonb_c.specs.KeyParts.{kind_number}
 use Rattle.jsonb_c.specs.Scalars.{IsBoolean}
 use Rattle.jsonb_c.proofs.KeyParts.{some_kind}

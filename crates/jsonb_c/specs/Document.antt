@@ -1,6 +1,6 @@
 -- What the statuses say of a document: a part of it, and what a change makes of it.
-use Rattle.std.specs.Prelude.{◌≡◌, ◌⊎◌, ℕ, List, Option, Some, None}
-use Rattle.jsonb_key.specs.Readable.{IsReadable}
+use Rattle.std.specs.Prelude.{◌≡◌, ◌⊎◌, ℕ, List, Option}
+use Rattle.key_value.specs.Readable.{IsReadable}
 use Rattle.jsonb_spec.specs.Proper.{IsProper}
 use Rattle.jsonb_spec.specs.Text.Range.{IsInRange}
 use Rattle.jsonb_spec.specs.Tree.{Tree}

@@ -16,8 +16,8 @@ use Rattle.jsonb_spec.specs.SortKey.{key_of}
 use Rattle.jsonb_spec.specs.Text.ReadsBack.{ReadsBackAs}
 use Rattle.jsonb_spec.specs.Text.{text_of}
 use Rattle.jsonb_spec.specs.Tree.{Tree}
-use Rattle.jsonb_scan.specs.Parsing.Document.{document_of}
-use Rattle.jsonb_scan.specs.Answer.{Fails, MayAllocate}
+use Rattle.text_scan.specs.Parsing.Document.{document_of}
+use Rattle.text_scan.specs.Answer.{Fails, MayAllocate}
 use Rattle.jsonb_spec.specs.Errors.{Applies}
 use Rattle.jsonb_spec.specs.PartAt.{IsAt}
 use Rattle.jsonb_path.specs.Path.{IsPath, StartsKey}

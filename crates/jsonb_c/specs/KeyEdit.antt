@@ -1,13 +1,13 @@
 -- What the statuses say of a sort key that is changed.
 use Rattle.std.specs.Prelude.{◌≡◌, ◌⊎◌, ℕ, List, Option, Some, None}
-use Rattle.jsonb_key.specs.Readable.{IsAnyNumber}
+use Rattle.key_value.specs.Readable.{IsAnyNumber}
 use Rattle.jsonb_spec.specs.Grammar.{max_depth}
 use Rattle.jsonb_spec.specs.SortKey.{key_of}
 use Rattle.jsonb_spec.specs.Text.Range.{IsWithin}
 use Rattle.jsonb_spec.specs.Tree.{Tree}
 use Rattle.jsonb_c.specs.KeyParts.{IsWritten}
-use Rattle.stored_edit.specs.declared.error.EditError.{EditError}
-use Rattle.stored_edit.specs.declared.error.EditError.TheVariants as errors
+use Rattle.key_edit.specs.declared.error.EditError.{EditError}
+use Rattle.key_edit.specs.declared.error.EditError.TheVariants as errors
 
 -- The answer, encoded, is at the front of the buffer, or the buffer is shorter, which the status says, and so it does
 -- where the answer has more than 512 arrays and objects in one another, or where there is none.

@@ -1,10 +1,10 @@
 -- What each status and each out parameter says of a sort key and its parts.
 use Rattle.std.specs.Prelude.{◌≡◌, ◌≢◌, ◌⊎◌, ℕ, ◌+◌, ◌<◌, ◌≤◌, List, ◌++◌, length, drop, Option, Some, None}
-use Rattle.jsonb_key.specs.Readable.{IsReadable}
-use Rattle.jsonb_stored.specs.declared.walk.Kind.{Kind}
-use Rattle.jsonb_stored.specs.declared.walk.Kind.TheVariants as kinds
-use Rattle.jsonb_stored.specs.Found.{IsRange}
-use Rattle.jsonb_stored.specs.Open.{Open, items, members, open_key, IsOpen}
+use Rattle.key_value.specs.Readable.{IsReadable}
+use Rattle.key_walk.specs.declared.walk.Kind.{Kind}
+use Rattle.key_walk.specs.declared.walk.Kind.TheVariants as kinds
+use Rattle.key_walk.specs.Found.{IsRange}
+use Rattle.key_walk.specs.Open.{Open, items, members, open_key, IsOpen}
 use Rattle.jsonb_spec.specs.SortKey.{key_of, text_key}
 use Rattle.jsonb_spec.specs.Tree.{Tree, string, array, object, no_trees, more_trees, no_members, more_members}
 use Rattle.jsonb_c.specs.declared.key.Cursor.{Cursor}

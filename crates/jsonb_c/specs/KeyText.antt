@@ -1,13 +1,13 @@
 -- What the statuses of `vizhoniku_key_text` say of a sort key.
 use Rattle.std.specs.Prelude.{◌≡◌, ℕ, List, Some}
-use Rattle.jsonb_key.specs.declared.key.KeyError.{KeyError}
-use Rattle.jsonb_key.specs.declared.key.KeyError.TheVariants as errors
+use Rattle.key_value.specs.declared.key.KeyError.{KeyError}
+use Rattle.key_value.specs.declared.key.KeyError.TheVariants as errors
 use Rattle.jsonb_spec.specs.SortKey.{key_of}
 use Rattle.jsonb_spec.specs.Text.{text_of}
 use Rattle.jsonb_spec.specs.Tree.{Tree}
 use Rattle.jsonb_c.specs.KeyParts.{IsTreeKey}
-use Rattle.jsonb_stored.specs.Checked.{IsSortKey}
-use Rattle.stored_text.specs.FewestDigits.{with_fewest_digits, IsDocumentWithKey}
+use Rattle.key_walk.specs.Checked.{IsSortKey}
+use Rattle.key_text.specs.FewestDigits.{with_fewest_digits, IsDocumentWithKey}
 
 -- Whichever value the bytes are the sort key of, the text is that of the value with the fewest digits that has this
 -- key. Where the value is in range, it is an extended document of a value with this key.

@@ -8,3 +8,5 @@ pub mod PlainNumbers
 pub mod Rejected
 pub mod Scalars
 pub mod Document
+pub mod DocumentCursor
+pub mod DocumentInsert

@@ -1,13 +1,13 @@
 -- What the statuses of the calls on the zeros that end decimals say.
 use Rattle.std.specs.Prelude.{◌≡◌, ℕ, List}
-use Rattle.jsonb_key.specs.Readable.{IsReadable}
+use Rattle.key_value.specs.Readable.{IsReadable}
 use Rattle.jsonb_spec.specs.Text.{tree_text}
 use Rattle.jsonb_spec.specs.Tree.{Tree}
-use Rattle.stored_text.specs.FewestDigits.{with_fewest_digits}
-use Rattle.stored_zeros.specs.Numbers.{counts_taken, AreZerosOf}
-use Rattle.stored_zeros.specs.Zeros.{plain_at_end, zeros_in, zeros_of}
-use Rattle.stored_zeros.specs.declared.error.ZerosError.{ZerosError}
-use Rattle.stored_zeros.specs.declared.error.ZerosError.TheVariants as errors
+use Rattle.key_text.specs.FewestDigits.{with_fewest_digits}
+use Rattle.key_zeros.specs.Numbers.{counts_taken, AreZerosOf}
+use Rattle.key_zeros.specs.Zeros.{plain_at_end, zeros_in, zeros_of}
+use Rattle.key_zeros.specs.declared.error.ZerosError.{ZerosError}
+use Rattle.key_zeros.specs.declared.error.ZerosError.TheVariants as errors
 
 -- Whichever value the text is the serialized form of, these are its zeros.
 abbrev pub AreZerosOfText : List ℕ → List ℕ → Type 0

@@ -8,7 +8,7 @@ ghost use Rattle.std.specs.declared.alloc.Global.{Global as GlobalAlloc};
 ghost use Rattle.jsonb_c.specs.Document.{document_status_of, IsDocumentAnswer, IsDocumentInRange, IsDocumentOfText, IsDocumentStatus, IsTreeDocument};
 ghost use Rattle.jsonb_c.specs.Interface.{sign, FailsFor, FillsBuffer, FormMayAllocate, IsRejected, IsStatusOfForm, PreservesBuffer, Reports, ReportsPath};
 ghost use Rattle.jsonb_c.specs.KeyParts.{IsWritten};
-ghost use Rattle.jsonb_key.specs.Readable.{IsReadable};
+ghost use Rattle.key_value.specs.Readable.{IsReadable};
 ghost use Rattle.jsonb_path.specs.Path.{IsPath};
 ghost use Rattle.jsonb_spec.specs.Order.{tree_cmp};
 ghost use Rattle.jsonb_spec.specs.PartAt.{part_at};
@@ -24,11 +24,11 @@ use crate::{
     ACCEPTED, Failure, NO_DOCUMENT, NO_PART, NO_PATH, NOTHING, OUT_OF_MEMORY, Rejection, TOO_DEEP,
     TOO_SHORT, names_of, put, report, sign, text_and_key_of,
 };
-use jsonb_stored::is_sort_key;
 use key_document::{
     DocumentError, append_document, append_part, append_range, append_text_of_document,
     compare_documents, split_document,
 };
+use key_walk::is_sort_key;
 use std::alloc::Global;
 
 // The number of the mode whose texts have each number in range.
@@ -284,8 +284,8 @@ pub(crate) fn report_document(
     }
 }
 
-// The status of an error.
-fn document_status(error: &DocumentError) -> u32
+/// The status of an error.
+pub(crate) fn document_status(error: &DocumentError) -> u32
     ensures { result ≡ document_status_of error.now }
 {
     match error {

@@ -8,7 +8,7 @@ ghost use Rattle.jsonb_c.specs.Interface.{PreservesBuffer, ReportsPath};
 ghost use Rattle.jsonb_c.specs.declared.TheConstants.{OUT_OF_MEMORY};
 ghost use Rattle.jsonb_path.specs.Path.{IsPath};
 ghost use Rattle.jsonb_spec.specs.Tree.{Tree};
-ghost use Rattle.stored_edit.specs.Edit.{merge, with_item, with_member, with_part, without_part};
+ghost use Rattle.key_edit.specs.Edit.{merge, with_item, with_member, with_part, without_part};
 
 use crate::document::{answer, report_document};
 use crate::{NO_PATH, names_of};

@@ -7,10 +7,10 @@ ghost use Rattle.std.specs.Prelude.{◌≡◌, ◌≢◌, ◌↔◌, ◌⊎◌, 
 ghost use Rattle.jsonb_c.specs.Interface.{PreservesBuffer, ReportsPath};
 ghost use Rattle.jsonb_c.specs.KeyParts.{kind_number, text_of_tree, FindsRange, IsBegun, IsCounted, IsFound, IsNextPart, IsPartStatus, IsTreeKey, IsWithinKey, IsWritten, LiesWithin, OccursBefore, WritesText};
 ghost use Rattle.jsonb_path.specs.Path.{IsPath, IsPlainPath, StartsKey};
-ghost use Rattle.jsonb_stored.specs.Checked.{IsSortKey};
-ghost use Rattle.jsonb_stored.specs.Found.{count_of, item_from, Finds, IsRange};
-ghost use Rattle.jsonb_stored.specs.Open.{Open};
-ghost use Rattle.jsonb_stored.specs.Parts.{BeginsNoKey, kind_of_tree};
+ghost use Rattle.key_walk.specs.Checked.{IsSortKey};
+ghost use Rattle.key_walk.specs.Found.{count_of, item_from, Finds, IsRange};
+ghost use Rattle.key_walk.specs.Open.{Open};
+ghost use Rattle.key_walk.specs.Parts.{BeginsNoKey, kind_of_tree};
 ghost use Rattle.jsonb_spec.specs.Accessors.{get_by_name};
 ghost use Rattle.jsonb_spec.specs.SortKey.{key_of, text_key};
 ghost use Rattle.jsonb_spec.specs.SortKey.Kind as kind;
@@ -19,7 +19,7 @@ ghost use Rattle.jsonb_spec.specs.PartAt.{part_at};
 
 use crate::{ACCEPTED, NO_KEY, NO_PART, NO_PATH, OUT_OF_MEMORY, TOO_SHORT, put};
 use jsonb_path::read_keys;
-use jsonb_stored::{
+use key_walk::{
     Kind, NoKey, count_parts, find_item, find_member, find_part, find_plain_part, is_sort_key,
     kind_of, next_part, open_key, plain_text, put_text, range_of, text_of_string, text_size,
 };
@@ -157,6 +157,20 @@ pub extern "C" fn vizhoniku_key_part(
     if let Some(found) = find_plain_part(key, path) {
         return report_range(key, found, offset, size);
     }
+    escaped_part(alloc, key, path, offset, size)
+}
+
+// The same of a path in which something is escaped, or of bytes that are no path.
+#[inline(never)]
+fn escaped_part(alloc: Global, key: &[u8], path: &[u8], offset: &mut usize, size: &mut usize) -> u32
+    ensures status { (result ≡ ACCEPTED) ⊎ (result ≡ OUT_OF_MEMORY) ⊎ (result ≡ NO_PART) ⊎ (result ≡ NO_PATH)
+        ⊎ (result ≡ NO_KEY) }
+    ensures found { (t : Tree) → IsTreeKey key.now t → (names : List (List ℕ)) → IsPath path.now names
+        → (result ≡ OUT_OF_MEMORY) ⊎ IsFound key.now (part_at names t) result offset.new size.new }
+    ensures path { ReportsPath path.now result }
+    ensures memory { result ≡ OUT_OF_MEMORY → StartsKey path.now }
+    ensures within { IsWithinKey key.now result offset.new size.new }
+{
     match read_keys(alloc, path) {
         Ok(Some(names)) => report_range(key, find_part(key, &names), offset, size),
         Ok(None) => {
@@ -173,6 +187,7 @@ pub extern "C" fn vizhoniku_key_part(
 }
 
 // Says where in the key a part is, and gives the status of that.
+#[inline(always)]
 fn report_range(
     key: &[u8],
     found: Result<Option<&[u8]>, NoKey>,
@@ -204,6 +219,7 @@ fn report_range(
 }
 
 // The range of a part that was found.
+#[inline(always)]
 fn locate(key: &[u8], found: Result<Option<&[u8]>, NoKey>) -> Result<Option<(usize, usize)>, NoKey>
     ensures found { (part : Option Tree) → Finds key.now part found.entry
         → MatchResult result (λ answer. MatchOption answer (part ≡ None)
@@ -236,9 +252,9 @@ pub struct Entry {
     pub size: usize,
 }
 
-const NO_CURSOR: Cursor = Cursor { kind: 0, offset: 0 };
+pub(crate) const NO_CURSOR: Cursor = Cursor { kind: 0, offset: 0 };
 
-const NO_ENTRY: Entry = Entry {
+pub(crate) const NO_ENTRY: Entry = Entry {
     name_offset: 0,
     name_size: 0,
     offset: 0,
@@ -273,8 +289,8 @@ pub extern "C" fn vizhoniku_key_begin(key: &[u8], cursor: &mut Cursor) -> u32
     }
 }
 
-// The number of the kind that has these parts.
-fn kind_of_parts(object: bool) -> u32
+/// The number of the kind that has these parts.
+pub(crate) fn kind_of_parts(object: bool) -> u32
     ensures { result ≡ (if object then OBJECT else ARRAY) }
 {
     if object { OBJECT } else { ARRAY }
@@ -311,14 +327,16 @@ pub extern "C" fn vizhoniku_key_next(key: &[u8], cursor: &mut Cursor, entry: &mu
     }
 }
 
-// Where the item or the member is at the cursor, and the cursor behind it.
-fn next_entry(key: &[u8], cursor: Cursor) -> Result<Option<(Entry, Cursor)>, NoKey>
+/// Where the item or the member is at the cursor, and the cursor behind it.
+pub(crate) fn next_entry(key: &[u8], cursor: Cursor) -> Result<Option<(Entry, Cursor)>, NoKey>
     ensures next { (left : Open) → OccursBefore key.now cursor left
         → MatchResult result (λ answer. MatchOption answer
         ((entry : Entry) → (behind : Cursor) → IsNextPart key.now left NO_PART entry behind)
         (λ reported. IsNextPart key.now left ACCEPTED reported.0 reported.1)) (λ e. ⊥) }
     ensures within { IfOk result (λ answer. IfSome answer (λ reported. LiesWithin key.now reported.0)) }
     ensures further { IfOk result (λ answer. IfSome answer (λ reported. cursor.offset < reported.1.offset)) }
+    ensures joined { IfOk result (λ answer. IfSome answer (λ reported.
+        reported.0.offset + reported.0.size ≡ reported.1.offset)) }
 {
     if cursor.kind != ARRAY && cursor.kind != OBJECT {
         return Err(NoKey);

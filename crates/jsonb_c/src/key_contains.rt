@@ -6,7 +6,7 @@ ghost use Rattle.jsonb_spec.specs.Containment.{contains};
 ghost use Rattle.jsonb_spec.specs.Tree.{Tree};
 
 use crate::{ACCEPTED, NO_KEY, NO_PART};
-use jsonb_stored::{NoKey, contains};
+use key_walk::{NoKey, contains};
 
 /// Whether the value of the first sort key contains that of the second, as PostgreSQL's `jsonb` has it.
 #[unsafe(no_mangle)]

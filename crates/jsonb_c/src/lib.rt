@@ -13,7 +13,7 @@ ghost use Rattle.jsonb_value.specs.Error.ErrorText.{error_text};
 ghost use Rattle.jsonb_spec.specs.Order.{bytes_cmp};
 ghost use Rattle.jsonb_value.specs.View.{view};
 ghost use Rattle.jsonb_spec.specs.Line.{column_at, fault_index, line_at};
-ghost use Rattle.jsonb_scan.specs.Answer.{mode_of, MayAllocate, IsTextError};
+ghost use Rattle.text_scan.specs.Answer.{mode_of, MayAllocate, IsTextError};
 ghost use Rattle.jsonb.specs.Follows.{FollowsSpecification};
 ghost use Rattle.jsonb.specs.Parses.{Parses};
 ghost use Rattle.jsonb_path.specs.Path.{IsPath};
@@ -28,14 +28,18 @@ use std::alloc::Global;
 use std::cmp::Ordering;
 
 pub mod document;
+pub mod document_cursor;
 pub mod document_edit;
+pub mod document_insert;
+pub mod document_without;
 pub mod key;
+pub mod key_change;
 pub mod key_contains;
-pub mod key_edit;
-pub mod key_text;
 pub mod numbers;
 pub mod rejected;
 pub mod scalar;
+pub mod strict;
+pub mod text_of_key;
 pub mod zeros;
 
 /// Success.
@@ -70,6 +74,9 @@ pub const NO_ZEROS: u32 = 9;
 
 /// The bytes aren't the document of a value of JSON's kinds.
 pub const NO_DOCUMENT: u32 = 10;
+
+/// A member that is to be inserted is there.
+pub const PRESENT: u32 = 11;
 
 /// What is reported of a rejected text: the number of the code, which of the texts it is, from 1 on, and the number of
 /// the error. All are 0 where no text is rejected.

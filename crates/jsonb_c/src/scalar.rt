@@ -1,10 +1,10 @@
 //! Scalars from and to sort keys, a step of a path from a name, and the reason of an error without its offset.
-ghost use Rattle.std.specs.Prelude.{◌≡◌, ◌≢◌, ◌⊎◌, ◌↔◌, ◌∷◌, ℕ, List, [], IsUtf8, IfOk, IfSome, MatchOption, if◌then◌else◌, string_bytes};
+ghost use Rattle.std.specs.Prelude.{◌≡◌, ◌≢◌, ◌⊎◌, ◌↔◌, ◌∷◌, ℕ, List, [], IsUtf8, IfOk, IfSome, MatchOption, if◌then◌else◌, pos, string_bytes};
 ghost use Rattle.jsonb_c.specs.Interface.{AcceptsDocuments, FailsFor, FillsBuffer, IsAccepted, IsNoDocumentOf, IsStatus};
 ghost use Rattle.jsonb_c.specs.KeyParts.{IsPartStatus, IsTreeKey};
-ghost use Rattle.jsonb_c.specs.Scalars.{IsBoolean, IsReasonOf};
+ghost use Rattle.jsonb_c.specs.Scalars.{integer, is_number, IsBoolean, IsInteger, IsReasonOf};
 ghost use Rattle.jsonb_path.specs.Path.{IsPath};
-ghost use Rattle.jsonb_scan.specs.Answer.{MayAllocate};
+ghost use Rattle.text_scan.specs.Answer.{MayAllocate};
 ghost use Rattle.jsonb_spec.specs.Accessors.{as_boolean};
 ghost use Rattle.jsonb_spec.specs.SortKey.{key_of};
 ghost use Rattle.jsonb_spec.specs.Tree.{Tree, string, escaped};
@@ -17,10 +17,12 @@ use crate::{
 };
 use error_path::append_step;
 use jsonb::check;
-use jsonb_stored::{boolean_of, kind_of};
 use jsonb_value::error::{Error, ParseErrorCode};
-use jsonb_value::parts::append_text_key;
+use jsonb_value::number::Number;
+use jsonb_value::parts::{append_number_key, append_text_key};
 use jsonb_value::sort_key::kind;
+use key_value::number::integer_of;
+use key_walk::{Kind, boolean_of, kind_of};
 use std::alloc::{AllocError, Global};
 
 /// The boolean of a sort key: 1 for true, and 0 for false.
@@ -48,6 +50,76 @@ fn number_of(boolean: bool) -> u32
     ensures { result ≡ (if boolean then 1 else 0) }
 {
     if boolean { 1 } else { 0 }
+}
+
+/// The integer of a sort key: a number that is whole and has at most 64 bits, with its sign.
+#[unsafe(no_mangle)]
+pub extern "C" fn vizhoniku_key_integer(key: &[u8], value: &mut i64) -> u32
+    ensures status { IsPartStatus result }
+
+    // The value is that of the number, and a value that is no such number has none.
+    ensures integer { (t : Tree) → IsTreeKey key.now t → IsInteger t result value.new }
+    ensures no_value { result ≢ ACCEPTED → value.new ≡ pos 0 }
+{
+    *value = 0;
+    let Some(kind) = kind_of(key) else {
+        return NO_KEY;
+    };
+    if !is_number(kind) {
+        return NO_PART;
+    }
+    match integer_of(key) {
+        Some(integer) => {
+            *value = integer;
+            ACCEPTED
+        }
+        None => NO_PART,
+    }
+}
+
+// Whether a kind is that of numbers.
+fn is_number(kind: Kind) -> bool
+    ensures { result ≡ is_number kind }
+{
+    match kind {
+        Kind::Number => true,
+        _ => false,
+    }
+}
+
+/// Writes the sort key of an integer to the start of `out`, and its size to `size`. Where `out` is too short, it stays as
+/// it is, and `size` is what is needed.
+#[unsafe(no_mangle)]
+pub extern "C" fn vizhoniku_key_of_integer(
+    alloc: Global,
+    value: i64,
+    out: &mut [u8],
+    size: &mut usize,
+) -> u32
+    ensures status { (result ≡ ACCEPTED) ⊎ (result ≡ OUT_OF_MEMORY) ⊎ (result ≡ TOO_SHORT) }
+
+    // What is written is the key of the integer.
+    ensures fills { FillsBuffer (λ key. key ≡ key_of (integer value)) ACCEPTED result size.new out.old out.new }
+{
+    match integer_key(alloc, value) {
+        Ok(key) => {
+            *size = key.len();
+            put(&key, out)
+        }
+        Err(_) => {
+            *size = 0;
+            OUT_OF_MEMORY
+        }
+    }
+}
+
+// The sort key of an integer.
+fn integer_key(alloc: Global, value: i64) -> Result<Vec<u8>, AllocError>
+    ensures { IfOk result (λ key. key.items ≡ key_of (integer value)) }
+{
+    let mut key = Vec::new(alloc);
+    append_number_key(&Number::Int64(value), &mut key)?;
+    Ok(key)
 }
 
 /// Writes the sort key of a string to the start of `out`, and its size to `size`. The text is UTF-8 as it is, with no

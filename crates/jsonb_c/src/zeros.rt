@@ -5,13 +5,13 @@ ghost use Rattle.jsonb_c.specs.KeyParts.{IsTreeKey};
 ghost use Rattle.jsonb_c.specs.Zeros.{zeros_status_of, AreZerosOfNumbers, AreZerosOfText, HasNoZeros, IsTextWithZeros, LackZeros, LackNumbers};
 ghost use Rattle.jsonb_spec.specs.SortKey.{key_of};
 ghost use Rattle.jsonb_spec.specs.Tree.{Tree};
-ghost use Rattle.stored_zeros.specs.PartsOf.{numbers_in, IsCounted, OccursIn};
+ghost use Rattle.key_zeros.specs.PartsOf.{numbers_in, IsCounted, OccursIn};
 
 use crate::{ACCEPTED, NO_KEY, NO_ZEROS, OUT_OF_MEMORY, TOO_SHORT, put};
-use std::alloc::Global;
-use stored_zeros::{
+use key_zeros::{
     ZerosError, count_numbers, write_text_with_zeros, write_zeros_of_numbers, write_zeros_of_text,
 };
+use std::alloc::Global;
 
 /// Writes the zeros of a value, whose serialized form the text is, to the start of `out`, and their size to `size`.
 /// Where `out` is too short, it stays as it is, and `size` is what is needed.

@@ -4,7 +4,7 @@ ghost use Rattle.std.specs.Prelude.{◌≡◌, ◌↔◌, ◌⊎◌, ℕ, ◌+�
 ghost use Rattle.std.specs.Io.KnownBytes.{Appends, IsAtEnd};
 ghost use Rattle.jsonb_spec.specs.Ascii as ascii;
 ghost use Rattle.jsonb_spec.specs.Mode.{Mode as GrammarMode};
-ghost use Rattle.jsonb_scan.specs.Answer.{mode_of, MayAllocate};
+ghost use Rattle.text_scan.specs.Answer.{mode_of, MayAllocate};
 ghost use Rattle.jsonb.specs.Follows.{FailsAsSpecified};
 ghost use Rattle.jsonb.specs.Parses.{Rejects};
 ghost use Rattle.jsonb_spec.specs.Program.{WordsChoose, IsLineOf, LacksCapacity, IsAccepted, IsAnswered};

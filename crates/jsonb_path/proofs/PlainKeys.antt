@@ -1,10 +1,13 @@
 -- Keys that are encoded as they are.
-use Rattle.std.proofs.Common.{◌≡◌, ◌≢◌, ℕ, List, [], ◌+◌, ◌∷◌, ◌++◌, length, take, drop, None, arith, refl, sym, ap, subst, ◌∙◌, append_assoc}
+use Rattle.std.proofs.Common.{◌≡◌, ◌≢◌, ◌<◌, ℕ, List, [], ◌+◌, ◌∷◌, ◌++◌, length, take, drop, None, arith, refl, sym, ap, subst, ◌∙◌, append_assoc}
 use Rattle.std.proofs.Math.Seq.{take-append_seam, drop-append_seam}
 use Rattle.std.proofs.lemmas.Bool.{ne_eqb}
-use Rattle.std.proofs.lemmas.List.{length-append}
+use Rattle.std.proofs.lemmas.List.{length-append, take-append-drop}
+use Rattle.std.proofs.lemmas.Str.{IsAscii-append, IsUtf8-from_ascii}
+use Rattle.std.proofs.lemmas.Str.Ascii.{IsAscii-cons, IsAscii-nil}
+use Rattle.std.specs.Str.{IsAscii}
 use Rattle.jsonb_path.specs.Path.{encoded_byte, encoded_key, encoded_keys, IsPath, IsPlainKey}
-use Rattle.jsonb_path.specs.KeyEncoding.{byte_of, BeginsPlain}
+use Rattle.jsonb_path.specs.KeyEncoding.{byte_of, BeginsAscii, BeginsPlain, BeginsPlainText}
 use Rattle.jsonb_path.proofs.KeyEncoding.{cons_cons, ended, itself, nil_cons, one_key, encoded_key-append}
 
 -- the text so far is encoded as it is
@@ -77,3 +80,48 @@ pub key_read : (path text name others key : List ℕ) (keys : List (List ℕ)) �
 key_read path text name others key keys first plain is_path =
     let whole : encoded_key name ++ others ≡ encoded_key key ++ encoded_keys keys = ap (λ l. l ++ others) plain.encoded ∙ sym plain.whole ∙ behind_slash path text key keys first is_path in
     (one_key name key others (encoded_keys keys) plain.ended (ended keys) whole).0
+
+-- ---- ASCII
+
+-- the text so far is ASCII, and is encoded as it is
+pub record AsciiSoFar (text rest : List ℕ) (len : ℕ) : Type 0 where
+  pub key : List ℕ
+  pub whole : text ≡ key ++ rest
+  pub encoded : encoded_key key ≡ key
+  pub counted : len ≡ length key
+  pub ascii : IsAscii key
+
+pub ascii_begun : (text : List ℕ) → AsciiSoFar text text 0
+ascii_begun text = record { key = []; whole = refl; encoded = refl; counted = refl; ascii = IsAscii-nil }
+
+pub ascii_byte : (text rest others : List ℕ) (len byte : ℕ) → AsciiSoFar text rest len → rest ≡ byte ∷ others → byte < 126 → byte ≢ 47 → AsciiSoFar text others (len + 1)
+ascii_byte text rest others len byte p first low no_slash = record {
+  key = p.key ++ byte ∷ [];
+  whole = p.whole ∙ ap (λ l. p.key ++ l) first ∙ sym (append_assoc p.key (byte ∷ []) others);
+  encoded = encoded_key-append p.key (byte ∷ []) ∙ ap (λ l. l ++ (encoded_byte byte ++ [])) p.encoded ∙ ap (λ l. p.key ++ (l ++ [])) (itself byte (ne_eqb byte 126 (λ e. omega (arith, low, e))) (ne_eqb byte 47 no_slash));
+  counted = omega (arith, p.counted, length-append p.key (byte ∷ []));
+  ascii = IsAscii-append p.key (byte ∷ []) p.ascii (IsAscii-cons byte [] (omega (arith, low)) IsAscii-nil);
+}
+
+pub ascii_ended : (text rest : List ℕ) (len : ℕ) → AsciiSoFar text rest len → BeginsAscii text len
+ascii_ended text rest len p =
+    let front : take len text ≡ p.key = ap (λ n. take n text) p.counted ∙ ap (take (length p.key)) p.whole ∙ take-append_seam p.key rest in
+    record {
+      within = omega (arith, p.counted, ap length p.whole, length-append p.key rest);
+      encoded = subst (λ key. encoded_key key ≡ key) (sym front) p.encoded;
+      ascii = subst IsAscii (sym front) p.ascii;
+    }
+
+-- what is ASCII up to the end of a key is that key
+pub ascii_key : (text : List ℕ) (len : ℕ) → BeginsAscii text len → byte_of (drop len text) ≡ None → BeginsPlainText text len
+ascii_key text len p over = record {
+  within = p.within;
+  plain = record { whole = sym (take-append-drop len text); encoded = p.encoded; ended = over };
+  text = IsUtf8-from_ascii (take len text) p.ascii;
+}
+
+-- the key that the text begins with is the one that is read
+pub same_key : (text name others key : List ℕ) (keys : List (List ℕ)) → BeginsPlain text name others → text ≡ key ++ encoded_keys keys → IsPlainKey key → name ≡ key
+same_key text name others key keys read e plain =
+    (one_key name key others (encoded_keys keys) read.ended (ended keys)
+    (ap (λ l. l ++ others) read.encoded ∙ sym read.whole ∙ e ∙ ap (λ l. l ++ encoded_keys keys) (sym (plain_itself key plain)))).0

@@ -1,5 +1,6 @@
 -- A path parsed from left to right.
-use Rattle.std.specs.Prelude.{◌≡◌, ℕ, List, [], ◌∷◌, ◌++◌, Option, Some, None, if◌then◌else◌, ◌==◌}
+use Rattle.std.specs.Prelude.{◌≡◌, ◌≤◌, ℕ, List, [], ◌∷◌, ◌++◌, length, take, drop, Option, Some, None, if◌then◌else◌, ◌==◌, IsUtf8}
+use Rattle.std.specs.Str.{IsAscii}
 use Rattle.jsonb_spec.specs.Ascii as ascii
 use Rattle.jsonb_path.specs.Path.{encoded_key, encoded_keys}
 
@@ -30,3 +31,15 @@ pub record BeginsPlain (bytes key rest : List ℕ) : Type 0 where
   pub whole : bytes ≡ key ++ rest
   pub encoded : encoded_key key ≡ key
   pub ended : byte_of rest ≡ None
+
+-- So many of the first bytes are a key that is encoded as it is, and are a text.
+pub record BeginsPlainText (bytes : List ℕ) (len : ℕ) : Type 0 where
+  pub within : len ≤ length bytes
+  pub plain : BeginsPlain bytes (take len bytes) (drop len bytes)
+  pub text : IsUtf8 (take len bytes)
+
+-- So many of the first bytes are ASCII and encoded as they are.
+pub record BeginsAscii (bytes : List ℕ) (len : ℕ) : Type 0 where
+  pub within : len ≤ length bytes
+  pub encoded : encoded_key (take len bytes) ≡ take len bytes
+  pub ascii : IsAscii (take len bytes)

@@ -1,9 +1,9 @@
 //! The keys of a path (RFC 6901): each after a slash, with `~0` for `~` and `~1` for `/`.
 
-ghost use Rattle.std.specs.Prelude.{◌≡◌, ◌<◌, ◌≤◌, ℕ, List, ◌++◌, ◌∷◌, length, take, drop, map, string_bytes, option_map, None, IfOk, IfErr, IfSome, IfNone, IsUtf8};
+ghost use Rattle.std.specs.Prelude.{◌≡◌, ◌↔◌, ◌<◌, ◌≤◌, ℕ, List, ◌++◌, ◌∷◌, length, take, drop, map, string_bytes, option_map, None, IfOk, IfErr, IfSome, IfNone, IsTrue, IsUtf8};
 ghost use Rattle.jsonb_spec.specs.Ascii as ascii;
 ghost use Rattle.jsonb_path.specs.Path.{encoded_key, encoded_keys, IsPath, IsPlainKey, StartsKey};
-ghost use Rattle.jsonb_path.specs.KeyEncoding.{escape_of, byte_of, BeginsPlain};
+ghost use Rattle.jsonb_path.specs.KeyEncoding.{escape_of, byte_of, BeginsAscii, BeginsPlain, BeginsPlainText};
 
 use std::alloc::{AllocError, Global};
 
@@ -33,6 +33,7 @@ pub fn read_keys(alloc: Global, path: &[u8]) -> Result<Option<Vec<String>>, Allo
 
 /// The first key of a path as it is there, and what is left; `None` where the path doesn't begin with a key, or
 /// where an escape is in the key, or where the key isn't UTF-8.
+#[inline(always)]
 pub fn plain_key(path: &[u8]) -> Option<(&str, &[u8])>
     ensures plain { IfSome result (λ r. (text : List ℕ) × (path.now ≡ ascii.slash ∷ text)
         × BeginsPlain text r.0.now r.1.now) }
@@ -45,10 +46,79 @@ pub fn plain_key(path: &[u8]) -> Option<(&str, &[u8])>
     if *slash != b'/' {
         return None;
     }
-    let len = plain_len(text)?;
+    let len = key_len(text);
+    if len > text.len() {
+        return None;
+    }
     let (key, rest) = text.split_at(len);
-    let key = str::from_utf8(key).ok()?;
-    Some((key, rest))
+    Some((unsafe { str::from_utf8_unchecked(key) }, rest))
+}
+
+// How many bytes the first key has, if it is UTF-8 and nothing is escaped in it, or else more than there are. Most keys
+// are ASCII.
+#[inline(always)]
+fn key_len(text: &[u8]) -> usize
+    ensures plain { result ≤ length text.now → BeginsPlainText text.now result }
+    ensures none { length text.now < result → (key : List ℕ) → (keys : List (List ℕ))
+        → text.now ≡ key ++ encoded_keys keys → IsUtf8 key → IsPlainKey key → ⊥ }
+{
+    let len = ascii_len(text);
+    let (_, rest) = text.split_at(len);
+    if is_ended(rest) {
+        return len;
+    }
+    any_key_len(text)
+}
+
+// How many of the first bytes are ASCII and encoded as they are.
+#[inline(always)]
+fn ascii_len(text: &[u8]) -> usize
+    ensures { BeginsAscii text.now result }
+{
+    let mut rest = text;
+    let mut len: usize = 0;
+    'bytes: while let Some((byte, others)) = rest.split_first() {
+        if *byte >= b'~' || *byte == b'/' {
+            return len;
+        }
+        rest = others;
+        len += 1;
+    }
+    len
+}
+
+// Whether the key that is passed ends here.
+#[inline(always)]
+fn is_ended(rest: &[u8]) -> bool
+    ensures { IsTrue result → byte_of rest.now ≡ None }
+{
+    match rest {
+        [] => true,
+        [first, ..] => *first == b'/',
+    }
+}
+
+// How many bytes the first key has, if it is UTF-8 and nothing is escaped in it, or else more than there are.
+#[inline(never)]
+fn any_key_len(text: &[u8]) -> usize
+    ensures plain { result ≤ length text.now → BeginsPlainText text.now result }
+    ensures none { length text.now < result → (key : List ℕ) → (keys : List (List ℕ))
+        → text.now ≡ key ++ encoded_keys keys → IsUtf8 key → IsPlainKey key → ⊥ }
+{
+    let Some(len) = plain_len(text) else {
+        return text.len() + 1;
+    };
+    let (key, _) = text.split_at(len);
+    if !is_utf8(key) {
+        return text.len() + 1;
+    }
+    len
+}
+
+fn is_utf8(bytes: &[u8]) -> bool
+    ensures { IsTrue result ↔ IsUtf8 bytes.now }
+{
+    str::from_utf8(bytes).is_ok()
 }
 
 // How many bytes the text has before its first slash; `None` where a tilde is among them.

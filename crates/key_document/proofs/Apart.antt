@@ -1,8 +1,8 @@
 -- Documents and texts tell the same values apart.
 use Rattle.std.proofs.Common.{◌≡◌, ℕ, suc, ◌+◌, inl, inr, List, [], ◌∷◌, ◌++◌, length, reverse, refl, sym, ap, ap₂, subst, ◌∙◌, arith, append-nil, length-append}
 use Rattle.std.proofs.lemmas.Bool.{cases_eq}
-use Rattle.jsonb_key.proofs.Texts.{some_same}
-use Rattle.jsonb_key.specs.Readable.{IsAnyNumber, IsReadable}
+use Rattle.key_value.proofs.Texts.{some_same}
+use Rattle.key_value.specs.Readable.{IsAnyNumber, IsReadable}
 use Rattle.jsonb_spec.specs.Grammar.{max_depth}
 use Rattle.jsonb_spec.specs.Proper.{IsProper}
 use Rattle.jsonb_spec.specs.SortKey.{key_of}
@@ -19,13 +19,13 @@ use Rattle.key_document.proofs.Backwards.{turned_back, turned_number}
 use Rattle.key_document.proofs.Endings.{key_ends}
 use Rattle.key_document.proofs.Tails.{but_last, same_last, tail_cases}
 use Rattle.key_document.proofs.Twins.{split_same, twins}
-use Rattle.stored_zeros.specs.Scan.{ending_of, ZerosAhead}
-use Rattle.stored_zeros.specs.Zeros.{counts_in, in_sevens, zeros_of}
-use Rattle.stored_zeros.proofs.Ahead.{ends_so, zeros_ahead}
-use Rattle.stored_zeros.proofs.Sevens.{some_sevens}
-use Rattle.stored_zeros.proofs.Splitting.{entry_first, plain_first}
-use Rattle.stored_zeros.proofs.Taking.{pend}
-use Rattle.stored_zeros.proofs.Telling.{sevens_same, text_reported}
+use Rattle.key_zeros.specs.Scan.{ending_of, ZerosAhead}
+use Rattle.key_zeros.specs.Zeros.{counts_in, in_sevens, zeros_of}
+use Rattle.key_zeros.proofs.Ahead.{ends_so, zeros_ahead}
+use Rattle.key_zeros.proofs.Sevens.{some_sevens}
+use Rattle.key_zeros.proofs.Splitting.{entry_first, plain_first}
+use Rattle.key_zeros.proofs.Taking.{pend}
+use Rattle.key_zeros.proofs.Telling.{sevens_same, text_reported}
 
 -- ---- the key and the zeros of a document
 

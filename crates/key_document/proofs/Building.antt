@@ -2,7 +2,7 @@
 use Rattle.std.proofs.Common.{◌≡◌, ℕ, ◌-◌, Bool, true, false, [], ◌∷◌, ◌++◌, Option, Some, None, Result, Ok, length, refl, sym, ap, subst, ◌∙◌, arith, length-append}
 use Rattle.std.specs.Prelude.{Vec}
 use Rattle.std.specs.declared.alloc.Global.{Global}
-use Rattle.jsonb_key.specs.Readable.{IsAnyNumber}
+use Rattle.key_value.specs.Readable.{IsAnyNumber}
 use Rattle.jsonb_spec.specs.Grammar.{max_depth}
 use Rattle.jsonb_spec.specs.Proper.{IsProper}
 use Rattle.jsonb_spec.specs.SortKey.{key_of}
@@ -13,10 +13,10 @@ use Rattle.key_document.specs.Merging.{counts_of_items}
 use Rattle.key_document.proofs.Changing.{ChangedAt, Reported}
 use Rattle.key_document.proofs.Counts.{one_each}
 use Rattle.key_document.proofs.Merging.{items_counts_end, joined_counts}
-use Rattle.stored_edit.specs.Edit.{Edits, with_item}
-use Rattle.stored_edit.specs.declared.error.EditError.{EditError}
-use Rattle.stored_edit.specs.Merging.{keys_of_items}
-use Rattle.stored_edit.proofs.Joined.{items_end, joined_is}
+use Rattle.key_edit.specs.Edit.{Edits, with_item}
+use Rattle.key_edit.specs.declared.error.EditError.{EditError}
+use Rattle.key_edit.specs.Merging.{keys_of_items}
+use Rattle.key_edit.proofs.Joined.{items_end, joined_is}
 
 none_some : {a : Tree} → None ≡ Some a → ⊥
 none_some e = cc

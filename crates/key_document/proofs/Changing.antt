@@ -1,9 +1,9 @@
 -- Documents of changed values, from what is appended of their keys and their zeros.
-use Rattle.std.proofs.Common.{◌≡◌, ℕ, ◌+◌, ◌^◌, ◌<◌, ◌≤◌, Bool, true, false, inl, inr, List, [], ◌++◌, Option, Some, None, MatchOption, Result, Ok, Err, length, take, refl, sym, ap, subst, ◌∙◌, arith, append_assoc, length-append}
+use Rattle.std.proofs.Common.{◌≡◌, ℕ, ◌+◌, ◌^◌, ◌<◌, ◌≤◌, Bool, true, false, ◌⊎◌, inl, inr, List, [], ◌++◌, Option, Some, None, MatchOption, Result, Ok, Err, length, take, refl, sym, ap, subst, ◌∙◌, arith, append_assoc, length-append}
 use Rattle.std.specs.Prelude.{IfOk, IsErrAnd, Vec, vec_len, vec_capacity}
 use Rattle.std.specs.declared.alloc.Global.{Global}
 use Rattle.std.proofs.Math.Seq.{take-append_seam}
-use Rattle.jsonb_key.specs.Readable.{IsAnyNumber}
+use Rattle.key_value.specs.Readable.{IsAnyNumber}
 use Rattle.jsonb_spec.specs.Grammar.{max_depth}
 use Rattle.jsonb_spec.specs.Proper.{IsProper}
 use Rattle.jsonb_spec.specs.SortKey.{key_of}
@@ -12,24 +12,25 @@ use Rattle.jsonb_spec.specs.Text.Range.{IsWithin}
 use Rattle.jsonb_spec.specs.Tree.{Tree}
 use Rattle.key_document.specs.Changes.{Answers, AppendsDocument, IsLacking, PreservesOnError, as_document_error}
 use Rattle.key_document.specs.Document.{behind_key, counts_at, document_of, zeros_at}
-use Rattle.key_document.specs.Splices.{AppendsZeros, Cut, CutsOnError, IsSplice, AreSpliced, Spliced, entry_counts, spliced_counts}
+use Rattle.key_document.specs.Splices.{AppendsZeros, Cut, CutsOnError, IsSplice, AreSpliced, PutsPart, Spliced, entry_counts, spliced_counts}
 use Rattle.key_document.specs.declared.error.DocumentError.{DocumentError}
 use Rattle.key_document.specs.declared.error.DocumentError.TheVariants.{OutOfMemory}
 use Rattle.key_document.specs.declared.splice.Lengths.{Lengths}
 use Rattle.key_document.proofs.Agreeing.{agree}
 use Rattle.key_document.proofs.Counts.{one_each}
-use Rattle.stored_edit.specs.Edit.{Outcome, goes, becomes, changed_at, remove, set_to, without_part}
-use Rattle.stored_edit.specs.Edit.{IsLacking as KeyLacks}
-use Rattle.stored_edit.specs.Spots.{Answers as SpotAnswers, SlotIn, Occurs}
-use Rattle.stored_edit.specs.declared.error.EditError.{EditError}
-use Rattle.stored_edit.specs.declared.error.EditError.TheVariants as edits
-use Rattle.stored_edit.specs.declared.slot.Slot.{Slot}
-use Rattle.stored_zeros.specs.Zeros.{zeros_of}
+use Rattle.key_edit.specs.Insert.{add}
+use Rattle.key_edit.specs.Edit.{Outcome, stays, goes, becomes, changed_at, remove, set_to, without_part}
+use Rattle.key_edit.specs.Edit.{IsLacking as KeyLacks}
+use Rattle.key_edit.specs.Spots.{Answers as SpotAnswers, SlotIn, Occurs}
+use Rattle.key_edit.specs.declared.error.EditError.{EditError}
+use Rattle.key_edit.specs.declared.error.EditError.TheVariants as edits
+use Rattle.key_edit.specs.declared.slot.Slot.{Slot}
+use Rattle.key_zeros.specs.Zeros.{zeros_of}
 
-false_true : false ≡ true → ⊥
+pub false_true : false ≡ true → ⊥
 false_true e = cc
 
-none_some : {A : Type 0} {a : A} → None ≡ Some a → ⊥
+pub none_some : {A : Type 0} {a : A} → None ≡ Some a → ⊥
 none_some e = cc
 
 -- ---- the counts of a changed value
@@ -47,22 +48,30 @@ pub record ChangedAt (t v : Tree) (part : List ℕ) (front behind : ℕ) : Type 
   pub last_is : length last ≡ behind
   pub long : length (key_of v) ≡ front + (name + (length part + behind))
 
-set_splice : (cut : Cut) (u v : Tree) (create : Bool) (there : Option Tree) → IsSplice key_of counts_at cut (set_to u create there) (Some v) → IsSplice key_of counts_at cut (becomes u) (Some v)
-set_splice cut u v create (Some w) h = h
-set_splice cut u v true None h = h
-set_splice cut u v false None h = absurd h
+put_splice : (cut : Cut) (u v : Tree) (outcome : Outcome) → (outcome ≡ becomes u) ⊎ (outcome ≡ stays) → IsSplice key_of counts_at cut outcome (Some v) → IsSplice key_of counts_at cut (becomes u) (Some v)
+put_splice cut u v outcome (inl e) h = subst (λ o. IsSplice key_of counts_at cut o (Some v)) e h
+put_splice cut u v outcome (inr e) h = absurd (subst (λ o. IsSplice key_of counts_at cut o (Some v)) e h)
+
+pub set_puts : (u : Tree) (create : Bool) → PutsPart u (set_to u create)
+set_puts u create (Some w) = inl refl
+set_puts u true None = inl refl
+set_puts u false None = inr refl
+
+pub add_puts : (u : Tree) → PutsPart u (add u)
+add_puts u (Some w) = inr refl
+add_puts u None = inl refl
 
 remove_splice : (cut : Cut) (v : Tree) (there : Option Tree) → IsSplice key_of counts_at cut (remove there) (Some v) → IsSplice key_of counts_at cut goes (Some v)
 remove_splice cut v (Some w) h = h
 remove_splice cut v None h = absurd h
 
 module _ (t v : Tree) (changed : (Option Tree → Outcome) → Option Tree) (key : List ℕ) (slot : Slot) (splices : Spliced key_of counts_at t changed) (s : SlotIn changed key slot) where
-  pub set_changes : (u : Tree) (create : Bool) → IsProper u → changed (set_to u create) ≡ Some v → ChangedAt t v (counts_at u) (length s.0.front) (length slot.behind.now)
-  set_changes u create q is = elim splices [
-    | inl none ↦ absurd (none_some (sym (none (set_to u create)) ∙ is))
+  pub put_changes : (u : Tree) (change : Option Tree → Outcome) → PutsPart u change → IsProper u → changed change ≡ Some v → ChangedAt t v (counts_at u) (length s.0.front) (length slot.behind.now)
+  put_changes u change puts q is = elim splices [
+    | inl none ↦ absurd (none_some (sym (none change) ∙ is))
     | inr x ↦
         let a = agree t changed key slot s x in
-        let h = set_splice x.cut u v create x.there (subst (λ o. IsSplice key_of counts_at x.cut (set_to u create x.there) o) is (x.answers (set_to u create))) in
+        let h = put_splice x.cut u v (change x.there) (puts x.there) (subst (λ o. IsSplice key_of counts_at x.cut (change x.there) o) is (x.answers change)) in
         record {
           first = x.cut.counts_front;
           entry = entry_counts x.cut.name x.there;

@@ -8,8 +8,8 @@ use Rattle.jsonb_spec.specs.Tree.{Tree, null, boolean, string, number, array, ob
 use Rattle.jsonb_value.proofs.SortKeys.Kinds.{is_small, number_begins}
 use Rattle.key_document.specs.Changes.{IsBehind, IsPartBehind}
 use Rattle.key_document.specs.Document.{counts_at, counts_at_items, counts_at_members}
-use Rattle.stored_zeros.specs.Numbers.{counts_taken}
-use Rattle.stored_zeros.specs.PartsOf.{IsWhole, OccursIn, OccursInItems, OccursInMembers}
+use Rattle.key_zeros.specs.Numbers.{counts_taken}
+use Rattle.key_zeros.specs.PartsOf.{IsWhole, OccursIn, OccursInItems, OccursInMembers}
 
 mutual
   pub one_each : (t : Tree) → IsProper t → length (counts_at t) ≡ length (key_of t)

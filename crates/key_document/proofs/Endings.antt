@@ -5,7 +5,7 @@ use Rattle.std.specs.List.{flat_map}
 use Rattle.std.proofs.lemmas.Bool.{cases_eq}
 use Rattle.std.proofs.lemmas.List.{map-append}
 use Rattle.std.proofs.Math.Nat.{mod-lt, div-add-mod}
-use Rattle.jsonb_key.specs.Readable.{IsAnyNumber}
+use Rattle.key_value.specs.Readable.{IsAnyNumber}
 use Rattle.jsonb_spec.specs.Proper.{IsProper, AreProper, HaveProperParts}
 use Rattle.jsonb_spec.specs.SortKey.{key_of, items_key, members_key, text_key, byte_key, number_key, magnitude_key, exponent_key, digits_key, digit_count, invert_if}
 use Rattle.jsonb_spec.specs.Text.Range.{IsWithin, AreWithin, HaveWithin}

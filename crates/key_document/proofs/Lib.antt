@@ -6,6 +6,7 @@ pub mod Endings
 pub mod Backwards
 pub mod Tails
 pub mod Passing
+pub mod Remaining
 pub mod Joining
 pub mod Ending
 pub mod Changing
@@ -20,3 +21,9 @@ pub mod Numbering
 pub mod Texts
 pub mod Twins
 pub mod Apart
+pub mod Retained
+pub mod Beside
+pub mod NamesLeft
+pub mod Answered
+pub mod Stripped
+pub mod Inserting

@@ -5,20 +5,20 @@ use Rattle.std.proofs.lemmas.List.{length-replicate}
 use Rattle.jsonb_spec.specs.Proper.{HaveProperParts}
 use Rattle.jsonb_spec.specs.SortKey.{key_of, members_key, text_key}
 use Rattle.jsonb_spec.specs.Tree.{Tree, object, Members, more_members}
-use Rattle.jsonb_stored.specs.Checked.{HaveReadable}
+use Rattle.key_walk.specs.Checked.{HaveReadable}
 use Rattle.key_document.specs.Document.{counts_at, counts_at_members}
 use Rattle.key_document.specs.Merging.{HasEnough, left_of, right_of, taken_from}
 use Rattle.key_document.proofs.Counts.{members_each, one_each}
 use Rattle.key_document.proofs.Joining.{plain_bound}
-use Rattle.stored_edit.specs.Edit.{merged_members}
-use Rattle.stored_edit.specs.Merging.{IsFrom, IsLast, IsStep, StepsOn}
-use Rattle.stored_edit.proofs.ProperChanges.{merged_proper}
-use Rattle.stored_edit.specs.declared.merge.Side.{Side}
-use Rattle.stored_edit.specs.declared.merge.Side.TheVariants.{Left, Right, Both}
-use Rattle.stored_edit.specs.declared.merge.Step.{Step}
-use Rattle.stored_zeros.specs.Numbers.{Pends}
-use Rattle.stored_zeros.specs.Zeros.{plain_at_end, zeros_of}
-use Rattle.stored_zeros.proofs.Joining.{plain_joined, zeros_joined}
+use Rattle.key_edit.specs.Edit.{merged_members}
+use Rattle.key_edit.specs.Merging.{HasNoOther, IsFrom, IsLast, IsStep, StepsOn}
+use Rattle.key_edit.proofs.ProperChanges.{merged_proper}
+use Rattle.key_edit.specs.declared.merge.Side.{Side}
+use Rattle.key_edit.specs.declared.merge.Side.TheVariants.{Left, Right, Both}
+use Rattle.key_edit.specs.declared.merge.Step.{Step}
+use Rattle.key_zeros.specs.Numbers.{Pends}
+use Rattle.key_zeros.specs.Zeros.{plain_at_end, zeros_of}
+use Rattle.key_zeros.proofs.Joining.{plain_joined, zeros_joined}
 
 -- the counts of a member
 abbrev pub counts_of_member : List ℕ → Tree → List ℕ
@@ -146,7 +146,7 @@ merged_parts ms ns h i = (merged_proper (object ms) (object ns) (h.ascend, h.pro
 
 module _ (ms ns : Members) (old now : List ℕ) (plain : ℕ) (ours theirs : Option (ℕ × ℕ × Bor (List ℕ))) (left right : List ℕ) (step : Step) (passed : ℕ) (l : JoinLeft ms ns old now plain ours theirs left right) (s : IsStep l.members l.others step) (passes : passed ≡ length left - length step.members.now) where
   abbrev StepOf : Bool → Type 0
-  StepOf over = MatchBool over (IsLast step.side l.members l.others × (step.part.now ≡ members_key (merged_members l.members l.others))) (StepsOn l.members l.others step.side step.part.now step.members.now step.others.now)
+  StepOf over = MatchBool over (IsLast step.side l.members l.others × (step.part.now ≡ members_key (merged_members l.members l.others)) × HasNoOther step.side l.members l.others) (StepsOn l.members l.others step.side step.part.now step.members.now step.others.now)
 
   last_taken : StepOf true → HasEnough step.side (length step.part.now) passed (counts_at_members l.members) (counts_at_members l.others) × (taken_from step.side (length step.part.now) (counts_at_members l.members) (counts_at_members l.others) ≡ counts_at_members (merged_members l.members l.others))
   last_taken last = last_step step.side (length step.part.now) passed l.members l.others last.0 (ap length last.1 ∙ sym (members_each (merged_members l.members l.others) (merged_parts l.members l.others l.readable l.others_readable)))

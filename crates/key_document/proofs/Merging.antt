@@ -1,17 +1,17 @@
 -- Members merged, from the first ones on.
 use Rattle.std.proofs.Common.{◌≡◌, ℕ, List, [], ◌∷◌, ◌++◌, refl, sym, ap, subst, ◌∙◌, append_assoc}
 use Rattle.std.specs.Cmp.Lexicographic.{nat_list_cmp_total}
+use Rattle.std.specs.FinMap.{nat_cmp-IsAntisymmetric, slice_cmp-IsAntisymmetric}
 use Rattle.std.specs.Ordering.{match_ordering, ordering_reverse}
 use Rattle.std.specs.declared.cmp.Ordering.TheVariants.{Less, Equal, Greater}
 use Rattle.jsonb_spec.specs.Keys.{IsBelowKeys}
 use Rattle.jsonb_spec.specs.Order.{bytes_cmp}
 use Rattle.jsonb_spec.specs.Tree.{Tree, Trees, no_trees, more_trees, Members, no_members, more_members, put}
 use Rattle.jsonb_value.proofs.Values.Members.{turned}
-use Rattle.text_common.proofs.Repeats.{same_key}
 use Rattle.key_document.specs.Document.{counts_at, counts_at_items}
 use Rattle.key_document.specs.Merging.{counts_of_items}
-use Rattle.stored_edit.specs.Edit.{joined_items, merged_members}
-use Rattle.stored_edit.proofs.ProperChanges.{below_rest}
+use Rattle.key_edit.specs.Edit.{joined_items, merged_members}
+use Rattle.key_edit.proofs.ProperChanges.{below_rest}
 
 put_after : (k l : List ℕ) (t u : Tree) (ms : Members) → bytes_cmp k l ≡ Less → put l u (more_members k t ms) ≡ more_members k t (put l u ms)
 put_after k l t u ms h = ap (λ o. match_ordering o (more_members l u (more_members k t ms)) (more_members k u ms) (more_members k t (put l u ms))) (turned k l h)
@@ -34,7 +34,7 @@ right_first k l t u ms ns b greater =
 pub right_instead : (k l : List ℕ) (t u : Tree) (ms ns : Members) → IsBelowKeys l ns → bytes_cmp k l ≡ Equal
     → merged_members (more_members k t ms) (more_members l u ns) ≡ more_members l u (merged_members ms ns)
 right_instead k l t u ms ns b equal =
-    let same : k ≡ l = same_key k l equal in
+    let same : k ≡ l = slice_cmp-IsAntisymmetric nat_cmp-IsAntisymmetric k l equal in
     let turned_equal : bytes_cmp l k ≡ Equal = nat_list_cmp_total.antisymm l k ∙ ap ordering_reverse equal in
     ap (λ m. merged_members m ns) (ap (λ o. match_ordering o (more_members l u (more_members k t ms)) (more_members k u ms) (more_members k t (put l u ms))) turned_equal)
     ∙ stays_first k u ns ms (subst (λ x. IsBelowKeys x ns) (sym same) b)

@@ -1,25 +1,28 @@
 -- Values without zeros, merged.
-use Rattle.std.proofs.Common.{◌≡◌, ℕ, zero, suc, ◌+◌, ◌==◌, inl, inr, Some, List, [], ◌∷◌, ◌++◌, length, replicate, refl, sym, ap, subst, ◌∙◌, arith, length-append}
+use Rattle.std.proofs.Common.{◌≡◌, ℕ, zero, suc, ◌+◌, ◌==◌, Bool, true, false, ◌&&◌, if◌then◌else◌, inl, inr, Some, List, [], ◌∷◌, ◌++◌, length, replicate, refl, sym, ap, subst, ◌∙◌, arith, length-append}
 use Rattle.std.proofs.lemmas.Bool.{cond-false, ne_eqb}
 use Rattle.std.specs.Ordering.{match_ordering}
 use Rattle.std.specs.declared.cmp.Ordering.{Ordering}
 use Rattle.std.specs.declared.cmp.Ordering.TheVariants.{Less, Equal, Greater}
-use Rattle.jsonb_key.specs.Readable.{IsReadable}
+use Rattle.key_value.specs.Readable.{IsReadable}
+use Rattle.jsonb_spec.specs.Containment.{any_item}
 use Rattle.jsonb_spec.specs.Order.{bytes_cmp}
 use Rattle.jsonb_spec.specs.PartAt.{part_at}
 use Rattle.jsonb_spec.specs.SortKey.{text_key}
 use Rattle.jsonb_spec.specs.Text.{tree_text}
 use Rattle.jsonb_spec.specs.Tree.{Tree, null, boolean, string, number, array, object, binary, date, timestamp, timestamp_tz, interval, Trees, no_trees, more_trees, Members, no_members, more_members, put}
 use Rattle.key_document.specs.Document.{counts_at, counts_at_items, counts_at_members, zeros_at}
+use Rattle.key_document.specs.LeftOut.{any_named, beside_names, has_name, is_named, is_null, items_beside, items_without_nulls, members_beside, members_without_nulls, without_nulls}
 use Rattle.key_document.specs.Merging.{counts_of_items}
+use Rattle.key_document.proofs.Beside.{by_case, no_tree}
 use Rattle.key_document.proofs.ItemsJoined.{items_within, joined_array}
 use Rattle.key_document.proofs.Slots.{part_inside}
 use Rattle.key_document.proofs.Merging.{joined_counts, items_counts_end}
-use Rattle.stored_edit.specs.Edit.{as_items, merge, merged_members}
-use Rattle.stored_text.specs.FewestDigits.{with_fewest_digits}
-use Rattle.stored_zeros.specs.Zeros.{counts_in, counts_in_items, counts_in_members, entry_of, in_sevens, plain_behind, zeros_in, zeros_of}
-use Rattle.stored_zeros.proofs.NumberedTexts.{counts_of, numbers_of}
-use Rattle.stored_zeros.proofs.Splitting.{split}
+use Rattle.key_edit.specs.Edit.{as_items, merge, merged_members}
+use Rattle.key_text.specs.FewestDigits.{with_fewest_digits}
+use Rattle.key_zeros.specs.Zeros.{counts_in, counts_in_items, counts_in_members, entry_of, in_sevens, plain_behind, zeros_in, zeros_of}
+use Rattle.key_zeros.proofs.NumberedTexts.{counts_of, numbers_of}
+use Rattle.key_zeros.proofs.Splitting.{split}
 
 -- no number has zeros
 abbrev AllZero : List ℕ → Type 0
@@ -141,3 +144,66 @@ text_shortest t r none =
       | inl p ↦ x.full ∙ p.same ∙ sym x.shortest
       | inr n ↦ absurd (omega (arith, ap length (sym n.zeros ∙ sym (ap (zeros_of 0) x.counts) ∙ z), length-append (in_sevens 8 (0 + n.before)) (n.zeros_there ∷ zeros_of 0 (counts_of n.later))))
     ]
+
+-- ---- a value without what an object names
+
+picked_members : (b : Bool) (k : List ℕ) (t : Tree) (ms : Members) → AllZero (counts_at t) → AllZero (counts_at_members ms) → AllZero (counts_at_members (if b then ms else more_members k t ms))
+picked_members true k t ms a rest = rest
+picked_members false k t ms a rest = more_zero k t ms a rest
+
+picked_items : (b : Bool) (t : Tree) (ts : Trees) → AllZero (counts_at t) → AllZero (counts_at_items ts) → AllZero (counts_at_items (if b then ts else more_trees t ts))
+picked_items true t ts a rest = rest
+picked_items false t ts a rest = both_zero (counts_at t) (counts_at_items ts) a rest
+
+members_beside_zero : (ns ms : Members) → AllZero (counts_at_members ms) → AllZero (counts_at_members (members_beside ns ms))
+members_beside_zero ns no_members a = a
+members_beside_zero ns (more_members k t ms) a = picked_members (has_name k ns) k t (members_beside ns ms) (value_zero k t ms a) (members_beside_zero ns ms (rest_zero k t ms a))
+
+items_beside_zero : (ns : Members) (ts : Trees) → AllZero (counts_at_items ts) → AllZero (counts_at_items (items_beside ns ts))
+items_beside_zero ns no_trees a = a
+items_beside_zero ns (more_trees t ts) a = picked_items (is_named ns t) t (items_beside ns ts) (first_zero (counts_at t) (counts_at_items ts) a) (items_beside_zero ns ts (second_zero (counts_at t) (counts_at_items ts) a))
+
+pub none_beside : (ns : Members) (t u : Tree) → beside_names ns t ≡ Some u → length (zeros_at t) ≡ 0 → zeros_at u ≡ []
+none_beside ns t u e none = no_zeros 0 (counts_at u) (go t e (all_zero 0 (counts_at t) none))
+  where
+    go : (t : Tree) → beside_names ns t ≡ Some u → AllZero (counts_at t) → AllZero (counts_at u)
+    go (object ms) e a = by_case (λ x. AllZero (counts_at x)) (any_named ns ms) (object (members_beside ns ms)) u e (refl, members_beside_zero ns ms a.1)
+    go (array ts) e a = by_case (λ x. AllZero (counts_at x)) (any_item (is_named ns) ts) (array (items_beside ns ts)) u e (refl, items_beside_zero ns ts a.1)
+    go null e a = absurd (no_tree u e)
+    go (boolean b) e a = absurd (no_tree u e)
+    go (string mark bytes) e a = absurd (no_tree u e)
+    go (number n) e a = absurd (no_tree u e)
+    go (binary bytes) e a = absurd (no_tree u e)
+    go (date days) e a = absurd (no_tree u e)
+    go (timestamp micros) e a = absurd (no_tree u e)
+    go (timestamp_tz offset micros) e a = absurd (no_tree u e)
+    go (interval months days micros) e a = absurd (no_tree u e)
+
+-- ---- a value without nulls
+
+mutual
+  bare_zero : (b : Bool) (t : Tree) → AllZero (counts_at t) → AllZero (counts_at (without_nulls b t))
+  bare_zero b (array ts) a = (refl, bare_items_zero b ts a.1)
+  bare_zero b (object ms) a = (refl, bare_members_zero b ms a.1)
+  bare_zero b null a = a
+  bare_zero b (boolean x) a = a
+  bare_zero b (string mark bytes) a = a
+  bare_zero b (number n) a = a
+  bare_zero b (binary bytes) a = a
+  bare_zero b (date days) a = a
+  bare_zero b (timestamp micros) a = a
+  bare_zero b (timestamp_tz offset micros) a = a
+  bare_zero b (interval months days micros) a = a
+
+  bare_items_zero : (b : Bool) (ts : Trees) → AllZero (counts_at_items ts) → AllZero (counts_at_items (items_without_nulls b ts))
+  bare_items_zero b no_trees a = a
+  bare_items_zero b (more_trees t ts) a =
+      picked_items (is_null t && b) (without_nulls b t) (items_without_nulls b ts) (bare_zero b t (first_zero (counts_at t) (counts_at_items ts) a)) (bare_items_zero b ts (second_zero (counts_at t) (counts_at_items ts) a))
+
+  bare_members_zero : (b : Bool) (ms : Members) → AllZero (counts_at_members ms) → AllZero (counts_at_members (members_without_nulls b ms))
+  bare_members_zero b no_members a = a
+  bare_members_zero b (more_members k t ms) a =
+      picked_members (is_null t) k (without_nulls b t) (members_without_nulls b ms) (bare_zero b t (value_zero k t ms a)) (bare_members_zero b ms (rest_zero k t ms a))
+
+pub none_bare : (b : Bool) (t : Tree) → length (zeros_at t) ≡ 0 → zeros_at (without_nulls b t) ≡ []
+none_bare b t none = no_zeros 0 (counts_at (without_nulls b t)) (bare_zero b t (all_zero 0 (counts_at t) none))

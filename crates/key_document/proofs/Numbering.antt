@@ -7,8 +7,8 @@ use Rattle.std.proofs.lemmas.List.{length-replicate}
 use Rattle.jsonb_spec.specs.Proper.{IsProper}
 use Rattle.jsonb_spec.specs.SortKey.{key_of, number_key, text_key}
 use Rattle.jsonb_spec.specs.Tree.{Tree, null, boolean, string, number, array, object, binary, date, timestamp, timestamp_tz, interval, no_trees, more_trees, no_members, more_members}
-use Rattle.jsonb_stored.specs.Open.{Open, items, members, is_object, end_key, name_key, IsScalar}
-use Rattle.jsonb_stored.specs.Parts.{opened_tree}
+use Rattle.key_walk.specs.Open.{Open, items, members, is_object, end_key, name_key, IsScalar}
+use Rattle.key_walk.specs.Parts.{opened_tree}
 use Rattle.jsonb_value.proofs.Appending.Appended.{IsUnderway, begun, goes_on, fits}
 use Rattle.key_document.specs.Changes.{CopiesOn}
 use Rattle.key_document.specs.Document.{counts_at, counts_at_items, counts_at_members}
@@ -20,12 +20,12 @@ use Rattle.key_document.specs.declared.numbers.Counts.TheVariants.{FromText, Fro
 use Rattle.key_document.specs.declared.numbers.Passing.{Passing}
 use Rattle.key_document.proofs.Counts.{one_each}
 use Rattle.key_document.proofs.Joining.{zeros_behind_plain}
-use Rattle.stored_text.specs.FewestDigits.{spare_zeros}
-use Rattle.stored_zeros.specs.Numbers.{Pends}
-use Rattle.stored_zeros.specs.PartsOf.{numbers_in}
-use Rattle.stored_zeros.specs.Scan.{ZerosAhead}
-use Rattle.stored_zeros.specs.Zeros.{counts_in, counts_in_items, counts_in_members, entry_of, plain_behind, zeros_of}
-use Rattle.stored_zeros.proofs.Counting.{IsOver, IsPart}
+use Rattle.key_text.specs.FewestDigits.{spare_zeros}
+use Rattle.key_zeros.specs.Numbers.{Pends}
+use Rattle.key_zeros.specs.PartsOf.{numbers_in}
+use Rattle.key_zeros.specs.Scan.{ZerosAhead}
+use Rattle.key_zeros.specs.Zeros.{counts_in, counts_in_items, counts_in_members, entry_of, plain_behind, zeros_of}
+use Rattle.key_zeros.proofs.Counting.{IsOver, IsPart}
 
 -- ---- bytes without zeros are passed
 
@@ -249,7 +249,7 @@ all_done by_bytes whole old now passing left t =
 
 -- ---- an end
 
-over_bytes : (over : Open) (under : List Open) → IsOver over → bytes_left (over ∷ under) ≡ replicate (length (end_key (is_object over))) 0 ++ bytes_left under
+pub over_bytes : (over : Open) (under : List Open) → IsOver over → bytes_left (over ∷ under) ≡ replicate (length (end_key (is_object over))) 0 ++ bytes_left under
 over_bytes (items no_trees) under h = refl
 over_bytes (items (more_trees t ts)) under h = absurd h
 over_bytes (members no_members) under h = refl
@@ -266,7 +266,7 @@ over_numbers (members (more_members k t ms)) under h = absurd h
 regroup : (a b c d : List ℕ) → (a ++ (b ++ c)) ++ d ≡ a ++ (b ++ (c ++ d))
 regroup a b c d = simp append_assoc
 
-part_bytes : (o : Open) (name : List ℕ) (value : Tree) (others : Open) (under : List Open) → IsPart o name value others → bytes_left (o ∷ under) ≡ replicate (length (name_key (is_object o) name)) 0 ++ (counts_at value ++ bytes_left (others ∷ under))
+pub part_bytes : (o : Open) (name : List ℕ) (value : Tree) (others : Open) (under : List Open) → IsPart o name value others → bytes_left (o ∷ under) ≡ replicate (length (name_key (is_object o) name)) 0 ++ (counts_at value ++ bytes_left (others ∷ under))
 part_bytes (items no_trees) name value others under p = absurd p
 part_bytes (items (more_trees t ts)) name value others under p =
     append_assoc (counts_at t) (counts_at_items ts) (bytes_left under) ∙ ap₂ (λ v o. counts_at v ++ (counts_open o ++ bytes_left under)) (sym p.1) (sym p.2)
@@ -286,7 +286,7 @@ part_numbers (members (more_members k t ms)) name value others under p =
 
 -- ---- an array or an object
 
-opened_bytes : (inside : Open) → counts_at (opened_tree inside) ≡ 0 ∷ counts_open inside
+pub opened_bytes : (inside : Open) → counts_at (opened_tree inside) ≡ 0 ∷ counts_open inside
 opened_bytes (items ts) = refl
 opened_bytes (members ms) = refl
 

@@ -5,9 +5,9 @@ use Rattle.std.specs.declared.alloc.Global.{Global}
 use Rattle.key_document.specs.Changes.{CopiesOn}
 use Rattle.key_document.specs.declared.error.DocumentError.{DocumentError}
 use Rattle.key_document.specs.declared.error.DocumentError.TheVariants.{OutOfMemory}
-use Rattle.stored_zeros.specs.Numbers.{Pends, PendsAt}
-use Rattle.stored_zeros.specs.Zeros.{zeros_of}
-use Rattle.stored_zeros.proofs.Taking.{SkipLeft, CopyLeft, copies_some, none_skipped, entry_reached}
+use Rattle.key_zeros.specs.Numbers.{Pends, PendsAt}
+use Rattle.key_zeros.specs.Zeros.{zeros_of}
+use Rattle.key_zeros.proofs.Taking.{SkipLeft, CopyLeft, copies_some, none_skipped, entry_reached}
 
 -- what pends of the counts that are left, of which so many are still to be passed
 pub record PassLeft (counts : List ℕ) (bytes left : ℕ) (next : Option (ℕ × ℕ × Bor (List ℕ))) : Type 0 where

@@ -11,7 +11,8 @@ use Rattle.jsonb_spec.specs.Order.{bytes_cmp}
 use Rattle.jsonb_spec.specs.Proper.{IsProper, AreProper, HaveProperParts}
 use Rattle.jsonb_spec.specs.SortKey.{key_of, items_key, members_key, text_key}
 use Rattle.jsonb_spec.specs.Tree.{Tree, null, boolean, string, number, array, object, binary, date, timestamp, timestamp_tz, interval, Trees, no_trees, more_trees, Members, no_members, more_members}
-use Rattle.stored_edit.specs.Edit.{Outcome, stays, goes, becomes, member_before, changed_member, item_before, changed_item, changed_item_back, step_named, changed_at_member, changed_at_step, changed_part, part_with, within, changed_at}
+use Rattle.key_edit.specs.Edit.{Outcome, stays, goes, becomes, member_before, changed_member, item_before, changed_item, changed_item_back, step_named, changed_at_member, changed_at_step, changed_part, part_with, within, changed_at}
+use Rattle.key_edit.specs.Insert.{changed_between, changed_slot, changed_slot_at, slot_index}
 use Rattle.key_document.specs.Document.{counts_at, counts_at_items, counts_at_members}
 use Rattle.key_document.specs.Splices.{Cut, IsSplice, AreSplices, Spliced, entry_key, entry_counts}
 use Rattle.key_document.proofs.Counts.{one_each, items_each, members_each}
@@ -237,12 +238,11 @@ no_change name t u cut change there e none s =
     (subst (λ x. IsSplice key_of counts_at cut (part_with x) (changed_part (within change) name t)) none
     (subst (λ h. IsSplice key_of counts_at cut (within change h) (changed_part (within change) name t)) e s))
 
-inner_splice : (name next : List ℕ) (names : List (List ℕ)) (t : Tree) (s : AreSplices key_of counts_at t (λ change. changed_part change name t))
-    → ((u : Tree) → IsProper u → Spliced key_of counts_at u (λ change. changed_at change (next ∷ names) u))
-    → (there : Option Tree) → s.there ≡ there → Spliced key_of counts_at t (λ change. changed_at change (name ∷ next ∷ names) t)
-inner_splice name next names t s rest None e = inl (λ change. no_part name t s.cut (changed_at change (next ∷ names)) s.there e (s.answers (within (changed_at change (next ∷ names)))))
-inner_splice name next names t s rest (Some u) e = elim (rest u (subst (λ h. IfSome h IsProper) e s.proper)) [
-  | inl none ↦ inl (λ change. no_change name t u s.cut (changed_at change (next ∷ names)) s.there e (none change) (s.answers (within (changed_at change (next ∷ names)))))
+inner_splice : (name : List ℕ) (t : Tree) (inner : (Option Tree → Outcome) → Tree → Option Tree) (s : AreSplices key_of counts_at t (λ change. changed_part change name t)) → ((u : Tree) → IsProper u → Spliced key_of counts_at u (λ change. inner change u))
+    → (there : Option Tree) → s.there ≡ there → Spliced key_of counts_at t (λ change. changed_part (within (inner change)) name t)
+inner_splice name t inner s rest None e = inl (λ change. no_part name t s.cut (inner change) s.there e (s.answers (within (inner change))))
+inner_splice name t inner s rest (Some u) e = elim (rest u (subst (λ h. IfSome h IsProper) e s.proper)) [
+  | inl none ↦ inl (λ change. no_change name t u s.cut (inner change) s.there e (none change) (s.answers (within (inner change))))
   | inr i ↦ inr (record {
     there = i.there;
     proper = i.proper;
@@ -260,8 +260,8 @@ inner_splice name next names t s rest (Some u) e = elim (rest u (subst (λ h. If
     each_behind = omega (arith, s.each_behind, i.each_behind, length-append i.cut.behind s.cut.behind, length-append i.cut.counts_behind s.cut.counts_behind);
     key_is = s.key_is ∙ ap (λ h. s.cut.front ++ (entry_key s.cut.name h ++ s.cut.behind)) e ∙ ap (λ l. s.cut.front ++ ((s.cut.name ++ l) ++ s.cut.behind)) i.key_is ∙ entered s.cut.front s.cut.name i.cut.front (entry_key i.cut.name i.there) i.cut.behind s.cut.behind;
     counts_are = s.counts_are ∙ ap (λ h. s.cut.counts_front ++ (entry_counts s.cut.name h ++ s.cut.counts_behind)) e ∙ ap (λ l. s.cut.counts_front ++ ((replicate (length s.cut.name) 0 ++ l) ++ s.cut.counts_behind)) i.counts_are ∙ entered s.cut.counts_front (replicate (length s.cut.name) 0) i.cut.counts_front (entry_counts i.cut.name i.there) i.cut.counts_behind s.cut.counts_behind;
-    answers = λ change. inside_splice key_of counts_at s.cut i.cut (change i.there) (changed_at change (next ∷ names) u) (changed_at change (name ∷ next ∷ names) t) (i.answers change)
-        (subst (λ h. IsSplice key_of counts_at s.cut (within (changed_at change (next ∷ names)) h) (changed_at change (name ∷ next ∷ names) t)) e (s.answers (within (changed_at change (next ∷ names)))));
+    answers = λ change. inside_splice key_of counts_at s.cut i.cut (change i.there) (inner change u) (changed_part (within (inner change)) name t) (i.answers change)
+        (subst (λ h. IsSplice key_of counts_at s.cut (within (inner change) h) (changed_part (within (inner change)) name t)) e (s.answers (within (inner change))));
   })
 ]
 
@@ -270,5 +270,57 @@ at_splice [] t p = inl (λ change. refl)
 at_splice (name ∷ []) t p = part_splice name t p
 at_splice (name ∷ next ∷ names) t p = elim (part_splice name t p) [
   | inl none ↦ inl (λ change. none (within (changed_at change (next ∷ names))))
-  | inr s ↦ inner_splice name next names t s (λ u q. at_splice (next ∷ names) u q) s.there refl
+  | inr s ↦ inner_splice name t (λ change. changed_at change (next ∷ names)) s (λ u q. at_splice (next ∷ names) u q) s.there refl
+]
+
+-- ---- between items
+
+between_splice : (index : ℕ) (ts : Trees) → AreProper ts → AreSplices items_key counts_at_items ts (λ change. changed_between change index ts)
+between_splice zero ts p = record {
+  there = None;
+  proper = tt;
+  cut = here [] (items_key ts) (counts_at_items ts);
+  one_each = refl;
+  each_behind = items_each ts p;
+  key_is = refl;
+  counts_are = refl;
+  answers = λ change. item_here ts (change None);
+}
+between_splice (suc index) no_trees p = record {
+  there = None;
+  proper = tt;
+  cut = here [] (items_key no_trees) (counts_at_items no_trees);
+  one_each = refl;
+  each_behind = refl;
+  key_is = refl;
+  counts_are = refl;
+  answers = λ change. item_here no_trees (change None);
+}
+between_splice (suc index) (more_trees t ts) p =
+    moved_splices items_key counts_at_items items_key counts_at_items (key_of t) (counts_at t) (more_trees t)
+    (one_each t p.0) (λ us. refl) (λ us. refl) ts (λ change. changed_between change index ts) (between_splice index ts p.1)
+
+slot_splice : (after : Bool) (name : List ℕ) (t : Tree) → IsProper t → Spliced key_of counts_at t (λ change. changed_slot change after name t)
+slot_splice after name (object ms) p = inr (member_splice name ms p)
+slot_splice after name (array ts) p = by (step_named name)
+  where
+    by : (step : Option (Bool × ℕ)) → Spliced key_of counts_at (array ts) (λ change. option_map array (option_and_then (λ step. changed_between change (slot_index after (trees_len ts) step) ts) step))
+    by None = inl (λ change. refl)
+    by (Some step) = inr (moved_splices items_key counts_at_items key_of counts_at (210 ∷ []) (0 ∷ []) array refl (λ us. refl) (λ us. refl) ts (λ change. changed_between change (slot_index after (trees_len ts) step) ts) (between_splice (slot_index after (trees_len ts) step) ts p))
+slot_splice after name null p = inl (λ change. refl)
+slot_splice after name (boolean b) p = inl (λ change. refl)
+slot_splice after name (string mark bytes) p = inl (λ change. refl)
+slot_splice after name (number n) p = inl (λ change. refl)
+slot_splice after name (binary bytes) p = inl (λ change. refl)
+slot_splice after name (date days) p = inl (λ change. refl)
+slot_splice after name (timestamp micros) p = inl (λ change. refl)
+slot_splice after name (timestamp_tz offset micros) p = inl (λ change. refl)
+slot_splice after name (interval months days micros) p = inl (λ change. refl)
+
+pub slot_at_splice : (after : Bool) (names : List (List ℕ)) (t : Tree) → IsProper t → Spliced key_of counts_at t (λ change. changed_slot_at change after names t)
+slot_at_splice after [] t p = inl (λ change. refl)
+slot_at_splice after (name ∷ []) t p = slot_splice after name t p
+slot_at_splice after (name ∷ next ∷ names) t p = elim (part_splice name t p) [
+  | inl none ↦ inl (λ change. none (within (changed_slot_at change after (next ∷ names))))
+  | inr s ↦ inner_splice name t (λ change. changed_slot_at change after (next ∷ names)) s (λ u q. slot_at_splice after (next ∷ names) u q) s.there refl
 ]

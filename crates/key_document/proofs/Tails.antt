@@ -5,7 +5,7 @@ use Rattle.std.proofs.lemmas.List.{reverse-append}
 use Rattle.jsonb_value.proofs.Trees.Runs.{heads, tails}
 use Rattle.key_document.specs.Document.{behind_key, EndsUnlike}
 use Rattle.key_document.proofs.Backwards.{turned_back}
-use Rattle.stored_zeros.specs.Zeros.{in_sevens}
+use Rattle.key_zeros.specs.Zeros.{in_sevens}
 
 -- the bytes of a document with zeros but the last
 abbrev pub but_last : List ℕ → List ℕ → List ℕ

@@ -1,14 +1,14 @@
 -- The text of a document.
 use Rattle.std.proofs.Common.{◌≡◌, ℕ, List, ◌++◌, Result, Ok, Err, refl, sym, ap, ◌∙◌}
 use Rattle.std.specs.Prelude.{IfErr, IsErrAnd}
-use Rattle.jsonb_key.proofs.Texts.{some_same}
-use Rattle.jsonb_key.specs.Readable.{HasFewestDigits, IsAnyNumber, IsReadable}
+use Rattle.key_value.proofs.Texts.{some_same}
+use Rattle.key_value.specs.Readable.{HasFewestDigits, IsAnyNumber, IsReadable}
 use Rattle.jsonb_spec.specs.Text.{tree_text, AppendsText}
 use Rattle.jsonb_spec.specs.Tree.{Tree}
 use Rattle.jsonb_value.proofs.Trees.RangeTexts.{text_in_range}
-use Rattle.stored_text.specs.FewestDigits.{with_fewest_digits, AppendsTextOf}
-use Rattle.stored_zeros.specs.declared.error.ZerosError.{ZerosError}
-use Rattle.stored_zeros.specs.declared.error.ZerosError.TheVariants as zeros_errors
+use Rattle.key_text.specs.FewestDigits.{with_fewest_digits, AppendsTextOf}
+use Rattle.key_zeros.specs.declared.error.ZerosError.{ZerosError}
+use Rattle.key_zeros.specs.declared.error.ZerosError.TheVariants as zeros_errors
 use Rattle.key_document.specs.Changes.{of_zeros_error}
 use Rattle.key_document.specs.Document.{OfDocument}
 use Rattle.key_document.specs.declared.error.DocumentError.{DocumentError}

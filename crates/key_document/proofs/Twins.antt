@@ -9,8 +9,8 @@ use Rattle.std.proofs.lemmas.Bool.{cases_lt}
 use Rattle.std.proofs.lemmas.Int.{unsigned_abs-mul}
 use Rattle.std.proofs.lemmas.Map.Lookups.{exact_bytes}
 use Rattle.std.proofs.lemmas.Nat.{pow-add}
-use Rattle.jsonb_key.proofs.Members.{no_pair}
-use Rattle.jsonb_key.specs.Readable.{HasFewestDigits, IsAnyNumber}
+use Rattle.key_value.proofs.Members.{no_pair}
+use Rattle.key_value.specs.Readable.{HasFewestDigits, IsAnyNumber}
 use Rattle.jsonb_spec.specs.Order.{bytes_cmp, num_cmp, tree_cmp}
 use Rattle.jsonb_spec.specs.Proper.{IsProper, AreProper, HaveProperParts, IsProperNumber}
 use Rattle.jsonb_spec.specs.SortKey.{key_of, items_key, members_key, number_key, text_key}
@@ -27,11 +27,11 @@ use Rattle.jsonb_value.proofs.SortKeys.Trees.{keys_same, tree_compares}
 use Rattle.jsonb_value.proofs.Trees.Runs.{heads, tails}
 use Rattle.key_document.specs.Document.{counts_at, counts_at_items, counts_at_members}
 use Rattle.key_document.proofs.Agreeing.{same_back}
-use Rattle.stored_text.specs.FewestDigits.{fewest_digits, spare_zeros}
-use Rattle.stored_text.specs.Writes.{items_left, members_left, name_text, value_text}
-use Rattle.stored_text.proofs.Spares.{fewest_has, fewest_key, fewest_proper}
-use Rattle.stored_text.proofs.Whole.{array_text, object_text}
-use Rattle.stored_zeros.specs.Zeros.{counts_in, counts_in_items, counts_in_members}
+use Rattle.key_text.specs.FewestDigits.{fewest_digits, spare_zeros}
+use Rattle.key_text.specs.Writes.{items_left, members_left, name_text, value_text}
+use Rattle.key_text.proofs.Spares.{fewest_has, fewest_key, fewest_proper}
+use Rattle.key_text.proofs.Whole.{array_text, object_text}
+use Rattle.key_zeros.specs.Zeros.{counts_in, counts_in_items, counts_in_members}
 
 -- ---- counts that go together
 

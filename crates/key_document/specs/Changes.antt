@@ -3,23 +3,23 @@ use Rattle.std.specs.Prelude.{◌≡◌, ℕ, ◌+◌, ◌<◌, ◌≤◌, Bool,
 use Rattle.std.specs.Borrow.{Bor}
 use Rattle.std.specs.Vec.{vec_capacity}
 use Rattle.std.specs.declared.alloc.Global.{Global}
-use Rattle.jsonb_key.specs.Readable.{IsAnyNumber, IsReadable}
-use Rattle.jsonb_key.specs.declared.key.KeyError.{KeyError}
-use Rattle.jsonb_key.specs.declared.key.KeyError.TheVariants as key_errors
+use Rattle.key_value.specs.Readable.{IsAnyNumber, IsReadable}
+use Rattle.key_value.specs.declared.key.KeyError.{KeyError}
+use Rattle.key_value.specs.declared.key.KeyError.TheVariants as key_errors
 use Rattle.jsonb_spec.specs.Grammar.{max_depth}
 use Rattle.jsonb_spec.specs.SortKey.{key_of}
 use Rattle.jsonb_spec.specs.Text.Range.{IsWithin}
 use Rattle.jsonb_spec.specs.Text.{tree_text}
 use Rattle.jsonb_spec.specs.Tree.{Tree}
 use Rattle.key_document.specs.Document.{counts_at, document_of, OfDocument}
-use Rattle.stored_zeros.specs.Numbers.{Pends}
-use Rattle.stored_zeros.specs.Zeros.{plain_at_end, zeros_of}
+use Rattle.key_zeros.specs.Numbers.{Pends}
+use Rattle.key_zeros.specs.Zeros.{plain_at_end, zeros_of}
 use Rattle.key_document.specs.declared.error.DocumentError.{DocumentError}
 use Rattle.key_document.specs.declared.error.DocumentError.TheVariants.{NoDocument, TooDeep, OutOfMemory}
-use Rattle.stored_edit.specs.declared.error.EditError.{EditError}
-use Rattle.stored_edit.specs.declared.error.EditError.TheVariants as edits
-use Rattle.stored_zeros.specs.declared.error.ZerosError.{ZerosError}
-use Rattle.stored_zeros.specs.declared.error.ZerosError.TheVariants as zeros_errors
+use Rattle.key_edit.specs.declared.error.EditError.{EditError}
+use Rattle.key_edit.specs.declared.error.EditError.TheVariants as edits
+use Rattle.key_zeros.specs.declared.error.ZerosError.{ZerosError}
+use Rattle.key_zeros.specs.declared.error.ZerosError.TheVariants as zeros_errors
 
 -- Why the document of the value isn't appended: it has too many arrays and objects in one another, or the capacity for
 -- the document is missing.

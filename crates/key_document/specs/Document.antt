@@ -1,10 +1,10 @@
 -- What is stored of a value: its sort key, and after it the zeros that end its decimals.
 use Rattle.std.specs.Prelude.{◌≡◌, ◌≢◌, ℕ, zero, suc, ◌-◌, unsigned_abs, List, [], ◌∷◌, ◌++◌, length, replicate, reverse}
-use Rattle.jsonb_key.specs.Readable.{IsReadable}
+use Rattle.key_value.specs.Readable.{IsReadable}
 use Rattle.jsonb_spec.specs.SortKey.{key_of, number_key, text_key}
 use Rattle.jsonb_spec.specs.Tree.{Tree, number, array, object, Trees, no_trees, more_trees, Members, no_members, more_members}
-use Rattle.stored_text.specs.FewestDigits.{spare_zeros}
-use Rattle.stored_zeros.specs.Zeros.{in_sevens, zeros_of}
+use Rattle.key_text.specs.FewestDigits.{spare_zeros}
+use Rattle.key_zeros.specs.Zeros.{in_sevens, zeros_of}
 
 abbrev mutual
   -- Of each byte of a value's key: how many zeros end the digits behind the point of the number whose key begins there;

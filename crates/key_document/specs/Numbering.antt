@@ -2,16 +2,16 @@
 use Rattle.std.specs.Prelude.{◌≡◌, ◌<◌, ◌≤◌, ◌^◌, ◌+◌, ◌-◌, ℕ, Bool, true, false, List, ◌++◌, length, replicate, MatchResult, Result, Vec, vec_len}
 use Rattle.std.specs.Vec.{vec_capacity}
 use Rattle.std.specs.declared.alloc.Global.{Global}
-use Rattle.jsonb_stored.specs.Open.{Open, items, members}
+use Rattle.key_walk.specs.Open.{Open, items, members}
 use Rattle.key_document.specs.Document.{counts_at_items, counts_at_members}
 use Rattle.key_document.specs.declared.error.DocumentError.{DocumentError}
 use Rattle.key_document.specs.declared.error.DocumentError.TheVariants.{OutOfMemory}
 use Rattle.key_document.specs.declared.numbers.Counts.{Counts}
 use Rattle.key_document.specs.declared.numbers.Counts.TheVariants.{FromText, FromZeros}
 use Rattle.key_document.specs.declared.numbers.Passing.{Passing}
-use Rattle.stored_zeros.specs.Numbers.{Pends}
-use Rattle.stored_zeros.specs.Scan.{ZerosAhead}
-use Rattle.stored_zeros.specs.Zeros.{counts_in_items, counts_in_members, entry_of, plain_behind, zeros_of}
+use Rattle.key_zeros.specs.Numbers.{Pends}
+use Rattle.key_zeros.specs.Scan.{ZerosAhead}
+use Rattle.key_zeros.specs.Zeros.{counts_in_items, counts_in_members, entry_of, plain_behind, zeros_of}
 
 -- the counts of the bytes that are left of an array or an object
 abbrev pub counts_open : Open → List ℕ

@@ -10,8 +10,8 @@ use Rattle.key_document.specs.Document.{counts_at}
 use Rattle.key_document.specs.declared.error.DocumentError.{DocumentError}
 use Rattle.key_document.specs.declared.error.DocumentError.TheVariants.{OutOfMemory}
 use Rattle.key_document.specs.declared.splice.Lengths.{Lengths}
-use Rattle.stored_zeros.specs.Zeros.{zeros_of}
-use Rattle.stored_edit.specs.Edit.{Outcome, stays, goes, becomes}
+use Rattle.key_zeros.specs.Zeros.{zeros_of}
+use Rattle.key_edit.specs.Edit.{Outcome, stays, goes, becomes}
 
 -- The slot of a change: what is before it and behind it in a key, with the counts of these bytes, and the name of
 -- a member that would be there.
@@ -56,6 +56,10 @@ pub record AreSplices {A : Type 0} (key counts : A → List ℕ) (whole : A) (ch
   pub key_is : key whole ≡ cut.front ++ (entry_key cut.name there ++ cut.behind)
   pub counts_are : counts whole ≡ cut.counts_front ++ (entry_counts cut.name there ++ cut.counts_behind)
   pub answers : (change : Option Tree → Outcome) → IsSplice key counts cut (change there) (changed change)
+
+-- Whatever is there, the change puts the part there, or what is there stays.
+abbrev pub PutsPart : Tree → (Option Tree → Outcome) → Type 0
+PutsPart part change = (there : Option Tree) → (change there ≡ becomes part) ⊎ (change there ≡ stays)
 
 -- Nothing ever changes, or changes are splices.
 abbrev pub Spliced : {A : Type 0} → (A → List ℕ) → (A → List ℕ) → A → ((Option Tree → Outcome) → Option A) → Type 0

@@ -1,13 +1,13 @@
 //! Objects and arrays with a part more, as documents.
 
 ghost use Rattle.key_document.specs.Changes.{AnswersOfBoth, PreservesOnError};
-ghost use Rattle.stored_edit.specs.Edit.{with_item, with_member};
+ghost use Rattle.key_edit.specs.Edit.{with_item, with_member};
 
 use crate::document::split_document;
 use crate::edit::put_document;
 use crate::error::DocumentError;
 use crate::splice::{Lengths, splice_tail};
-use stored_edit::slot::member_slot;
+use key_edit::slot::member_slot;
 
 /// Appends the document of the object with this member, of whose value the document is passed, and returns true. A
 /// member of that name is replaced. For a value that is no object nothing is appended, and it returns false.
@@ -48,7 +48,7 @@ pub fn append_with_item(
     let (key, zeros) = split_document(document);
     let (item_key, item_zeros) = split_document(item);
     let start = out.len();
-    if !stored_edit::append_with_item(out, key, item_key)? {
+    if !key_edit::append_with_item(out, key, item_key)? {
         return Ok(false);
     }
     // The item is before the last byte, which ends the array.

@@ -4,11 +4,11 @@ ghost use Rattle.std.specs.Prelude.{◌≡◌, ◌<◌, ◌≤◌, ◌+◌, ◌^
 ghost use Rattle.jsonb_spec.specs.SortKey.{key_of};
 ghost use Rattle.jsonb_spec.specs.Text.Appending.{Appends};
 ghost use Rattle.key_document.specs.Document.{end_of, zeros_at, OfDocument};
-ghost use Rattle.stored_text.specs.Writes.{Preserves};
-ghost use Rattle.stored_zeros.specs.Zeros.{in_sevens};
+ghost use Rattle.key_text.specs.Writes.{Preserves};
+ghost use Rattle.key_zeros.specs.Zeros.{in_sevens};
 
+use key_zeros::entry::append_sevens;
 use std::alloc::AllocError;
-use stored_zeros::entry::append_sevens;
 
 // The last byte of a document with zeros, with which no key ends.
 const ZEROS_MARK: u8 = 0xFF;

@@ -1,25 +1,25 @@
 //! Parts of documents, set and removed.
 
 ghost use Rattle.std.specs.Prelude.{◌≡◌, ◌≤◌, Bool, Option, map, string_bytes};
-ghost use Rattle.jsonb_key.specs.Readable.{IsReadable};
+ghost use Rattle.key_value.specs.Readable.{IsReadable};
 ghost use Rattle.jsonb_spec.specs.SortKey.{key_of};
 ghost use Rattle.jsonb_spec.specs.Tree.{Tree};
 ghost use Rattle.key_document.specs.Changes.{Answers, AnswersOf, AnswersOfBoth, PreservesOnError};
 ghost use Rattle.key_document.specs.Document.{counts_at, zeros_at, OfDocument};
-ghost use Rattle.key_document.specs.Splices.{Spliced};
-ghost use Rattle.stored_edit.specs.Edit.{Outcome, becomes, set_to, with_part, without_part};
-ghost use Rattle.stored_edit.specs.Spots.{SlotIn};
+ghost use Rattle.key_document.specs.Splices.{PutsPart, Spliced};
+ghost use Rattle.key_edit.specs.Edit.{Outcome, becomes, with_part, without_part};
+ghost use Rattle.key_edit.specs.Spots.{SlotIn};
 
 use crate::document::split_document;
 use crate::error::DocumentError;
 use crate::splice::{Lengths, splice_tail};
-use jsonb_stored::walk::front;
-use stored_edit::edit::put_part;
-use stored_edit::slot::{Slot, find_slot};
-use stored_edit::splice::splice;
+use key_edit::edit::put_part;
+use key_edit::slot::{Slot, find_slot};
+use key_edit::splice::splice;
+use key_walk::walk::front;
 
 /// Appends the document of the value without its part at the path of these names, and returns whether there is one.
-/// Where there is none, nothing is appended. The names are as in `append_without_part` of the crate `stored_edit`, and
+/// Where there is none, nothing is appended. The names are as in `append_without_part` of the crate `key_edit`, and
 /// each number that stays holds all its digits.
 ///
 /// # Errors
@@ -57,7 +57,7 @@ pub fn append_without_part(
 
 /// Appends the document of the value with this part, of which the document is passed, at the path of these names, and
 /// says whether there is such a slot. Where there is none, nothing is appended. The names and `create` are as in
-/// `append_with_part` of the crate `stored_edit`, and each number holds all its digits.
+/// `append_with_part` of the crate `key_edit`, and each number holds all its digits.
 ///
 /// # Errors
 ///
@@ -96,8 +96,8 @@ pub(crate) fn put_document(
     requires { slot.now.depth_left ≤ 511 }
     ensures put { (t : Tree) → IsReadable t → key.now ≡ key_of t → zeros.now ≡ zeros_at t
         → (changed : (Option Tree → Outcome) → Option Tree) → Spliced key_of counts_at t changed
-        → (s : SlotIn changed key.now slot.now) → OfDocument part.now (λ u. (create : Bool)
-        → set_to u create s.0.there ≡ becomes u → Answers (changed (set_to u create)) result out.old out.new) }
+        → (s : SlotIn changed key.now slot.now) → OfDocument part.now (λ u. (change : Option Tree → Outcome)
+        → PutsPart u change → change s.0.there ≡ becomes u → Answers (changed change) result out.old out.new) }
     ensures preserves { PreservesOnError result out.old out.new }
 {
     let (part_key, part_zeros) = split_document(part);

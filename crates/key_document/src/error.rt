@@ -1,10 +1,10 @@
 //! Errors of calls on documents.
 
-use jsonb_key::KeyError;
-use jsonb_stored::find::NoKey;
+use key_edit::EditError;
+use key_value::KeyError;
+use key_walk::find::NoKey;
+use key_zeros::ZerosError;
 use std::alloc::AllocError;
-use stored_edit::EditError;
-use stored_zeros::ZerosError;
 
 /// Why nothing is appended.
 #[derive(Clone, Copy, Debug, PartialEq, Eq, Drop)]

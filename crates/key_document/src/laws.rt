@@ -2,9 +2,9 @@
 
 ghost use Rattle.std.specs.Prelude.{◌≡◌, ◌≤◌, ◌+◌, ◌*◌, ◌++◌, [], List, ℕ, length, Option};
 ghost use Rattle.std.specs.declared.cmp.Ordering.TheVariants.{Less, Equal, Greater};
-ghost use Rattle.jsonb_key.specs.Readable.{IsReadable};
+ghost use Rattle.key_value.specs.Readable.{IsReadable};
 ghost use Rattle.jsonb_spec.specs.Keys.{IsBelowKeys};
-ghost use Rattle.jsonb_stored.specs.Open.{name_key};
+ghost use Rattle.key_walk.specs.Open.{name_key};
 ghost use Rattle.std.specs.Ordering.{ordering_then};
 ghost use Rattle.jsonb_spec.specs.Order.{bytes_cmp, tree_cmp};
 ghost use Rattle.jsonb_spec.specs.Proper.{IsProper};
@@ -16,11 +16,11 @@ ghost use Rattle.key_document.specs.Changes.{IsPartBehind};
 ghost use Rattle.key_document.specs.Document.{behind_key, counts_at, counts_at_items, document_of, zeros_at, zeros_mark, EndsUnlike};
 ghost use Rattle.key_document.specs.Merging.{counts_of_items};
 ghost use Rattle.key_document.specs.Splices.{Agrees, AreSplices, Spliced};
-ghost use Rattle.stored_edit.specs.Edit.{Outcome, changed_at, joined_items, merged_members};
-ghost use Rattle.stored_edit.specs.Spots.{SlotIn};
-ghost use Rattle.stored_edit.specs.declared.slot.Slot.{Slot};
-ghost use Rattle.stored_zeros.specs.Numbers.{counts_taken};
-ghost use Rattle.stored_zeros.specs.PartsOf.{OccursIn};
+ghost use Rattle.key_edit.specs.Edit.{Outcome, changed_at, joined_items, merged_members};
+ghost use Rattle.key_edit.specs.Spots.{SlotIn};
+ghost use Rattle.key_edit.specs.declared.slot.Slot.{Slot};
+ghost use Rattle.key_zeros.specs.Numbers.{counts_taken};
+ghost use Rattle.key_zeros.specs.PartsOf.{OccursIn};
 
 /// Documents compare as the values do; where these are equal, what is behind their keys decides. A key alone bounds
 /// the documents of its value and of those above it from below.

@@ -2,23 +2,32 @@
 #![tactic(auto)]
 
 pub mod build;
+pub mod cursor;
 pub mod document;
 pub mod edit;
 pub mod error;
+pub mod insert;
 pub mod laws;
 pub mod merge;
+pub mod names;
+pub mod nulls;
 mod numbers;
 pub mod order;
 pub mod part;
+mod retain;
 mod splice;
 pub mod text;
 mod zeros;
 
 pub use build::{append_with_item, append_with_member};
+pub use cursor::{ZerosLeft, append_next_range, zeros_from};
 pub use document::split_document;
 pub use edit::{append_with_part, append_without_part};
 pub use error::DocumentError;
+pub use insert::{Insertion, append_with_inserted};
 pub use merge::append_merged;
+pub use names::append_without_names;
+pub use nulls::append_without_nulls;
 pub use order::compare_documents;
 pub use part::{append_part, append_range};
 pub use text::{append_document, append_text_of_document};

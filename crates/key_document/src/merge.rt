@@ -3,23 +3,23 @@
 ghost use Rattle.std.specs.Prelude.{◌≡◌, ◌<◌, ◌+◌, ◌^◌, ℕ, List, MatchResult, length};
 ghost use Rattle.jsonb_spec.specs.SortKey.{key_of, members_key};
 ghost use Rattle.jsonb_spec.specs.Tree.{Members, array, object};
-ghost use Rattle.jsonb_stored.specs.AtKeys.{OfKey};
-ghost use Rattle.jsonb_stored.specs.Checked.{HaveReadable};
+ghost use Rattle.key_walk.specs.AtKeys.{OfKey};
+ghost use Rattle.key_walk.specs.Checked.{HaveReadable};
 ghost use Rattle.key_document.specs.Changes.{AppendsBoth, PreservesOnError};
 ghost use Rattle.key_document.specs.Document.{behind_key, counts_at_members, zeros_at};
 ghost use Rattle.key_document.specs.Merging.{CopiesStep, HasEnough, ItemsLeft, OfBoth, item_edge};
 ghost use Rattle.key_document.specs.Splices.{AppendsZeros};
-ghost use Rattle.stored_edit.specs.Edit.{as_items, joined_items, merge, merged_members};
-ghost use Rattle.stored_text.specs.Writes.{Preserves};
-ghost use Rattle.stored_zeros.specs.Numbers.{Pends};
+ghost use Rattle.key_edit.specs.Edit.{as_items, joined_items, merge, merged_members};
+ghost use Rattle.key_text.specs.Writes.{Preserves};
+ghost use Rattle.key_zeros.specs.Numbers.{Pends};
 
 use crate::document::{end_zeros, split_document};
 use crate::error::DocumentError;
 use crate::zeros::{all_left, copy, pass};
-use jsonb_stored::walk::items_of;
-use stored_edit::merge::{Side, Step, both_members, merge_step};
+use key_edit::merge::{Side, Step, both_members, merge_step};
+use key_walk::walk::items_of;
 
-/// Appends the document of both values in one, as `append_merged` of the crate `stored_edit` does with keys. Each
+/// Appends the document of both values in one, as `append_merged` of the crate `key_edit` does with keys. Each
 /// number holds all its digits.
 ///
 /// Nothing is allocated but for `out`. Where both values are objects, and one of them has zeros, their members are
@@ -37,7 +37,7 @@ pub fn append_merged(out: &mut Vec<u8>, left: &[u8], right: &[u8]) -> Result<(),
     let (key, zeros) = split_document(left);
     let (other, other_zeros) = split_document(right);
     let start = out.len();
-    stored_edit::append_merged(out, key, other)?;
+    key_edit::append_merged(out, key, other)?;
     match merge_tail(out, key, zeros, other, other_zeros) {
         Ok(()) => Ok(()),
         Err(error) => {

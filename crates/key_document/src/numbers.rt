@@ -3,24 +3,22 @@
 
 ghost use Rattle.std.specs.Prelude.{◌≡◌, ◌<◌, ◌+◌, ◌^◌, ◌++◌, ◌∷◌, Bool, List, ℕ, length, replicate};
 ghost use Rattle.jsonb_spec.specs.Tree.{Tree};
-ghost use Rattle.jsonb_stored.specs.AtKeys.{OfKey};
-ghost use Rattle.jsonb_stored.specs.Open.{Open, is_object, open_key, IsOpen, IsScalar};
+ghost use Rattle.key_walk.specs.AtKeys.{OfKey};
+ghost use Rattle.key_walk.specs.Open.{Open, is_object, open_key, IsOpen, IsScalar};
 ghost use Rattle.key_document.specs.Document.{counts_at};
 ghost use Rattle.key_document.specs.Numbering.{AreLeft, Due, PassesNumber, PassesOn, counts_open, numbers_open, to_write, written};
 ghost use Rattle.key_document.specs.Splices.{AppendsZeros};
-ghost use Rattle.stored_text.specs.Writes.{Preserves};
-ghost use Rattle.stored_zeros.specs.Numbers.{Pends};
-ghost use Rattle.stored_zeros.specs.PartsOf.{number_count, numbers_in};
-ghost use Rattle.stored_zeros.specs.Scan.{ZerosAhead};
-ghost use Rattle.stored_zeros.specs.Zeros.{counts_in, zeros_of};
+ghost use Rattle.key_text.specs.Writes.{Preserves};
+ghost use Rattle.key_zeros.specs.Numbers.{Pends};
+ghost use Rattle.key_zeros.specs.PartsOf.{number_count, numbers_in};
+ghost use Rattle.key_zeros.specs.Scan.{ZerosAhead};
+ghost use Rattle.key_zeros.specs.Zeros.{counts_in, zeros_of};
 
 use crate::error::DocumentError;
 use crate::zeros::{copy, more_plain, pass};
-use jsonb_stored::skip::{
-    MAX_DEPTH, after_end, after_name, after_scalar, kind_at, opening, outermost,
-};
-use stored_zeros::entry::append_entry;
-use stored_zeros::{next_count, number_count};
+use key_walk::skip::{MAX_DEPTH, after_end, after_name, after_scalar, kind_at, opening, outermost};
+use key_zeros::entry::append_entry;
+use key_zeros::{next_count, number_count};
 
 /// Where the zeros of the numbers that are left are found.
 #[derive(Clone, Copy)]

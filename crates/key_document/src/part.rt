@@ -1,22 +1,22 @@
 //! Parts of documents, as documents.
 
 ghost use Rattle.std.specs.Prelude.{◌≡◌, ◌<◌, ◌^◌, ℕ, List, length, map, string_bytes};
-ghost use Rattle.jsonb_key.specs.Readable.{IsReadable};
+ghost use Rattle.key_value.specs.Readable.{IsReadable};
 ghost use Rattle.jsonb_spec.specs.PartAt.{part_at};
 ghost use Rattle.jsonb_spec.specs.Proper.{IsProper};
 ghost use Rattle.jsonb_spec.specs.SortKey.{key_of};
 ghost use Rattle.jsonb_spec.specs.Tree.{Tree};
-ghost use Rattle.jsonb_stored.specs.AtKeys.{OfKey};
+ghost use Rattle.key_walk.specs.AtKeys.{OfKey};
 ghost use Rattle.key_document.specs.Changes.{Answers, AnswersOf, AppendsDocument, FindsRange, IsPartAt, PreservesOnError, OfPartAt};
 ghost use Rattle.key_document.specs.Document.{zeros_at, OfDocument};
 
 use crate::document::split_document;
 use crate::error::DocumentError;
 use crate::splice::cut_zeros;
-use jsonb_stored::find::find_part;
-use jsonb_stored::skip::after_key;
-use jsonb_stored::walk::front;
-use stored_edit::slot::find_slot;
+use key_edit::slot::find_slot;
+use key_walk::find::find_part;
+use key_walk::skip::after_key;
+use key_walk::walk::front;
 
 /// Appends the document of the value's part at the path of these names, and returns true. Where there is no part,
 /// nothing is appended, and it returns false. A name is that of a member, or in an array an index in decimal digits.

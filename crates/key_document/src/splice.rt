@@ -3,8 +3,9 @@
 ghost use Rattle.std.specs.Prelude.{◌≡◌, ◌<◌, ◌^◌, ◌++◌, List, ℕ, IfOk, length, true};
 ghost use Rattle.key_document.specs.Splices.{AppendsZeros, AreSpliced, CutsOnError, spliced_counts};
 ghost use Rattle.key_document.specs.Document.{behind_key};
-ghost use Rattle.stored_text.specs.Writes.{Preserves};
-ghost use Rattle.stored_zeros.specs.Zeros.{zeros_of};
+ghost use Rattle.key_text.specs.Writes.{Preserves};
+ghost use Rattle.key_zeros.specs.Numbers.{Pends};
+ghost use Rattle.key_zeros.specs.Zeros.{zeros_of};
 
 use crate::document::end_zeros;
 use crate::error::DocumentError;
@@ -107,11 +108,33 @@ pub(crate) fn cut_zeros(
         → AppendsZeros result out.old out.new (behind_key (zeros_of 0 part)) }
     ensures preserves { Preserves out.old out.new }
 {
-    let start = out.len();
     let all = all_left(zeros)?;
-    let rest = pass(all, offset)?;
-    copy(0, rest, size, out)?;
+    match take_zeros(out, all, offset, size) {
+        Ok(_) => Ok(()),
+        Err(error) => Err(error),
+    }
+}
+
+/// Appends what follows the key of a part of so many bytes, before which so many others come: of the zeros that are left
+/// those of the part, and their end. The answer is what is left behind the part.
+pub(crate) fn take_zeros<'z>(
+    out: &mut Vec<u8>,
+    left: Option<(usize, u8, &'z [u8])>,
+    gap: usize,
+    size: usize,
+) -> Result<Option<(usize, u8, &'z [u8])>, DocumentError>
+    ensures taken { (before part behind : List ℕ) → Pends (before ++ (part ++ behind)) left.entry
+        → length before ≡ gap → length part ≡ size → length (before ++ (part ++ behind)) < 2 ^ 63
+        → AppendsZeros result out.old out.new (behind_key (zeros_of 0 part)) }
+    ensures rest { (before part behind : List ℕ) → Pends (before ++ (part ++ behind)) left.entry
+        → length before ≡ gap → length part ≡ size → length (before ++ (part ++ behind)) < 2 ^ 63
+        → IfOk result (Pends behind) }
+    ensures preserves { Preserves out.old out.new }
+{
+    let start = out.len();
+    let rest = pass(left, gap)?;
+    let (_, behind) = copy(0, rest, size, out)?;
     let zeros_len = out.len().saturating_sub(start);
     end_zeros(zeros_len, out)?;
-    Ok(())
+    Ok(behind)
 }

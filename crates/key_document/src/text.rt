@@ -5,15 +5,15 @@ ghost use Rattle.jsonb_spec.specs.Text.{AppendsText};
 ghost use Rattle.key_document.specs.Changes.{AppendsDocument, OfTextAndKey, PreservesOnError};
 ghost use Rattle.key_document.specs.Document.{behind_key, zeros_at, OfDocument};
 ghost use Rattle.key_document.specs.Splices.{AppendsZeros};
-ghost use Rattle.stored_text.specs.Writes.{Preserves};
+ghost use Rattle.key_text.specs.Writes.{Preserves};
 
 use crate::document::{end_zeros, split_document};
 use crate::error::DocumentError;
 use crate::numbers::{Counts, append_counts};
 use crate::zeros::all_left;
+use key_text::write_text_of_key;
+use key_zeros::write_text_with_zeros;
 use std::alloc::Global;
-use stored_text::write_text_of_key;
-use stored_zeros::write_text_with_zeros;
 
 /// Appends the document of a value, of which the serialized form and the sort key are passed.
 ///

@@ -29,7 +29,7 @@ use Rattle.plain_numbers.specs.declared.error.PlainError.{PlainError}
 use Rattle.plain_numbers.specs.declared.error.PlainError.TheVariants.{DoesNotFit, OutOfMemory}
 use Rattle.plain_numbers.specs.Documents.{AppendsDocument, IsBlank, AreBlanks, IsNumberOf, as_it_is, with_exponent_part, IsScalarOf, literal_of, string_of, number_of, IsPaddedOf, padded_of, IsKeyOf, IsMemberOf, member_of, IsValueOf, scalar_of, empty_array_of, full_array_of, empty_object_of, full_object_of, DerivesOf, IsTextOf}
 use Rattle.plain_numbers.specs.Exponent.{Parts, parts_of, with_whole, exact_value}
-use Rattle.jsonb_scan.specs.Parsing.Number.{digits_length}
+use Rattle.text_scan.specs.Parsing.Number.{digits_length}
 use Rattle.plain_numbers.specs.Expansion.{before, plain, plain_before, expanded_at, expanded, AppendsExpanded, Explains}
 use Rattle.plain_numbers.specs.Laws.{HasParts, IsFractionOf, IsSignOf}
 use Rattle.plain_numbers.specs.Passing.{is_word_byte, word_length}

@@ -12,9 +12,9 @@ use Rattle.std.proofs.lemmas.Str.Parse.{digit_from_value}
 use Rattle.std.proofs.Math.Bool.{and-true}
 use Rattle.std.proofs.Math.Seq.{take-append_seam, drop-append_seam}
 use Rattle.jsonb_spec.specs.Grammar.StandardNumber.{IsExponentMark, IsWhole}
-use Rattle.jsonb_scan.specs.Parsing.Number.{digits_length, has_minus, whole_start}
-use Rattle.jsonb_scan.proofs.Numbers.Steps.{is_digit, is_no_digit, all_digits, is_below, is_not_below}
-use Rattle.jsonb_scan.proofs.Numbers.Steps as steps
+use Rattle.text_scan.specs.Parsing.Number.{digits_length, has_minus, whole_start}
+use Rattle.text_scan.proofs.Numbers.Steps.{is_digit, is_no_digit, all_digits, is_below, is_not_below}
+use Rattle.text_scan.proofs.Numbers.Steps as steps
 use Rattle.plain_numbers.specs.Exponent.{Parts, digits_of, behind_digits, are_digits, is_mark, is_sign, lacks_whole, with_exponent, with_sign, with_mark, with_fraction, with_whole, parts_of}
 use Rattle.plain_numbers.specs.Laws.{HasParts, IsFractionOf, IsSignOf}
 use Rattle.plain_numbers.proofs.Parts.{signed_mark, plain_mark, no_point, pointed, whole_all}

@@ -14,7 +14,7 @@ use Rattle.std.proofs.Math.Nat.{pow-le-pow_right, pow-zero}
 use Rattle.std.proofs.Math.Seq.{take-append_seam, drop-append_seam}
 use Rattle.jsonb_spec.specs.Number.Signed.{signed_by}
 use Rattle.jsonb_spec.specs.Text.NumberText.{number_text, text_of_parts, with_point, zero_padded}
-use Rattle.jsonb_scan.proofs.Numbers.DigitValues.{value_after-append}
+use Rattle.text_scan.proofs.Numbers.DigitValues.{value_after-append}
 use Rattle.jsonb_value.proofs.Numbers.InRange.{decimals, digits-append}
 use Rattle.jsonb_value.proofs.Numbers.Nearest.{unsigned_abs-signed}
 use Rattle.jsonb_value.proofs.Numbers.Pointed.{is_negative-pos, pointed_whole, pointed_inside, pointed_before}

@@ -5,9 +5,9 @@ use Rattle.std.specs.Option.{SomeIff}
 use Rattle.std.specs.Str.Parse.{AllDigits, digits_value, digits_value_after}
 use Rattle.std.proofs.lemmas.Bool.{cond-true, cond-false, ne_eqb, cases_lt}
 use Rattle.std.proofs.lemmas.List.{take_all}
-use Rattle.jsonb_scan.specs.Parsing.Number.{digits_length, has_minus, whole_start}
-use Rattle.jsonb_scan.proofs.Numbers.Steps.{all_digits}
-use Rattle.jsonb_scan.proofs.Numbers.DigitValues.{value_after-append, value_after-take_le}
+use Rattle.text_scan.specs.Parsing.Number.{digits_length, has_minus, whole_start}
+use Rattle.text_scan.proofs.Numbers.Steps.{all_digits}
+use Rattle.text_scan.proofs.Numbers.DigitValues.{value_after-append, value_after-take_le}
 use Rattle.plain_numbers.specs.Exponent.{digits_of, behind_digits, lacks_whole, is_mark, is_sign, with_exponent, with_sign, with_mark, with_fraction, with_whole, parts_of}
 use Rattle.plain_numbers.specs.View.{IsClamped}
 

@@ -4,10 +4,10 @@ use Rattle.std.specs.Char.{digit_value, is_ascii_digit}
 use Rattle.std.specs.Option.{SomeIff}
 use Rattle.std.specs.Str.Parse.{AllDigits, digits_value_after}
 use Rattle.std.proofs.Math.Nat.{pow-le-pow_right}
-use Rattle.jsonb_scan.proofs.Numbers.Steps.{is_digit}
+use Rattle.text_scan.proofs.Numbers.Steps.{is_digit}
 use Rattle.std.proofs.lemmas.Str.Parse.{digit_at}
 use Rattle.std.proofs.lemmas.List.{take_all}
-use Rattle.jsonb_scan.proofs.Numbers.DigitValues.{value_after_more, value_after-take_le}
+use Rattle.text_scan.proofs.Numbers.DigitValues.{value_after_more, value_after-take_le}
 
 pub after_none : (r : Option ℕ) (number : ℕ) (ds : List ℕ) (i n : ℕ) → i < length ds → n ≡ digits_value_after 10 number (take i ds) → (n * 10 + digit_value (get_or ds i 0) < 2 ^ 128 → ⊥) → r ≡ None → SomeIff r (digits_value_after 10 number ds < 2 ^ 128) (digits_value_after 10 number ds)
 after_none (Some v) number ds i n inside front past none = absurd (cc)

@@ -4,7 +4,7 @@ use Rattle.std.specs.Str.Parse.{digits_value}
 use Rattle.jsonb_spec.specs.Ascii as ascii
 use Rattle.jsonb_spec.specs.Number.Signed.{signed_by}
 use Rattle.jsonb_spec.specs.Tree.{decimal128, Num}
-use Rattle.jsonb_scan.specs.Parsing.Number.{digits_length, has_minus, whole_start}
+use Rattle.text_scan.specs.Parsing.Number.{digits_length, has_minus, whole_start}
 
 -- The parts: a minus or none, the digits before the point and behind it, and the exponent, which is down where it has a
 -- minus, and whose digits these are.

@@ -7,8 +7,8 @@ ghost use Rattle.plain_numbers.specs.View.{parts_view, AreNumerals};
 ghost use Rattle.plain_numbers.specs.Writing.{WritesDirectly, HasFewDigits};
 
 use crate::number::{Parts, short_onto};
-use jsonb_scan::parser::number::byte_at;
 use std::alloc::AllocError;
+use text_scan::parser::number::byte_at;
 
 // So many bytes hold each number that is written out here.
 const CAPACITY: usize = 64;

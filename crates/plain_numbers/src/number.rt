@@ -4,14 +4,14 @@ ghost use Rattle.std.specs.Prelude.{◌≡◌, ◌≤◌, ◌<◌, ◌^◌, ◌+
 ghost use Rattle.std.specs.Option.{SomeIff};
 ghost use Rattle.std.specs.Str.Parse.{AllDigits, digits_value, digits_value_after};
 ghost use Rattle.std.specs.Char.{IsAsciiDigit, digit_value};
-ghost use Rattle.jsonb_scan.specs.Parsing.Number.{digits_length};
+ghost use Rattle.text_scan.specs.Parsing.Number.{digits_length};
 ghost use Rattle.jsonb_spec.specs.Number.Signed.{signed_by};
 ghost use Rattle.jsonb_spec.specs.Tree.{decimal128};
 ghost use Rattle.plain_numbers.specs.Exponent.{parts_of, lacks_whole, is_mark, is_sign, with_exponent, with_fraction, with_mark, exact_value, moved};
 ghost use Rattle.plain_numbers.specs.View.{parts_view, AreNumerals, IsClamped, Makes};
 
-use jsonb_scan::parser::number::{after_minus, byte_at};
 use jsonb_value::number::{Decimal128, Number};
+use text_scan::parser::number::{after_minus, byte_at};
 
 /// The parts of a number with an exponent.
 #[derive(Clone, Copy)]

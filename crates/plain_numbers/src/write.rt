@@ -16,8 +16,8 @@ use crate::direct::append_directly;
 use crate::error::PlainError;
 use crate::number::{Parts, exact_number};
 use crate::scan::find_number;
-use jsonb_stored::walk::front;
 use jsonb_value::parts::append_number;
+use key_walk::walk::front;
 use std::alloc::AllocError;
 
 /// Whether some number of the text has an exponent. Where none has, the text with its numbers written out is the text.

@@ -1,8 +1,10 @@
 use crate::rows::ROWS;
 use jsonb_path::read_keys;
 use key_document::{
-    DocumentError, append_document, append_merged, append_part, append_text_of_document,
-    append_with_item, append_with_member, append_with_part, append_without_part, compare_documents,
+    DocumentError, Insertion, append_document, append_merged, append_next_range, append_part,
+    append_text_of_document, append_with_inserted, append_with_item, append_with_member,
+    append_with_part, append_without_names, append_without_nulls, append_without_part,
+    compare_documents, zeros_from,
 };
 use std::cmp::Ordering;
 use std::process::Abort;
@@ -59,6 +61,26 @@ fn expect_text(
     Ok(())
 }
 
+// Inserts the second document, and says whether that is done; else it is reported why not, as the answer is.
+fn insert(
+    rt: &impl Abort,
+    out: &mut Vec<u8>,
+    document: &[u8],
+    names: &[String],
+    other: &[u8],
+    after: bool,
+    answer: &str,
+) -> Result<bool, DocumentError> {
+    let wanted = match answer {
+        "-" => Insertion::Nowhere,
+        "=" => Insertion::Present,
+        _ => Insertion::Inserted,
+    };
+    let reported = append_with_inserted(out, document, names, other, after)?;
+    assert!(rt; reported == wanted);
+    Ok(reported == Insertion::Inserted)
+}
+
 // A call, two documents, a path, and what the call gives.
 #[test]
 fn documents_are_those_of_the_reference(rt: HostRuntime) -> Result<(), Fail> {
@@ -85,20 +107,48 @@ fn documents_are_those_of_the_reference(rt: HostRuntime) -> Result<(), Fail> {
             "remove" => append_without_part(&mut out, &document, &names),
             "push" => append_with_item(&mut out, &document, &other),
             "merge" => append_merged(&mut out, &document, &other).map(|()| true),
+            "without" => append_without_names(&mut out, &document, &other),
+            "strip" => append_without_nulls(&mut out, &document, false).map(|()| true),
+            "strip_all" => append_without_nulls(&mut out, &document, true).map(|()| true),
+            "insert" => insert(&rt, &mut out, &document, &names, &other, false, answer),
+            "after" => insert(&rt, &mut out, &document, &names, &other, true, answer),
             _ => {
                 let (name, _) = names.split_first().expect(&rt, "no name");
                 append_with_member(&mut out, &document, name.as_str(), &other)
             }
         };
-        assert_eq!(&rt; made.ok().expect(&rt, "an error"), answer != "-");
+        let is_none = answer == "-" || answer == "=";
+        assert_eq!(&rt; made.ok().expect(&rt, "an error"), !is_none);
         let (first, appended) = out.split_first().expect(&rt, "what was there is gone");
         assert_eq!(&rt; *first, b'x');
-        if answer == "-" {
+        if is_none {
             assert!(&rt; appended.is_empty());
             continue;
         }
         assert!(&rt; *appended == *bytes_of(&rt, answer)?);
     }
+    Ok(())
+}
+
+// The parts of [1.50,[2.0,3],4.00] one after the other; what is before them isn't left then.
+#[test]
+fn parts_have_their_zeros(rt: HostRuntime) -> Result<(), Fail> {
+    let document = bytes_of(&rt, "d2a11ed2a128a13c00a1500001010201040206ff")?;
+    let mut left = zeros_from(&document, 1).ok().expect(&rt, "no zeros");
+    for (offset, size, word) in [
+        (1, 2, "78a11e000102ff"),
+        (3, 6, "78d2a128a13c00010102ff"),
+        (9, 2, "78a150000202ff"),
+    ] {
+        let mut out = bytes_of(&rt, "78")?;
+        let next = append_next_range(&mut out, &document, left, offset, size);
+        left = next.ok().expect(&rt, "no part");
+        assert!(&rt; *out == *bytes_of(&rt, word)?);
+    }
+    let mut out = bytes_of(&rt, "78")?;
+    let again = append_next_range(&mut out, &document, left, 1, 2);
+    assert!(&rt; matches!(again, Err(DocumentError::NoDocument)));
+    assert_eq!(&rt; out.as_slice(), b"x".as_slice());
     Ok(())
 }
 

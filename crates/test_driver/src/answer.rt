@@ -78,7 +78,7 @@ fn sort_key(alloc: Global, text: &[u8]) -> jsonb::Result<(Vec<u8>, bool)> {
 
 // Whether the key is decoded as an equal value.
 fn is_key_of(alloc: Global, key: &[u8], value: &Value<'static>) -> bool {
-    match jsonb_key::value_of_sort_key(alloc, key) {
+    match key_value::value_of_sort_key(alloc, key) {
         Ok(decoded) => decoded == *value,
         Err(_) => false,
     }

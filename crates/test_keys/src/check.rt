@@ -1,7 +1,7 @@
 use jsonb::{Error, parse_value};
-use jsonb_key::{KeyError, value_of_sort_key};
-use jsonb_stored::is_sort_key;
 use jsonb_value::sort_key::kind;
+use key_value::{KeyError, value_of_sort_key};
+use key_walk::is_sort_key;
 use std::alloc::{AllocError, Global};
 use std::process::Abort;
 use std::test::Fail;

@@ -1,6 +1,6 @@
 use jsonb::{Mode, append_sort_key};
-use jsonb_stored::{Key, NoKey, contains};
 use jsonb_value::sort_key::kind;
+use key_walk::{Key, NoKey, contains};
 use std::alloc::Global;
 use std::process::Abort;
 use std::test::Fail;

@@ -1,15 +1,15 @@
 use jsonb::parse_value;
 use jsonb_path::read_keys;
-use jsonb_stored::is_sort_key;
 use jsonb_value::sort_key::kind;
-use std::alloc::Global;
-use std::process::Abort;
-use std::test::Fail;
-use stored_edit::{
+use key_edit::{
     EMPTY_ARRAY, EMPTY_OBJECT, EditError, append_merged, append_with_item, append_with_member,
     append_with_part, append_without_part,
 };
-use stored_text::write_text_of_key;
+use key_text::write_text_of_key;
+use key_walk::is_sort_key;
+use std::alloc::Global;
+use std::process::Abort;
+use std::test::Fail;
 
 // The sort key of a text.
 fn key_of(rt: &(impl AllocGlobal + Abort), text: &[u8]) -> Result<Vec<u8>, Fail> {

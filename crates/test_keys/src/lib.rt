@@ -1,4 +1,4 @@
-//! Tests of `jsonb_stored`, `stored_edit` and `stored_zeros` over public calls.
+//! Tests of `key_walk`, `key_edit` and `key_zeros` over public calls.
 #![tactic(auto)]
 
 #[cfg(test)]

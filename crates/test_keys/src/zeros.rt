@@ -1,9 +1,9 @@
 use jsonb::parse_value;
-use std::process::Abort;
-use std::test::Fail;
-use stored_zeros::{
+use key_zeros::{
     ZerosError, count_numbers, write_text_with_zeros, write_zeros_of_numbers, write_zeros_of_text,
 };
+use std::process::Abort;
+use std::test::Fail;
 
 // The zeros of a text, behind a byte.
 fn zeros_of(rt: &(impl AllocGlobal + Abort), text: &[u8]) -> Result<Vec<u8>, Fail> {

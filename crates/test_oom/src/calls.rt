@@ -3,13 +3,13 @@
 //! printed of the error.
 
 use jsonb::{Error, JsonAst, Mode, Result, Value, append_part};
-use jsonb_key::{KeyError, value_of_sort_key};
 use jsonb_path::read_keys;
-use jsonb_pretty::write_text_indented;
+use key_value::{KeyError, value_of_sort_key};
 use std::alloc::Global;
 use std::borrow::CowStr;
 use std::io;
 use std::io::Write;
+use text_pretty::write_text_indented;
 
 /// Writes a line with what a call answered.
 pub fn say<W: Write>(out: &mut W, name: &str, answer: &Result<Vec<u8>>) -> io::Result<()> {

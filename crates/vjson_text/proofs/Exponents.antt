@@ -8,7 +8,7 @@ use Rattle.std.specs.Option.{is_some}
 use Rattle.std.proofs.lemmas.Bool.{cond-true, cond-false, and_parts, or_cases}
 use Rattle.std.proofs.lemmas.Bool.Decides.{nat_tests}
 use Rattle.jsonb_spec.specs.Text.StringText.{ArePlain}
-use Rattle.jsonb_scan.specs.Parsing.Number.{digits_length}
+use Rattle.text_scan.specs.Parsing.Number.{digits_length}
 use Rattle.plain_numbers.specs.Exponent.{is_mark, lacks_whole, parts_of, with_whole}
 use Rattle.plain_numbers.specs.Expansion.{have_exponent}
 use Rattle.plain_numbers.specs.Passing as passing

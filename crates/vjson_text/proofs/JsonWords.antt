@@ -9,8 +9,8 @@ use Rattle.std.specs.Cmp.Lexicographic.{same_text}
 use Rattle.std.proofs.lemmas.Bool.{and_parts, cases_Bool, cond-true, cond-false, ltb-false, ltb-true, ne_eqb}
 use Rattle.std.proofs.lemmas.List.{get_or-take, length-take-le, take-append-drop}
 use Rattle.jsonb_spec.specs.Grammar.StandardNumber.{IsExponent, IsExponentMark, IsFraction, IsSign, IsStandardText}
-use Rattle.jsonb_scan.specs.Parsing.Number.{digits_length}
-use Rattle.jsonb_scan.proofs.Numbers.Steps.{all_digits, digits_within}
+use Rattle.text_scan.specs.Parsing.Number.{digits_length}
+use Rattle.text_scan.proofs.Numbers.Steps.{all_digits, digits_within}
 use Rattle.plain_numbers.proofs.Parts.{whole_all}
 use Rattle.vjson_text.proofs.Numbers.{all_bytes, all_exponent, none_none}
 use Rattle.vjson_text.specs.Word.{are_digits, after_sign, is_exponent, is_fraction, is_unsigned, is_number, is_json_word, is_literal}

@@ -1,6 +1,6 @@
 -- What is laid out of a text is laid out of it again.
 use Rattle.std.proofs.Common.{◌≡◌, ℕ, List, [], Some, refl, sym, ap, subst, ◌∙◌}
-use Rattle.jsonb_pretty.proofs.ReadsBack.{range_lines_again}
+use Rattle.text_pretty.proofs.ReadsBack.{range_lines_again}
 use Rattle.jsonb_spec.specs.Grammar.{IsDocument}
 use Rattle.jsonb_spec.specs.Indented.{indented_text}
 use Rattle.jsonb_spec.specs.Mode.{Mode, standard, extended}

@@ -11,8 +11,8 @@ use Rattle.std.proofs.lemmas.Str.Parse.{digit_from_value}
 use Rattle.std.proofs.Math.Seq.{drop-append_seam}
 use Rattle.jsonb_spec.specs.Grammar.StandardNumber.{IsExponent, IsExponentMark, IsFraction, IsSign, IsStandardText, IsWhole}
 use Rattle.jsonb_spec.specs.Tree.{Num}
-use Rattle.jsonb_scan.specs.Parsing.Number.{digits_length}
-use Rattle.jsonb_scan.proofs.Numbers.Steps.{is_digit, is_below, is_not_below}
+use Rattle.text_scan.specs.Parsing.Number.{digits_length}
+use Rattle.text_scan.proofs.Numbers.Steps.{is_digit, is_below, is_not_below}
 use Rattle.plain_numbers.specs.Documents.{IsNumberOf, as_it_is, with_exponent_part}
 use Rattle.plain_numbers.specs.Exponent.{Parts, parts_of}
 use Rattle.plain_numbers.specs.Laws.{HasParts, IsFractionOf, IsSignOf}

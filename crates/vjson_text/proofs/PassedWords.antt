@@ -10,7 +10,7 @@ use Rattle.std.proofs.lemmas.Bool.Decides.{nat_tests}
 use Rattle.std.proofs.lemmas.List.{take-append-drop, length-take-le}
 use Rattle.std.proofs.lemmas.List.Folds.{list_all-append}
 use Rattle.std.proofs.Math.Seq.{drop-append_seam, drop-length, take-append_seam}
-use Rattle.jsonb_scan.specs.Parsing.Number.{digits_length, whole_start}
+use Rattle.text_scan.specs.Parsing.Number.{digits_length, whole_start}
 use Rattle.vjson_text.specs.Exponents.{exponent_from, is_number_byte}
 use Rattle.vjson_text.specs.PlainWord.{Begins, IsPlainFraction, IsPlainUnsigned, IsPlainJsonWord, PassesPlainWord}
 use Rattle.vjson_text.specs.Strict.{is_strict_from, ended_word}

@@ -1,7 +1,7 @@
 -- Words of RFC 8259 that are no numbers with an exponent, and what is behind them.
 use Rattle.std.specs.Prelude.{◌≡◌, ℕ, true, List, ◌++◌}
 use Rattle.std.specs.List.{list_all}
-use Rattle.jsonb_scan.specs.Parsing.Number.{digits_length}
+use Rattle.text_scan.specs.Parsing.Number.{digits_length}
 use Rattle.vjson_text.specs.Exponents.{is_number_byte, is_plain_word}
 use Rattle.vjson_text.specs.Word.{is_fraction, is_json_word, is_unsigned, word_length}
 

@@ -3,7 +3,7 @@ use Rattle.std.specs.Prelude.{ℕ, ◌==◌, ◌&&◌, ◌||◌, nat_eq, nat_lt,
 use Rattle.std.specs.Cmp.Lexicographic.{pointwise}
 use Rattle.std.specs.List.{prefix_len}
 use Rattle.jsonb_spec.specs.Ascii as ascii
-use Rattle.jsonb_scan.specs.Parsing.Number.{digits_length, whole_start}
+use Rattle.text_scan.specs.Parsing.Number.{digits_length, whole_start}
 
 -- a space, a tab, a line feed or a carriage return
 abbrev pub is_blank : ℕ → Bool

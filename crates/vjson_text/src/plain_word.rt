@@ -12,7 +12,7 @@ ghost use Rattle.vjson_text.specs.PlainWord.{
 ghost use Rattle.vjson_text.specs.Word.{word_length};
 
 use crate::word::{digits_len, is_word_byte};
-use jsonb_scan::parser::number::{after_minus, byte_at};
+use text_scan::parser::number::{after_minus, byte_at};
 
 // Whether so many digits that the bytes begin with are none, or a zero and more of them.
 #[inline(always)]

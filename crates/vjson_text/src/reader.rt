@@ -4,7 +4,7 @@ ghost use Rattle.std.specs.Prelude.{◌≡◌, ◌≢◌, ◌++◌, map, string_
 ghost use Rattle.jsonb_spec.specs.Grammar.{IsDocument, IsNoDocument};
 ghost use Rattle.jsonb_spec.specs.Indented.{indented_text};
 ghost use Rattle.jsonb_spec.specs.Tree.{Tree};
-ghost use Rattle.jsonb_scan.specs.Answer.{mode_of};
+ghost use Rattle.text_scan.specs.Answer.{mode_of};
 ghost use Rattle.jsonb_value.specs.View.{view};
 ghost use Rattle.vjson_text.specs.Json.{AppendsKeyOf, AppendsLaidOut, AppendsPartOf, AppendsTextOf, IsTextOf};
 ghost use Rattle.vjson_text.specs.Raw.{AppendsRaw};
@@ -284,7 +284,7 @@ fn write_value(value: &Value<'_>, width: usize, out: &mut Vec<u8>) -> Result<(),
     ensures err { OnErr result (out.new.items ≡ out.old.items) }
     ensures memory { IfErr result (λ e. e ≡ Error.OutOfMemory) }
 {
-    match jsonb_pretty::write_text_indented(value, width, out) {
+    match text_pretty::write_text_indented(value, width, out) {
         Ok(()) => Ok(()),
         Err(_) => Err(Error::OutOfMemory),
     }

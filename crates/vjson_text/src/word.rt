@@ -1,7 +1,7 @@
 //! The words of a text: runs of bytes outside of strings that are neither whitespace nor punctuation.
 
 ghost use Rattle.std.specs.Prelude.{◌≡◌, ◌≤◌, length};
-ghost use Rattle.jsonb_scan.specs.Parsing.Number.{digits_length};
+ghost use Rattle.text_scan.specs.Parsing.Number.{digits_length};
 ghost use Rattle.vjson_text.specs.Word.{
   after_sign,
   are_digits,
@@ -17,7 +17,7 @@ ghost use Rattle.vjson_text.specs.Word.{
   word_length,
 };
 
-use jsonb_scan::parser::number::{after_minus, byte_at};
+use text_scan::parser::number::{after_minus, byte_at};
 
 /// Whether the byte is a space, a tab, a line feed or a carriage return.
 #[inline(always)]

@@ -15,15 +15,15 @@ use Rattle.jsonb_value.specs.declared.value.Value.{Value, the_lemmas}
 use Rattle.jsonb_value.specs.declared.value.Value as value
 use Rattle.jsonb_value.proofs.Values.Members.{Entry, members_view-insert_entry}
 use Rattle.jsonb.specs.FrameContents.{AreSeen, MapHolds, found_keys, names}
-use Rattle.jsonb_parse.specs.Stack.{object_end}
+use Rattle.text_parse.specs.Stack.{object_end}
 use Rattle.jsonb.specs.Source.{source_view}
 use Rattle.jsonb.specs.declared.parser.ast.JsonAst.{JsonAst}
 use Rattle.jsonb.specs.declared.parser.ast.JsonAst as ast
-use Rattle.jsonb_scan.specs.Parsing.Container.{object_or_fault}
+use Rattle.text_scan.specs.Parsing.Container.{object_or_fault}
 use Rattle.jsonb_spec.specs.Source.{Found, Source, Spot, array_source_of, member_of, object_source_of, spot_of, tree_of_source}
 use Rattle.text_common.proofs.Repeats.{no_repeat}
-use Rattle.jsonb_parse.proofs.Containers.Sources.{array_tree, object_tree}
-use Rattle.jsonb_parse.proofs.Containers.Values.{same_keys}
+use Rattle.text_parse.proofs.Containers.Sources.{array_tree, object_tree}
+use Rattle.text_parse.proofs.Containers.Values.{same_keys}
 use Rattle.jsonb.proofs.Offsets.Views.{source-Array}
 use Rattle.jsonb_value.proofs.Trees.MembersInOrder.{IsNew}
 

@@ -12,19 +12,19 @@ use Rattle.jsonb_spec.specs.Grammar.IsPadded.{padded}
 use Rattle.jsonb_spec.specs.Mode.{Mode}
 use Rattle.jsonb_spec.specs.Grammar.Scalar.{IsKey}
 use Rattle.jsonb_spec.specs.Tree.{Mark, Member}
-use Rattle.jsonb_scan.specs.Parsing.{Parse, on_byte, reject, ◌>>=◌}
-use Rattle.jsonb_scan.specs.Parsing.Whitespace.{skip_whitespace}
-use Rattle.jsonb_scan.specs.Parsing.Container.{after_key, after_part, found_at, joined_at, member_at, padded_at}
+use Rattle.text_scan.specs.Parsing.{Parse, on_byte, reject, ◌>>=◌}
+use Rattle.text_scan.specs.Parsing.Whitespace.{skip_whitespace}
+use Rattle.text_scan.specs.Parsing.Container.{after_key, after_part, found_at, joined_at, member_at, padded_at}
 use Rattle.jsonb_spec.specs.Source.{Found, Source, Spot, first_repeat, member_of, spot_of, tree_of_source}
-use Rattle.jsonb_scan.specs.Parsing.Scalar.{key_at}
+use Rattle.text_scan.specs.Parsing.Scalar.{key_at}
 use Rattle.jsonb_spec.specs.Errors.{ArePassed, IsEncoding, Repeats, times}
 use Rattle.jsonb_spec.specs.Errors.ArePassed.{no_parts, part_passed}
-use Rattle.jsonb_scan.proofs.Steps.Tests.{bind_ok, rejected_fails, same_read}
-use Rattle.jsonb_scan.proofs.Containers.JoinedParts.{IsSound, on_byte_cases, padded_seen, padded_sound}
-use Rattle.jsonb_parse.proofs.Containers.Values.{Seen}
-use Rattle.jsonb_parse.proofs.Scalars.Encodings.{key_sound, key_starts}
+use Rattle.text_scan.proofs.Steps.Tests.{bind_ok, rejected_fails, same_read}
+use Rattle.text_scan.proofs.Containers.JoinedParts.{IsSound, on_byte_cases, padded_seen, padded_sound}
+use Rattle.text_parse.proofs.Containers.Values.{Seen}
+use Rattle.text_parse.proofs.Scalars.Encodings.{key_sound, key_starts}
 use Rattle.jsonb.proofs.Containers.SecondSlots.{AreRising, IsSecond, alike, count, has, once_before, rising-weaken, second_found, holds_there}
-use Rattle.jsonb_scan.proofs.Text.Whitespace.{skips}
+use Rattle.text_scan.proofs.Text.Whitespace.{skips}
 
 -- ---- one member
 

@@ -10,9 +10,9 @@ use Rattle.jsonb_spec.specs.Grammar.Scalar.IsLiteral.{false_word, null_word, tru
 use Rattle.jsonb_spec.specs.Grammar.Scalar.IsScalar.{literal_value, number_value, string_value}
 use Rattle.jsonb_spec.specs.Tree.{Tree}
 use Rattle.jsonb_spec.specs.Tree.Tree.{number}
-use Rattle.jsonb_scan.specs.Parsing.Scalar.{fold_letter}
+use Rattle.text_scan.specs.Parsing.Scalar.{fold_letter}
 use Rattle.jsonb.proofs.Documents.Encodings.{whole_if_no_number}
-use Rattle.jsonb_parse.proofs.Scalars.Encodings.{IsApart, IsNumberTree, StartsNumber, StartsWord, number_opens, quote_is, quoted_starts, word_starts}
+use Rattle.text_parse.proofs.Scalars.Encodings.{IsApart, IsNumberTree, StartsNumber, StartsWord, number_opens, quote_is, quoted_starts, word_starts}
 
 no_number : (t : Tree) → IsNumberTree t → as_number t ≡ None → ⊥
 no_number (number n) k e = cc

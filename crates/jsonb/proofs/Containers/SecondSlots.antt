@@ -4,7 +4,7 @@ use Rattle.std.specs.Ordering.{MatchOrdering, ordering_then}
 use Rattle.std.proofs.lemmas.Cmp.{ranked, tied_itself, nat_list_cmp_total}
 use Rattle.std.proofs.lemmas.Bool.{cond-false, cond-true}
 use Rattle.jsonb_spec.specs.Source.{Spot, adjacent_repeat, first_repeat, spot_cmp}
-use Rattle.jsonb_scan.proofs.Steps.Tests.{chosen}
+use Rattle.text_scan.proofs.Steps.Tests.{chosen}
 use Rattle.text_common.proofs.Repeats.{AreSorted, IsLow, below, insert_spot, key_cmp, keys, new-below, other_key, same_key, sort_spots, sorted-sort}
 use Rattle.jsonb_value.proofs.Trees.MembersInOrder.{IsNew}
 

@@ -8,13 +8,13 @@ use Rattle.jsonb_spec.specs.Grammar.{IsDocument, IsNoDocument}
 use Rattle.jsonb_spec.specs.Mode.{Mode}
 use Rattle.jsonb_spec.specs.Tree.{Tree}
 use Rattle.jsonb.specs.AstView.{ast_view}
-use Rattle.jsonb_scan.specs.Answer.{Fails, Gives, IsTextError, MayAllocate}
+use Rattle.text_scan.specs.Answer.{Fails, Gives, IsTextError, MayAllocate}
 use Rattle.jsonb.specs.Follows.{FailsAsSpecified, FollowsSpecification}
 use Rattle.jsonb.specs.Parses.{Parses, Rejects}
 use Rattle.jsonb_spec.specs.Source.{Source, tree_of_source}
-use Rattle.jsonb_scan.specs.Parsing.{Fault, ◌>>=◌}
-use Rattle.jsonb_scan.specs.Parsing.Document.{document_of, source_of}
-use Rattle.jsonb_parse.specs.Handler.{IsWritten}
+use Rattle.text_scan.specs.Parsing.{Fault, ◌>>=◌}
+use Rattle.text_scan.specs.Parsing.Document.{document_of, source_of}
+use Rattle.text_parse.specs.Handler.{IsWritten}
 use Rattle.jsonb.specs.Explained.{IsExplained}
 use Rattle.jsonb_spec.specs.Located.{IsLocated}
 use Rattle.jsonb.specs.Source.{source_view}
@@ -22,7 +22,7 @@ use Rattle.jsonb.proofs.Offsets.Located.{source_located}
 use Rattle.jsonb.proofs.Offsets.Views.{tree_of_view}
 use Rattle.jsonb.proofs.Documents.Encodings.{document_unique, rejected_is_none}
 use Rattle.jsonb.proofs.Errors.OfTexts.{document_holds}
-use Rattle.jsonb_parse.proofs.Containers.Values.{document_sound}
+use Rattle.text_parse.proofs.Containers.Values.{document_sound}
 
 -- ---- what an answer says
 

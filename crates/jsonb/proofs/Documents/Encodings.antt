@@ -16,15 +16,15 @@ use Rattle.jsonb_spec.specs.Mode.{Mode}
 use Rattle.jsonb_spec.specs.Mode.Mode.{extended}
 use Rattle.jsonb_spec.specs.Tree.{Member, Tree}
 use Rattle.jsonb_spec.specs.Source.{Source, null_source, tree_of_source}
-use Rattle.jsonb_scan.specs.Parsing.{Fault, Parse, fault, ◌>>=◌}
-use Rattle.jsonb_scan.specs.Parsing.Whitespace.{is_whitespace_start, opens_comment, skip_closed_whitespace}
-use Rattle.jsonb_scan.specs.Parsing.Document.{at_end, comment_at, document_of, nothing_at, source_from, source_of, value_at, value_to_end}
-use Rattle.jsonb_scan.proofs.Steps.Tests.{same_ok, same_read}
-use Rattle.jsonb_scan.proofs.Containers.JoinedParts.{Ends, ends-piece, ends_at, other}
-use Rattle.jsonb_parse.proofs.Scalars.Encodings.{Follows, IsNumberTree}
-use Rattle.jsonb_parse.proofs.Scalars.Encodings.Follows.{before, no_more}
-use Rattle.jsonb_scan.proofs.Text.Whitespace.{EndsPassed, all_passed, line_left, ends_passed, opens-stop, pass-whitespace, pass-stop}
-use Rattle.jsonb_parse.proofs.Containers.Values.{value_is_complete}
+use Rattle.text_scan.specs.Parsing.{Fault, Parse, fault, ◌>>=◌}
+use Rattle.text_scan.specs.Parsing.Whitespace.{is_whitespace_start, opens_comment, skip_closed_whitespace}
+use Rattle.text_scan.specs.Parsing.Document.{at_end, comment_at, document_of, nothing_at, source_from, source_of, value_at, value_to_end}
+use Rattle.text_scan.proofs.Steps.Tests.{same_ok, same_read}
+use Rattle.text_scan.proofs.Containers.JoinedParts.{Ends, ends-piece, ends_at, other}
+use Rattle.text_parse.proofs.Scalars.Encodings.{Follows, IsNumberTree}
+use Rattle.text_parse.proofs.Scalars.Encodings.Follows.{before, no_more}
+use Rattle.text_scan.proofs.Text.Whitespace.{EndsPassed, all_passed, line_left, ends_passed, opens-stop, pass-whitespace, pass-stop}
+use Rattle.text_parse.proofs.Containers.Values.{value_is_complete}
 
 follows-whitespace : {mode : Mode} {after : List ℕ} (b : IsLastWhitespace mode after) → Follows after
 follows-whitespace (whitespace_to_end no_whitespace) = no_more

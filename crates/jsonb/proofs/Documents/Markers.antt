@@ -9,7 +9,7 @@ use Rattle.jsonb_spec.specs.Grammar.Scalar.IsLiteral.{false_word, null_word, tru
 use Rattle.jsonb_spec.specs.Grammar.Scalar.IsScalar.{literal_value, number_value, string_value}
 use Rattle.jsonb_spec.specs.Tree.{Tree}
 use Rattle.jsonb.specs.AstView.{IsContainer}
-use Rattle.jsonb_scan.specs.Answer.{MayAllocate}
+use Rattle.text_scan.specs.Answer.{MayAllocate}
 
 contains_at : (front : List ℕ) (b : ℕ) (more : List ℕ) → Contains (front ++ b ∷ more) b
 contains_at front b more = (length front, omega (arith, length-append front (b ∷ more)), get_or_at front b more b (length front) refl)

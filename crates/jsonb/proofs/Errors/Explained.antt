@@ -9,23 +9,23 @@ use Rattle.jsonb_spec.specs.Grammar.IsValue.{empty_array, empty_object, full_arr
 use Rattle.jsonb_spec.specs.Mode.{Mode}
 use Rattle.jsonb_spec.specs.Grammar.Scalar.{IsKey, IsScalar}
 use Rattle.jsonb_spec.specs.Tree.{Mark, Member, Tree}
-use Rattle.jsonb_scan.specs.Parsing.{Fault, Parse, begins, on_byte, reject, ◌>>=◌}
-use Rattle.jsonb_scan.specs.Parsing.Whitespace.{skip_whitespace}
-use Rattle.jsonb_scan.specs.Parsing.Container.{after_key, after_part, array_at, element_at, elements_at, found_at, is_left_out, joined_at, member_at, members_at, object_at, object_or_fault, padded_at, value_or_null}
+use Rattle.text_scan.specs.Parsing.{Fault, Parse, begins, on_byte, reject, ◌>>=◌}
+use Rattle.text_scan.specs.Parsing.Whitespace.{skip_whitespace}
+use Rattle.text_scan.specs.Parsing.Container.{after_key, after_part, array_at, element_at, elements_at, found_at, is_left_out, joined_at, member_at, members_at, object_at, object_or_fault, padded_at, value_or_null}
 use Rattle.jsonb_spec.specs.Source.{Found, Source, Spot, array_source, array_source_of, first_repeat, member_of, no_source_members, no_sources, null_source, object_source, object_source_of, source_alone, spot_of, tree_of_source}
-use Rattle.jsonb_scan.specs.Parsing.Document.{alone_at, too_deep, value_at, value_with}
-use Rattle.jsonb_scan.specs.Parsing.Scalar.{key_at, scalar_at}
+use Rattle.text_scan.specs.Parsing.Document.{alone_at, too_deep, value_at, value_with}
+use Rattle.text_scan.specs.Parsing.Scalar.{key_at, scalar_at}
 use Rattle.jsonb_spec.specs.Errors.{ArePassed, IsFront, IsEncoding, Repeats}
 use Rattle.jsonb_spec.specs.Errors.ArePassed.{no_parts, part_passed}
 use Rattle.jsonb_spec.specs.Errors.IsFront.{front_of_whitespace, in_array, in_object}
-use Rattle.jsonb_scan.proofs.Steps.Tests.{chosen}
+use Rattle.text_scan.proofs.Steps.Tests.{chosen}
 use Rattle.jsonb.proofs.Errors.Codes.{IsReported, bind_err, same_err, silent_fault, silent_rejected}
 use Rattle.jsonb.proofs.Containers.KeyOffsets.{laid_repeats, members_laid}
-use Rattle.jsonb_scan.proofs.Containers.JoinedParts.{IsSound, IsSoundBefore, SeenBy, joined-skip, on_byte_cases, padded_sound}
+use Rattle.text_scan.proofs.Containers.JoinedParts.{IsSound, IsSoundBefore, SeenBy, joined-skip, on_byte_cases, padded_sound}
 use Rattle.jsonb.proofs.Errors.OfScalars.{NotRepresentable, WrongScalar, key_silent, scalar_rejected, scalar_some}
-use Rattle.jsonb_parse.proofs.Scalars.Encodings.{key_sound}
-use Rattle.jsonb_scan.proofs.Text.Whitespace.{length-skip, skip-skip, skips}
-use Rattle.jsonb_parse.proofs.Containers.Values.{Seen, element_sound, member_sound, value_sound}
+use Rattle.text_parse.proofs.Scalars.Encodings.{key_sound}
+use Rattle.text_scan.proofs.Text.Whitespace.{length-skip, skip-skip, skips}
+use Rattle.text_parse.proofs.Containers.Values.{Seen, element_sound, member_sound, value_sound}
 
 -- ---- fronts
 

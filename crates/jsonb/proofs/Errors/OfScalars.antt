@@ -14,20 +14,20 @@ use Rattle.jsonb_spec.specs.Grammar.Scalar.IsScalar.{literal_value, number_value
 use Rattle.jsonb_spec.specs.Grammar.StringBody.{Item, escaped_byte, meaning, encoding}
 use Rattle.jsonb_spec.specs.Tree.{Mark, plain, Num, Tree}
 use Rattle.jsonb_spec.specs.Tree.Tree.{boolean, null, number, string}
-use Rattle.jsonb_scan.specs.Parsing.{Fault, Parse, begins, fault, fault_at, reject}
-use Rattle.jsonb_scan.specs.Parsing.BareKey.{bare_key_at, key_end, key_to, text_key}
-use Rattle.jsonb_scan.specs.Parsing.Scalar.{begins_letter, begins_number, false_at, fold_letter, key_at, letters_at, null_at, number_at, number_or_fault, number_value_at, on_single_quote, or_else, quoted_at, scalar_at, true_or_false_at, unquoted_at, word_at, words_at}
-use Rattle.jsonb_scan.specs.Parsing.String.{Body, body_of, checked_unit, string_up_to, string_of_body, escape_at, item_at, items_within, known_escape, meaning_of, non_digit, onto, quote_end, string_at, then_items, unit_at}
-use Rattle.jsonb_scan.proofs.Steps.Tests.{bind_ok, chosen, same_read}
+use Rattle.text_scan.specs.Parsing.{Fault, Parse, begins, fault, fault_at, reject}
+use Rattle.text_scan.specs.Parsing.BareKey.{bare_key_at, key_end, key_to, text_key}
+use Rattle.text_scan.specs.Parsing.Scalar.{begins_letter, begins_number, false_at, fold_letter, key_at, letters_at, null_at, number_at, number_or_fault, number_value_at, on_single_quote, or_else, quoted_at, scalar_at, true_or_false_at, unquoted_at, word_at, words_at}
+use Rattle.text_scan.specs.Parsing.String.{Body, body_of, checked_unit, string_up_to, string_of_body, escape_at, item_at, items_within, known_escape, meaning_of, non_digit, onto, quote_end, string_at, then_items, unit_at}
+use Rattle.text_scan.proofs.Steps.Tests.{bind_ok, chosen, same_read}
 use Rattle.jsonb.proofs.Errors.Codes.{IsReported, bind_err, same_err, silent_fault, silent_rejected}
-use Rattle.jsonb_scan.proofs.Containers.JoinedParts.{on_byte_cases}
-use Rattle.jsonb_scan.proofs.Numbers.Extended.{ExtendedFault, ExtendedUnrepresentable, extended_faults, extended_sound}
-use Rattle.jsonb_scan.proofs.Numbers.Extended.ExtendedFault.{no_text, unrepresentable_text}
-use Rattle.jsonb_scan.proofs.Numbers.ExtendedParts.{extended_is_text}
-use Rattle.jsonb_scan.proofs.Numbers.ExtendedTexts.{IsNumberCode}
-use Rattle.jsonb_parse.proofs.Scalars.Encodings.{IsNumberTree, StartsWord, number_opens, on_letter_cases, quote_is, quoted_starts, scalar-number, scalar_complete, single_cases, word_starts}
-use Rattle.jsonb_scan.proofs.Numbers.Standard.{FaultRead, UnrepresentableRead, number_faults, number_longest, standard_is_text}
-use Rattle.jsonb_scan.proofs.Numbers.Standard.FaultRead.{no_number, not_representable}
+use Rattle.text_scan.proofs.Containers.JoinedParts.{on_byte_cases}
+use Rattle.text_scan.proofs.Numbers.Extended.{ExtendedFault, ExtendedUnrepresentable, extended_faults, extended_sound}
+use Rattle.text_scan.proofs.Numbers.Extended.ExtendedFault.{no_text, unrepresentable_text}
+use Rattle.text_scan.proofs.Numbers.ExtendedParts.{extended_is_text}
+use Rattle.text_scan.proofs.Numbers.ExtendedTexts.{IsNumberCode}
+use Rattle.text_parse.proofs.Scalars.Encodings.{IsNumberTree, StartsWord, number_opens, on_letter_cases, quote_is, quoted_starts, scalar-number, scalar_complete, single_cases, word_starts}
+use Rattle.text_scan.proofs.Numbers.Standard.{FaultRead, UnrepresentableRead, number_faults, number_longest, standard_is_text}
+use Rattle.text_scan.proofs.Numbers.Standard.FaultRead.{no_number, not_representable}
 
 -- ---- words, strings and keys are silent
 

@@ -14,21 +14,21 @@ use Rattle.jsonb_spec.specs.Mode.Mode.{extended, standard}
 use Rattle.jsonb_spec.specs.Grammar.Scalar.{IsScalar}
 use Rattle.jsonb_spec.specs.Tree.{Tree}
 use Rattle.jsonb_spec.specs.Source.{Source, null_source, source_alone, tree_of_source}
-use Rattle.jsonb_scan.specs.Parsing.{Fault, Parse, begins, fault, on_byte, ◌>>=◌}
-use Rattle.jsonb_scan.specs.Parsing.Whitespace.{opens_comment, skip_closed_whitespace, skip_whitespace}
-use Rattle.jsonb_scan.specs.Parsing.Container.{array_at, object_at}
-use Rattle.jsonb_scan.specs.Parsing.Document.{alone_at, at_end, comment_at, document_of, nothing_at, source_from, source_of, too_deep, value_at, value_to_end, value_with}
-use Rattle.jsonb_scan.specs.Parsing.Scalar.{scalar_at}
+use Rattle.text_scan.specs.Parsing.{Fault, Parse, begins, fault, on_byte, ◌>>=◌}
+use Rattle.text_scan.specs.Parsing.Whitespace.{opens_comment, skip_closed_whitespace, skip_whitespace}
+use Rattle.text_scan.specs.Parsing.Container.{array_at, object_at}
+use Rattle.text_scan.specs.Parsing.Document.{alone_at, at_end, comment_at, document_of, nothing_at, source_from, source_of, too_deep, value_at, value_to_end, value_with}
+use Rattle.text_scan.specs.Parsing.Scalar.{scalar_at}
 use Rattle.jsonb_spec.specs.Errors.{IsFront, Applies, Trails}
-use Rattle.jsonb_scan.proofs.Steps.Tests.{bind_ok, chosen, same_read}
+use Rattle.text_scan.proofs.Steps.Tests.{bind_ok, chosen, same_read}
 use Rattle.jsonb.proofs.Errors.Codes.{IsReported, bind_err, same_err, silent_fault}
-use Rattle.jsonb_scan.proofs.Containers.JoinedParts.{Ends, Starts, ends-piece, ends_at, on_byte-other, skip-starts, starts-append}
+use Rattle.text_scan.proofs.Containers.JoinedParts.{Ends, Starts, ends-piece, ends_at, on_byte-other, skip-starts, starts-append}
 use Rattle.jsonb.proofs.Errors.Explained.{Wrong, stops_after_whitespace, value_explains}
 use Rattle.jsonb.proofs.Errors.OfScalars.{scalar_longest}
-use Rattle.jsonb_parse.proofs.Scalars.Encodings.{Follows, IsNumberTree, scalar_starts}
-use Rattle.jsonb_parse.proofs.Scalars.Encodings.Follows.{before}
-use Rattle.jsonb_scan.proofs.Text.Whitespace.{last_within, length-pass, length-past, length-skip, pass-pass, passes, skip-piece, skip-whitespace, skip-nil, skip-passed, skip-skip, skips}
-use Rattle.jsonb_parse.proofs.Containers.Values.{value_is_complete, value_sound}
+use Rattle.text_parse.proofs.Scalars.Encodings.{Follows, IsNumberTree, scalar_starts}
+use Rattle.text_parse.proofs.Scalars.Encodings.Follows.{before}
+use Rattle.text_scan.proofs.Text.Whitespace.{last_within, length-pass, length-past, length-skip, pass-pass, passes, skip-piece, skip-whitespace, skip-nil, skip-passed, skip-skip, skips}
+use Rattle.text_parse.proofs.Containers.Values.{value_is_complete, value_sound}
 
 -- ---- where a value is due
 

@@ -1,7 +1,7 @@
 //! JSON values as they were written.
 ghost use Rattle.std.specs.Prelude.{◌≡◌, ◌<◌, IfOk, Err};
 ghost use Rattle.jsonb.specs.AstView.{ast_view};
-ghost use Rattle.jsonb_scan.specs.Answer.{mode_of};
+ghost use Rattle.text_scan.specs.Answer.{mode_of};
 ghost use Rattle.jsonb_spec.specs.Located.{IsLocated};
 ghost use Rattle.jsonb.specs.Follows.{FollowsSpecification};
 ghost use Rattle.jsonb.specs.Parses.{Parses};
@@ -12,11 +12,11 @@ mod equality;
 mod into_value;
 
 use super::Mode;
-use jsonb_parse::parse_text;
 use jsonb_value::error::{Error, Result};
 use jsonb_value::number::Number;
 use std::alloc::Global;
 use std::borrow::CowStr;
+use text_parse::parse_text;
 
 /// A parsed text: its value, with strings borrowed from it where they have no escapes. A parser returns an object's
 /// members in the order of their keys; each is its key, its value and the offset after the key.

@@ -1,7 +1,7 @@
 //! The text of one part of a document, with no value made of the document.
 ghost use Rattle.std.specs.Prelude.{◌≡◌, ◌⊎◌, map, string_bytes, vec_len, IfOk, OnErr, Err};
 ghost use Rattle.std.specs.Vec.{vec_capacity};
-ghost use Rattle.jsonb_scan.specs.Answer.{mode_of, MayAllocate};
+ghost use Rattle.text_scan.specs.Answer.{mode_of, MayAllocate};
 ghost use Rattle.jsonb.specs.Appends.{AppendsPartOf, LacksCapacityForPart};
 ghost use Rattle.jsonb.specs.Follows.{FailsAsSpecified};
 ghost use Rattle.jsonb.specs.Parses.{Rejects};
@@ -10,11 +10,11 @@ use super::Mode;
 use super::handler::SinkPart;
 use super::straight::{may_allocate, value_of};
 use crate::part::part_at;
-use jsonb_parse::parse_text;
 use jsonb_value::error::{Error, Result};
 use jsonb_value::value::Value;
-use jsonb_write::part::PartSink;
 use std::alloc::Global;
+use text_parse::parse_text;
+use text_write::part::PartSink;
 
 /// Parses a whole text, and appends the serialized form of a part of its value: the member with the first key of the
 /// path, or the item whose index the key is in decimal digits, in it what the second key leads to, and so on. False

@@ -2,22 +2,22 @@
 ghost use Rattle.std.specs.Prelude.{◌≡◌, MatchBool, OnOk, Err};
 ghost use Rattle.jsonb_spec.specs.Tree.{Tree};
 ghost use Rattle.jsonb_value.specs.View.{view};
-ghost use Rattle.jsonb_scan.specs.Answer.{mode_of, MayAllocate};
+ghost use Rattle.text_scan.specs.Answer.{mode_of, MayAllocate};
 ghost use Rattle.jsonb.specs.Appends.{AppendsKeyOf, AppendsTextOf, IsParsed, LacksCapacityForKey, LacksCapacityForText};
 ghost use Rattle.jsonb.specs.Follows.{FailsAsSpecified, FollowsSpecification};
 ghost use Rattle.jsonb.specs.Parses.{AppendsParsed, Parses, Rejects};
 
 use super::handler::{CheckedPart, SinkPart};
 use super::{Mode, parse_value, parse_value_standard_mode};
-use jsonb_parse::parse_text;
 use jsonb_value::error::{Error, Result};
 use jsonb_value::value::Value;
-use jsonb_write::check::CheckSink;
-use jsonb_write::key::KeySink;
-use jsonb_write::text::TextSink;
 use memchr::memchr3;
 use std::alloc::Global;
 use std::mem;
+use text_parse::parse_text;
+use text_write::check::CheckSink;
+use text_write::key::KeySink;
+use text_write::text::TextSink;
 
 /// Whether a text holds `[`, `{` or a backslash. Without one it takes no memory to parse it.
 ///

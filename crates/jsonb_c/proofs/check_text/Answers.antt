@@ -1,5 +1,5 @@
 use Rattle.std.proofs.Common.{rules}
-use Rattle.jsonb_scan.specs.Answer.{mode_of}
+use Rattle.text_scan.specs.Answer.{mode_of}
 use Rattle.jsonb_c.proofs.Reasons.{reason_says}
 use Rattle.jsonb_c.proofs.check_text.Goals as goal
 

@@ -2,7 +2,7 @@ use Rattle.std.proofs.Common.{◌<◌, ◌^◌, ◌⊎◌, true, false, inl, inr
 use Rattle.jsonb_spec.specs.Grammar.{IsDocument}
 use Rattle.jsonb_spec.specs.Tree.{Tree}
 use Rattle.jsonb.specs.Appends.{AppendsPartOf}
-use Rattle.jsonb_scan.specs.Answer.{MayAllocate, mode_of}
+use Rattle.text_scan.specs.Answer.{MayAllocate, mode_of}
 use Rattle.jsonb_c.proofs.DocumentParts.{IsNothingThere, IsTextThere, document_needs, nothing_there, text_there}
 use Rattle.jsonb_c.specs.Interface.{IsAccepted}
 use Rattle.jsonb_c.proofs.Reasons.{memory_said, reason_says}

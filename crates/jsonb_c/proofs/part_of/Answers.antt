@@ -1,6 +1,6 @@
 use Rattle.std.proofs.Common.{rules, ◌⊎◌, ℕ, List, [], ◌∷◌, ◌++◌, IfSome, inl, inr, map, string_bytes, refl, subst, sym}
 use Rattle.std.proofs.lemmas.Result.{IfOk-weaker}
-use Rattle.jsonb_scan.specs.Answer.{MayAllocate}
+use Rattle.text_scan.specs.Answer.{MayAllocate}
 use Rattle.jsonb_path.specs.Path.{IsPath, StartsKey, encoded_key, encoded_keys}
 use Rattle.jsonb_c.specs.Interface.{IsAccepted, HasPartAt}
 use Rattle.jsonb_c.proofs.part_of.Goals as goal

@@ -2,7 +2,7 @@ use Rattle.std.proofs.Common.{◌++◌, ◌⊎◌, inl, inr, ap, ◌∙◌}
 use Rattle.std.specs.Vec.{vec_capacity, vec_len}
 use Rattle.jsonb_spec.specs.SortKey.{key_of}
 use Rattle.jsonb.specs.Appends.{LacksCapacityForKey}
-use Rattle.jsonb_scan.specs.Answer.{MayAllocate, mode_of}
+use Rattle.text_scan.specs.Answer.{MayAllocate, mode_of}
 use Rattle.jsonb_c.proofs.Keys.{key_is}
 use Rattle.jsonb_c.proofs.Reasons.{memory_said, reason_says}
 use Rattle.jsonb_c.proofs.Texts.{document_accepted, parsed_accepted}

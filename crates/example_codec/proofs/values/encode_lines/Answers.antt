@@ -1,7 +1,7 @@
 use Rattle.std.proofs.Common.{◌≡◌, ◌∙◌, inl, Err, ap, subst, arith}
 use Rattle.jsonb_spec.specs.Grammar.{IsDocument}
 use Rattle.jsonb_spec.specs.Mode.{extended}
-use Rattle.jsonb_scan.specs.Answer.{MayAllocate}
+use Rattle.text_scan.specs.Answer.{MayAllocate}
 use Rattle.jsonb_value.specs.View.{view}
 use Rattle.jsonb_value.specs.declared.error.Error.TheVariants.{OutOfMemory}
 use Rattle.example_codec.proofs.Lines.{next_encoded, all_encoded}

@@ -9,7 +9,7 @@ use Rattle.jsonb_value.specs.View.{view}
 use Rattle.jsonb_value.proofs.Trees.DocumentsInRange.{standard_in_range}
 use Rattle.jsonb_value.proofs.Trees.StandardInExtended.{standard_is_extended}
 use Rattle.jsonb.proofs.Documents.Agreement.{document_built, gives_all, gives_as_specified}
-use Rattle.jsonb_parse.proofs.Steps.Outcomes.{value_has}
+use Rattle.text_parse.proofs.Steps.Outcomes.{value_has}
 use Rattle.jsonb.proofs.parser.parse_value_standard_mode.Goals as goal
 
 pub returns-in-Err-clause-in_range : goal.returns-in-Err-clause-in_range

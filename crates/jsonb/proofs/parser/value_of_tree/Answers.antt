@@ -1,11 +1,11 @@
 use Rattle.std.proofs.Common.{rules, true, Err, subst}
 use Rattle.jsonb_value.specs.View.{view}
-use Rattle.jsonb_parse.specs.Handler.{Misses}
-use Rattle.jsonb_scan.specs.Answer.{Fails, mode_of}
-use Rattle.jsonb_scan.specs.Parsing.Document.{source_of}
+use Rattle.text_parse.specs.Handler.{Misses}
+use Rattle.text_scan.specs.Answer.{Fails, mode_of}
+use Rattle.text_scan.specs.Parsing.Document.{source_of}
 use Rattle.jsonb.proofs.Documents.Agreement.{gives_all, gives_as_specified, gives_tree}
 use Rattle.jsonb.proofs.Documents.Markers.{document_opened}
-use Rattle.jsonb_parse.proofs.Steps.Outcomes.{rejected_container}
+use Rattle.text_parse.proofs.Steps.Outcomes.{rejected_container}
 use Rattle.jsonb.proofs.parser.value_of_tree.Goals as goal
 
 fault_reported : (c : goal.In-Some) → Fails c.in-Some.error (source_of (mode_of c.args.mode) c.args.buf.now)

@@ -9,12 +9,12 @@ ghost use Rattle.jsonb_spec.specs.Source.{object_source, source_members_of};
 use super::value::{grow, push_scalar};
 use crate::parser::members::{Member, settle_members};
 use crate::parser::{JsonAst, Mode};
-use jsonb_parse::{Failed, Handler, OpenObject, Scalar, Text, Wants};
-use jsonb_scan::parser::string::decode_contents;
 use jsonb_value::error::Error;
 use std::alloc::{AllocError, Global};
 use std::borrow::CowStr;
 use std::mem;
+use text_parse::{Failed, Handler, OpenObject, Scalar, Text, Wants};
+use text_scan::parser::string::decode_contents;
 
 impl<'a> Handler<'a> for JsonAst<'a> {
     type Sink = ();

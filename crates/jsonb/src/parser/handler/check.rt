@@ -4,15 +4,15 @@ ghost use Rattle.std.specs.Prelude.{◌≡◌, ℕ, List, [], false, map, true};
 ghost use Rattle.jsonb_value.specs.View.{number_view};
 ghost use Rattle.jsonb.specs.Held.{IsAnyValue, key_held};
 ghost use Rattle.jsonb_spec.specs.Source.{boolean_source, null_source, number_source};
-ghost use Rattle.jsonb_write.specs.CheckSink.{CheckFilled, CheckHolds};
+ghost use Rattle.text_write.specs.CheckSink.{CheckFilled, CheckHolds};
 
 use super::repeat::report_repeat;
 use crate::parser::Mode;
-use jsonb_parse::{Failed, Handler, OpenObject, Scalar, Text, Wants};
-use jsonb_scan::util::check_contents;
 use jsonb_value::error::Error;
-use jsonb_write::check::CheckSink;
 use std::alloc::{AllocError, Global};
+use text_parse::{Failed, Handler, OpenObject, Scalar, Text, Wants};
+use text_scan::util::check_contents;
+use text_write::check::CheckSink;
 
 // A value of the text.
 #[derive(Drop)]

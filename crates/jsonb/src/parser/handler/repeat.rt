@@ -1,13 +1,13 @@
 //! A key that comes twice in an object, as an error.
 ghost use Rattle.std.specs.Prelude.{ℕ, List, false};
-ghost use Rattle.jsonb_parse.specs.Handler.{Misses};
-ghost use Rattle.jsonb_parse.specs.Stack.{object_end};
+ghost use Rattle.text_parse.specs.Handler.{Misses};
+ghost use Rattle.text_parse.specs.Stack.{object_end};
 ghost use Rattle.jsonb_spec.specs.Source.{Found};
-ghost use Rattle.jsonb_write.specs.OpenMembers.{ReportsRepeatOf};
+ghost use Rattle.text_write.specs.OpenMembers.{ReportsRepeatOf};
 
 use jsonb_value::error::{Error, ParseErrorCode};
-use jsonb_write::open_members::OpenMembers;
 use std::alloc::Global;
+use text_write::open_members::OpenMembers;
 
 // Reports the least key that comes twice, and where it comes the second time.
 #[cold]

@@ -10,13 +10,13 @@ ghost use Rattle.jsonb.specs.FrameContents.{Completes, FramesHold, MapHolds};
 ghost use Rattle.jsonb_spec.specs.Source.{tree_of_source};
 
 use crate::parser::Mode;
-use jsonb_parse::{Failed, Handler, OpenObject, Scalar, Text, Wants};
-use jsonb_scan::parser::string::decode_contents;
 use jsonb_value::error::Error;
 use jsonb_value::value::{Object, Value};
 use std::alloc::{AllocError, AllocFailed, Global};
 use std::borrow::CowStr;
 use std::mem;
+use text_parse::{Failed, Handler, OpenObject, Scalar, Text, Wants};
+use text_scan::parser::string::decode_contents;
 
 // A value that is made.
 #[derive(Drop)]

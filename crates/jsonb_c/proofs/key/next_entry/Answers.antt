@@ -1,5 +1,5 @@
 use Rattle.std.proofs.Common.{[], Ok, subst}
-use Rattle.jsonb_stored.specs.Found.{IsNext}
+use Rattle.key_walk.specs.Found.{IsNext}
 use Rattle.jsonb_c.proofs.KeyParts.{kind_agrees, left_there, next_known, next_reported, none_next}
 use Rattle.jsonb_c.proofs.key.next_entry.Goals as goal
 

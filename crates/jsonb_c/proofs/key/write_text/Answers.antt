@@ -1,5 +1,5 @@
 use Rattle.std.proofs.Common.{rules, [], length, inl, inr, refl, sym, arith, ◌∙◌, append-nil}
-use Rattle.jsonb_key.proofs.Texts.{some_same}
+use Rattle.key_value.proofs.Texts.{some_same}
 use Rattle.jsonb_spec.specs.SortKey.{text_key}
 use Rattle.jsonb_c.proofs.key.write_text.Goals as goal
 

@@ -9,7 +9,7 @@ use Rattle.jsonb_spec.specs.Text.{AppendsText, tree_text}
 use Rattle.jsonb_spec.specs.Tree.{Tree}
 use Rattle.jsonb.specs.Appends.{LacksCapacityForText}
 use Rattle.jsonb.proofs.Documents.Straight.{text_there}
-use Rattle.jsonb_scan.specs.Answer.{MayAllocate, mode_of}
+use Rattle.text_scan.specs.Answer.{MayAllocate, mode_of}
 use Rattle.jsonb_spec.specs.Program.{IsLineOf, LacksCapacity}
 use Rattle.jsonb_cat.proofs.LinesAgain.{appended_again}
 use Rattle.jsonb_cat.proofs.cat.convert.Goals as goal

@@ -1,6 +1,6 @@
 use Rattle.std.proofs.Common.{◌≡◌, ◌-◌, ◌<◌, ◌^◌, ◌++◌, length, refl, sym, ap, ◌∙◌, arith, length-append}
 use Rattle.jsonb_spec.specs.SortKey.{key_of}
-use Rattle.stored_edit.specs.Edit.{with_item}
+use Rattle.key_edit.specs.Edit.{with_item}
 use Rattle.key_document.specs.Document.{counts_at}
 use Rattle.key_document.proofs.Building.{item_changes, key_appended}
 use Rattle.key_document.proofs.Changing.{are_spliced, as_tail, finished}

@@ -1,7 +1,7 @@
 use Rattle.std.proofs.Common.{◌≡◌, ◌+◌, ◌++◌, length, ◌∙◌, ap, arith, length-append}
 use Rattle.std.proofs.lemmas.List.{length-reverse}
 use Rattle.std.specs.Prelude.{reverse, vec_len, vec_capacity}
-use Rattle.stored_zeros.specs.Zeros.{in_sevens}
+use Rattle.key_zeros.specs.Zeros.{in_sevens}
 use Rattle.key_document.specs.Document.{end_of}
 use Rattle.key_document.proofs.Ending.{end_some, ends_with, turned_end}
 use Rattle.key_document.proofs.document.end_zeros.Goals as goal

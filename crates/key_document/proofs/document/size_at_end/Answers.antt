@@ -2,7 +2,7 @@ use Rattle.std.proofs.Common.{◌+◌, ◌*◌, ◌≤◌, sym, ap, subst, ◌�
 use Rattle.std.specs.Prelude.{reverse}
 use Rattle.std.proofs.lemmas.List.{length-reverse}
 use Rattle.std.proofs.Math.Nat.{mul-le-mul_right}
-use Rattle.stored_zeros.proofs.Sevens.{ReadsSevens, last_read, too_many, seven_read, byte_there}
+use Rattle.key_zeros.proofs.Sevens.{ReadsSevens, last_read, too_many, seven_read, byte_there}
 use Rattle.key_document.proofs.Backwards.{turned_byte, turned_number, turned_back}
 use Rattle.key_document.proofs.document.size_at_end.Goals as goal
 

@@ -7,7 +7,7 @@ use Rattle.key_document.specs.Document.{zeros_at}
 use Rattle.key_document.proofs.Endings.{key_ends}
 use Rattle.key_document.proofs.Tails.{no_zeros, some_zeros}
 use Rattle.key_document.proofs.document.split_document.Goals as goal
-use Rattle.stored_zeros.specs.Zeros.{in_sevens}
+use Rattle.key_zeros.specs.Zeros.{in_sevens}
 
 pub returns-then-last-clause-key : goal.returns-then-last-clause-key
 returns-then-last-clause-key c = λ t r e.

@@ -1,8 +1,8 @@
 use Rattle.std.proofs.Common.{◌≡◌, map, string_bytes, subst}
 use Rattle.jsonb_spec.specs.SortKey.{key_of}
-use Rattle.stored_edit.specs.Edit.{becomes, changed_at, set_to}
-use Rattle.stored_edit.proofs.Putting.{set_made, set_there}
-use Rattle.key_document.proofs.Changing.{ReportedSlot}
+use Rattle.key_edit.specs.Edit.{becomes, changed_at, set_to}
+use Rattle.key_edit.proofs.Putting.{set_made, set_there}
+use Rattle.key_document.proofs.Changing.{ReportedSlot, set_puts}
 use Rattle.key_document.proofs.Splicing.{at_splice}
 use Rattle.key_document.proofs.edit.append_with_part.Goals as goal
 use Rattle.key_document.proofs.edit.append_with_part.Goals.{else-not-slot-via-then-not-slot+else-not-create, else-not-slot-via-else-not-slot}
@@ -18,4 +18,4 @@ returns-clause-answers c = λ t r e u ru eu.
       | else-not-slot-via-then-not-slot+else-not-create w ↦ set_made u c.args.create s.0.there w.if-not-create.false
       | else-not-slot-via-else-not-slot w ↦ set_there slot.object s.0.name slot.spot s.0.behind u c.args.create s.0.there s.0.occurs w.if-not-slot.false
     ] in
-    c.put_document.ensures.put t r is_key (c.split_document.ensures.zeros t r e) (λ change. changed_at change names t) (at_splice names t r.proper) s u ru eu c.args.create set
+    c.put_document.ensures.put t r is_key (c.split_document.ensures.zeros t r e) (λ change. changed_at change names t) (at_splice names t r.proper) s u ru eu (set_to u c.args.create) (set_puts u c.args.create) set

@@ -1,8 +1,8 @@
 use Rattle.std.proofs.Common.{◌+◌, ◌<◌, ◌^◌, ◌++◌, length, sym, ap, subst, ◌∙◌, arith, append_assoc, length-append}
 use Rattle.std.specs.Prelude.{vec_len, vec_capacity}
 use Rattle.jsonb_spec.specs.SortKey.{key_of}
-use Rattle.stored_edit.specs.Edit.{merge}
-use Rattle.stored_edit.proofs.ProperChanges.{merged_proper}
+use Rattle.key_edit.specs.Edit.{merge}
+use Rattle.key_edit.proofs.ProperChanges.{merged_proper}
 use Rattle.key_document.specs.Changes.{IsLacking}
 use Rattle.key_document.specs.Document.{behind_key, counts_at, document_of, zeros_at}
 use Rattle.key_document.proofs.Changing.{edit_lacking}

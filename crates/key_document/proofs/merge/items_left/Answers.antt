@@ -1,6 +1,6 @@
 use Rattle.std.proofs.Common.{◌<◌, ◌^◌, length, ap, subst, arith, length-append}
-use Rattle.stored_zeros.specs.Numbers.{Pends}
-use Rattle.stored_edit.specs.Edit.{as_items}
+use Rattle.key_zeros.specs.Numbers.{Pends}
+use Rattle.key_edit.specs.Edit.{as_items}
 use Rattle.key_document.specs.Document.{counts_at}
 use Rattle.key_document.specs.Merging.{counts_of_items}
 use Rattle.key_document.proofs.Counts.{one_each}

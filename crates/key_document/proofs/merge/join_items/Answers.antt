@@ -1,9 +1,9 @@
 use Rattle.std.proofs.Common.{◌≡◌, ◌+◌, ◌<◌, ◌++◌, length, take, refl, sym, ap, subst, ◌∙◌, arith, length-append}
 use Rattle.std.specs.Prelude.{vec_len, vec_capacity}
 use Rattle.std.proofs.Math.Seq.{take-append_seam}
-use Rattle.stored_text.proofs.Appending.{both, no_capacity_second}
-use Rattle.stored_edit.specs.Edit.{as_items}
-use Rattle.stored_zeros.specs.Zeros.{plain_at_end, zeros_of}
+use Rattle.key_text.proofs.Appending.{both, no_capacity_second}
+use Rattle.key_edit.specs.Edit.{as_items}
+use Rattle.key_zeros.specs.Zeros.{plain_at_end, zeros_of}
 use Rattle.key_document.specs.Document.{zeros_at}
 use Rattle.key_document.specs.Merging.{counts_of_items}
 use Rattle.key_document.proofs.ItemsJoined.{joined_array, joined_long, joined_zeros}

@@ -1,7 +1,7 @@
 use Rattle.std.proofs.Common.{◌<◌, ◌^◌, ◌∷◌, length, ap, arith}
-use Rattle.stored_text.proofs.Appending.{retained, preserves_on}
-use Rattle.stored_edit.specs.Edit.{merged_members}
-use Rattle.stored_zeros.specs.Zeros.{zeros_of}
+use Rattle.key_text.proofs.Appending.{retained, preserves_on}
+use Rattle.key_edit.specs.Edit.{merged_members}
+use Rattle.key_zeros.specs.Zeros.{zeros_of}
 use Rattle.key_document.specs.Document.{counts_at_members}
 use Rattle.key_document.proofs.Counts.{members_each}
 use Rattle.key_document.proofs.Joining.{lacks_zeros}

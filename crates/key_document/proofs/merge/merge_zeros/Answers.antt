@@ -1,6 +1,6 @@
 use Rattle.std.proofs.Common.{◌<◌, ◌^◌, length, ap, subst, sym, ◌∙◌, arith}
 use Rattle.jsonb_spec.specs.SortKey.{key_of}
-use Rattle.stored_edit.proofs.Joined.{members_there, merged_items, merged_objects}
+use Rattle.key_edit.proofs.Joined.{members_there, merged_items, merged_objects}
 use Rattle.key_document.specs.Document.{counts_at, zeros_at}
 use Rattle.key_document.specs.Splices.{AppendsZeros}
 use Rattle.key_document.proofs.merge.merge_zeros.Goals as goal

@@ -1,16 +1,16 @@
 use Rattle.std.proofs.Common.{◌≡◌, ◌+◌, ◌<◌, ◌^◌, ◌++◌, [], length, subst, sym, ap, ◌∙◌, arith, append-nil}
-use Rattle.jsonb_key.proofs.FirstBytes.{no_key}
+use Rattle.key_value.proofs.FirstBytes.{no_key}
 use Rattle.jsonb_spec.specs.SortKey.{key_of}
-use Rattle.jsonb_stored.proofs.Scalars.{opened_at_top, scalar_there}
-use Rattle.jsonb_stored.specs.Open.{open_key}
+use Rattle.key_walk.proofs.Scalars.{opened_at_top, scalar_there}
+use Rattle.key_walk.specs.Open.{open_key}
 use Rattle.key_document.specs.Document.{counts_at}
 use Rattle.key_document.specs.Numbering.{written}
 use Rattle.key_document.specs.Splices.{AppendsZeros}
 use Rattle.key_document.proofs.Joining.{lacks_zeros}
 use Rattle.key_document.proofs.Numbering.{alone_due, alone_write, parts_due, parts_write, scalar_alone}
 use Rattle.key_document.proofs.numbers.append_counts.Goals as goal
-use Rattle.stored_zeros.specs.Zeros.{counts_in, zeros_of}
-use Rattle.stored_zeros.proofs.Counting.{opening_there, scalar_numbers}
+use Rattle.key_zeros.specs.Zeros.{counts_in, zeros_of}
+use Rattle.key_zeros.proofs.Counting.{opening_there, scalar_numbers}
 
 pub returns-in_default-clause-appended : goal.returns-in_default-clause-appended
 returns-in_default-clause-appended c = λ b t r e a. absurd (no_key 512 t r c.args.key.now [] (e ∙ sym (append-nil (key_of t))) c.in_default.ensures.cases)

@@ -1,12 +1,12 @@
 use Rattle.std.proofs.Common.{◌≡◌, ◌+◌, Bool, [], ◌∷◌, ◌++◌, length, sym, ap, ◌∙◌, arith, append-nil, length-append}
 use Rattle.std.proofs.lemmas.List.{length-set}
-use Rattle.jsonb_key.proofs.Texts.{none_some, some_same}
+use Rattle.key_value.proofs.Texts.{none_some, some_same}
 use Rattle.jsonb_spec.specs.SortKey.{key_of}
-use Rattle.jsonb_stored.specs.Open.{is_object, end_key, name_key, open_key}
-use Rattle.jsonb_stored.proofs.Opens.{opens_key}
-use Rattle.jsonb_stored.proofs.Scalars.{scalar_there}
-use Rattle.stored_text.proofs.Appending.{preserves_on, retained}
-use Rattle.stored_zeros.proofs.Counting.{walk_begun, all_walked, end_there, end_passed, part_there, part_passed, part_entered, opening_there, scalar_numbers, value_some, behind_long}
+use Rattle.key_walk.specs.Open.{is_object, end_key, name_key, open_key}
+use Rattle.key_walk.proofs.Opens.{opens_key}
+use Rattle.key_walk.proofs.Scalars.{scalar_there}
+use Rattle.key_text.proofs.Appending.{preserves_on, retained}
+use Rattle.key_zeros.proofs.Counting.{walk_begun, all_walked, end_there, end_passed, part_there, part_passed, part_entered, opening_there, scalar_numbers, value_some, behind_long}
 use Rattle.key_document.specs.Numbering.{counts_open, numbers_open, to_write}
 use Rattle.key_document.proofs.Joining.{lacks_zeros}
 use Rattle.key_document.proofs.Numbering.{Todo, all_done, at_value, end_done, opening_done, todo_begun, value_done, value_fits}

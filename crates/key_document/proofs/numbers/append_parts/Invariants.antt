@@ -1,7 +1,7 @@
 use Rattle.std.proofs.Common.{◌≡◌, ◌≤◌, Bool, [], length}
-use Rattle.jsonb_stored.specs.Open.{Open, is_object, open_key, IsOpen}
-use Rattle.stored_text.specs.Writes.{Preserves}
-use Rattle.stored_zeros.proofs.Counting.{Walked}
+use Rattle.key_walk.specs.Open.{Open, is_object, open_key, IsOpen}
+use Rattle.key_text.specs.Writes.{Preserves}
+use Rattle.key_zeros.proofs.Counting.{Walked}
 use Rattle.key_document.specs.Numbering.{Due, counts_open, numbers_open, to_write}
 use Rattle.key_document.proofs.Numbering.{Todo}
 use Rattle.key_document.proofs.numbers.append_parts.Given as goal

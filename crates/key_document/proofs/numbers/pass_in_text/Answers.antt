@@ -1,6 +1,6 @@
 use Rattle.std.proofs.Common.{◌≡◌, ◌+◌, ◌<◌, ◌^◌, ◌++◌, length, refl, ap, ap₂, ◌∙◌, arith}
-use Rattle.stored_zeros.specs.Scan.{ZerosAhead}
-use Rattle.stored_zeros.specs.Zeros.{entry_of, plain_behind}
+use Rattle.key_zeros.specs.Scan.{ZerosAhead}
+use Rattle.key_zeros.specs.Zeros.{entry_of, plain_behind}
 use Rattle.key_document.specs.declared.error.DocumentError.TheVariants.{OutOfMemory}
 use Rattle.key_document.proofs.Numbering.{lacks_number}
 use Rattle.key_document.proofs.numbers.pass_in_text.Goals as goal

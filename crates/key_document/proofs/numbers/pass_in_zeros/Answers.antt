@@ -1,7 +1,7 @@
 use Rattle.std.proofs.Common.{◌≡◌, ℕ, ◌++◌, ◌∷◌, drop, replicate, sym, subst, ap, ◌∙◌, arith, length-append}
 use Rattle.std.proofs.Math.Seq.{drop-append_seam}
 use Rattle.std.proofs.lemmas.List.{length-replicate}
-use Rattle.stored_zeros.specs.Numbers.{Pends}
+use Rattle.key_zeros.specs.Numbers.{Pends}
 use Rattle.key_document.proofs.Numbering.{number_copied}
 use Rattle.key_document.proofs.numbers.pass_in_zeros.Goals as goal
 

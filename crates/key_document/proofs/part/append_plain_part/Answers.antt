@@ -1,8 +1,8 @@
 use Rattle.std.proofs.Common.{◌≡◌, [], ◌++◌, Ok, append-nil, length, map, string_bytes, refl, true, subst, sym, ap, ◌∙◌, arith}
-use Rattle.jsonb_key.proofs.Texts.{some_same}
+use Rattle.key_value.proofs.Texts.{some_same}
 use Rattle.jsonb_spec.specs.PartAt.{part_at}
 use Rattle.jsonb_spec.specs.SortKey.{key_of}
-use Rattle.jsonb_stored.specs.Found.{Finds}
+use Rattle.key_walk.specs.Found.{Finds}
 use Rattle.key_document.specs.Changes.{Answers}
 use Rattle.key_document.specs.Document.{behind_key}
 use Rattle.key_document.proofs.Changing.{answer_lacking, nothing_appended}

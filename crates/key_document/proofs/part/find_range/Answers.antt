@@ -3,7 +3,7 @@ use Rattle.std.proofs.lemmas.Bool.{eqb-false}
 use Rattle.std.proofs.lemmas.List.{length-map}
 use Rattle.jsonb_spec.specs.PartAt.{part_at}
 use Rattle.jsonb_spec.specs.SortKey.{key_of}
-use Rattle.jsonb_stored.specs.Found.{Finds}
+use Rattle.key_walk.specs.Found.{Finds}
 use Rattle.key_document.proofs.Changing.{ReportedSlot}
 use Rattle.key_document.proofs.Slots.{no_error, no_slot, none_found, part_there, slot_found, whole_found}
 use Rattle.key_document.proofs.part.find_range.Goals as goal

@@ -1,7 +1,7 @@
 use Rattle.std.proofs.Common.{◌≡◌, ◌+◌, ◌<◌, ◌^◌, ◌++◌, length, refl, subst, ap, ◌∙◌, arith, length-append}
 use Rattle.std.specs.Prelude.{vec_len, vec_capacity}
-use Rattle.stored_text.proofs.Appending.{both, no_capacity_second}
-use Rattle.stored_zeros.specs.Zeros.{zeros_of}
+use Rattle.key_text.proofs.Appending.{both, no_capacity_second}
+use Rattle.key_zeros.specs.Zeros.{zeros_of}
 use Rattle.key_document.specs.Document.{behind_key, end_of}
 use Rattle.key_document.specs.Splices.{spliced_counts}
 use Rattle.key_document.specs.declared.error.DocumentError.TheVariants.{OutOfMemory}

@@ -1,9 +1,9 @@
 use Rattle.std.proofs.Common.{◌≡◌, ◌+◌, ◌<◌, ◌^◌, ◌++◌, true, length, refl, sym, subst, ap, ◌∙◌, arith, length-append}
 use Rattle.std.specs.Prelude.{vec_len, vec_capacity}
-use Rattle.stored_text.proofs.Appending.{both, no_capacity_second}
-use Rattle.stored_zeros.proofs.Ahead.{zeros_ahead}
-use Rattle.stored_zeros.specs.Scan.{ZerosAhead}
-use Rattle.stored_zeros.specs.Zeros.{counts_in}
+use Rattle.key_text.proofs.Appending.{both, no_capacity_second}
+use Rattle.key_zeros.proofs.Ahead.{zeros_ahead}
+use Rattle.key_zeros.specs.Scan.{ZerosAhead}
+use Rattle.key_zeros.specs.Zeros.{counts_in}
 use Rattle.key_document.specs.Document.{behind_key, end_of, zeros_at}
 use Rattle.key_document.specs.declared.error.DocumentError.TheVariants.{OutOfMemory}
 use Rattle.key_document.proofs.Joining.{lacks_zeros}

@@ -1,7 +1,7 @@
 use Rattle.std.proofs.Common.{◌≡◌, ◌<◌, ◌^◌, ◌++◌, false, length, sym, ap, ◌∙◌, arith, eqb-true}
 use Rattle.jsonb_spec.specs.Text.{tree_text}
-use Rattle.stored_text.specs.FewestDigits.{with_fewest_digits}
-use Rattle.stored_zeros.specs.Zeros.{zeros_in}
+use Rattle.key_text.specs.FewestDigits.{with_fewest_digits}
+use Rattle.key_zeros.specs.Zeros.{zeros_in}
 use Rattle.key_document.specs.Changes.{of_zeros_error}
 use Rattle.key_document.specs.Document.{counts_at, zeros_at}
 use Rattle.key_document.proofs.Counts.{one_each}

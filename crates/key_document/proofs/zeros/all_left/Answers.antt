@@ -1,6 +1,6 @@
 use Rattle.std.proofs.Common.{◌<◌, length, sym, ◌∙◌, arith, eqb-true}
 use Rattle.std.proofs.lemmas.Bool.{eqb-false}
-use Rattle.stored_zeros.proofs.Taking.{none_pending, one_pending, pending_occurs, pends_there, counts_long}
+use Rattle.key_zeros.proofs.Taking.{none_pending, one_pending, pending_occurs, pends_there, counts_long}
 use Rattle.key_document.proofs.zeros.all_left.Goals as goal
 
 pub returns-then-is_empty : goal.returns-then-is_empty

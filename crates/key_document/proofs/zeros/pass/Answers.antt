@@ -1,8 +1,8 @@
 use Rattle.std.proofs.Common.{◌-◌, subst, arith}
 use Rattle.key_document.proofs.Passing.{passes}
 use Rattle.key_document.proofs.zeros.pass.Goals as goal
-use Rattle.stored_zeros.specs.Numbers.{Pends}
-use Rattle.stored_zeros.proofs.Taking.{none_skipped, entry_reached, entry_skipped, counts_long}
+use Rattle.key_zeros.specs.Numbers.{Pends}
+use Rattle.key_zeros.proofs.Taking.{none_skipped, entry_reached, entry_skipped, counts_long}
 
 pub entries-init : goal.entries-init
 entries-init c = record { passing = λ counts small p enough. passes counts c.args.bytes c.args.left p enough }

@@ -1,6 +1,6 @@
 use Rattle.std.proofs.Common.{arith, sym, ◌∙◌}
-use Rattle.jsonb_scan.specs.Parsing.Number.{digits_length}
-use Rattle.jsonb_scan.proofs.Numbers.Steps.{digits_go_on, digits_end_here, digits_end_past}
+use Rattle.text_scan.specs.Parsing.Number.{digits_length}
+use Rattle.text_scan.proofs.Numbers.Steps.{digits_go_on, digits_end_here, digits_end_past}
 use Rattle.plain_numbers.proofs.number.digits_len.Goals as goal
 
 pub digits-preserved : goal.digits-preserved

@@ -1,5 +1,5 @@
 use Rattle.std.proofs.Common.{◌≡◌, ◌+◌, ◌-◌, ◌≤◌, length, drop}
-use Rattle.jsonb_scan.specs.Parsing.Number.{digits_length}
+use Rattle.text_scan.specs.Parsing.Number.{digits_length}
 use Rattle.plain_numbers.proofs.number.digits_len.Given as goal
 
 abbrev pub invariant-digits : goal.invariant-digits

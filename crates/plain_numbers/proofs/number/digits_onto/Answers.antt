@@ -1,6 +1,6 @@
 use Rattle.std.proofs.Common.{arith}
 use Rattle.std.proofs.lemmas.Str.Parse.{digit_at}
-use Rattle.jsonb_scan.proofs.Numbers.DigitValues.{value_after_more}
+use Rattle.text_scan.proofs.Numbers.DigitValues.{value_after_more}
 use Rattle.plain_numbers.proofs.Values.{after_none, after_all}
 use Rattle.plain_numbers.proofs.number.digits_onto.Goals as goal
 

@@ -1,6 +1,6 @@
 use Rattle.std.proofs.Common.{arith, refl}
 use Rattle.std.proofs.lemmas.Str.Parse.{digit_at}
-use Rattle.jsonb_scan.proofs.Numbers.DigitValues.{adds_behind}
+use Rattle.text_scan.proofs.Numbers.DigitValues.{adds_behind}
 use Rattle.plain_numbers.proofs.Values.{is_digit_at}
 use Rattle.plain_numbers.proofs.number.short_onto.Goals as goal
 

@@ -1,7 +1,7 @@
 use Rattle.std.proofs.Common.{◌≡◌, ◌+◌, suc, ℕ, drop, arith, sym, ap, ◌∙◌, refl}
 use Rattle.std.specs.List.{prefix_len}
 use Rattle.std.proofs.lemmas.List.Sums.{prefix_len-drop_all}
-use Rattle.jsonb_scan.proofs.Numbers.Runs.{run_more, run_stop}
+use Rattle.text_scan.proofs.Numbers.Runs.{run_more, run_stop}
 use Rattle.plain_numbers.specs.Passing.{is_word_byte, word_length}
 use Rattle.plain_numbers.proofs.scan.word_len.Goals as goal
 

@@ -1,6 +1,6 @@
 use Rattle.std.proofs.Common.{◌≡◌, ◌-◌, suc, ℕ, drop, arith, sym, ap, ◌∙◌, refl}
 use Rattle.std.specs.List.{prefix_len}
-use Rattle.jsonb_scan.proofs.Numbers.Runs.{run_more}
+use Rattle.text_scan.proofs.Numbers.Runs.{run_more}
 use Rattle.plain_numbers.specs.Passing.{is_word_byte, word_length}
 use Rattle.plain_numbers.proofs.scan.word_start.Goals as goal
 

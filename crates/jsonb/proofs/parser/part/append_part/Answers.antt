@@ -1,13 +1,13 @@
 use Rattle.std.proofs.Common.{◌≡◌, ◌∙◌, None, Some, true, inl, ap, map, rules, string_bytes, subst, sym}
 use Rattle.std.specs.Option.{option_map}
 use Rattle.jsonb_spec.specs.Text.{tree_text}
-use Rattle.jsonb_scan.specs.Answer.{MayAllocate, mode_of}
-use Rattle.jsonb_scan.specs.Parsing.Document.{source_of}
+use Rattle.text_scan.specs.Answer.{MayAllocate, mode_of}
+use Rattle.text_scan.specs.Parsing.Document.{source_of}
 use Rattle.jsonb_spec.specs.Source.{tree_of_source}
 use Rattle.jsonb_spec.specs.PartAt.{part_at}
-use Rattle.jsonb_write.specs.PartSink.{part_of}
-use Rattle.jsonb_write.proofs.PartSinks.{filled_root}
-use Rattle.jsonb_parse.specs.Handler.{Misses}
+use Rattle.text_write.specs.PartSink.{part_of}
+use Rattle.text_write.proofs.PartSinks.{filled_root}
+use Rattle.text_parse.specs.Handler.{Misses}
 use Rattle.jsonb.proofs.Documents.Agreement.{fault_fails, fault_rejects}
 use Rattle.jsonb.proofs.Documents.Parts.{part_appended, part_missing}
 use Rattle.jsonb.proofs.Documents.Straight.{source_parsed, text_there}

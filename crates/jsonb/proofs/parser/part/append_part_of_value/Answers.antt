@@ -1,7 +1,7 @@
 use Rattle.std.proofs.Common.{inr, map, string_bytes, sym, ◌∙◌}
 use Rattle.std.specs.Vec.{vec_capacity, vec_len}
 use Rattle.jsonb_value.specs.View.{view}
-use Rattle.jsonb_scan.specs.Answer.{mode_of}
+use Rattle.text_scan.specs.Answer.{mode_of}
 use Rattle.jsonb.proofs.Documents.Parts.{part_lacks}
 use Rattle.jsonb.proofs.parser.part.append_part_of_value.Goals as goal
 use Rattle.jsonb.proofs.parser.part.append_part_of_value.Goals.{in-Ok, in-Err}

@@ -1,10 +1,10 @@
 use Rattle.std.proofs.Common.{rules, true, ◌++◌, inl, ap, subst, sym, ◌∙◌}
 use Rattle.jsonb_spec.specs.Text.{tree_text}
-use Rattle.jsonb_scan.specs.Answer.{Fails, MayAllocate, mode_of}
-use Rattle.jsonb_scan.specs.Parsing.Document.{source_of}
+use Rattle.text_scan.specs.Answer.{Fails, MayAllocate, mode_of}
+use Rattle.text_scan.specs.Parsing.Document.{source_of}
 use Rattle.jsonb_spec.specs.Source.{tree_of_source}
 use Rattle.text_common.specs.SourceText.{source_text}
-use Rattle.jsonb_parse.specs.Handler.{Misses}
+use Rattle.text_parse.specs.Handler.{Misses}
 use Rattle.jsonb.proofs.Documents.Agreement.{fault_fails, fault_rejects}
 use Rattle.jsonb.proofs.Documents.Straight.{returned, source_parsed, text_there, same_only}
 use Rattle.jsonb.proofs.parser.straight.append_text.Goals as goal

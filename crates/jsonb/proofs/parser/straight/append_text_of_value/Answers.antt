@@ -1,7 +1,7 @@
 use Rattle.std.proofs.Common.{rules, inr, sym, ◌∙◌}
 use Rattle.std.specs.Vec.{vec_capacity, vec_len}
 use Rattle.jsonb_value.specs.View.{view}
-use Rattle.jsonb_scan.specs.Answer.{mode_of}
+use Rattle.text_scan.specs.Answer.{mode_of}
 use Rattle.jsonb.proofs.Documents.Straight.{text_lacks}
 use Rattle.jsonb.proofs.parser.straight.append_text_of_value.Goals as goal
 use Rattle.jsonb.proofs.parser.straight.append_text_of_value.Goals.{in-Ok, in-Err}

@@ -1,8 +1,8 @@
 use Rattle.std.proofs.Common.{false, subst}
-use Rattle.jsonb_scan.specs.Answer.{mode_of}
-use Rattle.jsonb_scan.specs.Parsing.Document.{source_of}
+use Rattle.text_scan.specs.Answer.{mode_of}
+use Rattle.text_scan.specs.Parsing.Document.{source_of}
 use Rattle.jsonb_spec.specs.Source.{tree_of_source}
-use Rattle.jsonb_parse.specs.Handler.{Misses}
+use Rattle.text_parse.specs.Handler.{Misses}
 use Rattle.jsonb.proofs.Documents.Agreement.{fault_fails, fault_rejects}
 use Rattle.jsonb.proofs.Documents.Straight.{source_parsed}
 use Rattle.jsonb.proofs.parser.straight.check.Goals as goal

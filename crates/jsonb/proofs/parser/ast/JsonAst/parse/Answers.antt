@@ -1,9 +1,9 @@
 use Rattle.std.proofs.Common.{rules, ◌≡◌, false, Ok, Err, sym, ap, subst, ◌∙◌}
-use Rattle.jsonb_parse.specs.Handler.{Misses}
+use Rattle.text_parse.specs.Handler.{Misses}
 use Rattle.jsonb.specs.AstView.{ast_view}
 use Rattle.jsonb.specs.Source.{source_view}
-use Rattle.jsonb_scan.specs.Answer.{Fails, mode_of}
-use Rattle.jsonb_scan.specs.Parsing.Document.{source_of}
+use Rattle.text_scan.specs.Answer.{Fails, mode_of}
+use Rattle.text_scan.specs.Parsing.Document.{source_of}
 use Rattle.jsonb.proofs.Documents.Agreement.{gives_all, gives_as_specified, gives_source, gives_tree}
 use Rattle.jsonb.proofs.parser.ast.JsonAst.parse.Goals as goal
 

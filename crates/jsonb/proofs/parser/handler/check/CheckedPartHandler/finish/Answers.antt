@@ -1,10 +1,10 @@
 use Rattle.std.proofs.Common.{map, ap, subst}
 use Rattle.std.specs.Prelude.{MatchOption}
 use Rattle.jsonb.specs.Held.{key_held}
-use Rattle.jsonb_scan.specs.Parsing.Container.{object_or_fault}
+use Rattle.text_scan.specs.Parsing.Container.{object_or_fault}
 use Rattle.jsonb_spec.specs.Source.{object_source_of}
-use Rattle.jsonb_write.specs.OpenMembers.{ReportsRepeatOf}
-use Rattle.jsonb_write.specs.CheckSink.{CheckEnds}
+use Rattle.text_write.specs.OpenMembers.{ReportsRepeatOf}
+use Rattle.text_write.specs.CheckSink.{CheckEnds}
 use Rattle.jsonb.proofs.parser.handler.check.CheckedPartHandler.finish.Goals as goal
 
 pub returns-in-Ok-None-clause-ended : goal.returns-in-Ok-None-clause-ended

@@ -1,6 +1,6 @@
 use Rattle.std.proofs.Common.{[]}
 use Rattle.jsonb_spec.specs.Tree.Mark.{plain}
-use Rattle.jsonb_write.proofs.Checks.{value_ended}
+use Rattle.text_write.proofs.Checks.{value_ended}
 use Rattle.jsonb.proofs.parser.handler.check.CheckedPartHandler.insert.Goals as goal
 
 pub returns-clause-put : goal.returns-clause-put

@@ -1,10 +1,10 @@
 use Rattle.std.proofs.Common.{true, map, ap, subst, sym}
 use Rattle.std.specs.Prelude.{MatchOption}
 use Rattle.jsonb.specs.Held.{held_by}
-use Rattle.jsonb_scan.specs.Parsing.Container.{object_or_fault}
+use Rattle.text_scan.specs.Parsing.Container.{object_or_fault}
 use Rattle.jsonb_spec.specs.Source.{first_repeat, object_source_of, spot_of}
-use Rattle.jsonb_write.specs.OpenMembers.{EndsObject, ReportsRepeatOf}
-use Rattle.jsonb_parse.proofs.Steps.Failures.{reports_always}
+use Rattle.text_write.specs.OpenMembers.{EndsObject, ReportsRepeatOf}
+use Rattle.text_parse.proofs.Steps.Failures.{reports_always}
 use Rattle.jsonb.proofs.parser.handler.sink.SinkPartHandler.finish.Goals as goal
 
 pub returns-in-Ok-None-clause-ended : goal.returns-in-Ok-None-clause-ended

@@ -1,6 +1,6 @@
 use Rattle.std.proofs.Common.{map}
 use Rattle.jsonb.specs.Held.{held_by}
-use Rattle.jsonb_parse.proofs.Steps.Failures.{if_ok}
+use Rattle.text_parse.proofs.Steps.Failures.{if_ok}
 use Rattle.jsonb.proofs.parser.handler.sink.SinkPartHandler.items.Goals as goal
 
 pub returns-clause-opened : goal.returns-clause-opened

@@ -1,6 +1,6 @@
 use Rattle.std.proofs.Common.{map}
 use Rattle.jsonb.specs.Held.{held_by}
-use Rattle.jsonb_parse.proofs.Steps.Failures.{ok_if}
+use Rattle.text_parse.proofs.Steps.Failures.{ok_if}
 use Rattle.jsonb.proofs.parser.handler.sink.SinkPartHandler.key.Goals as goal
 
 pub returns-in-Plain-clause-begun : goal.returns-in-Plain-clause-begun

@@ -1,6 +1,6 @@
 use Rattle.std.proofs.Common.{◌∷◌, map}
 use Rattle.jsonb.specs.Held.{held_by}
-use Rattle.jsonb_scan.specs.Open.{elements_so_far}
+use Rattle.text_scan.specs.Open.{elements_so_far}
 use Rattle.jsonb.proofs.Given.{scalar_given}
 use Rattle.jsonb.proofs.parser.handler.sink.SinkPartHandler.push.Goals as goal
 

@@ -1,5 +1,5 @@
 use Rattle.std.proofs.Common.{[]}
-use Rattle.jsonb_parse.proofs.Scalars.Built.{not_encoded}
+use Rattle.text_parse.proofs.Scalars.Built.{not_encoded}
 use Rattle.jsonb.proofs.Containers.Built.{on_ok}
 use Rattle.jsonb.proofs.Encoded.{encoded_part}
 use Rattle.jsonb.proofs.parser.handler.sink.SinkPartHandler.root.Goals as goal

@@ -1,5 +1,0 @@
-use Rattle.std.proofs.Common.{◌%◌, ap, shr-shr}
-use Rattle.jsonb_scan.proofs.parser.vector.shifted_down.Goals as goal
-
-pub returns : goal.returns
-returns c k = ap (λ x. x % 2) (shr-shr c.args.bits c.args.by k)

@@ -1,9 +1,0 @@
-use Rattle.std.proofs.Common.{◌-◌, ◌≤◌, length}
-use Rattle.jsonb_stored.specs.Frames.{ArePlain}
-use Rattle.jsonb_stored.proofs.ascii.long_run.Given as goal
-
-abbrev pub invariant-wide : goal.invariant-wide
-invariant-wide l = (l.len ≤ length l.bytes) × ArePlain l.bytes l.len
-
-abbrev pub decreases-wide : goal.decreases-wide
-decreases-wide l = length l.bytes - l.len

@@ -1,5 +1,0 @@
-use Rattle.jsonb_stored.specs.Frames.{AreNoZeros}
-use Rattle.jsonb_stored.proofs.ascii.run_by_bytes_before_zero.Given as goal
-
-abbrev pub invariant-bytes : goal.invariant-bytes
-invariant-bytes l = AreNoZeros l.bytes l.i

@@ -1,9 +1,0 @@
-use Rattle.std.proofs.Common.{◌-◌, ◌≤◌, length}
-use Rattle.jsonb_stored.specs.Frames.{ArePlain}
-use Rattle.jsonb_stored.proofs.ascii.run_by_vectors.Given as goal
-
-abbrev pub invariant-vectors : goal.invariant-vectors
-invariant-vectors l = (l.len ≤ length l.bytes) × ArePlain l.bytes l.len
-
-abbrev pub decreases-vectors : goal.decreases-vectors
-decreases-vectors l = length l.bytes - l.len

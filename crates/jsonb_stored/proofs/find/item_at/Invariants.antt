@@ -1,9 +1,0 @@
-use Rattle.std.proofs.Common.{◌≤◌, length}
-use Rattle.jsonb_stored.proofs.Occurrence.{WalksItems}
-use Rattle.jsonb_stored.proofs.find.item_at.Given as goal
-
-abbrev pub invariant-items : goal.invariant-items
-invariant-items l = record { walks : WalksItems l.items l.index l.before l.rest; within : length l.rest ≤ length l.items }
-
-abbrev pub decreases-items : goal.decreases-items
-decreases-items l = length l.rest

@@ -1,9 +1,0 @@
-use Rattle.std.proofs.Common.{◌≤◌, length}
-use Rattle.jsonb_stored.proofs.AfterTexts.{SkipsText}
-use Rattle.jsonb_stored.proofs.skip.after_any_text.Given as goal
-
-abbrev pub invariant-zeros : goal.invariant-zeros
-invariant-zeros l = record { skips : SkipsText l.bytes l.rest; within : length l.rest ≤ length l.bytes }
-
-abbrev pub decreases-zeros : goal.decreases-zeros
-decreases-zeros l = length l.rest

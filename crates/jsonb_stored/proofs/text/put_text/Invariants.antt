@@ -1,9 +1,0 @@
-use Rattle.std.proofs.Common.{◌≡◌, ◌≤◌, ◌++◌, ℕ, List, drop, length}
-use Rattle.jsonb_key.proofs.Texts.{ReadsText}
-use Rattle.jsonb_stored.proofs.text.put_text.Given as goal
-
-abbrev pub invariant-bytes : goal.invariant-bytes
-invariant-bytes l = record { read : List ℕ; long : length read ≡ l.at; within : l.at ≤ length l.fn.out; reads : ReadsText l.key read l.rest; put : l.out ≡ read ++ drop l.at l.fn.out }
-
-abbrev pub decreases-bytes : goal.decreases-bytes
-decreases-bytes l = length l.rest

@@ -1,5 +1,0 @@
-use Rattle.jsonb_write.specs.CheckSink.{unwritten}
-use Rattle.jsonb_write.proofs.check.CheckSink.new.Goals as goal
-
-pub returns : goal.returns
-returns c = record { holds = record { members = c.new.ensures unwritten; fits = tt } }

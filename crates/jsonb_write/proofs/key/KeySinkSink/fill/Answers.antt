@@ -1,7 +1,0 @@
-use Rattle.jsonb_write.proofs.Keys.KeySinks.{part_written, value_written}
-use Rattle.jsonb_write.proofs.Sinks.{on_ok}
-use Rattle.jsonb_write.proofs.key.KeySinkSink.fill.Goals as goal
-
-pub returns-clause-holds : goal.returns-clause-holds
-returns-clause-holds c =
-    on_ok c.part.result c.part.ensures.bytes (λ wrote text s held cs sink sees encoded. value_written s sink (part_written c.args.part.now s c.args.from c.args.to sink sees encoded wrote))

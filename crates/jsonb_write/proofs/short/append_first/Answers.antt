@@ -1,9 +1,0 @@
-use Rattle.std.proofs.Common.{◌++◌, ap, take, ◌∙◌, arith}
-use Rattle.std.proofs.lemmas.List.{take-take}
-use Rattle.jsonb_write.proofs.Sinks.{on_ok}
-use Rattle.jsonb_write.proofs.short.append_first.Goals as goal
-
-pub returns-in-Some-clause-bytes : goal.returns-in-Some-clause-bytes
-returns-in-Some-clause-bytes c =
-    on_ok c.append_part.result c.append_part.ensures.bytes (λ e.
-    e ∙ ap (λ xs. c.args.out.now.items ++ xs) (ap (take c.args.count) c.in-Some.ensures.cases.same ∙ take-take c.args.count 32 c.args.bytes.now (omega arith)))

@@ -1,8 +1,0 @@
-use Rattle.std.proofs.Common.{append-nil}
-use Rattle.jsonb_write.proofs.OpenTexts.{array_ended}
-use Rattle.jsonb_write.proofs.Sinks.{goes_on, on_ok}
-use Rattle.jsonb_write.proofs.text.TextSinkSink.end_array.Goals as goal
-
-pub returns-clause-holds : goal.returns-clause-holds
-returns-clause-holds c =
-    on_ok c.put_at.result c.put_at.ensures.bytes (λ w text held ss cs sink. goes_on sink w (array_ended ss cs) (append-nil _) sink.fits.1)

@@ -1,0 +1,331 @@
+-- The walks in which members and items are left out that an object names.
+use Rattle.std.proofs.Common.{◌≡◌, ℕ, ◌+◌, ◌<◌, ◌≤◌, Bool, true, false, ◌||◌, if◌then◌else◌, List, [], ◌∷◌, ◌++◌, Some, None, Result, Ok, Err, MatchBool, length, refl, sym, ap, subst, ◌∙◌, arith, append-nil, append_assoc}
+use Rattle.std.specs.Prelude.{IsErrAnd, Vec, vec_capacity}
+use Rattle.std.specs.declared.alloc.Global.{Global}
+use Rattle.std.specs.Ordering.{is_eq}
+use Rattle.std.specs.Str.{bytes_eq}
+use Rattle.key_value.specs.Readable.{IsReadable}
+use Rattle.jsonb_spec.specs.Containment.{any_item}
+use Rattle.jsonb_spec.specs.SortKey.{items_key, key_of, members_key, text_key}
+use Rattle.jsonb_spec.specs.Tree.{Tree, null, boolean, string, number, array, object, Trees, no_trees, more_trees, Members, no_members, more_members}
+use Rattle.jsonb_value.proofs.SortKeys.Kinds.{is_small, number_begins}
+use Rattle.jsonb_value.proofs.Trees.Runs.{heads, tails}
+use Rattle.key_walk.specs.Checked.{AreReadable, HaveReadable}
+use Rattle.std.proofs.lemmas.Slice.Eq.{bytes_eq-Decides}
+use Rattle.key_walk.proofs.Finds.{readable_inside}
+use Rattle.key_walk.proofs.Framed.{names_compare}
+use Rattle.key_walk.proofs.Occurrence.{equal_names}
+use Rattle.key_edit.specs.Merging.{HasNoOther, IsLast, IsStep, StepsOn}
+use Rattle.key_edit.specs.Edit.{merged_members}
+use Rattle.key_edit.specs.declared.merge.Step.{Step}
+use Rattle.key_document.specs.Document.{counts_at, counts_at_items, counts_at_members}
+use Rattle.key_document.specs.LeftOut.{any_named, has_name, is_named, items_beside, members_beside}
+use Rattle.key_document.specs.Retaining.{Finishes, IsBegun, Retains, WritesAnswer, is_on_both, output_of, unless}
+use Rattle.key_document.specs.declared.error.DocumentError.{DocumentError}
+use Rattle.key_document.specs.declared.error.DocumentError.TheVariants.{OutOfMemory}
+use Rattle.key_document.specs.declared.retain.Output.{Output}
+use Rattle.key_document.specs.declared.retain.Retaining.{Retaining}
+use Rattle.key_document.proofs.Beside.{MemberPassed, member_passed, push_counts, push_key, rest_stays}
+use Rattle.key_document.proofs.Counts.{members_each, one_each}
+use Rattle.key_document.proofs.Retained.{answer_finished, answer_lacking, next_ready, retains_begun}
+
+-- ---- whether anything goes
+
+any_so_far : (any found gone rest : Bool) → any ≡ (found || (gone || rest)) → any ≡ ((found || gone) || rest)
+any_so_far any true gone rest e = e
+any_so_far any false gone rest e = e
+
+any_here : (any found gone rest : Bool) → any ≡ (found || (gone || rest)) → gone ≡ true → any ≡ true
+any_here any true gone rest e g = e
+any_here any false true rest e g = e
+any_here any false false rest e g = absurd (no_both g)
+  where
+    no_both : false ≡ true → ⊥
+    no_both h = cc
+
+or_none : (found rest : Bool) → rest ≡ false → (found || rest) ≡ found
+or_none true rest e = refl
+or_none false rest e = e
+
+-- ---- members
+
+abbrev what_stays : Members → Members → Tree
+what_stays ms ns = object (members_beside ns ms)
+
+-- What was written of the members, and what is left on both sides.
+pub record MembersLeft (first : Output) (ms ns : Members) (retaining : Retaining) (left right old now : List ℕ) : Type 0 where
+  pub members : Members
+  pub others : Members
+  pub readable : HaveReadable members
+  pub others_readable : HaveReadable others
+  pub left_is : left ≡ members_key members
+  pub right_is : right ≡ members_key others
+  pub retains : Retains first (key_of (object (members_beside ns ms))) (counts_at (object (members_beside ns ms))) left (counts_at_members members) (members_key (members_beside others members)) (counts_at_members (members_beside others members)) retaining old now
+  pub any_is : any_named ns ms ≡ (retaining.found || any_named others members)
+
+pub members_begun : (ms ns : Members) (begun : Retaining) (left right old : List ℕ) → HaveReadable ms → HaveReadable ns → left ≡ members_key ms → right ≡ members_key ns → IsBegun 209 begun left (counts_at_members ms) → MembersLeft begun.output ms ns begun left right old old
+members_begun ms ns begun left right old h i e f b = record {
+  members = ms;
+  others = ns;
+  readable = h;
+  others_readable = i;
+  left_is = e;
+  right_is = f;
+  retains = retains_begun begun.output (key_of (what_stays ms ns)) (counts_at (what_stays ms ns)) old begun left (counts_at_members ms) (209 ∷ []) (0 ∷ []) (members_key (members_beside ns ms)) (counts_at_members (members_beside ns ms)) refl refl b.pending_is b.are_ahead refl refl;
+  any_is = ap (λ found. found || any_named ns ms) (sym b.nothing);
+}
+
+module _ (first : Output) (ms ns : Members) (retaining : Retaining) (left right old now : List ℕ) (step : Step) (l : MembersLeft first ms ns retaining left right old now) (s : IsStep l.members l.others step) where
+  abbrev StepOf : Bool → Type 0
+  StepOf over = MatchBool over (IsLast step.side l.members l.others × (step.part.now ≡ members_key (merged_members l.members l.others)) × HasNoOther step.side l.members l.others) (StepsOn l.members l.others step.side step.part.now step.members.now step.others.now)
+
+  module _ (goes_on : step.over ≡ false) (gone : Bool) (is_gone : gone ≡ is_on_both step.side) where
+    pub on : StepsOn l.members l.others step.side step.part.now step.members.now step.others.now
+    on = subst StepOf goes_on s
+
+    pub passed : MemberPassed gone l.members l.others on.members on.others
+    passed = subst (λ b. MemberPassed b l.members l.others on.members on.others) (sym is_gone) (member_passed step.side l.members l.others step.part.now step.members.now step.others.now on l.readable.proper)
+
+    pub here_is : left ≡ passed.0.one ++ step.members.now
+    here_is = l.left_is ∙ passed.0.key_is ∙ ap (λ b. passed.0.one ++ b) (sym on.left_is)
+
+    pub part_each : length passed.0.one_counts ≡ length passed.0.one
+    part_each = passed.0.each
+
+    -- what a step reports
+    pub goes_wrong : (r : Result Bool DocumentError) (error : DocumentError) (before mid new : Vec ℕ Global) → before.items ≡ old → IsErrAnd r (λ e. e ≡ error) → vec_capacity before ≤ vec_capacity mid
+        → (gone ≡ true) × (error ≡ OutOfMemory) × (vec_capacity mid < length old + length (output_of first (key_of (what_stays ms ns)) (counts_at (what_stays ms ns))))
+        → WritesAnswer first (if any_named ns ms then Some (what_stays ms ns) else None) r before new
+    goes_wrong r error before mid new is h most x =
+        answer_lacking first (what_stays ms ns) (any_named ns ms) r error before mid new
+        (any_here (any_named ns ms) retaining.found gone (any_named on.others on.members) (l.any_is ∙ ap (λ b. retaining.found || b) passed.1) x.0) h x.1 most
+        (omega (arith, x.2, ap length is))
+
+    pub ready : Retains first (key_of (what_stays ms ns)) (counts_at (what_stays ms ns)) left (passed.0.one_counts ++ counts_at_members on.members) (unless gone passed.0.one (members_key (members_beside on.others on.members)))
+        (unless gone passed.0.one_counts (counts_at_members (members_beside on.others on.members))) retaining old now
+    ready =
+        next_ready first (key_of (what_stays ms ns)) (counts_at (what_stays ms ns)) old gone left (counts_at_members l.members) (members_key (members_beside l.others l.members)) (counts_at_members (members_beside l.others l.members))
+        step.members.now (counts_at_members on.members) (members_key (members_beside on.others on.members)) (counts_at_members (members_beside on.others on.members)) retaining now
+        (record { one = passed.0.one; one_counts = passed.0.one_counts; each = passed.0.each; key_is = here_is; counts_are = passed.0.counts_are; later_is = passed.0.later_is; later_counts_are = passed.0.later_counts_are }) l.retains
+
+    pub next_left : (next : Retaining) (new : List ℕ)
+        → Retains first (key_of (what_stays ms ns)) (counts_at (what_stays ms ns)) step.members.now (counts_at_members on.members) (members_key (members_beside on.others on.members)) (counts_at_members (members_beside on.others on.members)) next old new
+        × (next.found ≡ (retaining.found || gone))
+        → MembersLeft first ms ns next step.members.now step.others.now old new
+    next_left next new x = record {
+      members = on.members;
+      others = on.others;
+      readable = on.readable;
+      others_readable = on.others_readable;
+      left_is = on.left_is;
+      right_is = on.right_is;
+      retains = x.0;
+      any_is = any_so_far (any_named ns ms) retaining.found gone (any_named on.others on.members) (l.any_is ∙ ap (λ b. retaining.found || b) passed.1) ∙ ap (λ b. b || any_named on.others on.members) (sym x.1);
+    }
+
+  module _ (over : step.over ≡ true) where
+    last : (members_beside l.others l.members ≡ l.members) × (any_named l.others l.members ≡ false)
+    last = rest_stays step.side l.members l.others (subst StepOf over s).2
+
+    pub last_each : length (counts_at_members l.members) ≡ length left
+    last_each = members_each l.members l.readable.proper ∙ sym (ap length l.left_is)
+
+    pub last_retains : Retains first (key_of (what_stays ms ns)) (counts_at (what_stays ms ns)) left (counts_at_members l.members) left (counts_at_members l.members) retaining old now
+    last_retains =
+        subst (λ c. Retains first (key_of (what_stays ms ns)) (counts_at (what_stays ms ns)) left (counts_at_members l.members) left c retaining old now) (ap counts_at_members last.0)
+        (subst (λ b. Retains first (key_of (what_stays ms ns)) (counts_at (what_stays ms ns)) left (counts_at_members l.members) b (counts_at_members (members_beside l.others l.members)) retaining old now) (ap members_key last.0 ∙ sym l.left_is) l.retains)
+
+    pub last_answer : (r : Result Bool DocumentError) (before mid new : Vec ℕ Global) → vec_capacity before ≤ vec_capacity mid → Finishes first (what_stays ms ns) retaining.found before.items r mid new
+        → WritesAnswer first (if any_named ns ms then Some (what_stays ms ns) else None) r before new
+    last_answer r before mid new most f =
+        answer_finished first (what_stays ms ns) (any_named ns ms) retaining.found r before mid new (l.any_is ∙ or_none retaining.found (any_named l.others l.members) last.1) most f
+
+-- ---- items
+
+abbrev items_stay : Trees → Members → Tree
+items_stay ts ns = array (items_beside ns ts)
+
+-- What was written of the items, and what is left of them.
+pub record ItemsLeft (first : Output) (ts : Trees) (ns : Members) (retaining : Retaining) (left old now : List ℕ) : Type 0 where
+  pub items : Trees
+  pub readable : AreReadable items
+  pub left_is : left ≡ items_key items
+  pub retains : Retains first (key_of (array (items_beside ns ts))) (counts_at (array (items_beside ns ts))) left (counts_at_items items) (items_key (items_beside ns items)) (counts_at_items (items_beside ns items)) retaining old now
+  pub any_is : any_item (is_named ns) ts ≡ (retaining.found || any_item (is_named ns) items)
+
+pub items_begun : (ts : Trees) (ns : Members) (begun : Retaining) (left old : List ℕ) → AreReadable ts → left ≡ items_key ts → IsBegun 210 begun left (counts_at_items ts) → ItemsLeft begun.output ts ns begun left old old
+items_begun ts ns begun left old h e b = record {
+  items = ts;
+  readable = h;
+  left_is = e;
+  retains = retains_begun begun.output (key_of (items_stay ts ns)) (counts_at (items_stay ts ns)) old begun left (counts_at_items ts) (210 ∷ []) (0 ∷ []) (items_key (items_beside ns ts)) (counts_at_items (items_beside ns ts)) refl refl b.pending_is b.are_ahead refl refl;
+  any_is = ap (λ found. found || any_item (is_named ns) ts) (sym b.nothing);
+}
+
+-- An item is first.
+pub record ItemFirst (first : Output) (ts : Trees) (ns : Members) (retaining : Retaining) (left old now : List ℕ) : Type 0 where
+  pub item : Tree
+  pub readable : IsReadable item
+  pub others : Trees
+  pub others_readable : AreReadable others
+  pub occurs : left ≡ items_key (more_trees item others) ++ []
+  pub retains : Retains first (key_of (array (items_beside ns ts))) (counts_at (array (items_beside ns ts))) left (counts_at item ++ counts_at_items others) (unless (is_named ns item) (key_of item) (items_key (items_beside ns others)))
+      (unless (is_named ns item) (counts_at item) (counts_at_items (items_beside ns others))) retaining old now
+  pub any_is : any_item (is_named ns) ts ≡ (retaining.found || (is_named ns item || any_item (is_named ns) others))
+
+module _ (first : Output) (ts : Trees) (ns : Members) (retaining : Retaining) (left old now : List ℕ) where
+  pub item_first : (l : ItemsLeft first ts ns retaining left old now) → ((more : List ℕ) → left ≡ items_key no_trees ++ more → ⊥) → ItemFirst first ts ns retaining left old now
+  item_first l some = go l.items l.readable l.left_is l.retains l.any_is
+    where
+      go : (items : Trees) → AreReadable items → left ≡ items_key items → Retains first (key_of (items_stay ts ns)) (counts_at (items_stay ts ns)) left (counts_at_items items) (items_key (items_beside ns items)) (counts_at_items (items_beside ns items)) retaining old now
+          → any_item (is_named ns) ts ≡ (retaining.found || any_item (is_named ns) items) → ItemFirst first ts ns retaining left old now
+      go no_trees h e r a = absurd (some [] (e ∙ sym (append-nil (items_key no_trees))))
+      go (more_trees t us) h e r a =
+          record {
+            item = t;
+            readable = readable_inside t (record { proper = h.proper.0; within = h.within.0 });
+            others = us;
+            others_readable = record { proper = h.proper.1; within = h.within.1 };
+            occurs = e ∙ sym (append-nil (items_key (more_trees t us)));
+            retains =
+                next_ready first (key_of (items_stay ts ns)) (counts_at (items_stay ts ns)) old (is_named ns t) left (counts_at_items (more_trees t us)) (items_key (items_beside ns (more_trees t us))) (counts_at_items (items_beside ns (more_trees t us)))
+                (items_key us) (counts_at_items us) (items_key (items_beside ns us)) (counts_at_items (items_beside ns us)) retaining now
+                (record { one = key_of t; one_counts = counts_at t; each = one_each t h.proper.0; key_is = e; counts_are = refl; later_is = push_key (is_named ns t) t (items_beside ns us); later_counts_are = push_counts (is_named ns t) t (items_beside ns us) }) r;
+            any_is = a;
+          }
+
+  pub next_items : (n : ItemFirst first ts ns retaining left old now) (rest : List ℕ) (next : Retaining) (gone : Bool) (new : List ℕ) → gone ≡ is_named ns n.item → rest ≡ items_key n.others ++ []
+      → Retains first (key_of (array (items_beside ns ts))) (counts_at (array (items_beside ns ts))) rest (counts_at_items n.others) (items_key (items_beside ns n.others)) (counts_at_items (items_beside ns n.others)) next old new × (next.found ≡ (retaining.found || gone))
+      → ItemsLeft first ts ns next rest old new
+  next_items n rest next gone new is e x = record {
+    items = n.others;
+    readable = n.others_readable;
+    left_is = e ∙ append-nil (items_key n.others);
+    retains = x.0;
+    any_is = any_so_far (any_item (is_named ns) ts) retaining.found (is_named ns n.item) (any_item (is_named ns) n.others) n.any_is ∙ ap (λ b. b || any_item (is_named ns) n.others) (ap (λ b. retaining.found || b) (sym is) ∙ sym x.1);
+  }
+
+  pub item_goes_wrong : (n : ItemFirst first ts ns retaining left old now) (gone : Bool) (r : Result Bool DocumentError) (error : DocumentError) (before mid new : Vec ℕ Global) → gone ≡ is_named ns n.item → before.items ≡ old → IsErrAnd r (λ e. e ≡ error) → vec_capacity before ≤ vec_capacity mid
+      → (gone ≡ true) × (error ≡ OutOfMemory) × (vec_capacity mid < length old + length (output_of first (key_of (items_stay ts ns)) (counts_at (items_stay ts ns))))
+      → WritesAnswer first (if any_item (is_named ns) ts then Some (items_stay ts ns) else None) r before new
+  item_goes_wrong n gone r error before mid new is same h most x =
+      answer_lacking first (items_stay ts ns) (any_item (is_named ns) ts) r error before mid new
+      (any_here (any_item (is_named ns) ts) retaining.found (is_named ns n.item) (any_item (is_named ns) n.others) n.any_is (sym is ∙ x.0)) h x.1 most (omega (arith, x.2, ap length same))
+
+  pub item_ready : (n : ItemFirst first ts ns retaining left old now) (gone : Bool) → gone ≡ is_named ns n.item
+      → Retains first (key_of (array (items_beside ns ts))) (counts_at (array (items_beside ns ts))) left (counts_at n.item ++ counts_at_items n.others) (unless gone (key_of n.item) (items_key (items_beside ns n.others)))
+      (unless gone (counts_at n.item) (counts_at_items (items_beside ns n.others))) retaining old now
+  item_ready n gone is =
+      subst (λ b. Retains first (key_of (items_stay ts ns)) (counts_at (items_stay ts ns)) left (counts_at n.item ++ counts_at_items n.others) (unless b (key_of n.item) (items_key (items_beside ns n.others))) (unless b (counts_at n.item) (counts_at_items (items_beside ns n.others))) retaining old now) (sym is) n.retains
+
+  pub item_here : (n : ItemFirst first ts ns retaining left old now) (rest : List ℕ) → rest ≡ items_key n.others ++ [] → left ≡ key_of n.item ++ rest
+  item_here n rest e = n.occurs ∙ append_assoc (key_of n.item) (items_key n.others) [] ∙ ap (λ b. key_of n.item ++ b) (sym e)
+
+  -- no item is left
+  pub record NoItems : Type 0 where
+    pub left_is : left ≡ 0 ∷ []
+    pub retains : Retains first (key_of (array (items_beside ns ts))) (counts_at (array (items_beside ns ts))) left (0 ∷ []) left (0 ∷ []) retaining old now
+    pub any_is : any_item (is_named ns) ts ≡ retaining.found
+
+  pub no_items : (l : ItemsLeft first ts ns retaining left old now) → ((t : Tree) → IsReadable t → (us : Trees) → (more : List ℕ) → left ≡ items_key (more_trees t us) ++ more → ⊥) → NoItems
+  no_items l none = go l.items l.readable l.left_is l.retains l.any_is
+    where
+      go : (items : Trees) → AreReadable items → left ≡ items_key items → Retains first (key_of (items_stay ts ns)) (counts_at (items_stay ts ns)) left (counts_at_items items) (items_key (items_beside ns items)) (counts_at_items (items_beside ns items)) retaining old now
+          → any_item (is_named ns) ts ≡ (retaining.found || any_item (is_named ns) items) → NoItems
+      go no_trees h e r a = record {
+        left_is = e;
+        retains = subst (λ b. Retains first (key_of (items_stay ts ns)) (counts_at (items_stay ts ns)) left (0 ∷ []) b (0 ∷ []) retaining old now) (sym e) r;
+        any_is = a ∙ or_none retaining.found false refl;
+      }
+      go (more_trees t us) h e r a = absurd (none t (readable_inside t (record { proper = h.proper.0; within = h.within.0 })) us [] (e ∙ sym (append-nil (items_key (more_trees t us)))))
+
+-- ---- a name looked for
+
+-- The names that are left are those among which the text is looked for.
+pub record NamesAhead (bytes : List ℕ) (ns : Members) (rest : List ℕ) : Type 0 where
+  pub names : Members
+  pub readable : HaveReadable names
+  pub rest_is : rest ≡ members_key names
+  pub same : has_name bytes ns ≡ has_name bytes names
+
+pub names_begun : (bytes : List ℕ) (ns : Members) (rest : List ℕ) → HaveReadable ns → rest ≡ members_key ns → NamesAhead bytes ns rest
+names_begun bytes ns rest h e = record { names = ns; readable = h; rest_is = e; same = refl }
+
+-- A name is first.
+pub record NameFirst (bytes : List ℕ) (ns : Members) (rest : List ℕ) : Type 0 where
+  pub name : List ℕ
+  pub value : Tree
+  pub readable : IsReadable value
+  pub others : Members
+  pub others_readable : HaveReadable others
+  pub occurs : rest ≡ members_key (more_members name value others) ++ []
+  pub same : has_name bytes ns ≡ (bytes_eq bytes name || has_name bytes others)
+
+pub name_first : (bytes : List ℕ) (ns : Members) (rest : List ℕ) → NamesAhead bytes ns rest → ((more : List ℕ) → rest ≡ members_key no_members ++ more → ⊥) → NameFirst bytes ns rest
+name_first bytes ns rest l some = go l.names l.readable l.rest_is l.same
+  where
+    go : (names : Members) → HaveReadable names → rest ≡ members_key names → has_name bytes ns ≡ has_name bytes names → NameFirst bytes ns rest
+    go no_members h e s = absurd (some [] (e ∙ sym (append-nil (members_key no_members))))
+    go (more_members k t ms) h e s = record {
+      name = k;
+      value = t;
+      readable = readable_inside t (record { proper = h.proper.1; within = h.within.0 });
+      others = ms;
+      others_readable = record { ascend = h.ascend.1; proper = h.proper.2; within = h.within.1 };
+      occurs = e ∙ sym (append-nil (members_key (more_members k t ms)));
+      same = s;
+    }
+
+pub no_name_left : (bytes : List ℕ) (ns : Members) (rest : List ℕ) → NamesAhead bytes ns rest → ((name : List ℕ) → (t : Tree) → IsReadable t → (ms : Members) → (more : List ℕ) → rest ≡ members_key (more_members name t ms) ++ more → ⊥) → has_name bytes ns ≡ false
+no_name_left bytes ns rest l none = go l.names l.readable l.rest_is l.same
+  where
+    go : (names : Members) → HaveReadable names → rest ≡ members_key names → has_name bytes ns ≡ has_name bytes names → has_name bytes ns ≡ false
+    go no_members h e s = s
+    go (more_members k t ms) h e s = absurd (none k t (readable_inside t (record { proper = h.proper.1; within = h.within.0 })) ms [] (e ∙ sym (append-nil (members_key (more_members k t ms)))))
+
+-- keys of names compare as these do
+names_eq : (k l : List ℕ) → bytes_eq (text_key k) (text_key l) ≡ bytes_eq k l
+names_eq k l = equal_names (text_key k) (text_key l) ∙ ap is_eq (names_compare k l) ∙ sym (equal_names k l)
+
+pub name_same : (bytes : List ℕ) (ns : Members) (rest text name : List ℕ) (n : NameFirst bytes ns rest) (b : Bool) → b ≡ bytes_eq name text → text ≡ text_key bytes → name ≡ text_key n.name → bytes_eq bytes n.name ≡ b
+name_same bytes ns rest text name n b is e f = sym (names_eq bytes n.name) ∙ eq_turned (text_key bytes) (text_key n.name) ∙ (λ i. bytes_eq (sym f i) (sym e i)) ∙ sym is
+  where
+    eq_turned : (xs ys : List ℕ) → bytes_eq xs ys ≡ bytes_eq ys xs
+    eq_turned xs ys = by (bytes_eq xs ys) (bytes_eq ys xs) (λ h. (bytes_eq-Decides ys xs).1 (sym ((bytes_eq-Decides xs ys).0 h))) (λ h. (bytes_eq-Decides xs ys).1 (sym ((bytes_eq-Decides ys xs).0 h)))
+      where
+        by : (a b : Bool) → (a ≡ true → b ≡ true) → (b ≡ true → a ≡ true) → a ≡ b
+        by true b f g = sym (f refl)
+        by false true f g = g refl
+        by false false f g = refl
+
+pub name_found : (bytes : List ℕ) (ns : Members) (rest : List ℕ) (n : NameFirst bytes ns rest) → bytes_eq bytes n.name ≡ true → has_name bytes ns ≡ true
+name_found bytes ns rest n e = n.same ∙ ap (λ b. b || has_name bytes n.others) e
+
+pub name_other : (bytes : List ℕ) (ns : Members) (rest : List ℕ) (n : NameFirst bytes ns rest) (behind : List ℕ) → bytes_eq bytes n.name ≡ false → behind ≡ members_key n.others ++ [] → NamesAhead bytes ns behind
+name_other bytes ns rest n behind e f = record {
+  names = n.others;
+  readable = n.others_readable;
+  rest_is = f ∙ append-nil (members_key n.others);
+  same = n.same ∙ ap (λ b. b || has_name bytes n.others) e;
+}
+
+-- ---- an item that is a name
+
+-- an item whose key begins as those of strings do is one
+pub string_named : (ns : Members) (t : Tree) → IsReadable t → (first : ℕ) (text item : List ℕ) → item ≡ first ∷ text → item ≡ key_of t → first ≡ 208 → (b : Bool) → ((bytes : List ℕ) → text ≡ text_key bytes → b ≡ has_name bytes ns) → b ≡ is_named ns t
+string_named ns (string mark bytes) r first text item e f is b h = h bytes (tails first 208 text (text_key bytes) (sym e ∙ f))
+string_named ns null r first text item e f is b h = absurd (omega (arith, is, heads first 211 text [] (sym e ∙ f)))
+string_named ns (boolean true) r first text item e f is b h = absurd (omega (arith, is, heads first 22 text [] (sym e ∙ f)))
+string_named ns (boolean false) r first text item e f is b h = absurd (omega (arith, is, heads first 21 text [] (sym e ∙ f)))
+string_named ns (array ts) r first text item e f is b h = absurd (omega (arith, is, heads first 210 text (items_key ts) (sym e ∙ f)))
+string_named ns (object ms) r first text item e f is b h = absurd (omega (arith, is, heads first 209 text (members_key ms) (sym e ∙ f)))
+string_named ns (number n) r first text item e f is b h =
+    let x = number_begins n (is_small n r.proper) in
+    absurd (omega (arith, is, heads first x.head text x.tail (sym e ∙ f ∙ x.is), x.high))
+string_named ns t r first text item e f is b h = absurd r.within
+
+-- what is left isn't written
+pub finish_lacks : (first : Output) (t : Tree) (found : Bool) (old : List ℕ) (r : Result Bool DocumentError) (error : DocumentError) (mid new : Vec ℕ Global) → found ≡ true → IsErrAnd r (λ e. e ≡ error)
+    → (error ≡ OutOfMemory) × (vec_capacity mid < length old + length (output_of first (key_of t) (counts_at t))) → Finishes first t found old r mid new
+finish_lacks first t found old (Ok x) error mid new f h full = absurd h
+finish_lacks first t found old (Err e) error mid new f h full = (f, h ∙ full.0, full.1)

@@ -1,0 +1,53 @@
+use Rattle.std.proofs.Common.{◌≡◌, ◌+◌, ◌<◌, ◌^◌, ◌++◌, length, refl, sym, subst, ap, ◌∙◌, append-nil, arith, eqb-true, length-append}
+use Rattle.std.specs.Prelude.{vec_len, vec_capacity}
+use Rattle.key_text.proofs.Appending.{both, no_capacity_second}
+use Rattle.key_document.specs.Document.{behind_key, counts_at, end_of, zeros_at}
+use Rattle.key_document.specs.LeftOut.{without_nulls}
+use Rattle.key_document.specs.declared.error.DocumentError.TheVariants.{OutOfMemory}
+use Rattle.key_document.proofs.Counts.{one_each}
+use Rattle.key_document.proofs.Joining.{lacks_zeros}
+use Rattle.key_document.proofs.NoZeros.{none_bare}
+use Rattle.key_document.proofs.nulls.write_tail.Goals as goal
+
+pub returns-then-is_empty-clause-written : goal.returns-then-is_empty-clause-written
+returns-then-is_empty-clause-written c = λ t r e z.
+    let none = none_bare c.args.in_arrays t (sym (ap length z) ∙ eqb-true (length c.args.zeros.now) 0 (sym c.is_empty.ensures ∙ c.if-is_empty.true)) in
+    sym (ap (λ zs. c.args.out.now.items ++ behind_key zs) none ∙ append-nil c.args.out.now.items)
+
+pub returns-in_err-all-clause-written : goal.returns-in_err-all-clause-written
+returns-in_err-all-clause-written c = λ t r e z.
+    absurd (c.in_err-all.ensures.found (counts_at t) (omega (arith, one_each t r.proper, ap length e)) z)
+
+pub returns-in_err-write_value-clause-written : goal.returns-in_err-write_value-clause-written
+returns-in_err-write_value-clause-written c = λ t r e z.
+    let small : length (counts_at t) < 2 ^ 63 = omega (arith, one_each t r.proper, ap length e) in
+    let pends = c.in_ok-all.ensures.found (counts_at t) small z in
+    let zeros = zeros_at (without_nulls c.args.in_arrays t) in
+    let x = c.in_err-write_value.ensures.written t r e (pends, omega (arith, small)) in
+    lacks_zeros c.from_residual-in_err-write_value.result c.in_err-write_value.field-0.0 c.args.out.now c.write_value.new.out zeros (behind_key zeros) c.from_residual-in_err-write_value.ensures.1 x.0 x.1 (omega (arith, length-append zeros (end_of (length zeros))))
+
+pub returns-in_err-end_zeros-clause-written : goal.returns-in_err-end_zeros-clause-written
+returns-in_err-end_zeros-clause-written c = λ t r e z.
+    let small : length (counts_at t) < 2 ^ 63 = omega (arith, one_each t r.proper, ap length e) in
+    let pends = c.in_ok-all.ensures.found (counts_at t) small z in
+    let zeros = zeros_at (without_nulls c.args.in_arrays t) in
+    let mid = c.write_value.new.out in
+    let joined : mid.items ≡ c.args.out.now.items ++ zeros = c.in_ok-write_value.ensures.written t r e (pends, omega (arith, small)) in
+    let long = length-append c.args.out.now.items zeros in
+    let size : c.saturating_sub-size.result ≡ length zeros = omega (arith, c.saturating_sub-size.ensures, c.len.ensures, c.len-start.ensures, c.args.out.now.ok.0, mid.ok.0, ap length joined, long) in
+    let few : c.saturating_sub-size.result < 2 ^ 63 = omega (arith, size, mid.ok.0, mid.ok.1, mid.small, ap length joined, long) in
+    let full = subst (λ n. vec_capacity mid < vec_len mid + length (end_of n)) size (c.in_err-end_zeros.ensures.ended few).full in
+    lacks_zeros c.from_residual-in_err-end_zeros.result OutOfMemory c.args.out.now c.end_zeros.new.out (zeros ++ end_of (length zeros)) (behind_key zeros) c.from_residual-in_err-end_zeros.ensures.1 refl
+    (no_capacity_second c.args.out.now mid zeros (end_of (length zeros)) joined c.in_ok-write_value.ensures.preserves.capacity full) (omega arith)
+
+pub returns-clause-written : goal.returns-clause-written
+returns-clause-written c = λ t r e z.
+    let small : length (counts_at t) < 2 ^ 63 = omega (arith, one_each t r.proper, ap length e) in
+    let pends = c.in_ok-all.ensures.found (counts_at t) small z in
+    let zeros = zeros_at (without_nulls c.args.in_arrays t) in
+    let mid = c.write_value.new.out in
+    let joined : mid.items ≡ c.args.out.now.items ++ zeros = c.in_ok-write_value.ensures.written t r e (pends, omega (arith, small)) in
+    let long = length-append c.args.out.now.items zeros in
+    let size : c.saturating_sub-size.result ≡ length zeros = omega (arith, c.saturating_sub-size.ensures, c.len.ensures, c.len-start.ensures, c.args.out.now.ok.0, mid.ok.0, ap length joined, long) in
+    let few : c.saturating_sub-size.result < 2 ^ 63 = omega (arith, size, mid.ok.0, mid.ok.1, mid.small, ap length joined, long) in
+    both c.args.out.now.items mid.items c.end_zeros.new.out.items zeros (end_of (length zeros)) joined ((c.in_ok-end_zeros.ensures.ended few).ok ∙ ap (λ n. mid.items ++ end_of n) size)

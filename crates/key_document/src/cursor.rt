@@ -1,0 +1,123 @@
+//! The parts of a document one after the other, each as a document: all of them in time linear in the document.
+
+ghost use Rattle.std.specs.Prelude.{◌≡◌, ◌<◌, ◌≤◌, ◌+◌, ◌^◌, ◌++◌, ℕ, List, IfOk, MatchResult, drop, length};
+ghost use Rattle.jsonb_spec.specs.SortKey.{key_of};
+ghost use Rattle.key_document.specs.Changes.{AppendsDocument, PreservesOnError};
+ghost use Rattle.key_document.specs.Cursor.{IsLeftAt, IsLeftOf, OfNextPart, ReportsLeft};
+ghost use Rattle.key_document.specs.Document.{OfDocument};
+ghost use Rattle.key_zeros.specs.Numbers.{Pends};
+ghost use Rattle.key_zeros.specs.Zeros.{zeros_of};
+
+use crate::document::split_document;
+use crate::error::DocumentError;
+use crate::splice::take_zeros;
+use crate::zeros::{all_left, pass};
+
+/// What is left of a document's zeros behind the first bytes of its key.
+#[derive(Clone, Copy)]
+pub struct ZerosLeft {
+    /// How many bytes of the key are passed.
+    pub passed: usize,
+    /// How many bytes come before the next number with zeros.
+    pub before: usize,
+    /// How many zeros that number has; 0 where none with zeros is left.
+    pub count: u8,
+    /// Where in the document's zeros the entries behind that number begin.
+    pub entries: usize,
+}
+
+/// What is left of the document's zeros behind its key's first bytes, which are so many: with 0, all of them.
+///
+/// # Errors
+///
+/// `NoDocument` only where the bytes are no document, or its key has fewer bytes.
+pub fn zeros_from(document: &[u8], offset: usize) -> Result<ZerosLeft, DocumentError>
+    ensures left { OfDocument document.now (λ t. offset ≤ length (key_of t)
+        → MatchResult result (IsLeftAt t offset) (λ e. ⊥)) }
+{
+    let (_, zeros) = split_document(document);
+    let all = all_left(zeros)?;
+    let rest = pass(all, offset)?;
+    Ok(left_as(zeros, offset, rest))
+}
+
+/// Appends the document of the part whose key is at this offset in that of the document, and has this size, and returns
+/// what is left of the zeros behind the part. `left` is what is left behind bytes before the part, as `zeros_from` or
+/// this function returned it.
+///
+/// So the parts of a document are appended one after the other in time linear in the document: the zeros are passed
+/// once. Nothing is allocated but for `out`. With any other bytes in `left` it may append any bytes.
+///
+/// # Errors
+///
+/// `NoDocument` only where the bytes are no document, the range isn't within its key, or `left` isn't what is left
+/// before it. `OutOfMemory` only where the buffer lacks the capacity for the part's document. After an error the buffer
+/// is as before.
+pub fn append_next_range(
+    out: &mut Vec<u8>,
+    document: &[u8],
+    left: ZerosLeft,
+    offset: usize,
+    size: usize,
+) -> Result<ZerosLeft, DocumentError>
+    ensures part { OfNextPart document.now left offset size (λ t part.
+        AppendsDocument part result out.old out.new) }
+    ensures left { OfNextPart document.now left offset size (λ t part. ReportsLeft t (offset + size) result) }
+    ensures preserves { PreservesOnError result out.old out.new }
+{
+    let (key, zeros) = split_document(document);
+    if offset < left.passed || offset > key.len() || size > key.len() - offset {
+        return Err(DocumentError::NoDocument);
+    }
+    let (_, from_part) = key.split_at(offset);
+    let (part, _) = from_part.split_at(size);
+    let start = out.len();
+    out.extend_from_slice(part)?;
+    match take_zeros(out, next_of(zeros, left), offset - left.passed, size) {
+        Ok(rest) => Ok(left_as(zeros, offset + size, rest)),
+        Err(error) => {
+            out.truncate(start);
+            Err(error)
+        }
+    }
+}
+
+// What is left behind so many bytes of the key, as the number that it begins with, and where the entries behind are.
+fn left_as(zeros: &[u8], passed: usize, rest: Option<(usize, u8, &[u8])>) -> ZerosLeft
+    ensures left { (front behind : List ℕ) → zeros.now ≡ zeros_of 0 (front ++ behind) → Pends behind rest.entry
+        → IsLeftOf behind zeros.now result }
+    ensures passed { result.passed ≡ passed }
+{
+    match rest {
+        Some((before, count, others)) => ZerosLeft {
+            passed,
+            before,
+            count,
+            entries: zeros.len().saturating_sub(others.len()),
+        },
+        None => ZerosLeft {
+            passed,
+            before: 0,
+            count: 0,
+            entries: 0,
+        },
+    }
+}
+
+// What is left, with the entries behind it.
+fn next_of(zeros: &[u8], left: ZerosLeft) -> Option<(usize, u8, &[u8])>
+    ensures next { (counts : List ℕ) → IsLeftOf counts zeros.now left → Pends counts result }
+{
+    if left.count == 0 {
+        return None;
+    }
+    Some((left.before, left.count, entries_from(zeros, left.entries)))
+}
+
+// The bytes from the offset on; none where there are fewer.
+fn entries_from(zeros: &[u8], offset: usize) -> &[u8]
+    ensures { result.now ≡ drop offset zeros.now }
+{
+    let (_, rest) = zeros.split_at(offset.min(zeros.len()));
+    rest
+}

@@ -1,0 +1,107 @@
+-- Objects and arrays with a part more.
+use Rattle.std.proofs.Common.{◌≡◌, ℕ, Bool, true, false, List, [], ◌∷◌, ◌++◌, Option, Some, None, option_map, MatchOption, Result, Ok, Ordering, Less, Equal, Greater, Vec, Global, refl, sym, ap, subst, ◌∙◌, append-nil, arith}
+use Rattle.std.specs.Ordering.{match_ordering}
+use Rattle.key_value.proofs.Texts.{none_some}
+use Rattle.key_walk.specs.Open.{members, IsScalar}
+use Rattle.jsonb_spec.specs.Grammar.{max_depth}
+use Rattle.jsonb_spec.specs.Order.{bytes_cmp}
+use Rattle.jsonb_spec.specs.SortKey.{key_of, items_key, members_key}
+use Rattle.jsonb_spec.specs.Tree.{Tree, null, boolean, string, number, array, object, binary, date, timestamp, timestamp_tz, interval, Trees, no_trees, more_trees, Members, no_members, more_members, put}
+use Rattle.key_edit.specs.Edit.{Outcome, becomes, changed_at_member, changed_member, joined_items, set_to, with_item, with_member, AppendsKey, Edits}
+use Rattle.key_edit.specs.Spots.{SlotIn, SpotIn}
+use Rattle.key_edit.specs.declared.error.EditError.{EditError}
+use Rattle.key_edit.specs.declared.slot.Slot.{Slot}
+use Rattle.key_edit.specs.declared.spot.Spot.{Spot}
+use Rattle.jsonb_value.proofs.Trees.Runs.{heads}
+use Rattle.key_edit.proofs.Lifting.{Lifts, lifted}
+use Rattle.key_edit.proofs.Located.{tree_fits}
+use Rattle.key_edit.proofs.Spotted.{fits_in, key_before}
+
+-- ---- objects
+
+one_of : (o : Ordering) (a b c : Members) → match_ordering o (Some a) (Some b) (Some c) ≡ Some (match_ordering o a b c)
+one_of Less a b c = refl
+one_of Equal a b c = refl
+one_of Greater a b c = refl
+
+pub set_member : (k : List ℕ) (u : Tree) (ms : Members) → changed_member (set_to u true) k ms ≡ Some (put k u ms)
+set_member k u no_members = refl
+set_member k u (more_members l t ms) =
+    ap (λ x. match_ordering (bytes_cmp k l) (Some (more_members k u (more_members l t ms))) (Some (more_members l u ms)) (option_map (more_members l t) x)) (set_member k u ms)
+    ∙ one_of (bytes_cmp k l) (more_members k u (more_members l t ms)) (more_members l u ms) (more_members l t (put k u ms))
+
+-- a spot among the members is one in the object
+pub object_spot : (name key rest : List ℕ) (ms : Members) (spot : Spot) → key ≡ 0xD1 ∷ rest → SpotIn (key_before []) (fits_in 511) (λ change. option_map members (changed_member change name ms)) true name rest 511 spot
+    → SpotIn key_of (tree_fits max_depth) (λ change. changed_at_member change name (object ms)) true name key 511 spot
+object_spot name key rest ms spot begins s = record {
+  there = s.there;
+  name = s.name;
+  front = 0xD1 ∷ s.front;
+  behind = s.behind;
+  inside = begins ∙ ap (λ l. 0xD1 ∷ l) s.inside;
+  occurs = s.occurs;
+  named = s.named;
+  readable = s.readable;
+  fits = s.fits;
+  answers = λ change. lifted (key_before []) (fits_in 511) key_of (tree_fits max_depth) true s.name (0xD1 ∷ []) s.front s.behind 511 (change s.there) _ _ (bare (changed_member change name ms)) (s.answers change);
+}
+  where
+    bare : (x : Option Members) → Lifts (key_before []) (fits_in 511) key_of (tree_fits max_depth) (0xD1 ∷ []) (option_map members x) (option_map object x)
+    bare None = tt
+    bare (Some ns) = (ap (λ l. 0xD1 ∷ l) (sym (append-nil (members_key ns))), (λ h. h, λ h. h))
+
+abbrev pub ReportedKey : (old new : Vec ℕ Global) → Result (Unit {0}) EditError → Option Tree → Type 0
+ReportedKey old new reported x = MatchOption x ⊥ (λ v. AppendsKey v reported old new)
+
+-- the object with the member is the one changed at its name
+pub member_set : (name : List ℕ) (u t : Tree) → changed_at_member (set_to u true) name t ≡ with_member name u t
+member_set name u (object ms) = ap (option_map object) (set_member name u ms)
+member_set name u null = refl
+member_set name u (boolean b) = refl
+member_set name u (string mark bytes) = refl
+member_set name u (number n) = refl
+member_set name u (array ts) = refl
+member_set name u (binary bytes) = refl
+member_set name u (date days) = refl
+member_set name u (timestamp micros) = refl
+member_set name u (timestamp_tz offset micros) = refl
+member_set name u (interval months days micros) = refl
+
+-- no member is in another value
+pub scalar_slot : (name : List ℕ) (t : Tree) → IsScalar t → (change : Option Tree → Outcome) → changed_at_member change name t ≡ None
+scalar_slot name (array ts) s change = refl
+scalar_slot name (object ms) s change = absurd s
+scalar_slot name t s change = refl
+
+pub array_slot : (name key rest : List ℕ) (t : Tree) → key ≡ key_of t → key ≡ 0xD2 ∷ rest → (change : Option Tree → Outcome) → changed_at_member change name t ≡ None
+array_slot name key rest (object ms) e begins change = absurd (let h : 0xD1 ≡ 0xD2 = heads 0xD1 0xD2 (members_key ms) rest (sym e ∙ begins) in omega (arith, h))
+array_slot name key rest t e begins change = refl
+
+-- the spot of a member in the key of a value, and what is behind it
+abbrev pub MemberSpot : Tree → List ℕ → List ℕ → Spot → List ℕ → Type 0
+MemberSpot t name key spot behind = (s : SpotIn key_of (tree_fits max_depth) (λ change. changed_at_member change name t) true name key 511 spot) × (s.behind ≡ behind)
+
+-- the member's slot is found, or there is none
+abbrev pub FindsMember : Tree → List ℕ → List ℕ → Option Slot → Type 0
+FindsMember t name key reported = MatchOption reported ((change : Option Tree → Outcome) → changed_at_member change name t ≡ None)
+    (SlotIn (λ change. changed_at_member change name t) key)
+
+pub set_always : (u : Tree) (there : Option Tree) → set_to u true there ≡ becomes u
+set_always u None = refl
+set_always u (Some t) = refl
+
+-- ---- arrays
+
+pub no_array : (t : Tree) (u : Tree) (key : List ℕ) → key ≡ key_of t → ((ts : Trees) → (more : List ℕ) → key ≡ key_of (array ts) ++ more → None ≡ Some (items_key ts ++ more)) → with_item u t ≡ None
+no_array (array ts) u key e none = absurd (none_some _ (none ts [] (e ∙ sym (append-nil (key_of (array ts))))))
+no_array t u key e none = refl
+
+pub nothing_reported : (old : Vec ℕ Global) (reported : Result Bool EditError) (x : Option Tree) → reported ≡ Ok false → x ≡ None → Edits x reported old old
+nothing_reported old reported None is e = (is, refl)
+nothing_reported old reported (Some t) is e = absurd (some_none t e)
+  where
+    some_none : (t : Tree) → Some t ≡ None → ⊥
+    some_none t e = cc
+
+pub item_reported : (t u : Tree) (ts : Trees) (old new : Vec ℕ Global) (reported : Result (Unit {0}) EditError) → t ≡ array ts → AppendsKey (array (joined_items ts (more_trees u no_trees))) reported old new → ReportedKey old new reported (with_item u t)
+item_reported t u ts old new reported is a = subst (λ v. ReportedKey old new reported (with_item u v)) (sym is) a

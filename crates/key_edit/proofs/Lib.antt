@@ -1,0 +1,10 @@
+pub mod Lifting
+pub mod Spotted
+pub mod Located
+pub mod Depths
+pub mod Putting
+pub mod Merged
+pub mod Joined
+pub mod ProperChanges
+pub mod Built
+pub mod Inserting

@@ -1,0 +1,40 @@
+-- An answer that is behind more bytes.
+use Rattle.std.proofs.Common.{◌≡◌, ℕ, ◌↔◌, Bool, List, [], ◌++◌, Option, Some, None, refl, sym, ap, ◌∙◌, append_assoc}
+use Rattle.std.specs.Bool.{⊤}
+use Rattle.key_edit.specs.Edit.{Outcome, stays, goes, becomes}
+use Rattle.key_edit.specs.Spots.{Answers}
+
+-- the second has the bytes in front of the first, and fits where that does; or there is neither
+abbrev pub Lifts : {A B : Type 0} → (A → List ℕ) → (A → Type 0) → (B → List ℕ) → (B → Type 0) → List ℕ → Option A → Option B → Type 0
+Lifts key Fits others AlsoFits before None None = ⊤
+Lifts key Fits others AlsoFits before None (Some b) = ⊥
+Lifts key Fits others AlsoFits before (Some a) None = ⊥
+Lifts key Fits others AlsoFits before (Some a) (Some b) = (others b ≡ before ++ key a) × (AlsoFits b ↔ Fits a)
+
+pub both_ways : {P Q R : Type 0} → (P ↔ Q) → (Q ↔ R) → (P ↔ R)
+both_ways f g = (λ p. g.0 (f.0 p), λ r. f.1 (g.1 r))
+
+pub lifts_same : {A : Type 0} (key : A → List ℕ) (Fits : A → Type 0) (x : Option A) → Lifts key Fits key Fits [] x x
+lifts_same key Fits None = tt
+lifts_same key Fits (Some a) = (refl, (λ f. f, λ f. f))
+
+pub lifts_through : {A B C : Type 0} (a : A → List ℕ) (Fa : A → Type 0) (b : B → List ℕ) (Fb : B → Type 0) (c : C → List ℕ) (Fc : C → Type 0) (near far : List ℕ) (x : Option A) (y : Option B) (z : Option C) → Lifts a Fa b Fb near x y → Lifts b Fb c Fc far y z → Lifts a Fa c Fc (far ++ near) x z
+lifts_through a Fa b Fb c Fc near far None None None l m = tt
+lifts_through a Fa b Fb c Fc near far None None (Some z) l m = absurd m
+lifts_through a Fa b Fb c Fc near far None (Some y) z l m = absurd l
+lifts_through a Fa b Fb c Fc near far (Some x) None z l m = absurd l
+lifts_through a Fa b Fb c Fc near far (Some x) (Some y) None l m = absurd m
+lifts_through a Fa b Fb c Fc near far (Some x) (Some y) (Some z) l m = (m.0 ∙ ap (λ key. far ++ key) l.0 ∙ sym (append_assoc far near (a x)), both_ways m.1 l.1)
+
+-- what is answered of the first, is answered of the second
+pub lifted : {A B : Type 0} (a : A → List ℕ) (Fa : A → Type 0) (b : B → List ℕ) (Fb : B → Type 0) (object : Bool) (name before front behind : List ℕ) (depth_left : ℕ) (outcome : Outcome) (x : Option A) (y : Option B) → Lifts a Fa b Fb before x y
+    → Answers a Fa object name front behind depth_left outcome x → Answers b Fb object name (before ++ front) behind depth_left outcome y
+lifted a Fa b Fb object name before front behind depth_left stays None None l h = tt
+lifted a Fa b Fb object name before front behind depth_left stays None (Some y) l h = absurd l
+lifted a Fa b Fb object name before front behind depth_left stays (Some x) y l h = absurd h
+lifted a Fa b Fb object name before front behind depth_left goes None y l h = absurd h
+lifted a Fa b Fb object name before front behind depth_left goes (Some x) None l h = absurd l
+lifted a Fa b Fb object name before front behind depth_left goes (Some x) (Some y) l h = (l.0 ∙ ap (λ key. before ++ key) h.0 ∙ sym (append_assoc before front behind), l.1.1 h.1)
+lifted a Fa b Fb object name before front behind depth_left (becomes t) None y l h = absurd h
+lifted a Fa b Fb object name before front behind depth_left (becomes t) (Some x) None l h = absurd l
+lifted a Fa b Fb object name before front behind depth_left (becomes t) (Some x) (Some y) l h = (l.0 ∙ ap (λ key. before ++ key) h.0 ∙ sym (append_assoc before front _), both_ways l.1 h.1)

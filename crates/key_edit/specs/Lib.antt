@@ -1,0 +1,4 @@
+pub mod Edit
+pub mod Spots
+pub mod Merging
+pub mod Insert

@@ -1,0 +1,15 @@
+use Rattle.std.proofs.Common.{◌≡◌, ◌≤◌, ◌∷◌, ◌++◌, [], length}
+use Rattle.key_text.specs.Writes.{Preserves, opening_text}
+use Rattle.key_text.proofs.Walk.{WritesParts}
+use Rattle.key_text.proofs.write.append_parts.Given as goal
+
+abbrev pub invariant-parts : goal.invariant-parts
+invariant-parts l = record {
+  writes : WritesParts l.object l.bytes l.objects l.depth l.rest l.is_first (l.fn.buf.items ++ opening_text l.object ∷ []) l.buf.items;
+  preserves : Preserves l.fn.buf l.buf;
+  deep : l.depth ≤ 512;
+  size : length l.objects ≡ 512;
+}
+
+abbrev pub decreases-parts : goal.decreases-parts
+decreases-parts l = length l.rest

@@ -1,0 +1,171 @@
+//! The text of a number from its key: two digits from each byte.
+ghost use Rattle.std.specs.Prelude.{◌≡◌, ◌+◌, ◌*◌, ◌/◌, ◌%◌, ◌^◌, ◌<◌, ◌≤◌, ◌++◌, ◌∷◌, [], ℕ, List, length, map, replicate, take, IfOk, IfSome, MatchOption};
+ghost use Rattle.std.specs.Fmt.{sign_text};
+ghost use Rattle.jsonb_spec.specs.Ascii as ascii;
+ghost use Rattle.jsonb_spec.specs.Proper.{IsProperNumber};
+ghost use Rattle.jsonb_spec.specs.SortKey.{number_key, digits_key, invert_if};
+ghost use Rattle.jsonb_spec.specs.Text.Appending.{Appends};
+ghost use Rattle.jsonb_spec.specs.Text.NumberText.{number_text};
+ghost use Rattle.jsonb_spec.specs.Tree.{Num};
+ghost use Rattle.key_text.specs.FewestDigits.{fewest_digits};
+ghost use Rattle.key_text.specs.Writes.{IsEncoded, Preserves, AppendsLeaving, scaled_text};
+
+use crate::append::append_chunk;
+use jsonb_value::sort_key::kind;
+use key_value::KeyError;
+use key_value::number::{invert_if, read_exponent};
+use std::alloc::AllocError;
+
+// The two digits of each number below 100, and zeros for those below 128.
+static PAIRS: [u8; 256] =
+    *b"00010203040506070809101112131415161718192021222324252627282930313233343536373839\
+    40414243444546474849505152535455565758596061626364656667686970717273747576777879\
+    80818283848586878889909192939495969798990000000000000000000000000000000000000000\
+    0000000000000000";
+
+// How many digits a number has at most before the point.
+const MAX_FRONT: u32 = 40;
+
+// Appends the text of the number whose key the bytes begin with.
+#[inline(never)]
+pub(crate) fn append_number<'k>(bytes: &'k [u8], buf: &mut Vec<u8>) -> Result<&'k [u8], KeyError>
+    ensures found { (n : Num) → IsProperNumber n → (more : List ℕ) → bytes.now ≡ number_key n ++ more
+        → AppendsLeaving result buf.old buf.new more (number_text (fewest_digits n)) }
+    ensures shorter { IfOk result (λ rest. length rest.now < length bytes.now) }
+    ensures preserves { Preserves buf.old buf.new }
+{
+    let Some((first, others)) = bytes.split_first() else {
+        return Err(KeyError::Invalid);
+    };
+    if *first == kind::ZERO {
+        buf.extend_from_slice(b"0")?;
+        return Ok(others);
+    }
+    let negative = *first < kind::ZERO;
+    let Some((exponent, digits)) = read_exponent(negative, bytes) else {
+        return Err(KeyError::Invalid);
+    };
+    let mut row = [b'0'; 48];
+    let Some((count, rest)) = encode(negative, digits, &mut row) else {
+        return Err(KeyError::Invalid);
+    };
+    if exponent > 255 + MAX_FRONT {
+        return Err(KeyError::Invalid);
+    }
+    append_sign(negative, buf)?;
+    append_scaled(exponent, count, &row, buf)?;
+    Ok(rest)
+}
+
+#[inline(always)]
+fn append_sign(negative: bool, buf: &mut Vec<u8>) -> Result<(), AllocError>
+    ensures { Appends result buf.old buf.new (sign_text negative) }
+{
+    if negative {
+        return buf.extend_from_slice(b"-");
+    }
+    Ok(())
+}
+
+// Writes the digits to the row, of which the others stay zeros, and returns how many they are without zeros at the end,
+// and the bytes after them.
+#[inline(always)]
+fn encode<'k>(negative: bool, bytes: &'k [u8], row: &mut [u8; 48]) -> Option<(usize, &'k [u8])>
+    requires { row.old ≡ replicate 48 ascii.digit_zero }
+    ensures found { (count magnitude : ℕ) → magnitude < 10 ^ count → 0 < magnitude → count ≤ 39 → (more : List ℕ)
+        → bytes.now ≡ map (invert_if negative) (digits_key count magnitude) ++ more
+        → MatchOption result ⊥ (λ r. IsEncoded count magnitude r.0 row.new × (r.1.now ≡ more)) }
+    ensures few { IfSome result (λ r. r.0 ≤ 40) }
+    ensures shorter { IfSome result (λ r. length r.1.now ≤ length bytes.now) }
+{
+    let mut rest = bytes;
+    let mut count: usize = 0;
+    'pairs: while let Some((byte, others)) = rest.split_first() {
+        let byte = invert_if(negative, *byte);
+        if count > 38 {
+            return None;
+        }
+        let (tens, ones) = digits_of_pair(byte / 2);
+        row[count] = tens;
+        row[count + 1] = ones;
+        rest = others;
+        if byte % 2 == 0 {
+            if ones == b'0' {
+                return Some((count + 1, rest));
+            }
+            return Some((count + 2, rest));
+        }
+        count += 2;
+    }
+    None
+}
+
+// The two digits of a number below 100.
+#[inline(always)]
+fn digits_of_pair(pair: u8) -> (u8, u8)
+    requires { pair < 128 }
+    ensures { pair < 100 → (result.0 ≡ ascii.digit_zero + pair / 10) × (result.1 ≡ ascii.digit_zero + pair % 10) }
+{
+    let from = usize::from(pair) * 2;
+    (PAIRS[from], PAIRS[from + 1])
+}
+
+// Appends the digits that are first in the row, of which the first is at this exponent. Mostly there is no point.
+#[inline(always)]
+fn append_scaled(
+    exponent: u32,
+    count: usize,
+    row: &[u8; 48],
+    buf: &mut Vec<u8>,
+) -> Result<(), AllocError>
+    requires few { (exponent ≤ 295) × (count ≤ 40) }
+    ensures { Appends result buf.old buf.new (scaled_text exponent count row.now) }
+{
+    if exponent > 255 {
+        let front = (exponent - 255) as usize;
+        if front >= count {
+            return append_row(*row, front, buf);
+        }
+        return append_with_point(&row[..front], &row[front..count], buf);
+    }
+    append_fraction((255 - exponent) as usize, &row[..count], buf)
+}
+
+// Appends the first digits of the row. A function of its own, in which the copy of a fixed length takes no call.
+#[inline(never)]
+fn append_row(row: [u8; 48], count: usize, buf: &mut Vec<u8>) -> Result<(), AllocError>
+    requires { count ≤ 48 }
+    ensures { Appends result buf.old buf.new (take count row) }
+{
+    append_chunk(&row, count, buf)
+}
+
+// Appends digits with a point between them.
+#[inline(never)]
+fn append_with_point(front: &[u8], back: &[u8], buf: &mut Vec<u8>) -> Result<(), AllocError>
+    ensures { Appends result buf.old buf.new (front.now ++ ascii.point ∷ back.now) }
+{
+    buf.extend_from_slice(front)?;
+    buf.extend_from_slice(b".")?;
+    buf.extend_from_slice(back)
+}
+
+// Appends digits behind a point and as many zeros.
+#[inline(never)]
+fn append_fraction(zeros: usize, digits: &[u8], buf: &mut Vec<u8>) -> Result<(), AllocError>
+    requires { zeros ≤ 255 }
+    ensures { Appends result buf.old buf.new
+        (ascii.digit_zero ∷ ascii.point ∷ (replicate zeros ascii.digit_zero ++ digits.now)) }
+{
+    buf.extend_from_slice(b"0.")?;
+    append_zeros(zeros, buf)?;
+    buf.extend_from_slice(digits)
+}
+
+fn append_zeros(zeros: usize, buf: &mut Vec<u8>) -> Result<(), AllocError>
+    requires { zeros ≤ 255 }
+    ensures { Appends result buf.old buf.new (replicate zeros ascii.digit_zero) }
+{
+    let row = [b'0'; 255];
+    buf.extend_from_slice(&row[..zeros])
+}

@@ -1,0 +1,217 @@
+//! The text of a value from its key.
+
+ghost use Rattle.std.specs.Prelude.{◌≡◌, ◌<◌, ◌≤◌, ◌++◌, ◌∷◌, [], List, ℕ, length, true, IfOk, IfErr, OnErr};
+ghost use Rattle.std.specs.Vec.{vec_capacity};
+ghost use Rattle.key_value.specs.Readable.{IsReadableAt};
+ghost use Rattle.key_walk.specs.AtKeys.{AtKey, AtParts, OfKey};
+ghost use Rattle.key_walk.specs.Checked.{IsSortKey};
+ghost use Rattle.key_walk.specs.Open.{name_key, IsScalar};
+ghost use Rattle.jsonb_spec.specs.Ascii as ascii;
+ghost use Rattle.jsonb_spec.specs.SortKey.{key_of};
+ghost use Rattle.jsonb_spec.specs.Text.Appending.{Appends, comma_before};
+ghost use Rattle.jsonb_spec.specs.Tree.{Tree};
+ghost use Rattle.key_text.specs.FewestDigits.{AppendsTextOf, AppendsDocumentWithKey};
+ghost use Rattle.key_text.specs.Writes.{Preserves, LacksCapacity, AppendsLeaving, name_text, opening_text, open_text, closing_text, value_text};
+
+use crate::number::append_number;
+use crate::string::append_text;
+use jsonb_value::sort_key::kind;
+use key_value::KeyError;
+use key_walk::skip::{MAX_DEPTH, after_end, kind_at, opening, outermost};
+use std::alloc::AllocError;
+
+/// Appends the serialized form of the value whose sort key the bytes are. A number has the fewest digits: for the key
+/// of `1.50` it is `1.5`. After an error `buf` has the same bytes as before.
+///
+/// The time is linear in the text. The only allocations are those of `buf`, no function calls itself, and the machine
+/// stack that is taken is the same for each key.
+///
+/// Of bytes that aren't a key it may be any text, also one that isn't JSON: a key from outside is checked first, by
+/// `is_sort_key` of the crate `key_walk`. The text of a key that it accepts is an extended document with that key.
+///
+/// # Errors
+///
+/// `Invalid` only where the bytes aren't the key of a value of JSON's kinds with at most 512 nested arrays and objects.
+/// `OutOfMemory` where `buf` could not grow; of such a key only where it lacks the capacity for the whole text.
+pub fn write_text_of_key(key: &[u8], buf: &mut Vec<u8>) -> Result<(), KeyError>
+    ensures ok { IfOk result (λ _. OfKey key.now (λ t. AppendsTextOf t buf.old.items buf.new.items)) }
+    // The text of a checked key is parsed again, and gives the same key.
+    ensures document { IfOk result (λ _. IsSortKey key.now → AppendsDocumentWithKey key.now buf.old.items buf.new.items) }
+    ensures err { OnErr result (buf.new.items ≡ buf.old.items) }
+    // A key fails only where the capacity for the whole text is missing.
+    ensures invalid { IfErr result (λ e. e ≡ KeyError.Invalid → OfKey key.now (λ t. ⊥)) }
+    ensures full { OnErr result (OfKey key.now (λ t. LacksCapacity buf.old (value_text t))) }
+    ensures capacity { vec_capacity buf.old ≤ vec_capacity buf.new }
+{
+    let old_len = buf.len();
+    // Mostly the text is no longer. Where there is no such space, each append asks for its own.
+    let space = key.len().saturating_add(key.len() / 2);
+    let _reserved = buf.try_reserve(space.saturating_add(48));
+    match append_value(key, buf) {
+        Ok(rest) => {
+            if rest.is_empty() {
+                return Ok(());
+            }
+            buf.truncate(old_len);
+            Err(KeyError::Invalid)
+        }
+        Err(error) => {
+            buf.truncate(old_len);
+            Err(error)
+        }
+    }
+}
+
+// Appends the text of the value whose key the bytes begin with.
+fn append_value<'k>(bytes: &'k [u8], buf: &mut Vec<u8>) -> Result<&'k [u8], KeyError>
+    ensures found { AtKey bytes.now (λ t more. AppendsLeaving result buf.old buf.new more (value_text t)) }
+    ensures preserves { Preserves buf.old buf.new }
+{
+    let Some((first, rest)) = bytes.split_first() else {
+        return Err(KeyError::Invalid);
+    };
+    match opening(*first) {
+        Some(object) => append_parts(object, rest, buf),
+        None => append_scalar(bytes, buf),
+    }
+}
+
+// Appends the text of a value that is no array and no object.
+#[inline(always)]
+fn append_scalar<'k>(bytes: &'k [u8], buf: &mut Vec<u8>) -> Result<&'k [u8], KeyError>
+    ensures found { (depth : ℕ) → (t : Tree) → IsReadableAt depth t → IsScalar t → (more : List ℕ)
+        → bytes.now ≡ key_of t ++ more → AppendsLeaving result buf.old buf.new more (value_text t) }
+    ensures shorter { IfOk result (λ rest. length rest.now < length bytes.now) }
+    ensures preserves { Preserves buf.old buf.new }
+{
+    let Some((first, rest)) = bytes.split_first() else {
+        return Err(KeyError::Invalid);
+    };
+    if *first == kind::STRING {
+        buf.extend_from_slice(b"\"")?;
+        return append_text(false, rest, buf);
+    }
+    if *first == kind::NULL {
+        buf.extend_from_slice(b"null")?;
+        return Ok(rest);
+    }
+    if *first == kind::FALSE {
+        buf.extend_from_slice(b"false")?;
+        return Ok(rest);
+    }
+    if *first == kind::TRUE {
+        buf.extend_from_slice(b"true")?;
+        return Ok(rest);
+    }
+    append_number(bytes, buf)
+}
+
+// Appends what is before a value: a comma, but for the first, and a member's name and a colon.
+#[inline(always)]
+fn begin_part<'k>(
+    object: bool,
+    is_first: bool,
+    bytes: &'k [u8],
+    buf: &mut Vec<u8>,
+) -> Result<&'k [u8], KeyError>
+    ensures found { (name more : List ℕ) → bytes.now ≡ name_key object name ++ more
+        → AppendsLeaving result buf.old buf.new more (comma_before is_first ++ name_text object name) }
+    ensures within { IfOk result (λ rest. length rest.now ≤ length bytes.now) }
+    ensures preserves { Preserves buf.old buf.new }
+{
+    if !object {
+        append_comma(is_first, buf)?;
+        return Ok(bytes);
+    }
+    append_first_quote(is_first, buf)?;
+    append_text(true, bytes, buf)
+}
+
+#[inline(always)]
+fn append_comma(is_first: bool, buf: &mut Vec<u8>) -> Result<(), AllocError>
+    ensures { Appends result buf.old buf.new (comma_before is_first) }
+{
+    if is_first {
+        return Ok(());
+    }
+    buf.extend_from_slice(b",")
+}
+
+// Appends a comma, but for the first name, and the double quote that a name begins with.
+#[inline(always)]
+fn append_first_quote(is_first: bool, buf: &mut Vec<u8>) -> Result<(), AllocError>
+    ensures { Appends result buf.old buf.new (comma_before is_first ++ ascii.quote ∷ []) }
+{
+    if is_first {
+        return buf.extend_from_slice(b"\"");
+    }
+    buf.extend_from_slice(b",\"")
+}
+
+#[inline(always)]
+fn append_opening(object: bool, buf: &mut Vec<u8>) -> Result<(), AllocError>
+    ensures { Appends result buf.old buf.new (opening_text object ∷ []) }
+{
+    if object {
+        return buf.extend_from_slice(b"{");
+    }
+    buf.extend_from_slice(b"[")
+}
+
+#[inline(always)]
+fn append_closing(object: bool, buf: &mut Vec<u8>) -> Result<(), AllocError>
+    ensures { Appends result buf.old buf.new (closing_text object ∷ []) }
+{
+    if object {
+        return buf.extend_from_slice(b"}");
+    }
+    buf.extend_from_slice(b"]")
+}
+
+// Appends an object or an array, from the parts that the bytes begin with. Which of the open ones are objects is in
+// an array, outermost first.
+fn append_parts<'k>(object: bool, bytes: &'k [u8], buf: &mut Vec<u8>) -> Result<&'k [u8], KeyError>
+    ensures found { AtParts object bytes.now (λ o more.
+        AppendsLeaving result buf.old buf.new more (opening_text object ∷ open_text true o)) }
+    ensures preserves { Preserves buf.old buf.new }
+{
+    append_opening(object, buf)?;
+    let mut objects = outermost(object);
+    let mut depth: usize = 1;
+    let mut is_first = true;
+    let mut rest = bytes;
+    'parts: loop {
+        let Some(top) = depth.checked_sub(1) else {
+            return Ok(rest);
+        };
+        let inside = kind_at(&objects, top);
+        if let Some(others) = after_end(inside, rest) {
+            append_closing(inside, buf)?;
+            depth = top;
+            is_first = false;
+            rest = others;
+            continue;
+        }
+        let value = begin_part(inside, is_first, rest, buf)?;
+        let Some((first, others)) = value.split_first() else {
+            return Err(KeyError::Invalid);
+        };
+        match opening(*first) {
+            Some(inner) => {
+                if depth == MAX_DEPTH {
+                    return Err(KeyError::Invalid);
+                }
+                append_opening(inner, buf)?;
+                objects[depth] = inner;
+                depth += 1;
+                is_first = true;
+                rest = others;
+            }
+            None => {
+                let after = append_scalar(value, buf)?;
+                is_first = false;
+                rest = after;
+            }
+        }
+    }
+}

@@ -1,0 +1,59 @@
+use Rattle.std.proofs.Common.{◌+◌, ◌/◌, arith, refl, rules}
+use Rattle.key_value.proofs.Numbers.{digits_begun, last_none, last_some, pair_within, pair_small, pair_read, not_over}
+use Rattle.key_value.proofs.Exact.{none_read, one_pair_read, last_pair_read}
+use Rattle.key_value.proofs.number.read_digits.Goals as goal
+
+pub returns-in_err-digits-clause-found : goal.returns-in_err-digits-clause-found
+returns-in_err-digits-clause-found c = λ C M below some high few more e.
+    absurd (last_none c.args.negative c.args.bytes.now c.pairs.digits c.pairs.count c.pairs.rest.now c.in-Some.byte.now c.in-Some.others.now c.invert_if-byte.result c.pairs.invariant.reads c.in-Some.ensures.cases.0 c.invert_if-byte.ensures C M below some high few more e c.if-byte-eq0.true (c.invert_if-byte.result / 2) refl c.in_err-digits.ensures)
+
+pub returns-clause-found : goal.returns-clause-found
+returns-clause-found c = λ C M below some high few more e.
+    not_over c.args.negative c.args.bytes.now c.pairs.digits c.pairs.count c.pairs.rest.now c.pairs.invariant.reads c.in_default.ensures.cases C M below some high few more e
+
+pub returns-then-byte-eq0-clause-found : goal.returns-then-byte-eq0-clause-found
+returns-then-byte-eq0-clause-found c = λ C M below some high few more e.
+    last_some c.args.negative c.args.bytes.now c.pairs.digits c.pairs.count c.pairs.rest.now c.in-Some.byte.now c.in-Some.others.now c.invert_if-byte.result c.pairs.invariant.reads c.in-Some.ensures.cases.0 c.invert_if-byte.ensures C M below some high few more e c.if-byte-eq0.true (c.invert_if-byte.result / 2) c.in_ok-digits.digits c.in_ok-digits.last refl c.in_ok-digits.ensures
+
+pub returns-in_err-checked_mul-clause-found : goal.returns-in_err-checked_mul-clause-found
+returns-in_err-checked_mul-clause-found c = λ C M below some high few more e.
+    let within = pair_within c.args.negative c.args.bytes.now c.pairs.digits c.pairs.count c.pairs.rest.now c.in-Some.byte.now c.in-Some.others.now c.invert_if-byte.result c.pairs.invariant.reads c.in-Some.ensures.cases.0 c.invert_if-byte.ensures C M below some high few more e c.if-byte-eq0.false (c.invert_if-byte.result / 2) refl in
+    absurd (c.in_err-checked_mul.ensures (omega (arith, within)))
+
+pub returns-in_err-digits-2-clause-found : goal.returns-in_err-digits-2-clause-found
+returns-in_err-digits-2-clause-found c = λ C M below some high few more e.
+    let within = pair_within c.args.negative c.args.bytes.now c.pairs.digits c.pairs.count c.pairs.rest.now c.in-Some.byte.now c.in-Some.others.now c.invert_if-byte.result c.pairs.invariant.reads c.in-Some.ensures.cases.0 c.invert_if-byte.ensures C M below some high few more e c.if-byte-eq0.false (c.invert_if-byte.result / 2) refl in
+    absurd (c.in_err-digits-2.ensures (omega (arith, within, c.in_ok-checked_mul.ensures, c.from.ensures)))
+
+pub pairs-preserved : goal.pairs-preserved
+pairs-preserved c = record {
+  reads = λ C M below some high few more e.
+      pair_read c.args.negative c.args.bytes.now c.pairs.digits c.pairs.count c.pairs.rest.now c.in-Some.byte.now c.in-Some.others.now c.invert_if-byte.result c.pairs.invariant.reads c.in-Some.ensures.cases.0 c.invert_if-byte.ensures C M below some high few more e c.if-byte-eq0.false (c.invert_if-byte.result / 2) c.in_ok-digits-2.digits (c.pairs.count + 2) refl (omega (arith, c.in_ok-digits-2.ensures, c.in_ok-checked_mul.ensures, c.from.ensures)) refl;
+  read = one_pair_read c.args.negative c.args.bytes.now c.pairs.digits c.pairs.count c.pairs.rest.now c.in-Some.others.now c.in-Some.byte.now c.invert_if-byte.result (c.invert_if-byte.result / 2) c.in_ok-digits-2.digits c.pairs.invariant.read c.in-Some.ensures.cases.0 (search rules) c.invert_if-byte.ensures refl c.if-byte-eq0.false (omega (arith, c.if-pair-gt99.false)) (omega (arith, c.in_ok-digits-2.ensures, c.in_ok-checked_mul.ensures, c.from.ensures));
+  within = omega (arith, c.in-Some.ensures.cases.1, c.pairs.invariant.within);
+  few = omega (arith, c.if-count-gt38.false);
+}
+
+pub returns-then-byte-eq0-clause-read : goal.returns-then-byte-eq0-clause-read
+returns-then-byte-eq0-clause-read c =
+    let read = last_pair_read c.args.negative c.args.bytes.now c.pairs.digits c.pairs.count c.pairs.rest.now c.in-Some.others.now c.in-Some.byte.now c.invert_if-byte.result (c.invert_if-byte.result / 2) c.in_ok-digits.digits c.in_ok-digits.last c.pairs.invariant.read c.in-Some.ensures.cases.0 (search rules) c.invert_if-byte.ensures refl c.if-byte-eq0.true c.in_ok-digits.ensures in
+    record {
+      occurs = read.0;
+      shorter = omega (arith, c.in-Some.ensures.cases.1, c.pairs.invariant.within);
+      below = read.1;
+      few = omega (arith, c.pairs.invariant.few, c.in_ok-digits.ensures.few);
+      fewest = c.in_ok-digits.ensures.not_zero;
+    }
+
+pub returns-then-pair-gt99-clause-found : goal.returns-then-pair-gt99-clause-found
+returns-then-pair-gt99-clause-found c = λ C M below some high few more e.
+    let small = pair_small c.args.negative c.args.bytes.now c.pairs.digits c.pairs.count c.pairs.rest.now c.in-Some.byte.now c.in-Some.others.now c.invert_if-byte.result c.pairs.invariant.reads c.in-Some.ensures.cases.0 c.invert_if-byte.ensures C M below some high few more e c.if-byte-eq0.false (c.invert_if-byte.result / 2) refl in
+    absurd (omega (arith, small, c.if-pair-gt99.true))
+
+pub pairs-init : goal.pairs-init
+pairs-init c = record {
+  reads = digits_begun c.args.negative c.args.bytes.now;
+  read = none_read c.args.negative c.args.bytes.now;
+  within = omega arith;
+  few = omega arith;
+}

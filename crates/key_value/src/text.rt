@@ -1,0 +1,71 @@
+//! The texts of sort keys.
+
+ghost use Rattle.std.specs.Prelude.{◌≡◌, ◌<◌, ◌∷◌, List, ℕ, length, IfOk, IfSome, option_map, Some, string_bytes};
+ghost use Rattle.std.specs.Str.{IsUtf8};
+ghost use Rattle.jsonb_spec.specs.SortKey.{text_key};
+ghost use Rattle.key_value.specs.Reading.{byte_of, escape_of, FindsAtKey};
+
+use crate::key::KeyError;
+use jsonb_value::sort_key::kind;
+use std::alloc::Global;
+
+// The text whose key the bytes begin with, and the bytes after it.
+pub(crate) fn read_text(alloc: Global, bytes: &[u8]) -> Result<(String, &[u8]), KeyError>
+    ensures found { (text : List ℕ) → IsUtf8 text
+        → FindsAtKey (λ string. string_bytes string ≡ text) bytes.now (text_key text) result }
+    ensures shorter { IfOk result (λ r. length r.1.now < length bytes.now) }
+{
+    let mut text = Vec::new(alloc);
+    let mut rest = bytes;
+    'bytes: while let Some((byte, others)) = read_byte(rest) {
+        text.push(byte)?;
+        rest = others;
+    }
+    let Some(rest) = skip_pair(kind::TEXT_END, rest) else {
+        return Err(KeyError::Invalid);
+    };
+    let Ok(text) = String::from_utf8(text) else {
+        return Err(KeyError::Invalid);
+    };
+    Ok((text, rest))
+}
+
+/// The byte of a text whose key the bytes begin with, and the bytes after it.
+pub fn read_byte(bytes: &[u8]) -> Option<(u8, &[u8])>
+    ensures byte { option_map (λ r. (r.0, r.1.now)) result ≡ byte_of bytes.now }
+    ensures shorter { IfSome result (λ r. length r.1.now < length bytes.now) }
+{
+    let (byte, rest) = bytes.split_first()?;
+    match *byte {
+        0 => read_escape(rest),
+        byte => Some((byte, rest)),
+    }
+}
+
+// A zero by what follows its first byte, and the bytes after it.
+fn read_escape(bytes: &[u8]) -> Option<(u8, &[u8])>
+    ensures byte { option_map (λ r. (r.0, r.1.now)) result ≡ escape_of bytes.now }
+    ensures shorter { IfSome result (λ r. length r.1.now < length bytes.now) }
+{
+    let (mark, rest) = bytes.split_first()?;
+    match *mark {
+        kind::ESCAPED => Some((0, rest)),
+        _ => None,
+    }
+}
+
+/// The bytes after a zero and this byte, if they begin so.
+pub fn skip_pair(second: u8, bytes: &[u8]) -> Option<&[u8]>
+    ensures some { IfSome result (λ rest. bytes.now ≡ 0 ∷ second ∷ rest.now) }
+    ensures found { (more : List ℕ) → bytes.now ≡ 0 ∷ second ∷ more → option_map (λ rest. rest.now) result ≡ Some more }
+{
+    let (zero, rest) = bytes.split_first()?;
+    if *zero != 0 {
+        return None;
+    }
+    let (byte, rest) = rest.split_first()?;
+    if *byte != second {
+        return None;
+    }
+    Some(rest)
+}

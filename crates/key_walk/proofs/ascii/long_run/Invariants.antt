@@ -1,0 +1,9 @@
+use Rattle.std.proofs.Common.{◌-◌, ◌≤◌, length}
+use Rattle.key_walk.specs.Frames.{ArePlain}
+use Rattle.key_walk.proofs.ascii.long_run.Given as goal
+
+abbrev pub invariant-wide : goal.invariant-wide
+invariant-wide l = (l.len ≤ length l.bytes) × ArePlain l.bytes l.len
+
+abbrev pub decreases-wide : goal.decreases-wide
+decreases-wide l = length l.bytes - l.len

@@ -1,0 +1,5 @@
+use Rattle.key_walk.specs.Frames.{AreNoZeros}
+use Rattle.key_walk.proofs.ascii.run_by_bytes_before_zero.Given as goal
+
+abbrev pub invariant-bytes : goal.invariant-bytes
+invariant-bytes l = AreNoZeros l.bytes l.i

@@ -1,0 +1,9 @@
+use Rattle.std.proofs.Common.{◌-◌, ◌≤◌, length}
+use Rattle.key_walk.specs.Frames.{ArePlain}
+use Rattle.key_walk.proofs.ascii.run_by_vectors.Given as goal
+
+abbrev pub invariant-vectors : goal.invariant-vectors
+invariant-vectors l = (l.len ≤ length l.bytes) × ArePlain l.bytes l.len
+
+abbrev pub decreases-vectors : goal.decreases-vectors
+decreases-vectors l = length l.bytes - l.len

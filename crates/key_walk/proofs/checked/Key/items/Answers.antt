@@ -1,0 +1,11 @@
+use Rattle.key_walk.proofs.CheckedParts.{no_items, items_there, checked_items}
+use Rattle.key_walk.proofs.checked.Key.items.Goals as goal
+
+pub returns-in_default : goal.returns-in_default
+returns-in_default c = λ t r e. no_items t c.args.self.now.bytes.now e c.in_default.ensures.array
+
+pub invariant_of-result : goal.invariant_of-result
+invariant_of-result c = record { checked = checked_items c.args.self.now.bytes.now c.in-Some.bytes.now c.args.self.now.checked c.in-Some.ensures.some }
+
+pub returns : goal.returns
+returns c = λ t r e. items_there t r c.args.self.now.bytes.now c.in-Some.bytes.now e c.in-Some.ensures.some

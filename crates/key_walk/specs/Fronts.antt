@@ -1,0 +1,35 @@
+-- The first bytes of the key of a name as a number.
+use Rattle.std.specs.Prelude.{◌≡◌, ◌≢◌, ℕ, zero, suc, ◌+◌, ◌*◌, ◌^◌, ◌<◌, ◌≤◌, List, [], ◌∷◌, length, drop}
+use Rattle.jsonb_spec.specs.SortKey.{text_key}
+use Rattle.key_walk.specs.declared.names.Front.{Front}
+use Rattle.key_walk.specs.Frames.{AreNoZeros}
+
+-- the first bytes as a number of which the first is the highest, with zeros in place of bytes that aren't there
+unfoldable pub number_of : ℕ → List ℕ → ℕ
+number_of zero bytes = 0
+number_of (suc count) [] = 0
+number_of (suc count) (byte ∷ bytes) = byte * 256 ^ count + number_of count bytes
+
+-- The front is that of the name: the number of so many first bytes of its key, and either these are the whole key, or
+-- no size of it is held.
+pub record IsFront (name : List ℕ) (front : Front) : Type 0 where
+  pub count : ℕ
+  pub some : 0 < count
+  pub bits : front.low + 8 * count ≡ 64
+  pub within : count ≤ length (text_key name)
+  pub is : front.number ≡ number_of count (text_key name)
+  pub whole : 0 < front.size → (front.size ≡ count) × (count ≡ length (text_key name))
+
+-- The front is that of the name, or isn't made yet.
+abbrev pub IsMade : List ℕ → Front → Type 0
+IsMade name front = front.low ≢ 64 → IsFront name front
+
+-- The front is that of what is behind the first 8 bytes of the name, or isn't made yet.
+abbrev pub IsNext : List ℕ → Front → Type 0
+IsNext name front = IsMade (drop 8 name) front
+
+-- The first 8 bytes of the bytes and of the name's key are the same, and 7 of these are no zeros.
+pub record BeginAlike (name bytes : List ℕ) : Type 0 where
+  pub enough : 8 ≤ length bytes
+  pub same : number_of 8 bytes ≡ number_of 8 (text_key name)
+  pub plain : AreNoZeros name 7

@@ -1,0 +1,9 @@
+pub mod AtKeys
+pub mod Found
+pub mod Checked
+pub mod Frames
+pub mod Fronts
+pub mod KeyView
+pub mod Open
+pub mod Parts
+pub mod SideBySide

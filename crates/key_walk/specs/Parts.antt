@@ -1,0 +1,67 @@
+-- Parts of values, found in their keys.
+use Rattle.std.specs.Prelude.{◌≡◌, ◌≢◌, ℕ, ◌≤◌, ◌⊎◌, List, ◌∷◌, ◌++◌, Option, Some, None}
+use Rattle.jsonb_spec.specs.PartAt.{IsChild, IsAt}
+use Rattle.key_walk.specs.declared.walk.Kind.{Kind}
+use Rattle.key_walk.specs.declared.walk.Kind.TheVariants as variants
+use Rattle.key_walk.specs.Open.{Open, items, members}
+use Rattle.jsonb_spec.specs.SortKey.{key_of}
+use Rattle.jsonb_spec.specs.SortKey.Kind as kind
+use Rattle.jsonb_spec.specs.Tree.{Tree, null, boolean, string, number, array, object}
+
+-- the kind of a value of JSON's kinds
+abbrev pub kind_of_tree : Tree → Option Kind
+kind_of_tree null = Some variants.Null
+kind_of_tree (boolean b) = Some variants.Bool
+kind_of_tree (number n) = Some variants.Number
+kind_of_tree (string mark bytes) = Some variants.String
+kind_of_tree (array ts) = Some variants.Array
+kind_of_tree (object ms) = Some variants.Object
+kind_of_tree t = None
+
+-- The keys of numbers begin with this byte: those of negative ones with 0x38 to 0x7E, and the others with 0x80 to 0xC7.
+abbrev pub IsNumberByte : ℕ → Type 0
+IsNumberByte first = (0x38 ≤ first) × (first ≤ 0xC7) × (first ≢ 0x7F)
+
+-- The keys of the kind begin with this byte.
+abbrev pub IsFirstByte : Kind → ℕ → Type 0
+IsFirstByte variants.Bool first = (first ≡ kind.false) ⊎ (first ≡ kind.true)
+IsFirstByte variants.Number first = IsNumberByte first
+IsFirstByte variants.String first = first ≡ kind.string
+IsFirstByte variants.Object first = first ≡ kind.object
+IsFirstByte variants.Array first = first ≡ kind.array
+IsFirstByte variants.Null first = first ≡ kind.null
+
+-- The bytes begin with none of these bytes, or there are none.
+abbrev pub BeginsNoKey : List ℕ → Type 0
+BeginsNoKey bytes = (first : ℕ) → (rest : List ℕ) → bytes ≡ first ∷ rest → (kind : Kind) → IsFirstByte kind first → ⊥
+
+-- the array or the object of which all is left
+abbrev pub opened_tree : Open → Tree
+opened_tree (items ts) = array ts
+opened_tree (members ms) = object ms
+
+-- The bytes begin with the key of the member of that name, or of the item of that index.
+pub record ChildAt (t : Tree) (name rest : List ℕ) : Type 0 where
+  pub child : Tree
+  pub is : IsChild t name child
+  pub behind : List ℕ
+  pub occurs : rest ≡ key_of child ++ behind
+
+-- The bytes begin with the key of the part at the path of these names.
+pub record OccursAt (t : Tree) (names : List (List ℕ)) (rest : List ℕ) : Type 0 where
+  pub part : Tree
+  pub at : IsAt t names part
+  pub behind : List ℕ
+  pub occurs : rest ≡ key_of part ++ behind
+
+-- The bytes are the key of the member of that name, or of the item of that index.
+pub record IsKeyOfChild (t : Tree) (name key : List ℕ) : Type 0 where
+  pub child : Tree
+  pub is : IsChild t name child
+  pub is_key : key ≡ key_of child
+
+-- The bytes are the key of the part at the path of these names.
+pub record IsKeyAt (t : Tree) (names : List (List ℕ)) (key : List ℕ) : Type 0 where
+  pub part : Tree
+  pub at : IsAt t names part
+  pub is_key : key ≡ key_of part

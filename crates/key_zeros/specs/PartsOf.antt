@@ -1,0 +1,83 @@
+-- Where the parts of a value are in its key, and how many numbers come before them.
+use Rattle.std.specs.Prelude.{◌≡◌, ℕ, ◌+◌, ◌⊎◌, ◌&&◌, nat_lt, if◌then◌else◌, List, [], ◌∷◌, ◌++◌, length, MatchOption, Option}
+use Rattle.std.specs.Borrow.{Bor}
+use Rattle.key_walk.specs.Open.{Open, items, members}
+use Rattle.jsonb_spec.specs.SortKey.{key_of, text_key}
+use Rattle.jsonb_spec.specs.SortKey.Kind as kind
+use Rattle.jsonb_spec.specs.Tree.{Tree, array, object, Trees, no_trees, more_trees, Members, no_members, more_members}
+use Rattle.key_zeros.specs.Zeros.{counts_in, counts_in_items, counts_in_members}
+
+-- how many numbers a value has
+abbrev pub numbers_in : Tree → ℕ
+numbers_in t = length (counts_in t)
+
+-- one for the first byte of a number's key, and else none
+abbrev pub number_count : ℕ → ℕ
+number_count first = if nat_lt kind.true first && nat_lt first kind.string then 1 else 0
+
+-- The part is the value.
+abbrev pub IsWhole : Tree → List ℕ → ℕ → Tree → Type 0
+IsWhole t before numbers part = (before ≡ []) × (numbers ≡ 0) × (part ≡ t)
+
+abbrev mutual
+  -- The part is in the value: these bytes of its key come before, and so many of its numbers.
+  pub OccursIn : Tree → List ℕ → ℕ → Tree → Type 0
+  OccursIn (array ts) before numbers part = IsWhole (array ts) before numbers part
+      ⊎ ((inner : List ℕ) × (before ≡ kind.array ∷ inner) × OccursInItems ts inner numbers part)
+  OccursIn (object ms) before numbers part = IsWhole (object ms) before numbers part
+      ⊎ ((inner : List ℕ) × (before ≡ kind.object ∷ inner) × OccursInMembers ms inner numbers part)
+  OccursIn t before numbers part = IsWhole t before numbers part
+
+  -- It is in the first of these items, or in one behind that.
+  pub OccursInItems : Trees → List ℕ → ℕ → Tree → Type 0
+  OccursInItems no_trees before numbers part = ⊥
+  OccursInItems (more_trees t ts) before numbers part = OccursIn t before numbers part
+      ⊎ ((inner : List ℕ) × (fewer : ℕ) × (before ≡ key_of t ++ inner) × (numbers ≡ numbers_in t + fewer)
+      × OccursInItems ts inner fewer part)
+
+  -- It is in the value of the first of these members, or in one behind that.
+  pub OccursInMembers : Members → List ℕ → ℕ → Tree → Type 0
+  OccursInMembers no_members before numbers part = ⊥
+  OccursInMembers (more_members key t ms) before numbers part =
+      ((inner : List ℕ) × (before ≡ text_key key ++ inner) × OccursIn t inner numbers part)
+      ⊎ ((inner : List ℕ) × (fewer : ℕ) × (before ≡ text_key key ++ (key_of t ++ inner))
+      × (numbers ≡ numbers_in t + fewer) × OccursInMembers ms inner fewer part)
+
+-- how many numbers are left of an array or an object
+abbrev pub numbers_open : Open → ℕ
+numbers_open (items ts) = length (counts_in_items ts)
+numbers_open (members ms) = length (counts_in_members ms)
+
+-- The part is in what is left of it.
+abbrev pub OccursInOpen : Open → List ℕ → ℕ → Tree → Type 0
+OccursInOpen (items ts) before numbers part = OccursInItems ts before numbers part
+OccursInOpen (members ms) before numbers part = OccursInMembers ms before numbers part
+
+-- The rest of the bytes begins with the key of a part, before which so many numbers come.
+pub record FoundPart (Occurs : List ℕ → ℕ → Tree → Type 0) (bytes rest : List ℕ) (numbers : ℕ) : Type 0 where
+  pub part : Tree
+  pub before : List ℕ
+  pub occurs : Occurs before numbers part
+  pub inside : bytes ≡ before ++ rest
+  pub behind : List ℕ
+  pub key : rest ≡ key_of part ++ behind
+
+-- At the offset a part of the value is whose key has this size, before which so many numbers come, and which has
+-- so many.
+pub record IsCounted (t : Tree) (offset size before numbers : ℕ) : Type 0 where
+  pub part : Tree
+  pub front : List ℕ
+  pub occurs : OccursIn t front before part
+  pub offset_is : offset ≡ length front
+  pub size_is : size ≡ length (key_of part)
+  pub numbers_are : numbers ≡ numbers_in part
+
+-- So many numbers are counted, and these bytes are left.
+abbrev pub Counts : ℕ → List ℕ → Option (ℕ × Bor (List ℕ)) → Type 0
+Counts numbers more result = MatchOption result ⊥ (λ r. (r.0 ≡ numbers) × (r.1.now ≡ more))
+
+-- Where a part is from which on there are so many bytes, the numbers before it are counted, and these are left.
+abbrev pub StopsAtPart : (List ℕ → ℕ → Tree → Type 0) → ℕ → List ℕ → Option (ℕ × Bor (List ℕ)) → Type 0
+StopsAtPart Occurs stop bytes result =
+    (before : List ℕ) → (numbers : ℕ) → (part : Tree) → Occurs before numbers part
+    → stop + length before ≡ length bytes → MatchOption result ⊥ (λ r. (r.0 ≡ numbers) × (length r.1.now ≡ stop))

@@ -1,0 +1,80 @@
+//! What is stored of a number that zeros end: how many numbers without any come before it, and how many zeros.
+
+ghost use Rattle.std.specs.Prelude.{◌≡◌, ◌<◌, ◌≤◌, ◌^◌, ◌+◌, ◌++◌, ◌∷◌, ℕ, List, length, IfOk, IfSome, MatchOption};
+ghost use Rattle.jsonb_spec.specs.Text.Appending.{Appends};
+ghost use Rattle.key_text.specs.Writes.{Preserves};
+ghost use Rattle.key_zeros.specs.Zeros.{in_sevens, entry_of, plain_behind};
+
+use std::alloc::AllocError;
+
+/// Appends what is stored of a number with so many zeros, before which so many without any come. The answer is how many
+/// come before the next one.
+pub fn append_entry(plain: usize, count: u8, buf: &mut Vec<u8>) -> Result<usize, AllocError>
+    ensures appends { plain < 2 ^ 63 → Appends result buf.old buf.new (entry_of plain count) }
+    ensures plain { plain < 2 ^ 63 → IfOk result (λ more. more ≡ plain_behind plain count) }
+    ensures preserves { Preserves buf.old buf.new }
+    ensures within { IfOk result (λ more. more ≤ plain + 1) }
+{
+    if count == 0 {
+        return Ok(plain.saturating_add(1));
+    }
+    append_sevens(plain, buf)?;
+    buf.extend_from_slice(&[count])?;
+    Ok(0)
+}
+
+/// Appends a number below 2^63, seven bits in a byte, the lowest first.
+pub fn append_sevens(n: usize, buf: &mut Vec<u8>) -> Result<(), AllocError>
+    ensures appends { n < 2 ^ 63 → Appends result buf.old buf.new (in_sevens 8 n) }
+    ensures preserves { Preserves buf.old buf.new }
+{
+    let mut left = n;
+    'sevens: while left >= 128 {
+        let low = (left % 128) as u8;
+        buf.extend_from_slice(&[128 + low])?;
+        left /= 128;
+    }
+    buf.extend_from_slice(&[left as u8])
+}
+
+/// Of the first number that zeros end: how many numbers without any come before it, how many zeros there are, and what
+/// is stored of the numbers behind it. `None` where the bytes begin with nothing of the kind.
+pub fn next_entry(zeros: &[u8]) -> Option<(usize, u8, &[u8])>
+    ensures found { (plain count : ℕ) → plain < 2 ^ 63 → 0 < count → (more : List ℕ)
+        → zeros.now ≡ in_sevens 8 plain ++ count ∷ more
+        → MatchOption result ⊥ (λ r. (r.0 ≡ plain) × (r.1 ≡ count) × (r.2.now ≡ more)) }
+    ensures some { IfSome result (λ r. (r.0 < 2 ^ 63) × (0 < r.1)) }
+    ensures shorter { IfSome result (λ r. length r.2.now < length zeros.now) }
+{
+    let (plain, behind) = read_sevens(zeros)?;
+    let (count, rest) = behind.split_first()?;
+    if *count == 0 {
+        return None;
+    }
+    Some((plain, *count, rest))
+}
+
+// The number below 2^63 that the bytes begin with, seven bits in a byte, and the bytes after it.
+fn read_sevens(bytes: &[u8]) -> Option<(usize, &[u8])>
+    ensures found { (n : ℕ) → n < 2 ^ 63 → (more : List ℕ) → bytes.now ≡ in_sevens 8 n ++ more
+        → MatchOption result ⊥ (λ r. (r.0 ≡ n) × (r.1.now ≡ more)) }
+    ensures small { IfSome result (λ r. r.0 < 2 ^ 63) }
+    ensures shorter { IfSome result (λ r. length r.1.now < length bytes.now) }
+{
+    let mut n: usize = 0;
+    // What one in the next byte means.
+    let mut unit: usize = 1;
+    let mut rest = bytes;
+    'sevens: while let Some((byte, others)) = rest.split_first() {
+        if *byte < 128 {
+            return Some((n + usize::from(*byte) * unit, others));
+        }
+        if unit > 1 << 49 {
+            return None;
+        }
+        n += usize::from(*byte - 128) * unit;
+        unit *= 128;
+        rest = others;
+    }
+    None
+}

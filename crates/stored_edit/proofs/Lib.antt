@@ -1,9 +1,0 @@
-pub mod Lifting
-pub mod Spotted
-pub mod Located
-pub mod Depths
-pub mod Putting
-pub mod Merged
-pub mod Joined
-pub mod ProperChanges
-pub mod Built

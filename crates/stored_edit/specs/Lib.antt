@@ -1,3 +1,0 @@
-pub mod Edit
-pub mod Spots
-pub mod Merging

@@ -1,0 +1,102 @@
+-- Where a document's value begins and where its text ends, from the executable specification.
+use Rattle.std.proofs.Common.{◌≡◌, ◌≢◌, ℕ, ◌+◌, ◌-◌, ◌<◌, ◌≤◌, Bool, true, false, cond, ◌⊎◌, inl, inr, get_or, ne_eqb, List, [], ◌∷◌, length, drop, Result, Ok, Err, sym, ap, ◌∙◌, arith, length-drop, drop-drop}
+use Rattle.std.proofs.lemmas.List.{drop_more}
+use Rattle.std.proofs.lemmas.Bool.{cond-false, cond-true}
+use Rattle.text_parse.specs.declared.parser.Parser.{Parser}
+use Rattle.jsonb_spec.specs.Code.Code.{invalid_eof, unexpected_trailing_characters}
+use Rattle.jsonb_spec.specs.Grammar.{max_depth}
+use Rattle.jsonb_spec.specs.Mode.{Mode, extended}
+use Rattle.text_scan.specs.Answer.{mode_of}
+use Rattle.text_parse.specs.Parser.{Advances, rest_of, size_of}
+use Rattle.jsonb_spec.specs.Source.{Source, null_source}
+use Rattle.text_scan.specs.Parsing.{Fault, fault, ◌>>=◌}
+use Rattle.text_scan.specs.Parsing.Whitespace.{opens_comment, skip_closed_whitespace}
+use Rattle.text_scan.specs.Parsing.Document.{at_end, comment_at, source_from, value_at, value_to_end}
+use Rattle.text_parse.proofs.Steps.Cursors.{nothing_left}
+use Rattle.text_parse.proofs.Steps.Outcomes.{same_size}
+
+-- the end of a document
+abbrev pub ended : ℕ → Mode → Source × List ℕ → Result Source Fault
+ended size mode x = at_end size mode x.0 (skip_closed_whitespace mode x.1)
+
+from_some : (size : ℕ) (mode : Mode) (r : List ℕ) → 0 < length r → opens_comment mode r ≡ false → source_from size mode r ≡ value_to_end size mode r
+from_some size mode [] h e = absurd (omega arith)
+from_some size mode (b ∷ r) h e = cond-false (opens_comment mode (b ∷ r)) (comment_at size null_source r) (value_to_end size mode (b ∷ r)) e
+
+from_comment : (size : ℕ) (mode : Mode) (r : List ℕ) → 0 < length r → opens_comment mode r ≡ true → source_from size mode r ≡ comment_at size null_source (drop 1 r)
+from_comment size mode [] h e = absurd (omega arith)
+from_comment size mode (b ∷ r) h e = cond-true (opens_comment mode (b ∷ r)) (comment_at size null_source r) (value_to_end size mode (b ∷ r)) e
+
+-- what is left after the whitespace, in the same input
+document_same : (p q : Parser) → rest_of q ≡ skip_closed_whitespace (mode_of p.mode) (rest_of p) → Advances p q
+    → source_from (size_of p) (mode_of p.mode) (skip_closed_whitespace (mode_of p.mode) (rest_of p)) ≡ source_from (size_of q) (mode_of q.mode) (rest_of q)
+document_same p q e a =
+    ap (λ (r : List ℕ). source_from (size_of p) (mode_of p.mode) r) (sym e)
+    ∙ ap (λ (n : ℕ). source_from n (mode_of p.mode) (rest_of q)) (sym (same_size p q a)) ∙ ap (λ (m : Mode). source_from (size_of q) m (rest_of q)) (sym (ap mode_of a.mode))
+
+-- a text with more than whitespace
+pub document_some : (p q : Parser) → rest_of q ≡ skip_closed_whitespace (mode_of p.mode) (rest_of p) → Advances p q → q.offset < size_of q → opens_comment (mode_of q.mode) (rest_of q) ≡ false
+    → source_from (size_of p) (mode_of p.mode) (skip_closed_whitespace (mode_of p.mode) (rest_of p)) ≡ (value_at (size_of q) (mode_of q.mode) max_depth (rest_of q) >>= ended (size_of q) (mode_of q.mode))
+document_some p q e a within closed = document_same p q e a ∙ from_some (size_of q) (mode_of q.mode) (rest_of q) (omega (arith, length-drop q.offset q.buf.now)) closed
+
+-- a text with no more than whitespace
+pub document_none : (p q : Parser) → rest_of q ≡ skip_closed_whitespace (mode_of p.mode) (rest_of p) → Advances p q → size_of q ≤ q.offset → mode_of q.mode ≡ extended
+    → source_from (size_of p) (mode_of p.mode) (skip_closed_whitespace (mode_of p.mode) (rest_of p)) ≡ Ok null_source
+document_none p q e a past is = document_same p q e a ∙ ap (λ (m : Mode). source_from (size_of q) m (rest_of q)) is ∙ ap (λ (r : List ℕ). source_from (size_of q) extended r) (nothing_left q.buf.now q.offset past)
+
+-- a text that ends in a comment
+pub document_comment : (p q : Parser) → rest_of q ≡ skip_closed_whitespace (mode_of p.mode) (rest_of p) → Advances p q → q.offset < size_of q → opens_comment (mode_of q.mode) (rest_of q) ≡ true
+    → source_from (size_of p) (mode_of p.mode) (skip_closed_whitespace (mode_of p.mode) (rest_of p)) ≡ comment_at (size_of q) null_source (drop 1 (rest_of q))
+document_comment p q e a within opens = document_same p q e a ∙ from_comment (size_of q) (mode_of q.mode) (rest_of q) (omega (arith, length-drop q.offset q.buf.now)) opens
+
+-- ---- after the value
+
+-- what is left after the whitespace, in the same input
+ending_same : (p q : Parser) (t : Source) → rest_of q ≡ skip_closed_whitespace (mode_of p.mode) (rest_of p) → Advances p q
+    → at_end (size_of p) (mode_of p.mode) t (skip_closed_whitespace (mode_of p.mode) (rest_of p)) ≡ at_end (size_of q) (mode_of q.mode) t (rest_of q)
+ending_same p q t e a =
+    ap (λ (r : List ℕ). at_end (size_of p) (mode_of p.mode) t r) (sym e)
+    ∙ ap (λ (n : ℕ). at_end n (mode_of p.mode) t (rest_of q)) (sym (same_size p q a)) ∙ ap (λ (m : Mode). at_end (size_of q) m t (rest_of q)) (sym (ap mode_of a.mode))
+
+past_end : (size : ℕ) (mode : Mode) (t : Source) (r : List ℕ) (i : ℕ) → length r + i ≡ size → 0 < length r → opens_comment mode r ≡ false → at_end size mode t r ≡ Err (record { code = unexpected_trailing_characters; offset = i + 1 })
+past_end size mode t [] i e h closed = absurd (omega arith)
+past_end size mode t (b ∷ r) i e h closed =
+    cond-false (opens_comment mode (b ∷ r)) (comment_at size t r) (fault unexpected_trailing_characters (size - length (b ∷ r) + 1)) closed
+    ∙ ap (λ (k : ℕ). Err (record { code = unexpected_trailing_characters; offset = k })) (let same : size - length (b ∷ r) + 1 ≡ i + 1 = omega (arith, e) in same)
+
+comment_end : (size : ℕ) (mode : Mode) (t : Source) (r : List ℕ) → 0 < length r → opens_comment mode r ≡ true → at_end size mode t r ≡ comment_at size t (drop 1 r)
+comment_end size mode t [] h opens = absurd (omega arith)
+comment_end size mode t (b ∷ r) h opens = cond-true (opens_comment mode (b ∷ r)) (comment_at size t r) (fault unexpected_trailing_characters (size - length (b ∷ r) + 1)) opens
+
+pub ends_trailing : (p q : Parser) (t : Source) → rest_of q ≡ skip_closed_whitespace (mode_of p.mode) (rest_of p) → Advances p q → q.offset < size_of q → opens_comment (mode_of q.mode) (rest_of q) ≡ false
+    → at_end (size_of p) (mode_of p.mode) t (skip_closed_whitespace (mode_of p.mode) (rest_of p)) ≡ Err (record { code = unexpected_trailing_characters; offset = q.offset + 1 })
+ends_trailing p q t e a within closed =
+    ending_same p q t e a ∙ past_end (size_of q) (mode_of q.mode) t (rest_of q) q.offset (omega (arith, length-drop q.offset q.buf.now)) (omega (arith, length-drop q.offset q.buf.now)) closed
+
+pub ends_comment : (p q : Parser) (t : Source) → rest_of q ≡ skip_closed_whitespace (mode_of p.mode) (rest_of p) → Advances p q → q.offset < size_of q → opens_comment (mode_of q.mode) (rest_of q) ≡ true
+    → at_end (size_of p) (mode_of p.mode) t (skip_closed_whitespace (mode_of p.mode) (rest_of p)) ≡ comment_at (size_of q) t (drop 1 (rest_of q))
+ends_comment p q t e a within opens = ending_same p q t e a ∙ comment_end (size_of q) (mode_of q.mode) t (rest_of q) (omega (arith, length-drop q.offset q.buf.now)) opens
+
+pub ends_well : (p q : Parser) (t : Source) → rest_of q ≡ skip_closed_whitespace (mode_of p.mode) (rest_of p) → Advances p q → size_of q ≤ q.offset
+    → at_end (size_of p) (mode_of p.mode) t (skip_closed_whitespace (mode_of p.mode) (rest_of p)) ≡ Ok t
+ends_well p q t e a past = ending_same p q t e a ∙ ap (at_end (size_of q) (mode_of q.mode) t) (nothing_left q.buf.now q.offset past)
+
+-- the end of the text is that of the same input further on
+pub ended_same : (q m : Parser) (t : Source) → Advances q m → ended (size_of q) (mode_of q.mode) (t, rest_of m) ≡ at_end (size_of m) (mode_of m.mode) t (skip_closed_whitespace (mode_of m.mode) (rest_of m))
+ended_same q m t a =
+    sym (ap (λ (n : ℕ). at_end n (mode_of m.mode) t (skip_closed_whitespace (mode_of m.mode) (rest_of m))) (same_size q m a) ∙ ap (λ (k : Mode). at_end (size_of q) k t (skip_closed_whitespace k (rest_of m))) (ap mode_of a.mode))
+
+-- ---- a comment at the end
+
+after-next : (buf : List ℕ) (i : ℕ) → drop 1 (drop i buf) ≡ drop (i + 1) buf
+after-next buf i = drop-drop 1 i buf
+
+pub comment_closed : (buf : List ℕ) (i : ℕ) (t : Source) → i + 1 < length buf → get_or buf (i + 1) 0 ≡ 47 → comment_at (length buf) t (drop 1 (drop i buf)) ≡ Ok t
+comment_closed buf i t within slash =
+    ap (comment_at (length buf) t) (after-next buf i ∙ drop_more buf (i + 1) 0 within ∙ ap (λ (b : ℕ). b ∷ drop (i + 1 + 1) buf) slash)
+
+pub comment_open : (buf : List ℕ) (i : ℕ) (t : Source) → (length buf ≤ i + 1) ⊎ ((i + 1 < length buf) × (get_or buf (i + 1) 0 ≢ 47)) → comment_at (length buf) t (drop 1 (drop i buf)) ≡ Err (record { code = invalid_eof; offset = length buf })
+comment_open buf i t (inl past) = ap (comment_at (length buf) t) (after-next buf i ∙ nothing_left buf (i + 1) past)
+comment_open buf i t (inr (within, other)) =
+    ap (comment_at (length buf) t) (after-next buf i ∙ drop_more buf (i + 1) 0 within)
+    ∙ ap (λ (b : Bool). cond (cond b true false) (Ok t) (fault invalid_eof (length buf))) (ne_eqb (get_or buf (i + 1) 0) 47 other)

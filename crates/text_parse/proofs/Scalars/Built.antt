@@ -1,0 +1,203 @@
+-- A value that holds no others, built of what the steps in it give.
+use Rattle.std.proofs.Common.{◌≡◌, ◌≢◌, pos, neg_ℤ, ◌+◌, ◌-◌, ℕ, true, false, List, [], ◌∷◌, ◌++◌, codes, length, Option, Some, Result, Ok, Err, IfOk, IfErr, refl, ap, sym, subst, ◌∙◌, arith, length-drop, length-append, append_assoc, drop, ◌<◌, take, slice_range, ap₂, Bool, OnOk, IfOk, eqb, true≢false, inl, inr}
+use Rattle.std.specs.Prelude.{slice_index}
+use Rattle.std.proofs.Math.Seq.{take-append_seam}
+use Rattle.std.proofs.lemmas.Bool.{cases_Bool, cond-false, eqb-true}
+use Rattle.jsonb_value.specs.declared.error.Error.{Error}
+use Rattle.jsonb_value.specs.declared.error.Error.TheVariants.{Syntax, OutOfMemory}
+use Rattle.jsonb_spec.specs.Mode.{Mode, standard, extended}
+use Rattle.text_scan.specs.declared.parser.number.ShortInteger.{ShortInteger}
+use Rattle.jsonb_spec.specs.Tree.{Mark, Num, Tree, int64, uint64, null, boolean, number, string}
+use Rattle.text_parse.specs.declared.parser.Parser.{Parser}
+use Rattle.text_scan.specs.Answer.{Fails, mode_of}
+use Rattle.text_scan.specs.Parsing.{Fault, Parse, begins, ◌>>=◌}
+use Rattle.text_scan.specs.Parsing.ExtendedNumber.{extended_number_at}
+use Rattle.text_scan.specs.Parsing.Number.{is_number_start, standard_number_at}
+use Rattle.text_scan.specs.Parsing.Scalar.{begins_number, letters_at, null_at, number_at, number_value_at, or_else, other_scalar_at, quoted_at, scalar_at}
+use Rattle.text_scan.specs.Parsing.String.{string_at}
+use Rattle.text_scan.specs.Open.{Open}
+use Rattle.jsonb_spec.specs.Source.{Source, number_source, source_alone}
+use Rattle.jsonb_spec.specs.Grammar.StandardNumber.{IsStandardNumber}
+use Rattle.text_scan.specs.Encoded.{IsEncoded, IsEncodedAt}
+use Rattle.text_parse.specs.Literals.{literal_text, literal_tree}
+use Rattle.text_parse.specs.declared.parser.scalar.Literal.{Literal}
+use Rattle.text_parse.specs.declared.parser.scalar.Literal.TheVariants as literals
+use Rattle.text_parse.specs.declared.parser.frame.Frame.{Frame}
+use Rattle.text_parse.specs.Handler.{AsKey, AsNumber, AsScalar, Builds, IsUnreported}
+use Rattle.text_parse.specs.Frames.{IsPut}
+use Rattle.text_parse.specs.Slots.{Takes}
+use Rattle.text_parse.specs.Parser.{Advances, IsBehind, rest_of, size_of}
+use Rattle.jsonb_spec.specs.Text.{in_quotes}
+use Rattle.jsonb_spec.specs.Text.NumberText.{number_text}
+use Rattle.std.proofs.lemmas.List.{drop_more}
+use Rattle.text_common.specs.VerbatimScalar.{IsIntegerAt, IsVerbatimAt}
+use Rattle.text_common.specs.declared.verbatim.Verbatim.{Verbatim}
+use Rattle.text_parse.proofs.Scalars.FirstBytes.{extended_number, standard_number}
+use Rattle.text_scan.proofs.Containers.JoinedParts.{on_byte-none}
+use Rattle.text_parse.proofs.Steps.Failures.{memory_misses, misses_through, unreported_misses}
+use Rattle.text_parse.proofs.Steps.Outcomes.{same_size, scalar_quoted}
+
+-- ---- strings
+
+pub string_read : (size : ℕ) (mode : Mode) (quote : ℕ) (bytes : List ℕ) (x : Mark × List ℕ) (rest : List ℕ) → string_at size mode quote bytes ≡ Ok (x, rest) → quoted_at size mode quote bytes ≡ Ok (string x.0 x.1, rest)
+string_read size mode quote bytes x rest read = ap (λ (r : Parse (Mark × List ℕ)). r >>= λ (s : (Mark × List ℕ) × List ℕ). Ok (string s.0.0 s.0.1, s.1)) read
+
+pub scalar_string : (p q : Parser) (x : Mark × List ℕ) (rest : List ℕ) → Advances p q → rest_of p ≡ 34 ∷ rest_of q → string_at (size_of q) (mode_of q.mode) 34 (rest_of q) ≡ Ok (x, rest)
+    → scalar_at (size_of p) (mode_of p.mode) (rest_of p) ≡ Ok (string x.0 x.1, rest)
+scalar_string p q x rest a e read = scalar_quoted p q a e ∙ string_read (size_of q) (mode_of q.mode) 34 (rest_of q) x rest read
+
+-- ---- words
+
+pub null_read : (size : ℕ) (mode : Mode) (bytes rest : List ℕ) → letters_at size mode (codes "null") bytes ≡ Ok rest → null_at size mode bytes ≡ Ok (null, rest)
+null_read size standard bytes rest read = ap (λ (r : Result (List ℕ) Fault). r >>= λ rest. Ok (null, rest)) read
+null_read size extended bytes rest read = ap (λ (r : Result (List ℕ) Fault). or_else (r >>= λ rest. Ok (null, rest)) (number_value_at size extended bytes)) read
+
+-- no word begins here, in extended mode
+pub null_missed : (size : ℕ) (mode : Mode) (bytes : List ℕ) (e : Error) → mode ≡ extended → e ≢ OutOfMemory → Fails e (letters_at size mode (codes "null") bytes) → null_at size mode bytes ≡ number_value_at size mode bytes
+null_missed size standard bytes e is other h = cc
+null_missed size extended bytes (Syntax code offset) is other h = ap (λ (r : Result (List ℕ) Fault). or_else (r >>= λ rest. Ok (null, rest)) (number_value_at size extended bytes)) h
+null_missed size extended bytes OutOfMemory is other h = absurd (other refl)
+null_missed size extended bytes e is other h = absurd h
+
+-- ---- numbers
+
+-- a number as a value
+pub number_built : {V F : Type 0} (silent : Bool) (reported : Option Error) (Sees : V → Source → Type 0) (result : Result V F) (size : ℕ) (mode : Mode) (bytes rest : List ℕ) → Builds silent reported (AsNumber Sees) result (number_at size mode bytes) rest
+    → Builds silent reported (AsScalar Sees) result (number_value_at size mode bytes) rest
+number_built silent reported Sees (Ok v) size mode bytes rest h = (number h.0, h.1, ap (λ (r : Parse Num). r >>= λ x. Ok (number x.0, x.1)) h.2)
+number_built silent reported Sees (Err f) size mode bytes rest h = misses_through silent reported (number_at size mode bytes) (λ x. Ok (number x.0, x.1)) h
+
+-- ---- what is parsed is put in
+
+pub put_so : {R I M K F : Type 0} (silent : Bool) (Holds : List ℕ → R → Bool → List (Frame I M K) → List Open → Type 0) (Is : List ℕ → Source → Type 0) (text : List ℕ) (q r : Parser) (old new : R) (result : Result Unit F) (before : Frame I M K) (t : Tree) (read : Parse Tree) (after : Frame I M K)
+    → OnOk result (Takes Holds Is old before new after) → OnOk result (r ≡ q) → IfErr result (λ _. IsUnreported silent r.reported) → Is text (source_alone t) → read ≡ Ok (t, rest_of q) → IsPut silent r.reported Holds text result old before read new after (rest_of r)
+put_so silent Holds Is text q r old new (Ok x) before t read after put same reported there is = (t, is ∙ ap (λ o. Ok (t, rest_of o)) (sym same), λ c fs cs fits holds. put text (source_alone t) c fs cs fits holds there)
+put_so silent Holds Is text q r old new (Err f) before t read after put same reported there is = unreported_misses silent r.reported read reported
+
+-- ---- where a scalar is
+
+-- the bytes between two offsets of a parser
+pub between : (p q : Parser) (bytes : List ℕ) → Advances p q → rest_of p ≡ bytes ++ rest_of q → slice_range p.buf.now p.offset q.offset ≡ bytes
+between p q bytes a e =
+    let same = same_size p q a in
+    let count : q.offset - p.offset ≡ length bytes = omega (arith, ap length e, length-append bytes (rest_of q), length-drop p.offset p.buf.now, length-drop q.offset q.buf.now, same, q.inside, p.inside) in
+    ap₂ (λ n xs. take n xs) count e ∙ take-append_seam bytes (rest_of q)
+
+-- where an integer is that is written as it is
+pub verbatim_at : (p q : Parser) (core : List ℕ) (value integer : Num) → Advances p q → rest_of p ≡ core ++ rest_of q → IsStandardNumber core integer → value.scale ≡ integer.scale → value.whole ≡ integer.whole
+    → core ≡ number_text value → IsIntegerAt p.buf.now p.offset q.offset (number_source value)
+verbatim_at p q core value integer on joined digits scale whole text =
+    let there = between p q core on joined in
+    record {
+      value = value;
+      integer = integer;
+      is = refl;
+      inside = omega (arith, q.inside, same_size p q on);
+      digits = subst (λ bytes. IsStandardNumber bytes integer) (sym there) digits;
+      scale = scale;
+      whole = whole;
+      same = there ∙ text;
+    }
+
+-- the integer that is parsed, with a minus and without
+abbrev pub negative_of : ShortInteger → Num
+negative_of read = record { form = int64; scale = 0; whole = neg_ℤ (pos read.magnitude) }
+
+abbrev pub positive_of : ShortInteger → Num
+positive_of read = record { form = uint64; scale = 0; whole = pos read.magnitude }
+
+-- an integer in the text
+pub integer_holds : (p q : Parser) (n : Num) → Advances p q → (bytes : List ℕ) × (rest_of p ≡ bytes ++ rest_of q) × IsStandardNumber bytes n → IsEncodedAt p.buf.now p.offset q.offset (number_source n)
+integer_holds p q n a h some = subst (λ bs. IsStandardNumber bs n) (sym (between p q h.0 a h.1)) h.2
+
+-- nothing is said of where a scalar is
+pub not_encoded : (text : List ℕ) (at : ℕ) (s : Source) → IsEncodedAt text at at s
+not_encoded text at s h = absurd (omega arith)
+
+-- ---- keys
+
+-- a key without escapes, behind its opening quote
+pub key_holds : (p q r : Parser) (body : List ℕ) → 0 < q.offset → Advances p q → Advances q r → IsBehind 34 q → rest_of q ≡ body ++ 34 ∷ rest_of r → slice_range p.buf.now (q.offset - 1) r.offset ≡ in_quotes body
+key_holds p q r body some on a behind e =
+    let before : Parser = record q { offset = q.offset - 1; inside = omega (arith, q.inside) } in
+    let back : q.offset - 1 + 1 ≡ q.offset = omega (arith, some) in
+    let more : rest_of before ≡ 34 ∷ rest_of q =
+    drop_more q.buf.now (q.offset - 1) 0 (omega (arith, q.inside, some)) ∙ ap₂ (λ b r. b ∷ r) behind.1 (ap (λ n. drop n q.buf.now) back) in
+    let on_before : Advances before r = record { buf = a.buf; mode = a.mode; onward = omega (arith, a.onward) } in
+    ap (λ b. slice_range b.now (q.offset - 1) r.offset) (sym on.buf)
+    ∙ between before r (34 ∷ body ++ 34 ∷ []) on_before (more ∙ ap (λ xs. 34 ∷ xs) (e ∙ sym (append_assoc body (34 ∷ []) (rest_of r))))
+
+-- what is so of a key that is there
+pub key_begun : {K A : Type 0} (Holds : List ℕ → Type 0) (Begun : List ℕ → K → Type 0) (made : Result K A) → IfOk made (λ key. (bytes : List ℕ) → Holds bytes → Begun bytes key) → (bytes : List ℕ) → Holds bytes → IfOk made (Begun bytes)
+key_begun Holds Begun (Ok key) h bytes holds = h bytes holds
+key_begun Holds Begun (Err e) h bytes holds = tt
+
+-- a key that a handler made of what was parsed
+pub key_retained : {K A F : Type 0} (silent : Bool) (Names : K → Mark × List ℕ → ℕ → Type 0) (made : Result K A) (result : Result K F) (size : ℕ) (p q : Parser) (k : Mark × List ℕ) (read : Parse (Mark × List ℕ)) → size ≡ size_of p → IfOk made (λ key. Names key k p.offset)
+    → IfOk result (λ x. (made ≡ Ok x) × (q ≡ p)) → IfErr result (λ _. q.reported ≡ Some OutOfMemory) → read ≡ Ok (k, rest_of p) → Builds silent q.reported (AsKey Names size (rest_of q)) result read (rest_of q)
+key_retained silent Names made (Ok key) size p q k read same named verbatim memory is =
+    let offset : p.offset ≡ size - length (rest_of q) = omega (arith, length-drop p.offset p.buf.now, same, p.inside, ap (λ o. length (rest_of o)) verbatim.1) in
+    (k, subst (λ i. Names key k i) offset (subst (λ m. IfOk m (λ x. Names x k p.offset)) verbatim.0 named), is ∙ ap (λ o. Ok (k, rest_of o)) (sym verbatim.1))
+key_retained silent Names made (Err f) size p q k read same named verbatim memory is = memory_misses silent q.reported read memory
+
+-- what is built in an input of one size is built in the same
+pub key_same : {K F : Type 0} (silent : Bool) (reported : Option Error) (Names : K → Mark × List ℕ → ℕ → Type 0) (result : Result K F) (size other_size : ℕ) (read other : Parse (Mark × List ℕ)) (rest : List ℕ) → other_size ≡ size → other ≡ read
+    → Builds silent reported (AsKey Names size rest) result read rest → Builds silent reported (AsKey Names other_size rest) result other rest
+key_same silent reported Names result size other_size read other rest sizes same h =
+    subst (λ n. Builds silent reported (AsKey Names n rest) result other rest) (sym sizes) (subst (λ q. Builds silent reported (AsKey Names size rest) result q rest) (sym same) h)
+
+-- ---- what is parsed at once
+
+pub null_at_once : (size : ℕ) (mode : Mode) (rest : List ℕ) → scalar_at size mode (110 ∷ 117 ∷ 108 ∷ 108 ∷ rest) ≡ Ok (null, rest)
+unfolding scalar_at
+null_at_once size standard rest = refl
+null_at_once size extended rest = refl
+
+pub true_at_once : (size : ℕ) (mode : Mode) (rest : List ℕ) → scalar_at size mode (116 ∷ 114 ∷ 117 ∷ 101 ∷ rest) ≡ Ok (boolean true, rest)
+unfolding scalar_at
+true_at_once size standard rest = refl
+true_at_once size extended rest = refl
+
+pub false_at_once : (size : ℕ) (mode : Mode) (rest : List ℕ) → scalar_at size mode (102 ∷ 97 ∷ 108 ∷ 115 ∷ 101 ∷ rest) ≡ Ok (boolean false, rest)
+unfolding scalar_at
+false_at_once size standard rest = refl
+false_at_once size extended rest = refl
+
+-- the first byte is a digit or a minus
+starts_number : (bytes : List ℕ) → is_number_start (slice_index bytes 0) ≡ true → (begins 34 bytes ≡ false) × (begins_number standard bytes ≡ true)
+starts_number [] e = absurd (true≢false (sym e))
+starts_number (b ∷ bytes) e = (no_quote, e)
+  where
+    no_quote : begins 34 (b ∷ bytes) ≡ false
+    no_quote = elim (cases_Bool (eqb b 34)) [
+      | inl same ↦ absurd (true≢false (sym e ∙ ap is_number_start (eqb-true b 34 same)))
+      | inr other ↦ cond-false (eqb b 34) true false other
+    ]
+
+-- an integer of a standard text
+pub integer_at_once : (size : ℕ) (mode : Mode) (bytes : List ℕ) (n : Num) (rest : List ℕ) → mode ≡ standard → is_number_start (slice_index bytes 0) ≡ true → standard_number_at size bytes ≡ Ok (n, rest)
+    → scalar_at size mode bytes ≡ Ok (number n, rest)
+unfolding scalar_at
+integer_at_once size mode bytes n rest is first read =
+    let begun = starts_number bytes first in
+    on_byte-none 34 bytes (quoted_at size mode 34) (other_scalar_at size mode bytes) begun.0
+    ∙ standard_number size mode bytes is begun.1 ∙ ap (λ (r : Parse Num). r >>= λ x. Ok (number x.0, x.1)) read
+
+-- a number of an extended text that begins as integers do
+pub extended_at_once : (size : ℕ) (mode : Mode) (bytes : List ℕ) (n : Num) (rest : List ℕ) → mode ≡ extended → is_number_start (slice_index bytes 0) ≡ true → extended_number_at size bytes ≡ Ok (n, rest)
+    → scalar_at size mode bytes ≡ Ok (number n, rest)
+unfolding scalar_at
+extended_at_once size mode bytes n rest is first read =
+    let begun = starts_number bytes first in
+    on_byte-none 34 bytes (quoted_at size mode 34) (other_scalar_at size mode bytes) begun.0
+    ∙ extended_number size mode bytes is begun.1 ∙ ap (λ (r : Parse Num). r >>= λ x. Ok (number x.0, x.1)) read
+
+-- what the parser parses where it paused
+pub scalar_still : (p q : Parser) → q ≡ p → scalar_at (size_of p) (mode_of p.mode) (rest_of p) ≡ scalar_at (size_of q) (mode_of q.mode) (rest_of q)
+scalar_still p q same = sym (ap (λ o. scalar_at (size_of o) (mode_of o.mode) (rest_of o)) same)
+
+-- a literal as it is encoded
+pub literal_encoded : (l : Literal) (bytes : List ℕ) → bytes ≡ literal_text l → IsEncoded bytes (source_alone (literal_tree l))
+literal_encoded literals.Null bytes e = e
+literal_encoded (literals.Bool true) bytes e = e
+literal_encoded (literals.Bool false) bytes e = e

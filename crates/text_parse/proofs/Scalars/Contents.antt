@@ -1,0 +1,58 @@
+-- A string with escapes, by its contents.
+use Rattle.std.proofs.Common.{◌≡◌, ◌+◌, ◌-◌, ◌<◌, ℕ, List, ◌∷◌, ◌++◌, length, take, drop, get_or, Contains, Option, Some, Ok, Err, sym, ap, ◌∙◌, subst, arith, length-drop}
+use Rattle.std.proofs.Math.Seq.{get_or-append_seam}
+use Rattle.std.proofs.lemmas.List.{get_or-take, length-take-le}
+use Rattle.jsonb_value.specs.declared.error.Error.{Error}
+use Rattle.jsonb_value.specs.declared.error.Error.TheVariants.{Syntax, OutOfMemory}
+use Rattle.jsonb_spec.specs.Tree.{Mark, string}
+use Rattle.text_scan.specs.Answer.{Fails, mode_of}
+use Rattle.text_scan.specs.Decoding.{SeesBackslash}
+use Rattle.text_scan.specs.QuotedString.{DecodesContents}
+use Rattle.text_scan.specs.Parsing.Scalar.{quoted_at}
+use Rattle.text_scan.specs.Parsing.String.{Body, body_of, quote_end, string_at}
+use Rattle.jsonb_spec.specs.Source.{Source}
+use Rattle.text_scan.proofs.Strings.Bodies.{body_fails, contains_after, string-closed}
+use Rattle.text_scan.proofs.Strings.Ends.{quote_split, quote_within}
+use Rattle.text_parse.specs.declared.parser.Parser.{Parser}
+use Rattle.text_parse.specs.Handler.{Misses, SeesContents}
+use Rattle.text_parse.specs.Parser.{PassesContents, rest_of, size_of}
+use Rattle.text_parse.proofs.Scalars.Built.{string_read}
+use Rattle.text_parse.proofs.Steps.Failures.{misses_through}
+
+-- the closing quote is there
+pub quote_there : (quote : ℕ) (bytes : List ℕ) (end : ℕ) → quote_end quote bytes ≡ Ok end → get_or bytes end 0 ≡ quote
+quote_there quote bytes end found =
+    let long : length (take end bytes) ≡ end = length-take-le end bytes (omega (arith, quote_within quote bytes end found)) in
+    ap (λ (u : List ℕ). get_or u end 0) (quote_split quote bytes end found) ∙ ap (λ (n : ℕ). get_or (take end bytes ++ quote ∷ drop (end + 1) bytes) n 0) (sym long)
+    ∙ get_or-append_seam (take end bytes) quote (drop (end + 1) bytes) 0
+
+module _ (quote : ℕ) (p q : Parser) (body : List ℕ) (c : PassesContents quote p q body) where
+  -- what is parsed of the contents is parsed of the string
+  pub contents_read : (x : Mark × List ℕ) → body_of (mode_of p.mode) body ≡ Ok x → quoted_at (size_of p) (mode_of p.mode) quote (rest_of p) ≡ Ok (string x.0 x.1, rest_of q)
+  contents_read x read =
+      let mode = mode_of p.mode in
+      string_read (size_of p) mode quote (rest_of p) x (rest_of q)
+      (string-closed (size_of p) mode quote (rest_of p) (length body) x c.found (ap (body_of mode) (sym c.is) ∙ read) ∙ ap (λ (u : List ℕ). Ok (x, u)) (sym c.rest))
+
+  rejected : {V : Type 0} (Sees : V → Source → Type 0) (offset : ℕ) (e : Error) (read : Body (Mark × List ℕ)) → SeesContents Sees offset (Err e) read → DecodesContents offset (Err e) read
+  rejected Sees offset (Syntax code index) read h = h
+  rejected Sees offset OutOfMemory read h = h
+  rejected Sees offset other read h = h
+
+  -- and their fault is its fault
+  pub contents_fail : {V : Type 0} (Sees : V → Source → Type 0) (silent : _) (reported : Option Error) (e : Error) → reported ≡ Some e → SeesContents Sees (p.offset + 1) (Err e) (body_of (mode_of p.mode) body)
+      → Misses silent reported (quoted_at (size_of p) (mode_of p.mode) quote (rest_of p))
+  contents_fail Sees silent reported e is h =
+      let mode = mode_of p.mode in
+      let at : size_of p - length (rest_of p) ≡ p.offset = omega (arith, length-drop p.offset p.buf.now, p.inside) in
+      let fails : Fails e (string_at (size_of p) mode quote (rest_of p)) =
+      body_fails (size_of p) mode quote (rest_of p) (length body) p.offset e c.found at (subst (λ (u : List ℕ). DecodesContents (p.offset + 1) (Err e) (body_of mode u)) c.is (rejected Sees (p.offset + 1) e (body_of mode body) h)) in
+      misses_through silent reported (string_at (size_of p) mode quote (rest_of p)) (λ s. Ok (string s.0.0 s.0.1, s.1)) (subst (λ (t : Option Error). Misses silent t (string_at (size_of p) mode quote (rest_of p))) (sym is) fails)
+
+  -- a backslash is in the text
+  pub contents_escaped : Contains p.buf.now 92
+  contents_escaped =
+      let sees = c.escaped in
+      let low : sees.0 < length body = sees.1 in
+      let there : SeesBackslash (rest_of p) (length body) = (sees.0, low, sym (get_or-take (length body) (rest_of p) sees.0 0 low) ∙ ap (λ (u : List ℕ). get_or u sees.0 0) (sym c.is) ∙ sees.2) in
+      contains_after p.buf.now p.offset (length body) there (omega (arith, c.within))

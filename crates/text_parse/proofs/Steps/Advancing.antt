@@ -1,0 +1,67 @@
+-- A parser that goes on in the same input.
+use Rattle.std.proofs.Common.{◌≡◌, ℕ, ◌+◌, true, false, true≢false, eqb, inl, inr, List, [], ◌∷◌, length, drop, Result, Err, Contains, get_or, refl, sym, ap, ◌∙◌, arith, length-drop}
+use Rattle.jsonb_spec.specs.Code.Code.{expected_some_ident}
+use Rattle.text_scan.specs.Answer.{Fails, NamesFault}
+use Rattle.text_parse.specs.Parser.{Advances}
+use Rattle.text_scan.specs.Parsing.{Fault, reject}
+use Rattle.text_scan.specs.Parsing.Scalar.{begins_letter, begins_single_quote, fold_letter, letters_at, on_letter, on_single_quote}
+use Rattle.jsonb_spec.specs.Mode.{Mode, standard, extended}
+use Rattle.text_scan.proofs.Steps.Tests.{chosen}
+use Rattle.text_scan.proofs.Containers.JoinedParts.{on_byte-none}
+use Rattle.std.proofs.lemmas.List.{get_or-drop}
+use Rattle.std.proofs.lemmas.Bool.{cond-true}
+use Rattle.text_parse.specs.declared.parser.Parser.{Parser}
+use Rattle.jsonb_value.specs.declared.error.Error.{Error}
+use Rattle.jsonb_value.specs.declared.error.Error.TheVariants.{Syntax}
+
+-- ---- faults
+
+pub fails : {Y : Type 0} (e : Error) (f : Fault) (read : Result Y Fault) → NamesFault e f → read ≡ Err f → Fails e read
+fails (Syntax code offset) f read is r = r ∙ ap (λ (g : Fault). Err g) is
+fails other f read is r = absurd is
+
+-- ---- going on
+
+pub stays : (p : Parser) → Advances p p
+stays p = record { buf = refl; mode = refl; onward = omega arith }
+
+pub goes_on : (p q r : Parser) → Advances p q → Advances q r → Advances p r
+goes_on p q r a b = record { buf = b.buf ∙ a.buf; mode = b.mode ∙ a.mode; onward = omega (arith, a.onward, b.onward) }
+
+-- ---- words
+
+pub on_letter-true : {X : Type 0} (mode : Mode) (c : ℕ) (bytes : List ℕ) (found : List ℕ → X) (other : X) → begins_letter mode c bytes ≡ true → on_letter mode c bytes found other ≡ found (drop 1 bytes)
+on_letter-true mode c [] found other e = absurd (true≢false (sym e))
+on_letter-true mode c (b ∷ bytes) found other e =
+    elim (chosen (eqb (fold_letter mode b) c) true false true e) [
+      | inl t ↦ cond-true (eqb (fold_letter mode b) c) (found bytes) other t.0
+      | inr f ↦ absurd (true≢false (sym f.1))
+    ]
+
+pub letters-step : (size : ℕ) (mode : Mode) (c : ℕ) (cs bytes : List ℕ) → begins_letter mode c bytes ≡ true → letters_at size mode (c ∷ cs) bytes ≡ letters_at size mode cs (drop 1 bytes)
+letters-step size mode c cs bytes e = on_letter-true mode c bytes (letters_at size mode cs) (reject size expected_some_ident 1 bytes) e
+
+-- ---- single quotes
+
+pub single-true : {X : Type 0} (mode : Mode) (bytes : List ℕ) (found : List ℕ → X) (other : X) → begins_single_quote mode bytes ≡ true → on_single_quote mode bytes found other ≡ found (drop 1 bytes)
+single-true standard bytes found other e = absurd (true≢false (sym e))
+single-true extended [] found other e = absurd (true≢false (sym e))
+single-true extended (b ∷ bytes) found other e =
+    elim (chosen (eqb b 39) true false true e) [
+      | inl t ↦ cond-true (eqb b 39) (found bytes) other t.0
+      | inr f ↦ absurd (true≢false (sym f.1))
+    ]
+
+pub single-false : {X : Type 0} (mode : Mode) (bytes : List ℕ) (found : List ℕ → X) (other : X) → begins_single_quote mode bytes ≡ false → on_single_quote mode bytes found other ≡ other
+single-false standard bytes found other e = refl
+single-false extended bytes found other e = on_byte-none 39 bytes found other e
+
+-- ---- the byte that comes next is in the input
+
+pub contains_next : (buf : List ℕ) (i b : ℕ) (rest : List ℕ) → drop i buf ≡ b ∷ rest → Contains buf b
+contains_next buf i b rest e =
+    let at : i + 0 ≡ i = omega arith in (
+      i,
+      omega (arith, ap length e, length-drop i buf),
+      ap (λ (k : ℕ). get_or buf k b) (sym at) ∙ sym (get_or-drop i buf 0 b) ∙ ap (λ (xs : List ℕ). get_or xs 0 b) e,
+    )

@@ -1,0 +1,43 @@
+use Rattle.std.proofs.Common.{Ok, true, false, drop, ap, sym, ◌∙◌, drop-drop, rules}
+use Rattle.jsonb_spec.specs.Tree.{null, boolean}
+use Rattle.text_scan.specs.Answer.{mode_of}
+use Rattle.text_scan.specs.Parsing.Scalar.{scalar_at}
+use Rattle.text_parse.specs.Parser.{size_of}
+use Rattle.text_parse.proofs.Scalars.Built.{null_at_once, true_at_once, false_at_once}
+use Rattle.text_parse.proofs.parser.Parser.short_literal.Goals as goal
+
+pub returns-then-begins_with-clause-finds : goal.returns-then-begins_with-clause-finds
+returns-then-begins_with-clause-finds c =
+    record {
+      parses =
+          let p = c.args.self.now in
+          let rest = c.rest-rest.result.now in
+          ap (scalar_at (size_of p) (mode_of p.mode)) (sym c.rest-rest.ensures ∙ c.if-begins_with.ensures) ∙ null_at_once (size_of p) (mode_of p.mode) (drop 4 rest)
+          ∙ ap (λ r. Ok (null, r)) (ap (drop 4) c.rest-rest.ensures ∙ drop-drop 4 p.offset p.buf.now);
+      stays = search rules;
+      advances = search rules;
+    }
+
+pub returns-then-begins_with-2-clause-finds : goal.returns-then-begins_with-2-clause-finds
+returns-then-begins_with-2-clause-finds c =
+    record {
+      parses =
+          let p = c.args.self.now in
+          let rest = c.rest-rest.result.now in
+          ap (scalar_at (size_of p) (mode_of p.mode)) (sym c.rest-rest.ensures ∙ c.if-begins_with-2.ensures) ∙ true_at_once (size_of p) (mode_of p.mode) (drop 4 rest)
+          ∙ ap (λ r. Ok (boolean true, r)) (ap (drop 4) c.rest-rest.ensures ∙ drop-drop 4 p.offset p.buf.now);
+      stays = search rules;
+      advances = search rules;
+    }
+
+pub returns-then-begins_with-3-clause-finds : goal.returns-then-begins_with-3-clause-finds
+returns-then-begins_with-3-clause-finds c =
+    record {
+      parses =
+          let p = c.args.self.now in
+          let rest = c.rest-rest.result.now in
+          ap (scalar_at (size_of p) (mode_of p.mode)) (sym c.rest-rest.ensures ∙ c.if-begins_with-3.ensures) ∙ false_at_once (size_of p) (mode_of p.mode) (drop 5 rest)
+          ∙ ap (λ r. Ok (boolean false, r)) (ap (drop 5) c.rest-rest.ensures ∙ drop-drop 5 p.offset p.buf.now);
+      stays = search rules;
+      advances = search rules;
+    }

@@ -1,0 +1,22 @@
+use Rattle.std.proofs.Common.{◌≡◌, Bool, true, false, ◌∷◌, MatchBool, ap, sym, ◌∙◌, rules}
+use Rattle.jsonb_spec.specs.Grammar.Whitespace.IsWhitespacePiece.{space}
+use Rattle.jsonb_spec.specs.Mode.{Mode}
+use Rattle.text_scan.specs.Answer.{mode_of}
+use Rattle.text_scan.specs.Parsing.Whitespace.{skip_whitespace}
+use Rattle.text_parse.specs.Parser.{rest_of}
+use Rattle.text_parse.specs.declared.parser.Parser.{Parser}
+use Rattle.text_scan.proofs.Text.Whitespace.{skip-piece}
+use Rattle.text_parse.proofs.parser.Parser.skip_space.Goals as goal
+
+-- a space was passed, or nothing
+passed : (mode : Mode) (found : Bool) (p q : Parser) → MatchBool found (rest_of p ≡ 32 ∷ rest_of q) (q ≡ p) → skip_whitespace mode (rest_of q) ≡ skip_whitespace mode (rest_of p)
+passed mode true p q h = sym (ap (skip_whitespace mode) h ∙ skip-piece space (rest_of q))
+passed mode false p q h = ap (λ s. skip_whitespace mode (rest_of s)) h
+
+pub returns : goal.returns
+returns c =
+    record {
+      rest =
+          passed (mode_of c.args.self.now.mode) c.take_byte-found.result c.args.self.now c.take_byte-found.new.self c.take_byte-found.ensures.rest;
+      advances = search rules;
+    }

@@ -1,0 +1,32 @@
+use Rattle.std.proofs.Common.{◌≡◌, ℕ, ◌+◌, ◌<◌, ◌≤◌, List, ap, sym, ◌∙◌, arith, drop, drop-drop, get_or, length, rules}
+use Rattle.jsonb_spec.specs.Mode.{Mode}
+use Rattle.text_scan.specs.Parsing.Whitespace.{skip_closed_whitespace}
+use Rattle.text_scan.specs.Answer.{mode_of}
+use Rattle.text_parse.specs.Parser.{rest_of}
+use Rattle.text_parse.specs.declared.parser.Parser.{Parser}
+use Rattle.text_scan.proofs.Text.Whitespace.{pass-spaces}
+use Rattle.text_parse.proofs.parser.Parser.skip_spaces.Goals as goal
+
+-- So many spaces are passed, as these bytes from the index on show.
+passed : (p : Parser) (rest : List ℕ) (count : ℕ) → rest ≡ rest_of p → count ≤ length rest → ((k : ℕ) → k < count → get_or rest k 0 ≡ 32) → skip_closed_whitespace (mode_of p.mode) (drop (p.offset + count) p.buf.now) ≡ skip_closed_whitespace (mode_of p.mode) (rest_of p)
+passed p rest count same within spaces =
+    let mode : Mode = mode_of p.mode in
+    let fits : count ≤ length (rest_of p) = omega (arith, within, ap length same) in
+    let are : (k : ℕ) → k < count → get_or (rest_of p) k 0 ≡ 32 = λ k low. sym (ap (λ u. get_or u k 0) same) ∙ spaces k low in
+    sym (ap (skip_closed_whitespace mode) (drop-drop count p.offset p.buf.now)) ∙ pass-spaces mode count (rest_of p) fits are
+
+pub returns-then-count-eq-NEAR : goal.returns-then-count-eq-NEAR
+returns-then-count-eq-NEAR c =
+    record {
+      rest =
+          c.skip_more_spaces.ensures.rest ∙ passed c.args.self.now c.rest.result.now c.near_spaces-count.result c.rest.ensures c.near_spaces-count.ensures.within c.near_spaces-count.ensures.spaces;
+      advances = search rules;
+    }
+
+pub returns-else-count-eq-NEAR : goal.returns-else-count-eq-NEAR
+returns-else-count-eq-NEAR c =
+    record {
+      rest =
+          passed c.args.self.now c.rest.result.now c.near_spaces-count.result c.rest.ensures c.near_spaces-count.ensures.within c.near_spaces-count.ensures.spaces;
+      advances = search rules;
+    }

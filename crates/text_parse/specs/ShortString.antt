@@ -1,0 +1,33 @@
+-- Strings in double quotes whose escapes are of one letter.
+use Rattle.std.specs.Prelude.{◌≡◌, ℕ, ◌-◌, ◌<◌, ◌≤◌, Bool, true, List, length, take, slice_index, Ok}
+use Rattle.std.specs.List.{flat_map}
+use Rattle.jsonb_spec.specs.Ascii as ascii
+use Rattle.jsonb_spec.specs.Source.{string_source}
+use Rattle.jsonb_spec.specs.Text.StringText.{byte_text}
+use Rattle.jsonb_spec.specs.Tree.{Mark, string}
+use Rattle.text_parse.specs.Parser.{parse_at, rest_of}
+use Rattle.text_parse.specs.declared.parser.Parser.{Parser}
+use Rattle.text_scan.specs.Parsing.Scalar.{quoted_at}
+use Rattle.text_common.specs.VerbatimScalar.{IsVerbatimAt}
+use Rattle.text_common.specs.ShortString.{IsShort}
+use Rattle.text_common.specs.declared.verbatim.Verbatim.{Verbatim}
+
+-- The first bytes are contents of such a string, and are serialized as they are where that is reported.
+pub record IsShortFront (bytes : List ℕ) (end : ℕ) (is_same : Bool) : Type 0 where
+  pub text : List ℕ
+  pub within : end ≤ length bytes
+  pub short : IsShort (take end bytes) text
+  pub same : is_same ≡ true → flat_map byte_text text ≡ take end bytes
+
+-- The closing quote is behind them.
+pub record IsShortEnd (bytes : List ℕ) (end : ℕ) (is_same : Bool) : Type 0 where
+  pub front : IsShortFront bytes end is_same
+  pub within : end < length bytes
+  pub quote : slice_index bytes end ≡ ascii.quote
+
+-- Such a string was passed from the byte after its opening quote on.
+pub record PassesShort (old new : Parser) (verbatim : Verbatim) : Type 0 where
+  pub mark : Mark
+  pub text : List ℕ
+  pub parses : parse_at (λ size mode. quoted_at size mode ascii.quote) old ≡ Ok (string mark text, rest_of new)
+  pub holds : IsVerbatimAt verbatim old.buf.now (old.offset - 1) new.offset (string_source mark text)

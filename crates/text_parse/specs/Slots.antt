@@ -1,0 +1,34 @@
+-- What becomes of an open container when a value is put into it.
+use Rattle.std.specs.Prelude.{ℕ, Bool, true, false, List, ◌∷◌}
+use Rattle.text_parse.specs.declared.parser.frame.Frame.{Frame}
+use Rattle.text_parse.specs.declared.parser.frame.Frame.TheVariants as variants
+use Rattle.text_scan.specs.Open.{Open, add_part, elements_so_far, members_so_far}
+use Rattle.jsonb_spec.specs.Source.{Source}
+
+-- the container is an array
+abbrev pub IsArray : Open → Type 0
+IsArray (elements_so_far ss) = Unit {0}
+IsArray (members_so_far fs key offset) = ⊥
+
+-- the container is an object
+abbrev pub IsObject : Open → Type 0
+IsObject (elements_so_far ss) = ⊥
+IsObject (members_so_far fs key offset) = Unit {0}
+
+-- The frame is an array's or an object's, as the container is.
+abbrev pub Fits : {I M K : Type 0} → Frame I M K → Open → Type 0
+Fits (variants.Array items) c = IsArray c
+Fits (variants.Object o) c = IsObject c
+
+-- whether a scalar is due after its key, as in an object
+abbrev pub is_due : {I M K : Type 0} → Frame I M K → Bool
+is_due (variants.Array items) = false
+is_due (variants.Object o) = true
+
+-- A source of which this holds becomes the next part of the innermost container.
+abbrev pub Takes : {R I M K : Type 0} → (List ℕ → R → Bool → List (Frame I M K) → List Open → Type 0)
+    → (List ℕ → Source → Type 0) → R → Frame I M K → R → Frame I M K → Type 0
+Takes {R} {I} {M} {K} Holds Is old before new after =
+    (text : List ℕ) → (s : Source) → (c : Open) → (fs : List (Frame I M K)) → (cs : List Open) → Fits before c
+    → Holds text old (is_due before) (before ∷ fs) (c ∷ cs) → Is text s
+    → Holds text new false (after ∷ fs) (add_part c s ∷ cs)

@@ -1,0 +1,505 @@
+//! Values that hold no others.
+ghost use Rattle.std.specs.Prelude.{◌≡◌, ◌≢◌, ◌<◌, ◌++◌, drop, length, MatchBool, Err, IfSome, Some, true, false, ◌^◌, pos, neg_ℤ};
+ghost use Rattle.jsonb_spec.specs.Ascii as ascii;
+ghost use Rattle.jsonb_spec.specs.Mode.{standard, extended};
+ghost use Rattle.jsonb_value.specs.View.{number_view};
+ghost use Rattle.text_scan.specs.Answer.{mode_of, Gives};
+ghost use Rattle.text_parse.specs.Scalars.{IsGiven};
+ghost use Rattle.text_parse.specs.Literals.{literal_text, literal_tree};
+ghost use Rattle.jsonb_spec.specs.Tree.{boolean, int64};
+ghost use Rattle.jsonb_spec.specs.Tree.Mark.{plain};
+ghost use Rattle.jsonb_spec.specs.Source.{string_source};
+ghost use Rattle.text_scan.specs.Encoded.{IsEncodedAt};
+ghost use Rattle.jsonb_spec.specs.Text.StringText.{ArePlain};
+ghost use Rattle.text_parse.specs.Parser.{Advances, Finds, IsAfterQuote, IsBehind, IsTextOf, ParsesAtOffset, TakesByte, rest_of, size_of};
+ghost use Rattle.text_scan.specs.Parsing.{begins};
+ghost use Rattle.text_scan.specs.Parsing.Scalar.{number_value_at, begins_letter, begins_single_quote, fold_letter, letters_at, null_at, number_at, quoted_at, scalar_at, word_at};
+ghost use Rattle.text_parse.specs.Steps.{MakesScalar, Puts, PutsIn};
+
+use super::handler::{Failed, Handler};
+use super::slot::Slot;
+use super::start::Start;
+use super::string::Cut;
+use super::text::{Scalar, Text};
+use super::{Mode, Parser};
+use jsonb_value::error::{Error, ParseErrorCode};
+use jsonb_value::number::Number;
+use text_common::verbatim::Verbatim;
+
+// A letter as words have it: in extended mode in lower case.
+#[inline(always)]
+fn fold(letter: u8, mode: Mode) -> u8
+    ensures { result ≡ fold_letter (mode_of mode) letter }
+{
+    match mode {
+        Mode::Standard => letter,
+        Mode::Extended => letter.to_ascii_lowercase(),
+    }
+}
+
+// A literal.
+#[derive(Drop)]
+enum Literal {
+    Null,
+    Bool(bool),
+}
+
+// Whether the bytes begin with this word.
+#[inline(always)]
+fn begins_with(bytes: &[u8], word: &[u8]) -> bool
+    ensures { MatchBool result (bytes.now ≡ word.now ++ drop (length word.now) bytes.now) (Unit {0}) }
+{
+    bytes.len() >= word.len() && &bytes[..word.len()] == word
+}
+
+// The number below 0, or a 0 with a minus, of these digits.
+#[inline(always)]
+fn negative_number(magnitude: u64) -> Number
+    requires { magnitude < 2 ^ 63 }
+    ensures { number_view result ≡ record { form = int64; scale = 0; whole = neg_ℤ (pos magnitude) } }
+{
+    Number::Int64(-(magnitude as i64))
+}
+
+impl<'a> Parser<'a> {
+    // Puts in a scalar that is in the text from an index up to here, or one that is held as it is there.
+    #[inline(always)]
+    pub(super) fn put<V: Handler<'a>, S: Slot<'a, V>>(
+        &mut self,
+        sink: &mut V::Sink,
+        container: &mut S::Container,
+        slot: S,
+        value: V,
+        from: usize,
+    ) -> Result<(), Failed>
+        ensures { PutsIn V.Handler (IsGiven V.sees V.is_verbatim value from self.old.offset) result self.old self.new sink.old
+            sink.new (S.before container.old slot) (S.after container.new) }
+    {
+        let put = slot.put(sink, container, value, from, self.offset);
+        self.put_result(put)
+    }
+
+    // Puts in a string that was cut out of the text.
+    #[inline(always)]
+    fn put_cut<V: Handler<'a>, S: Slot<'a, V>>(
+        &mut self,
+        sink: &mut V::Sink,
+        container: &mut S::Container,
+        slot: S,
+        cut: Cut<'a>,
+        from: usize,
+    ) -> Result<(), Failed>
+        requires plain { cut.is_plain ≡ true → ArePlain cut.body.now }
+        ensures { PutsIn V.Handler
+            (λ text s. (s ≡ string_source plain cut.entry.body.now) × IsEncodedAt text from self.old.offset s)
+            result self.old self.new sink.old sink.new (S.before container.old slot) (S.after container.new) }
+    {
+        if cut.is_plain {
+            let string = Scalar::String(Text::Plain(cut.body));
+            return self.put::<V, S>(sink, container, slot, V::scalar(string), from);
+        }
+        let string = Scalar::String(Text::Borrowed(cut.body));
+        self.put::<V, S>(sink, container, slot, V::scalar(string), from)
+    }
+
+    // Puts in a string in double quotes, from the byte after its opening quote on.
+    #[inline(always)]
+    pub(super) fn put_quoted<V: Handler<'a>, S: Slot<'a, V>>(
+        &mut self,
+        sink: &mut V::Sink,
+        container: &mut S::Container,
+        slot: S,
+        text: &'a str,
+    ) -> Result<(), Failed>
+        requires opened { IsBehind ascii.quote self.old }
+        requires same { IsTextOf text.now self.old }
+        ensures { Puts V.Handler (λ size mode. quoted_at size mode ascii.quote) result
+            self.old self.new sink.old sink.new (S.before container.old slot) (S.after container.new) }
+    {
+        let from = self.offset - 1;
+        if let Some(cut) = self.cut_string(V::wants().plain, text) {
+            return self.put_cut::<V, S>(sink, container, slot, cut, from);
+        }
+        self.put_escaped::<V, S>(sink, container, slot, text)
+    }
+
+    // The same, where whitespace is before the string. It is apart, so that the loop over elements has the code
+    // for strings once.
+    #[inline(never)]
+    fn put_later_quoted<V: Handler<'a>, S: Slot<'a, V>>(
+        &mut self,
+        sink: &mut V::Sink,
+        container: &mut S::Container,
+        slot: S,
+        text: &'a str,
+    ) -> Result<(), Failed>
+        requires opened { IsBehind ascii.quote self.old }
+        requires same { IsTextOf text.now self.old }
+        ensures { Puts V.Handler (λ size mode. quoted_at size mode ascii.quote) result
+            self.old self.new sink.old sink.new (S.before container.old slot) (S.after container.new) }
+    {
+        self.put_quoted::<V, S>(sink, container, slot, text)
+    }
+
+    // Puts in a scalar. Strings and numbers are put in where they are made, since a value that comes from several arms
+    // is copied more than once.
+    #[inline(always)]
+    pub(super) fn put_scalar<V: Handler<'a>, S: Slot<'a, V>>(
+        &mut self,
+        sink: &mut V::Sink,
+        container: &mut S::Container,
+        slot: S,
+        text: &'a str,
+    ) -> Result<(), Failed>
+        requires same { IsTextOf text.now self.old }
+        ensures { Puts V.Handler scalar_at result self.old self.new sink.old sink.new (S.before container.old slot)
+            (S.after container.new) }
+    {
+        if self.take_byte(b'"') {
+            return self.put_later_quoted::<V, S>(sink, container, slot, text);
+        }
+        match self.mode {
+            Mode::Standard => self.put_standard_value::<V, S>(sink, container, slot, text),
+            Mode::Extended if V::wants().verbatim => {
+                self.put_extended_value::<V, S>(sink, container, slot, text)
+            }
+            Mode::Extended => self.put_other_scalar::<V, S>(sink, container, slot, text),
+        }
+    }
+
+    // Puts in a scalar of a standard text that is no string. Many are integers that are written by the same bytes
+    // again.
+    #[inline(always)]
+    fn put_standard_value<V: Handler<'a>, S: Slot<'a, V>>(
+        &mut self,
+        sink: &mut V::Sink,
+        container: &mut S::Container,
+        slot: S,
+        text: &'a str,
+    ) -> Result<(), Failed>
+        requires mode { mode_of self.old.mode ≡ standard }
+        requires same { IsTextOf text.now self.old }
+        ensures { Puts V.Handler scalar_at result self.old self.new sink.old sink.new (S.before container.old slot)
+            (S.after container.new) }
+    {
+        let from = self.offset;
+        if self.verbatim_integer(V::wants().verbatim) {
+            return self.put::<V, S>(
+                sink,
+                container,
+                slot,
+                V::scalar(Scalar::Verbatim(Verbatim::Integer)),
+                from,
+            );
+        }
+        self.put_standard_scalar::<V, S>(sink, container, slot, text)
+    }
+
+    // Puts in a scalar of an extended text that is no string in double quotes.
+    #[inline(never)]
+    fn put_extended_value<V: Handler<'a>, S: Slot<'a, V>>(
+        &mut self,
+        sink: &mut V::Sink,
+        container: &mut S::Container,
+        slot: S,
+        text: &'a str,
+    ) -> Result<(), Failed>
+        requires mode { mode_of self.old.mode ≡ extended }
+        requires same { IsTextOf text.now self.old }
+        ensures { Puts V.Handler scalar_at result self.old self.new sink.old sink.new (S.before container.old slot)
+            (S.after container.new) }
+    {
+        let from = self.offset;
+        if self.verbatim_extended_integer(V::wants().verbatim) {
+            return self.put::<V, S>(
+                sink,
+                container,
+                slot,
+                V::scalar(Scalar::Verbatim(Verbatim::Integer)),
+                from,
+            );
+        }
+        if self.may_begin_word() {
+            return self.put_word::<V, S>(sink, container, slot, text);
+        }
+        self.put_other_scalar::<V, S>(sink, container, slot, text)
+    }
+
+    // Puts in a scalar of a standard text that is no string. Most numbers are integers of few digits.
+    #[inline(always)]
+    fn put_standard_scalar<V: Handler<'a>, S: Slot<'a, V>>(
+        &mut self,
+        sink: &mut V::Sink,
+        container: &mut S::Container,
+        slot: S,
+        text: &'a str,
+    ) -> Result<(), Failed>
+        requires mode { mode_of self.old.mode ≡ standard }
+        requires same { IsTextOf text.now self.old }
+        ensures { Puts V.Handler scalar_at result self.old self.new sink.old sink.new (S.before container.old slot)
+            (S.after container.new) }
+    {
+        let from = self.offset;
+        if let Some(read) = self.short_integer() {
+            if read.negative {
+                let number = Scalar::Number(negative_number(read.magnitude));
+                return self.put::<V, S>(sink, container, slot, V::scalar(number), from);
+            }
+            let number = Scalar::Number(Number::UInt64(read.magnitude));
+            return self.put::<V, S>(sink, container, slot, V::scalar(number), from);
+        }
+        self.put_word::<V, S>(sink, container, slot, text)
+    }
+
+    // Puts in a scalar that is no string in double quotes. Most words are in small letters.
+    #[inline(always)]
+    fn put_word<V: Handler<'a>, S: Slot<'a, V>>(
+        &mut self,
+        sink: &mut V::Sink,
+        container: &mut S::Container,
+        slot: S,
+        text: &'a str,
+    ) -> Result<(), Failed>
+        requires same { IsTextOf text.now self.old }
+        ensures { Puts V.Handler scalar_at result self.old self.new sink.old sink.new (S.before container.old slot)
+            (S.after container.new) }
+    {
+        let from = self.offset;
+        match self.short_literal() {
+            Some(Literal::Null) => {
+                let null = V::scalar(Scalar::Null);
+                self.put::<V, S>(sink, container, slot, null, from)
+            }
+            Some(Literal::Bool(value)) => {
+                let boolean = V::scalar(Scalar::Bool(value));
+                self.put::<V, S>(sink, container, slot, boolean, from)
+            }
+            None => self.put_other_scalar::<V, S>(sink, container, slot, text),
+        }
+    }
+
+    // Puts in a string in double quotes that has escapes, or is rejected, from the byte after its opening quote on. It
+    // is apart, since its caller would clear the slot of an owned string before each value.
+    #[inline(never)]
+    fn put_escaped<V: Handler<'a>, S: Slot<'a, V>>(
+        &mut self,
+        sink: &mut V::Sink,
+        container: &mut S::Container,
+        slot: S,
+        text: &'a str,
+    ) -> Result<(), Failed>
+        requires opened { IsBehind ascii.quote self.old }
+        requires same { IsTextOf text.now self.old }
+        ensures { Puts V.Handler (λ size mode. quoted_at size mode ascii.quote) result
+            self.old self.new sink.old sink.new (S.before container.old slot) (S.after container.new) }
+    {
+        let from = self.offset - 1;
+        if let Some(verbatim) = self.short_string(V::wants().verbatim, text) {
+            return self.put::<V, S>(
+                sink,
+                container,
+                slot,
+                V::scalar(Scalar::Verbatim(verbatim)),
+                from,
+            );
+        }
+        let value = self.parse_escaped_string::<V>(b'"', text)?;
+        self.put::<V, S>(sink, container, slot, value, self.offset)
+    }
+
+    // Puts in any other value that holds no others, or says its fault.
+    #[inline(never)]
+    fn put_other_scalar<V: Handler<'a>, S: Slot<'a, V>>(
+        &mut self,
+        sink: &mut V::Sink,
+        container: &mut S::Container,
+        slot: S,
+        text: &'a str,
+    ) -> Result<(), Failed>
+        requires same { IsTextOf text.now self.old }
+        ensures { Puts V.Handler scalar_at result self.old self.new sink.old sink.new (S.before container.old slot)
+            (S.after container.new) }
+    {
+        let value = self.parse_scalar::<V>(text)?;
+        self.put::<V, S>(sink, container, slot, value, self.offset)
+    }
+
+    // A value that holds no others, or the fault of what is none.
+    #[inline(always)]
+    pub(super) fn parse_scalar<V: Handler<'a>>(&mut self, text: &'a str) -> Result<V, Failed>
+        requires same { IsTextOf text.now self.old }
+        ensures { MakesScalar V.Handler scalar_at result self.old self.new }
+    {
+        match self.start() {
+            Start::DoubleQuote => self.parse_string(b'"', text),
+            Start::SingleQuote => self.parse_string(b'\'', text),
+            Start::Null => self.parse_null(),
+            Start::True => self.parse_bool(b"true", true),
+            Start::False => self.parse_bool(b"false", false),
+            Start::Number => self.parse_number_value(),
+            Start::Array | Start::Object | Start::NoValue => {
+                let error = self.fault_at_next(ParseErrorCode::ExpectedSomeValue, 1);
+                Err(self.fail(error))
+            }
+        }
+    }
+
+    // A word that means this boolean.
+    #[inline(always)]
+    fn parse_bool<V: Handler<'a>>(&mut self, word: &[u8], value: bool) -> Result<V, Failed>
+        ensures { MakesScalar V.Handler (λ size mode. word_at size mode word.now (boolean value)) result self.old
+            self.new }
+    {
+        match self.parse_word(word) {
+            Ok(()) => Ok(V::scalar(Scalar::Bool(value))),
+            Err(error) => Err(self.fail(error)),
+        }
+    }
+
+    // `null`; where that fails, in extended mode a number's word may begin with the same letter.
+    #[inline(always)]
+    fn parse_null<V: Handler<'a>>(&mut self) -> Result<V, Failed>
+        ensures { MakesScalar V.Handler null_at result self.old self.new }
+    {
+        let start = self.offset;
+        let error = match self.parse_word(b"null") {
+            Ok(()) => return Ok(V::scalar(Scalar::Null)),
+            Err(error) => error,
+        };
+        match self.mode {
+            Mode::Standard => Err(self.fail(error)),
+            Mode::Extended => {
+                self.offset = start;
+                self.parse_number_value()
+            }
+        }
+    }
+
+    // A number as a value.
+    #[inline(always)]
+    fn parse_number_value<V: Handler<'a>>(&mut self) -> Result<V, Failed>
+        ensures { MakesScalar V.Handler number_value_at result self.old self.new }
+    {
+        match self.parse_number() {
+            Ok(number) => Ok(V::scalar(Scalar::Number(number))),
+            Err(error) => Err(self.fail(error)),
+        }
+    }
+
+    // A string in quotes of this kind, of which one comes next, as a value.
+    #[inline(always)]
+    fn parse_string<V: Handler<'a>>(&mut self, quote: u8, text: &'a str) -> Result<V, Failed>
+        requires no_backslash { quote ≢ ascii.backslash }
+        requires is_ascii { quote < ascii.end }
+        requires opens { begins quote (rest_of self.old) ≡ true }
+        requires same { IsTextOf text.now self.old }
+        ensures { MakesScalar V.Handler (λ size mode bytes. quoted_at size mode quote (drop 1 bytes)) result self.old
+            self.new }
+    {
+        self.offset += 1;
+        if let Some(body) = self.borrowed_string(quote, text) {
+            return Ok(V::scalar(Scalar::String(Text::Borrowed(body))));
+        }
+        self.parse_escaped_string(quote, text)
+    }
+
+    // A string that has escapes, or is rejected, as a value.
+    #[inline(always)]
+    fn parse_escaped_string<V: Handler<'a>>(
+        &mut self,
+        quote: u8,
+        text: &'a str,
+    ) -> Result<V, Failed>
+        requires quote { IsAfterQuote quote self.old }
+        requires same { IsTextOf text.now self.old }
+        ensures { MakesScalar V.Handler (λ size mode. quoted_at size mode quote) result self.old self.new }
+    {
+        let from = self.offset;
+        let Some(body) = self.escaped_contents(quote, text) else {
+            return match self.parse_escaped(quote) {
+                Ok(string) => Ok(V::scalar(Scalar::String(Text::Decoded(string)))),
+                Err(error) => Err(self.fail(error)),
+            };
+        };
+        match V::escaped_string(self.alloc, body, self.mode, from + 1) {
+            Ok(value) => Ok(value),
+            Err(error) => Err(self.fail(error)),
+        }
+    }
+
+    // Passes a single quote, where one comes next that begins a string.
+    #[inline(always)]
+    pub(super) fn take_single_quote(&mut self) -> bool
+        ensures { TakesByte ascii.single_quote (begins_single_quote (mode_of self.old.mode) (rest_of self.old)) result
+            self.old self.new }
+    {
+        match self.mode {
+            Mode::Standard => false,
+            Mode::Extended => self.take_byte(b'\''),
+        }
+    }
+
+    // Whether the next byte is a small letter, so that it is worth while to look for a literal.
+    #[inline(always)]
+    fn may_begin_word(&self) -> bool {
+        matches!(self.peek(), Some(b'a'..=b'z'))
+    }
+
+    // Parses a literal in small letters, if one comes next.
+    #[inline(always)]
+    fn short_literal(&mut self) -> Option<Literal>
+        ensures finds { Finds literal_tree scalar_at result self.old self.new }
+        ensures encoded { IfSome result (λ l. rest_of self.old ≡ literal_text l ++ rest_of self.new) }
+    {
+        let rest = self.rest();
+        if begins_with(rest, b"null") {
+            self.offset += 4;
+            return Some(Literal::Null);
+        }
+        if begins_with(rest, b"true") {
+            self.offset += 4;
+            return Some(Literal::Bool(true));
+        }
+        if begins_with(rest, b"false") {
+            self.offset += 5;
+            return Some(Literal::Bool(false));
+        }
+        None
+    }
+
+    // A number, or a word that names none.
+    #[inline(always)]
+    fn parse_number(&mut self) -> std::result::Result<Number, Error>
+        ensures { ParsesAtOffset number_view number_at result self.old self.new }
+    {
+        match self.mode {
+            Mode::Standard => self.parse_standard_number(),
+            Mode::Extended => self.parse_extended_number(),
+        }
+    }
+
+    // A word, byte by byte.
+    fn parse_word(&mut self, word: &[u8]) -> std::result::Result<(), Error>
+        ensures parses { Gives (λ _. rest_of self.new) result
+            (letters_at (size_of self.old) (mode_of self.old.mode) word.now (rest_of self.old)) }
+        ensures takes_no_memory { result ≢ Err Error.OutOfMemory }
+        ensures advances { Advances self.old self.new }
+    {
+        'letters: for letter in word {
+            if !self.next_is_letter(*letter) {
+                return Err(self.fault_at_next(ParseErrorCode::ExpectedSomeIdent, 1));
+            }
+            self.offset += 1;
+        }
+        Ok(())
+    }
+
+    // Whether this letter comes next.
+    #[inline(always)]
+    pub(super) fn next_is_letter(&self, letter: u8) -> bool
+        ensures found { result ≡ begins_letter (mode_of self.now.mode) letter (rest_of self.now) }
+        ensures within { MatchBool result (self.now.offset < size_of self.now) (Unit {0}) }
+    {
+        matches!(self.peek(), Some(next) if fold(next, self.mode) == letter)
+    }
+}

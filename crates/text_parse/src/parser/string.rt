@@ -1,0 +1,165 @@
+//! Quoted strings.
+ghost use Rattle.std.specs.Prelude.{◌≡◌, ◌≢◌, ◌+◌, ◌<◌, Err, IfNone, IfSome, true};
+ghost use Rattle.std.specs.Cow.{cow_str_bytes};
+ghost use Rattle.jsonb_spec.specs.Ascii as ascii;
+ghost use Rattle.jsonb_value.specs.View.{mark_view};
+ghost use Rattle.jsonb_spec.specs.Tree.Mark.{plain};
+ghost use Rattle.text_parse.specs.Parser.{Advances, CutsString, IsAfterQuote, IsBehind, IsTextOf, PassesContents, ParsesString};
+ghost use Rattle.text_scan.specs.Parsing.String.{string_at};
+ghost use Rattle.jsonb_spec.specs.Text.StringText.{ArePlain};
+
+use super::Parser;
+use jsonb_value::error::{Error, ParseErrorCode, Result};
+use jsonb_value::plain::plain_len;
+use std::borrow::CowStr;
+use std::simd::prelude::*;
+use text_scan::parser::string::{StringEnd, decode_contents, find_end, next_mark};
+
+// A string without escapes that was cut out of the text, and whether it is known that none of its bytes is written as
+// an escape.
+#[derive(Clone, Copy)]
+pub(super) struct Cut<'a> {
+    pub(super) body: &'a str,
+    pub(super) is_plain: bool,
+}
+
+impl<'a> Parser<'a> {
+    // Parses a string from the byte after its opening quote on. It is borrowed where no backslash is in it.
+    #[inline(always)]
+    pub(super) fn parse_quoted(&mut self, quote: u8) -> Result<CowStr<'a>>
+        requires no_backslash { quote ≢ ascii.backslash }
+        ensures { ParsesString (λ s. (mark_view s, cow_str_bytes s)) (λ size mode. string_at size mode quote) result
+            self.old self.new }
+    {
+        let rest = self.rest();
+        match find_end(rest, quote) {
+            StringEnd::Unclosed { at } => {
+                Err(Error::Syntax(ParseErrorCode::InvalidEOF, self.offset + at))
+            }
+            StringEnd::Closed { end, escaped } => {
+                let text = decode_contents(
+                    self.alloc,
+                    &rest[..end],
+                    self.mode,
+                    escaped,
+                    self.offset + 1,
+                )?;
+                self.offset += end + 1;
+                Ok(text)
+            }
+        }
+    }
+
+    // A string of a text that isn't UTF-8, or one that is rejected.
+    #[cold]
+    #[inline(never)]
+    pub(super) fn parse_escaped(&mut self, quote: u8) -> Result<CowStr<'a>>
+        requires no_backslash { quote ≢ ascii.backslash }
+        ensures { ParsesString (λ s. (mark_view s, cow_str_bytes s)) (λ size mode. string_at size mode quote) result
+            self.old self.new }
+    {
+        self.parse_quoted(quote)
+    }
+
+    // A string without escapes, from the byte after its opening quote on. No character crosses a quote, so that the
+    // text is cut at both without a look at the bytes there.
+    #[inline(always)]
+    pub(super) fn borrowed_string(&mut self, quote: u8, text: &'a str) -> Option<&'a str>
+        requires quote { IsAfterQuote quote self.old }
+        requires same { IsTextOf text.now self.old }
+        ensures { CutsString (λ s. s.now) quote result self.old self.new }
+    {
+        let rest = self.rest();
+        let end = next_mark(rest, quote, 0);
+        if end == rest.len() {
+            return None;
+        }
+        if rest[end] != quote {
+            return None;
+        }
+        let after = self.offset + end;
+        if after > text.len() {
+            return None;
+        }
+        let body = &text[self.offset..after];
+        // Reports that the body is UTF-8.
+        let _bytes = body.as_bytes();
+        self.offset = after + 1;
+        Some(body)
+    }
+
+    // The contents of a string that has escapes, from the byte after its opening quote on. No character crosses a
+    // quote, so that they are cut out of the text as above.
+    #[inline(always)]
+    pub(super) fn escaped_contents(&mut self, quote: u8, text: &'a str) -> Option<&'a str>
+        requires quote { IsAfterQuote quote self.old }
+        requires same { IsTextOf text.now self.old }
+        ensures passes { IfSome result (λ body. PassesContents quote self.old self.new body.now) }
+        ensures stays { IfNone result (self.new ≡ self.old) }
+        ensures advances { Advances self.old self.new }
+    {
+        let rest = self.rest();
+        let StringEnd::Closed { end, escaped } = find_end(rest, quote) else {
+            return None;
+        };
+        if !escaped {
+            return None;
+        }
+        let close = self.offset + end;
+        if close > text.len() {
+            return None;
+        }
+        let body = &text[self.offset..close];
+        self.offset = close + 1;
+        Some(body)
+    }
+
+    // A string none of whose bytes is written as an escape, from the byte after its opening double quote on.
+    #[inline(always)]
+    fn plain_string(&mut self, text: &'a str) -> Option<&'a str>
+        requires opened { IsBehind ascii.quote self.old }
+        requires same { IsTextOf text.now self.old }
+        ensures cuts { CutsString (λ s. s.now) ascii.quote result self.old self.new }
+        ensures plain { IfSome result (λ s. ArePlain s.now) }
+    {
+        let rest = self.rest();
+        let end = plain_len(rest);
+        if end == rest.len() {
+            return None;
+        }
+        if rest[end] != b'"' {
+            return None;
+        }
+        let after = self.offset + end;
+        if after > text.len() {
+            return None;
+        }
+        let body = &text[self.offset..after];
+        // Reports that the body is UTF-8.
+        let _bytes = body.as_bytes();
+        self.offset += end + 1;
+        Some(body)
+    }
+
+    // A string that can be cut out of the text, from the byte after its opening double quote on.
+    #[inline(always)]
+    pub(super) fn cut_string(&mut self, reports_plain: bool, text: &'a str) -> Option<Cut<'a>>
+        requires opened { IsBehind ascii.quote self.old }
+        requires same { IsTextOf text.now self.old }
+        ensures cuts { CutsString (λ cut. cut.body.now) ascii.quote result self.old self.new }
+        ensures plain { IfSome result (λ cut. cut.is_plain ≡ true → ArePlain cut.body.now) }
+    {
+        if reports_plain {
+            let body = self.plain_string(text)?;
+            return Some(Cut {
+                body,
+                is_plain: true,
+            });
+        }
+        let body = self.borrowed_string(b'"', text)?;
+        Some(Cut {
+            body,
+            is_plain: false,
+        })
+    }
+}

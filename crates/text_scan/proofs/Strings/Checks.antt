@@ -1,0 +1,106 @@
+-- What a check of contents says of them.
+use Rattle.std.proofs.Common.{Err, ◌+◌, Bool, true, false, MatchBool, ◌∷◌, ⊎_elim, Some, get_or, List, [], ◌≡◌, ℕ, ◌≤◌, ◌<◌, ◌++◌, length, take, drop, Ok, sym, ap, ◌∙◌, subst, arith, refl, length-append}
+use Rattle.std.proofs.lemmas.Str.{IsUtf8-nil}
+use Rattle.std.proofs.lemmas.List.{append-nil, get_or-take, length-take-le, take-append-drop, take-append-le, take-take}
+use Rattle.std.specs.List.{flat_map}
+use Rattle.std.specs.Str.{IsUtf8}
+use Rattle.jsonb_spec.specs.Mode.{Mode, standard, extended}
+use Rattle.jsonb_spec.specs.Tree.{escaped}
+use Rattle.jsonb_spec.specs.Grammar.StringBody.{Item, encoding, escaped_byte}
+use Rattle.text_scan.specs.Decoding.{DecodesUpTo, IsDecodedUpTo, IsShortLetter, SeesBackslash, SeesNoBackslash}
+use Rattle.text_scan.specs.QuotedString.{decoded_text, meaning_of_body}
+use Rattle.text_scan.specs.Parsing.String.{Body, body_of, items_within}
+use Rattle.text_scan.proofs.Strings.Bodies.{body-decoded}
+use Rattle.text_scan.proofs.Strings.Decoding.{decodes_all, decoded_escape, decoded_run, decoded_then, meaning-all}
+use Rattle.text_scan.proofs.Strings.Items.{items_complete, items_sound}
+use Rattle.text_scan.proofs.Strings.Utf8.{meaning_utf8}
+
+pub decoded_text-is : (mode : Mode) (bytes text : List ℕ) → DecodesUpTo mode bytes [] text → decoded_text mode bytes ≡ text
+unfolding decoded_text
+decoded_text-is mode bytes text p =
+    let encoded : bytes ≡ flat_map encoding p.items = p.encoded ∙ append-nil (flat_map encoding p.items) in
+    let enough : length (flat_map encoding p.items) ≤ length bytes = omega (arith, ap length encoded) in
+    ap meaning_of_body (ap (items_within (length bytes) mode) encoded ∙ items_complete mode (length bytes) p.items p.each enough) ∙ sym (meaning-all mode bytes text p)
+
+text_utf8 : (mode : Mode) (bytes text : List ℕ) → DecodesUpTo mode bytes [] text → IsUtf8 bytes → IsUtf8 text
+text_utf8 mode bytes text p utf8 =
+    let encoded : bytes ≡ flat_map encoding p.items = p.encoded ∙ append-nil (flat_map encoding p.items) in
+    subst IsUtf8 (sym (meaning-all mode bytes text p)) (meaning_utf8 mode p.items p.each (subst IsUtf8 encoded utf8))
+
+-- contents that are items, and UTF-8
+pub body_checked : (mode : Mode) (bytes : List ℕ) → SeesBackslash bytes (length bytes) → IsUtf8 bytes → IsDecodedUpTo mode bytes [] → body_of mode bytes ≡ Ok (escaped, decoded_text mode bytes)
+body_checked mode bytes sees utf8 p =
+    body-decoded mode bytes p.text sees (decodes_all mode bytes p.text p.decodes (text_utf8 mode bytes p.text p.decodes utf8))
+    ∙ ap (λ (t : List ℕ). Ok (escaped, t)) (sym (decoded_text-is mode bytes p.text p.decodes))
+
+-- what contents mean is UTF-8 where they are
+pub decoded_utf8 : (mode : Mode) (bytes : List ℕ) → IsUtf8 bytes → IsUtf8 (decoded_text mode bytes)
+unfolding decoded_text
+decoded_utf8 mode bytes utf8 = by_items (items_within (length bytes) mode bytes) refl
+  where
+    by_items : (r : Body (List Item)) → items_within (length bytes) mode bytes ≡ r → IsUtf8 (meaning_of_body r)
+    by_items (Err f) is = IsUtf8-nil
+    by_items (Ok items) is =
+        let body = items_sound mode (length bytes) bytes items (omega arith) is in
+        meaning_utf8 mode items body.each (subst IsUtf8 body.encoded utf8)
+
+-- ---- steps of the check
+
+pub up_to_start : (mode : Mode) (bytes : List ℕ) → IsDecodedUpTo mode bytes bytes
+up_to_start mode bytes = record { text = []; decodes = record { items = []; each = tt; encoded = refl; meant = λ tail h. refl; short = omega arith } }
+
+pub up_to_then : (mode : Mode) (a b c : List ℕ) → IsDecodedUpTo mode a b → IsDecodedUpTo mode b c → IsDecodedUpTo mode a c
+up_to_then mode a b c p q = record { text = p.text ++ q.text; decodes = decoded_then mode a b c p.text q.text p.decodes q.decodes }
+
+clear_taken : (bytes : List ℕ) (count : ℕ) → count ≤ length bytes → SeesNoBackslash bytes count → SeesNoBackslash (take count bytes) (length (take count bytes))
+clear_taken bytes count within clear k low =
+    let inside : k < count = omega (arith, low, length-take-le count bytes within) in
+    rw (get_or-take count bytes k 0 inside) (clear k inside)
+
+-- bytes without a backslash are passed
+pub up_to_run : (mode : Mode) (a b : List ℕ) (count : ℕ) → count ≤ length b → SeesNoBackslash b count → IsDecodedUpTo mode a b → IsDecodedUpTo mode a (drop count b)
+up_to_run mode a b count within clear p =
+    let run = take count b in
+    let split : b ≡ run ++ drop count b = sym (take-append-drop count b) in
+    up_to_then mode a b (drop count b) p
+    (record { text = run; decodes = subst (λ (u : List ℕ). DecodesUpTo mode u (drop count b) run) (sym split) (decoded_run mode run (drop count b) (clear_taken b count within clear)) })
+
+-- ---- texts that are decoded behind others
+
+-- what is there already stays
+pub front_stays : (len end : ℕ) (old new added : List ℕ) → len ≤ length old → end ≤ length new → take end new ≡ take len old ++ added → take len new ≡ take len old
+front_stays len end old new added inside within appended =
+    let long : end ≡ len + length added = omega (arith, length-take-le end new within, length-take-le len old inside, ap length appended, length-append (take len old) added) in
+    let less : len ≤ end = omega (arith, long) in
+    let all : len ≤ length (take len old) = omega (arith, length-take-le len old inside) in
+    sym (take-take len end new less) ∙ ap (take len) appended ∙ take-append-le len (take len old) added all ∙ take-take len len old (omega arith)
+
+-- ---- escapes of one letter
+
+short_byte : (mode : Mode) (letter byte : ℕ) (rest : List ℕ) → escaped_byte standard letter ≡ Some byte → escaped_byte extended letter ≡ Some byte → IsDecodedUpTo mode (92 ∷ letter ∷ rest) rest
+short_byte standard letter byte rest p q = record { text = byte ∷ []; decodes = decoded_escape standard letter byte rest p }
+short_byte extended letter byte rest p q = record { text = byte ∷ []; decodes = decoded_escape extended letter byte rest q }
+
+short_letter : (mode : Mode) (letter : ℕ) (rest : List ℕ) → IsShortLetter letter → IsDecodedUpTo mode (92 ∷ letter ∷ rest) rest
+short_letter mode letter rest is =
+    ⊎_elim (λ e. at 34 e (short_byte mode 34 34 rest refl refl)) (λ is2.
+    ⊎_elim (λ e. at 92 e (short_byte mode 92 92 rest refl refl)) (λ is3.
+    ⊎_elim (λ e. at 47 e (short_byte mode 47 47 rest refl refl)) (λ is4.
+    ⊎_elim (λ e. at 98 e (short_byte mode 98 8 rest refl refl)) (λ is5.
+    ⊎_elim (λ e. at 102 e (short_byte mode 102 12 rest refl refl)) (λ is6.
+    ⊎_elim (λ e. at 110 e (short_byte mode 110 10 rest refl refl)) (λ is7.
+    ⊎_elim (λ e. at 114 e (short_byte mode 114 13 rest refl refl)) (λ e. at 116 e (short_byte mode 116 9 rest refl refl)) is7) is6) is5) is4) is3) is2) is
+  where
+    at : (n : ℕ) → letter ≡ n → IsDecodedUpTo mode (92 ∷ n ∷ rest) rest → IsDecodedUpTo mode (92 ∷ letter ∷ rest) rest
+    at n e p = subst (λ (l : ℕ). IsDecodedUpTo mode (92 ∷ l ∷ rest) rest) (sym e) p
+
+pub short_passed : (mode : Mode) (bytes : List ℕ) → 2 ≤ length bytes → get_or bytes 0 0 ≡ 92 → IsShortLetter (get_or bytes 1 0) → IsDecodedUpTo mode bytes (drop 2 bytes)
+short_passed mode [] long first second = absurd (omega (arith, long))
+short_passed mode (b ∷ []) long first second = absurd (omega (arith, long))
+short_passed mode (b ∷ letter ∷ rest) long first second = subst (λ (c : ℕ). IsDecodedUpTo mode (c ∷ letter ∷ rest) rest) (sym first) (short_letter mode letter rest second)
+
+-- ---- answers of tests
+
+pub where_so : {P Q : Type 0} (t : Bool) → (P → Q) → MatchBool t P (Unit {0}) → MatchBool t Q (Unit {0})
+where_so true f p = f p
+where_so false f p = tt

@@ -1,0 +1,17 @@
+use Rattle.std.proofs.Common.{◌≡◌, ◌+◌, drop, drop-drop, ap, arith}
+use Rattle.std.proofs.lemmas.List.{take_rest}
+use Rattle.text_scan.specs.Parsing.Number.{digits_length}
+use Rattle.text_scan.proofs.Numbers.DigitRuns.{count_digits}
+use Rattle.text_scan.proofs.parser.integer.digits_len.Goals as goal
+
+pub returns-then-near-lt16-clause-digits : goal.returns-then-near-lt16-clause-digits
+returns-then-near-lt16-clause-digits c = count_digits c.args.bytes.now c.near_digits-near.result c.near_digits-near.ensures.digits
+
+pub returns-clause-digits : goal.returns-clause-digits
+returns-clause-digits c =
+    let bytes = c.args.bytes.now in
+    let more = c.few_digits.result in
+    let front = count_digits bytes 16 (λ k low. c.near_digits-near.ensures.digits k (omega (arith, low))) in
+    let back = rw (take_rest bytes 16) at c.few_digits.ensures.digits in
+    let joined : digits_length (drop more (drop 16 bytes)) ≡ digits_length (drop (16 + more) bytes) = ap digits_length (drop-drop more 16 bytes) in
+    omega (arith, front, back, joined)

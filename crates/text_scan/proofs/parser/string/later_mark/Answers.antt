@@ -1,0 +1,12 @@
+use Rattle.std.proofs.Common.{◌+◌, refl}
+use Rattle.text_scan.proofs.Strings.NearMarks.{clear_before, knows_later}
+use Rattle.text_scan.proofs.parser.string.later_mark.Goals as goal
+
+pub returns-clause-before : goal.returns-clause-before
+returns-clause-before c =
+    let t = c.load_marks-marks.ensures in
+    clear_before c.args.quote c.load_marks-marks.result c.args.at (c.args.at + 32) c.lowest-count.result c.args.bytes.now t c.lowest-count.ensures.below (t.short c.lowest-count.result c.lowest-count.ensures.set)
+
+pub returns-clause-known : goal.returns-clause-known
+returns-clause-known c =
+    knows_later c.args.quote c.args.at c.lowest-count.result (c.args.at + c.lowest-count.result) c.load_marks-marks.result c.shifted_down.result c.args.bytes.now c.shifted_down.ensures refl (c.args.at + 32, c.load_marks-marks.ensures)

@@ -1,0 +1,122 @@
+//! The numbers of extended texts: decimals, hexadecimals, `nan` and `infinity`.
+ghost use Rattle.std.specs.Prelude.{◌≡◌, ◌+◌, ◌-◌, ◌*◌, ◌≤◌, ◌<◌, ◌^◌, length, Err, None, IfOk, IfErr};
+ghost use Rattle.text_scan.specs.Parsing.Number.{sign_end};
+ghost use Rattle.text_scan.specs.Parsing.ExtendedNumber.{encoded_from, word_scan, is_word_start, extended_scan, invalid};
+ghost use Rattle.text_scan.specs.ScannedNumber.{scanned_view, letters_view};
+
+mod decimal;
+mod form;
+mod hexadecimal;
+mod short;
+
+use super::number::{byte_at, sign_end};
+use decimal::scan_decimal;
+use hexadecimal::{begins_hexadecimal, scan_hexadecimal};
+use jsonb_value::error::{ParseErrorCode, Result};
+use jsonb_value::number::Number;
+pub use short::{ReadNumber, short_number};
+
+/// A number text: its number, where a form holds it, and the index after it.
+#[derive(Drop)]
+pub struct NumberText {
+    pub number: Option<Number>,
+    pub end: usize,
+}
+
+/// What is wrong with a number text, and where.
+#[derive(Drop)]
+pub struct NumberFault {
+    pub code: ParseErrorCode,
+    pub offset: usize,
+}
+
+// The most digits of a number that is representable.
+const MOST_DIGITS: usize = 38;
+
+// The fault inside of a number text, at this offset.
+fn invalid(offset: usize) -> std::result::Result<NumberText, NumberFault>
+    ensures scan { scanned_view result ≡ invalid offset }
+    ensures near { IfErr result (λ fault. fault.offset ≡ offset) }
+    ensures no_text { IfOk result (λ text. text.end ≡ offset) }
+{
+    Err(NumberFault {
+        code: ParseErrorCode::InvalidNumberValue,
+        offset,
+    })
+}
+
+// The index after the letters of a word, each in either case; the first has this offset.
+fn word_end(bytes: &[u8], offset: usize, word: &[u8]) -> std::result::Result<usize, NumberFault>
+    requires { offset + length bytes.now < 2 ^ 63 }
+    ensures scan { letters_view result ≡ encoded_from offset word.now bytes.now }
+    ensures within { IfOk result (λ end. end ≤ offset + length bytes.now) }
+    ensures near { IfErr result (λ fault. fault.offset ≤ offset + length bytes.now) }
+{
+    let mut index = 0;
+    'letters: for letter in word {
+        if index == bytes.len() {
+            return Err(NumberFault {
+                code: ParseErrorCode::InvalidEOF,
+                offset: offset + index,
+            });
+        }
+        if bytes[index].to_ascii_lowercase() != *letter {
+            return Err(NumberFault {
+                code: ParseErrorCode::ExpectedSomeIdent,
+                offset: offset + index + 1,
+            });
+        }
+        index += 1;
+    }
+    Ok(offset + index)
+}
+
+// A word whose first letter has this offset: no number, but a text that is not representable, or a fault.
+#[cold]
+fn scan_word(
+    bytes: &[u8],
+    offset: usize,
+    negative: bool,
+) -> std::result::Result<NumberText, NumberFault>
+    requires { offset + length bytes.now < 2 ^ 63 }
+    ensures scan { scanned_view result ≡ word_scan offset negative bytes.now }
+    ensures within { IfOk result (λ text. text.end ≤ offset + length bytes.now) }
+    ensures near { IfErr result (λ fault. fault.offset ≤ offset + length bytes.now) }
+{
+    if byte_at(bytes, 0).to_ascii_lowercase() != b'n' {
+        let end = word_end(bytes, offset, b"infinity")?;
+        return Ok(NumberText { number: None, end });
+    }
+    let end = word_end(bytes, offset, b"nan")?;
+    if negative {
+        return invalid(end);
+    }
+    Ok(NumberText { number: None, end })
+}
+
+// ---- all of them
+
+// Whether a byte begins a word: `n` or `i` in either case.
+fn begins_word(byte: u8) -> bool
+    ensures { result ≡ is_word_start byte }
+{
+    matches!(byte.to_ascii_lowercase(), b'n' | b'i')
+}
+
+/// The longest number text that the bytes begin with.
+#[inline(never)]
+pub fn scan_number(bytes: &[u8]) -> std::result::Result<NumberText, NumberFault>
+    ensures scan { scanned_view result ≡ extended_scan bytes.now }
+    ensures within { IfOk result (λ text. text.end ≤ length bytes.now) }
+    ensures near { IfErr result (λ fault. fault.offset ≤ length bytes.now) }
+{
+    let start = sign_end(bytes, 0);
+    let negative = byte_at(bytes, 0) == b'-';
+    if begins_word(byte_at(bytes, start)) {
+        return scan_word(&bytes[start..], start, negative);
+    }
+    if begins_hexadecimal(bytes, start) {
+        return scan_hexadecimal(&bytes[start + 2..], start + 2, negative);
+    }
+    scan_decimal(bytes)
+}

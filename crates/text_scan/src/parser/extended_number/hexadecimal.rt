@@ -1,0 +1,142 @@
+//! Hexadecimals.
+ghost use Rattle.std.specs.Prelude.{◌≡◌, ◌+◌, ◌-◌, ◌*◌, ◌≤◌, ◌<◌, ◌^◌, length, Some, None, IfOk, IfErr};
+ghost use Rattle.std.specs.Char.{digit_value};
+ghost use Rattle.std.specs.Option.{SomeIff};
+ghost use Rattle.std.specs.Str.Parse.{AllDigits, digits_value};
+ghost use Rattle.jsonb_spec.specs.Grammar.ExtendedNumber.{hexadecimal_number};
+ghost use Rattle.text_scan.specs.Parsing.ExtendedNumber.{hexadecimal_length, fraction_scan, hexadecimal_scan, hexadecimal_starts, invalid};
+ghost use Rattle.text_scan.specs.ScannedNumber.{number_views, scanned_view};
+
+use super::form::with_sign;
+use super::{MOST_DIGITS, NumberFault, NumberText, invalid};
+use crate::parser::number::byte_at;
+use jsonb_value::number::{Decimal128, Number};
+
+// What is above every number of 38 digits.
+const PAST_38_DIGITS: u128 = 100_000_000_000_000_000_000_000_000_000_000_000_000;
+
+// The value of a hexadecimal digit, and at least 16 for any other byte.
+fn digit(byte: u8) -> u8
+    ensures { result ≡ digit_value byte }
+{
+    match byte {
+        b'0'..=b'9' => byte - b'0',
+        b'A'..=b'Z' => byte - b'A' + 10,
+        b'a'..=b'z' => byte - b'a' + 10,
+        _ => 36,
+    }
+}
+
+// The number of hexadecimal digits that the bytes begin with.
+fn hexadecimal_length(bytes: &[u8]) -> usize
+    ensures value { result ≡ hexadecimal_length bytes.now }
+    ensures within { result ≤ length bytes.now }
+{
+    let mut end = 0;
+    'digits: while digit(byte_at(bytes, end)) < 16 {
+        end += 1;
+    }
+    end
+}
+
+// The number with one digit more, where 128 bits hold it.
+fn with_digit(number: u128, byte: u8) -> Option<u128>
+    requires { digit_value byte < 16 }
+    ensures { SomeIff result (number * 16 + digit_value byte < 2 ^ 128) (number * 16 + digit_value byte) }
+{
+    number.checked_mul(16)?.checked_add(u128::from(digit(byte)))
+}
+
+// The number that digits write, where 128 bits hold it.
+fn hexadecimal_value(digits: &[u8]) -> Option<u128>
+    requires { AllDigits 16 digits.now }
+    ensures { SomeIff result (digits_value 16 digits.now < 2 ^ 128) (digits_value 16 digits.now) }
+{
+    let mut number = 0u128;
+    for byte in digits {
+        number = with_digit(number, *byte)?;
+    }
+    Some(number)
+}
+
+// The number of a sign and a magnitude, where a form holds it.
+fn hexadecimal(negative: bool, magnitude: u128) -> Option<Number>
+    ensures { number_views result ≡ hexadecimal_number negative magnitude }
+{
+    if !negative {
+        if let Ok(n) = u64::try_from(magnitude) {
+            return Some(Number::UInt64(n));
+        }
+    } else if magnitude <= 1 << 63 {
+        return Some(Number::Int64(with_sign(true, magnitude) as i64));
+    }
+    if magnitude >= PAST_38_DIGITS {
+        return None;
+    }
+    Some(Number::Decimal128(Decimal128 {
+        scale: 0,
+        value: with_sign(negative, magnitude),
+    }))
+}
+
+// The digits behind the point of a hexadecimal, of which the first has this offset.
+fn scan_fraction(
+    bytes: &[u8],
+    offset: usize,
+    whole_fits: bool,
+) -> std::result::Result<NumberText, NumberFault>
+    requires { offset + length bytes.now < 2 ^ 63 }
+    ensures scan { scanned_view result ≡ fraction_scan offset whole_fits bytes.now }
+    ensures within { IfOk result (λ text. text.end ≤ offset + length bytes.now) }
+    ensures near { IfErr result (λ fault. fault.offset ≤ offset + length bytes.now) }
+{
+    let len = hexadecimal_length(bytes);
+    if len == 0 {
+        return invalid(offset);
+    }
+    let end = offset + len;
+    let fraction = hexadecimal_value(&bytes[..len]);
+    if !whole_fits || fraction.is_none() {
+        return invalid(end);
+    }
+    Ok(NumberText { number: None, end })
+}
+
+// The bytes after the x of a hexadecimal, of which the first has this offset.
+#[cold]
+pub(super) fn scan_hexadecimal(
+    bytes: &[u8],
+    offset: usize,
+    negative: bool,
+) -> std::result::Result<NumberText, NumberFault>
+    requires { offset + length bytes.now < 2 ^ 63 }
+    ensures scan { scanned_view result ≡ hexadecimal_scan offset negative bytes.now }
+    ensures within { IfOk result (λ text. text.end ≤ offset + length bytes.now) }
+    ensures near { IfErr result (λ fault. fault.offset ≤ offset + length bytes.now) }
+{
+    let len = hexadecimal_length(bytes);
+    if len == 0 {
+        return invalid(offset);
+    }
+    let end = offset + len;
+    let whole = hexadecimal_value(&bytes[..len]);
+    if byte_at(bytes, len) == b'.' {
+        let fits = whole.is_some();
+        return scan_fraction(&bytes[len + 1..], end + 1, fits);
+    }
+    match whole {
+        None => invalid(end),
+        Some(magnitude) => Ok(NumberText {
+            number: hexadecimal(negative, magnitude),
+            end,
+        }),
+    }
+}
+
+// Whether a zero and an x are here.
+pub(super) fn begins_hexadecimal(bytes: &[u8], start: usize) -> bool
+    requires { start ≤ length bytes.now }
+    ensures { result ≡ hexadecimal_starts bytes.now start }
+{
+    byte_at(bytes, start) == b'0' && byte_at(bytes, start + 1).to_ascii_lowercase() == b'x'
+}

@@ -1,0 +1,96 @@
+//! Integers of standard texts that are serialized as they are.
+ghost use Rattle.std.specs.Prelude.{◌≡◌, ◌⊎◌, MatchBool, ◌+◌, ◌≤◌, ◌<◌, ℕ, IfSome, drop, if◌then◌else◌, ◌==◌, length, slice_index, true};
+ghost use Rattle.std.specs.Char.{is_ascii_digit};
+ghost use Rattle.std.specs.Int.{w64, trailing_zeros};
+ghost use Rattle.text_scan.specs.Parsing.Number.{digits_length, is_number_start};
+ghost use Rattle.text_scan.specs.ShortInteger.{IsVerbatimInteger};
+ghost use Rattle.jsonb_spec.specs.Ascii as ascii;
+
+use super::number::{after_minus, byte_at, continues_number, digits_within, short_digits};
+use jsonb_value::plain::first_set;
+use std::simd::prelude::*;
+
+// How many of the first 16 bytes, up to the first that is none, are digits.
+#[inline(always)]
+fn near_digits(bytes: &[u8]) -> usize
+    requires { 16 ≤ length bytes.now }
+    ensures within { result ≤ 16 }
+    ensures digits { (k : ℕ) → k < result → is_ascii_digit (slice_index bytes.now k) ≡ true }
+{
+    let lanes = u8x16::from_slice(bytes);
+    let others = lanes.simd_lt(u8x16::splat(b'0')) | lanes.simd_gt(u8x16::splat(b'9'));
+    first_set(others.to_bitmask(), 16)
+}
+
+// How many digits the bytes begin with, or 3 where they are more.
+#[inline(always)]
+fn few_digits(bytes: &[u8]) -> usize
+    ensures few { result ≤ 3 }
+    ensures within { result ≤ length bytes.now }
+    ensures digits { digits_length bytes.now ≡ result + digits_length (drop result bytes.now) }
+{
+    let (len, _value) = digits_within(bytes, bytes.len().min(3));
+    len
+}
+
+// How many digits the bytes begin with, where few bytes are left, or 19 where they are more.
+#[inline(never)]
+fn digits_by_bytes(bytes: &[u8]) -> usize
+    ensures few { result ≤ 19 }
+    ensures within { result ≤ length bytes.now }
+    ensures digits { digits_length bytes.now ≡ result + digits_length (drop result bytes.now) }
+{
+    let (len, _value) = short_digits(bytes);
+    len
+}
+
+// How many digits the bytes begin with, or 19 where they are more.
+#[inline(always)]
+fn digits_len(bytes: &[u8]) -> usize
+    ensures few { result ≤ 19 }
+    ensures within { result ≤ length bytes.now }
+    ensures digits { digits_length bytes.now ≡ result + digits_length (drop result bytes.now) }
+{
+    if bytes.len() < 16 {
+        return digits_by_bytes(bytes);
+    }
+    let near = near_digits(bytes);
+    if near < 16 {
+        return near;
+    }
+    16 + few_digits(&bytes[16..])
+}
+
+// Whether an integer of so many bytes, with its sign, may have this first digit.
+#[inline(always)]
+fn may_begin(digit: u8, len: usize) -> bool
+    ensures { MatchBool result ((digit ≡ ascii.digit_zero → ⊥) ⊎ (len ≤ 1)) (Unit {0}) }
+{
+    if digit != b'0' {
+        return true;
+    }
+    len <= 1
+}
+
+/// The length of the integer that the bytes of a standard text begin with, where it has at most 19 bytes, and is
+/// written by the same bytes again: no 0 with a minus is.
+#[inline(always)]
+pub fn verbatim_integer(bytes: &[u8]) -> Option<usize>
+    ensures found { IfSome result (IsVerbatimInteger bytes.now) }
+    ensures first { IfSome result (λ _. is_number_start (slice_index bytes.now 0) ≡ true) }
+    ensures within { IfSome result (λ end. end ≤ length bytes.now) }
+{
+    let digits = after_minus(bytes);
+    let len = digits_len(digits);
+    if len == 0 {
+        return None;
+    }
+    let start = usize::from(byte_at(bytes, 0) == b'-');
+    if start + len > 19 || !may_begin(digits[0], start + len) {
+        return None;
+    }
+    if continues_number(byte_at(digits, len)) {
+        return None;
+    }
+    Some(start + len)
+}

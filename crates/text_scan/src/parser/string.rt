@@ -1,0 +1,210 @@
+//! Quoted strings.
+ghost use Rattle.std.specs.Prelude.{◌≡◌, ◌≢◌, ◌==◌, IfSome, IfNone, ℕ, ◌+◌, ◌<◌, ◌≤◌, ◌^◌, length, slice_index, Err, true};
+ghost use Rattle.jsonb_spec.specs.Ascii as ascii;
+ghost use Rattle.jsonb_value.specs.StringStep.{escape_step};
+ghost use Rattle.text_scan.specs.Decoding.{ReportsBackslash};
+ghost use Rattle.text_scan.specs.Answer.{mode_of};
+ghost use Rattle.text_scan.specs.QuotedString.{EndsString, IsClear, IsQuoteOrBackslash, KnowsMarks, DecodesContents, ReportsMarks};
+ghost use Rattle.text_scan.specs.Parsing.String.{body_of};
+
+use super::Mode;
+use super::vector::{either, equal_to, load, lowest, shifted_down, top_bits};
+use crate::util::unescape;
+use jsonb_value::error::{Error, ParseErrorCode, Result};
+use memchr::memchr2;
+use std::alloc::Global;
+use std::borrow::CowStr;
+use std::simd::prelude::*;
+
+/// Where the search for the end of a string stops, counted from the byte after the opening quote.
+#[derive(Clone, Copy)]
+pub enum StringEnd {
+    // At the closing quote; and whether a backslash is before it.
+    Closed { end: usize, escaped: bool },
+    // There is no closing quote. The index may pass the end of the bytes.
+    Unclosed { at: usize },
+}
+
+// The step over what follows a backslash, which looks at two bytes at most.
+fn step_after_backslash(bytes: &[u8]) -> usize
+    ensures value { result ≡ escape_step bytes.now }
+    ensures bound { result ≤ 7 }
+{
+    match bytes {
+        [] => 0,
+        [b'u'] => 1,
+        [b'u', b'{', ..] => 7,
+        [b'u', ..] => 5,
+        _ => 1,
+    }
+}
+
+/// The index of the first quote or backslash from `at` on, or the length of the bytes. It is often near.
+#[inline(always)]
+pub fn next_mark(bytes: &[u8], quote: u8, at: usize) -> usize
+    requires { at ≤ length bytes.now }
+    ensures bounds { (at ≤ result) × (result ≤ length bytes.now) }
+    ensures before { IsClear quote bytes.now at result }
+    ensures here { result < length bytes.now → IsQuoteOrBackslash quote (slice_index bytes.now result) }
+{
+    if bytes.len() - at < 32 {
+        return short_mark(bytes, quote, at);
+    }
+    if let Some(near) = near_mark(bytes, quote, at) {
+        return near;
+    }
+    far_mark(bytes, quote, at + 32)
+}
+
+// The index of the first quote or backslash from `at` on, byte by byte, where few are left.
+#[inline(never)]
+fn short_mark(bytes: &[u8], quote: u8, at: usize) -> usize
+    requires { at ≤ length bytes.now }
+    ensures bounds { (at ≤ result) × (result ≤ length bytes.now) }
+    ensures before { IsClear quote bytes.now at result }
+    ensures here { result < length bytes.now → IsQuoteOrBackslash quote (slice_index bytes.now result) }
+{
+    let mut stop = at;
+    'bytes: while stop < bytes.len() {
+        if bytes[stop] == quote {
+            return stop;
+        }
+        if bytes[stop] == b'\\' {
+            return stop;
+        }
+        stop += 1;
+    }
+    stop
+}
+
+// The index of the first quote or backslash from `at` on, by a search of all that is left.
+#[inline(never)]
+fn far_mark(bytes: &[u8], quote: u8, at: usize) -> usize
+    requires { at ≤ length bytes.now }
+    ensures bounds { (at ≤ result) × (result ≤ length bytes.now) }
+    ensures before { IsClear quote bytes.now at result }
+    ensures here { result < length bytes.now → IsQuoteOrBackslash quote (slice_index bytes.now result) }
+{
+    match memchr2(quote, b'\\', &bytes[at..]) {
+        Some(count) => at + count,
+        None => bytes.len(),
+    }
+}
+
+// The index of the first quote or backslash among the next 32 bytes.
+#[inline(always)]
+fn near_mark(bytes: &[u8], quote: u8, at: usize) -> Option<usize>
+    requires { at + 32 ≤ length bytes.now }
+    ensures bounds { IfSome result (λ i. (at ≤ i) × (i < at + 32)) }
+    ensures before { IfSome result (λ i. IsClear quote bytes.now at i) }
+    ensures here { IfSome result (λ i. IsQuoteOrBackslash quote (slice_index bytes.now i)) }
+    ensures none { IfNone result (IsClear quote bytes.now at (at + 32)) }
+{
+    let marks = load_marks(bytes, quote, at);
+    if marks == 0 {
+        return None;
+    }
+    Some(at + lowest(marks))
+}
+
+// Bit k is set where byte `at + k` is a quote or a backslash, among the next 32 bytes.
+#[inline(always)]
+fn load_marks(bytes: &[u8], quote: u8, at: usize) -> u64
+    requires { at + 32 ≤ length bytes.now }
+    ensures { ReportsMarks quote bytes.now at (at + 32) result }
+{
+    let lanes = load(bytes, at);
+    let quotes = equal_to(lanes, quote);
+    let backslashes = equal_to(lanes, b'\\');
+    let found = either(quotes, backslashes);
+    top_bits(found)
+}
+
+// The index of the first quote or backslash from `at` on, or the length of the bytes, and the marks from there on,
+// given those from `at` on.
+#[inline(always)]
+fn first_mark(bytes: &[u8], quote: u8, at: usize, marks: u64) -> (usize, u64)
+    requires inside { at ≤ length bytes.now }
+    requires known { KnowsMarks quote bytes.now at marks }
+    ensures bounds { (at ≤ result.0) × (result.0 ≤ length bytes.now) }
+    ensures before { IsClear quote bytes.now at result.0 }
+    ensures here { result.0 < length bytes.now → IsQuoteOrBackslash quote (slice_index bytes.now result.0) }
+    ensures known { KnowsMarks quote bytes.now result.0 result.1 }
+{
+    if marks == 0 {
+        return later_mark(bytes, quote, at);
+    }
+    let count = lowest(marks);
+    (at + count, shifted_down(marks, count))
+}
+
+// The index of the first quote or backslash from `at` on, and the marks from there on, where no mark is known.
+#[inline(always)]
+fn later_mark(bytes: &[u8], quote: u8, at: usize) -> (usize, u64)
+    requires { at ≤ length bytes.now }
+    ensures bounds { (at ≤ result.0) × (result.0 ≤ length bytes.now) }
+    ensures before { IsClear quote bytes.now at result.0 }
+    ensures here { result.0 < length bytes.now → IsQuoteOrBackslash quote (slice_index bytes.now result.0) }
+    ensures known { KnowsMarks quote bytes.now result.0 result.1 }
+{
+    if bytes.len() - at < 32 {
+        return (far_mark(bytes, quote, at), 0);
+    }
+    let marks = load_marks(bytes, quote, at);
+    if marks == 0 {
+        return (far_mark(bytes, quote, at), 0);
+    }
+    let count = lowest(marks);
+    (at + count, shifted_down(marks, count))
+}
+
+/// Looks for the quote that ends a string. An escape is stepped over by its first bytes, without a look at the others.
+#[inline(always)]
+pub fn find_end(bytes: &[u8], quote: u8) -> StringEnd
+    requires { quote ≢ ascii.backslash }
+    ensures { EndsString quote bytes.now result }
+{
+    let mut at = 0;
+    let mut escaped = false;
+    let mut marks = 0;
+    'items: while at < bytes.len() {
+        let (stop, known) = first_mark(bytes, quote, at, marks);
+        if stop == bytes.len() {
+            return StringEnd::Unclosed { at: stop };
+        }
+        if bytes[stop] == quote {
+            return StringEnd::Closed { end: stop, escaped };
+        }
+        escaped = true;
+        let step = 1 + step_after_backslash(&bytes[stop + 1..]);
+        marks = shifted_down(known, step);
+        at = stop + step;
+    }
+    StringEnd::Unclosed { at }
+}
+
+/// The text of a body, given whether it has a backslash. `idx` is the index after the opening quote and one more, from
+/// which the decoder counts. Only a body with a backslash takes memory.
+#[inline(always)]
+pub fn decode_contents<'a>(
+    alloc: Global,
+    body: &'a [u8],
+    mode: Mode,
+    escaped: bool,
+    idx: usize,
+) -> Result<CowStr<'a>>
+    requires escaped { ReportsBackslash body.now (length body.now) escaped }
+    requires space { idx + length body.now < 2 ^ 64 }
+    ensures parses { DecodesContents idx result (body_of (mode_of mode) body.now) }
+    ensures memory { result ≡ Err Error.OutOfMemory → escaped ≡ true }
+{
+    if escaped {
+        let mut idx = idx;
+        let text = unescape(alloc, body, mode, &mut idx)?;
+        return Ok(CowStr::Owned(text));
+    }
+    match std::str::from_utf8(body) {
+        Ok(text) => Ok(CowStr::Borrowed(text)),
+        Err(_) => Err(Error::Syntax(ParseErrorCode::InvalidStringValue, idx + body.len())),
+    }
+}

@@ -1,0 +1,269 @@
+//! `\u` escapes: UTF-16 code units of four hexadecimal digits.
+ghost use Rattle.std.specs.Prelude.{List, ◌≡◌, ◌≢◌, ℕ, ◌+◌, ◌*◌, ◌^◌, ◌≤◌, ◌<◌, ◌++◌, ◌∷◌, length, take, min, All, ◌||◌, IfOk, IfErr, OnErr, IfSome, IfNone, Some, None, true, false, ◌⊎◌};
+ghost use Rattle.std.specs.Char.{digit_value, encode_utf8, InScalarRange};
+ghost use Rattle.std.specs.Char.Utf16.{is_high_surrogate, is_low_surrogate};
+ghost use Rattle.std.specs.Str.Parse.{digits_value};
+ghost use Rattle.jsonb_spec.specs.Ascii as ascii;
+ghost use Rattle.jsonb_spec.specs.Mode.{Mode as GrammarMode};
+ghost use Rattle.jsonb_value.specs.Error.CodeView.{code_of};
+ghost use Rattle.jsonb_spec.specs.Grammar.StringBody.{IsHexDigit, unit, encoding, alone, together};
+ghost use Rattle.jsonb_spec.specs.Grammar.StringFault.{IsUnitCut, IsFirstNonDigit};
+ghost use Rattle.text_scan.specs.Decoding.{SplitsUnit, ParsesUnit, Adds, IsDecodedUpTo, StopsInUnit, StopsAtEscape};
+
+use super::space::write_all;
+use super::{Decoded, DecodingFault};
+use jsonb_value::error::ParseErrorCode;
+
+// The four digits of a unit, their value, and what follows the unit.
+#[derive(Clone, Copy)]
+struct HexUnit<'a> {
+    digits: &'a [u8],
+    value: u32,
+    rest: &'a [u8],
+}
+
+// The value of a hexadecimal digit, and 36 for any other byte that is no letter.
+fn digit(byte: u8) -> u32
+    ensures { result ≡ digit_value byte }
+{
+    match byte {
+        b'0'..=b'9' => u32::from(byte - b'0'),
+        b'A'..=b'Z' => u32::from(byte - b'A') + 10,
+        b'a'..=b'z' => u32::from(byte - b'a') + 10,
+        _ => 36,
+    }
+}
+
+#[inline(always)]
+fn first_non_digit(bytes: &[u8]) -> Option<u8>
+    ensures some { IfSome result (IsFirstNonDigit bytes.now) }
+    ensures none { IfNone result (All IsHexDigit bytes.now) }
+{
+    for byte in bytes {
+        if digit(*byte) >= 16 {
+            return Some(*byte);
+        }
+    }
+    None
+}
+
+#[inline(always)]
+fn value_of(digits: &[u8]) -> u32
+    requires four { length digits.now ≡ 4 }
+    requires each { All IsHexDigit digits.now }
+    ensures value { result ≡ digits_value 16 digits.now }
+    ensures range { result < 2 ^ 16 }
+{
+    digit(digits[0]) * 4096 + digit(digits[1]) * 256 + digit(digits[2]) * 16 + digit(digits[3])
+}
+
+// The four bytes after `\u`, in braces or not, and what follows them.
+#[inline(always)]
+fn split_unit(bytes: &[u8]) -> Option<(&[u8], &[u8])>
+    ensures some { IfSome result (λ parts. SplitsUnit bytes.now parts.0.now parts.1.now) }
+    ensures long { IfSome result (λ parts. length parts.1.now + 4 ≤ length bytes.now) }
+    ensures none { IfNone result (IsUnitCut bytes.now) }
+{
+    if bytes.len() < 4 {
+        return None;
+    }
+    if bytes[0] != b'{' {
+        return Some((&bytes[..4], &bytes[4..]));
+    }
+    if bytes.len() < 6 || bytes[5] != b'}' {
+        return None;
+    }
+    Some((&bytes[1..5], &bytes[6..]))
+}
+
+// The unit whose `\u` is before the bytes.
+#[inline(always)]
+fn read_unit(bytes: &[u8]) -> std::result::Result<HexUnit<'_>, DecodingFault>
+    ensures ok { IfOk result (λ unit. ParsesUnit bytes.now unit.digits.now unit.rest.now unit.value) }
+    ensures long { IfOk result (λ unit. length unit.rest.now + 4 ≤ length bytes.now) }
+    ensures err { IfErr result (λ fault. StopsInUnit bytes.now (code_of fault.code) fault.left) }
+{
+    let Some((digits, rest)) = split_unit(bytes) else {
+        return Err(DecodingFault {
+            code: ParseErrorCode::UnexpectedEndOfHexEscape,
+            left: bytes.len(),
+        });
+    };
+    if let Some(byte) = first_non_digit(digits) {
+        return Err(DecodingFault {
+            code: ParseErrorCode::InvalidHex(byte),
+            left: rest.len(),
+        });
+    }
+    let value = value_of(digits);
+    Ok(HexUnit {
+        digits,
+        value,
+        rest,
+    })
+}
+
+fn is_surrogate_high(value: u32) -> bool
+    ensures { result ≡ is_high_surrogate value }
+{
+    (0xD800..=0xDBFF).contains(&value)
+}
+
+fn is_surrogate_low(value: u32) -> bool
+    ensures { result ≡ is_low_surrogate value }
+{
+    (0xDC00..=0xDFFF).contains(&value)
+}
+
+fn is_surrogate(value: u32) -> bool
+    ensures { result ≡ (is_high_surrogate value || is_low_surrogate value) }
+{
+    is_surrogate_high(value) || is_surrogate_low(value)
+}
+
+#[inline(always)]
+fn push_char(text: &mut [u8], len: usize, value: u32) -> usize
+    requires scalar { InScalarRange value }
+    requires space { len + 4 ≤ length text.old }
+    ensures written { take result text.new ≡ take len text.old ++ encode_utf8 value }
+    ensures len { result ≤ len + 4 }
+    ensures size { length text.new ≡ length text.old }
+{
+    let character = char::from_u32(value).unwrap();
+    let mut buffer = [0; 4];
+    write_all(text, len, character.encode_utf8(&mut buffer).as_bytes())
+}
+
+fn push_verbatim(text: &mut [u8], len: usize, digits: &[u8]) -> usize
+    requires four { length digits.now ≡ 4 }
+    requires space { len + 6 ≤ length text.old }
+    ensures written { take result text.new ≡ take len text.old ++ encoding (unit false digits.now) }
+    ensures len { result ≡ len + 6 }
+    ensures size { length text.new ≡ length text.old }
+{
+    let len = write_all(text, len, b"\\u");
+    write_all(text, len, digits)
+}
+
+// A unit that isn't taken together with the next one.
+#[inline(always)]
+fn push_alone(text: &mut [u8], len: usize, digits: &[u8], value: u32) -> usize
+    requires four { length digits.now ≡ 4 }
+    requires value { value ≡ digits_value 16 digits.now }
+    requires range { value < 2 ^ 16 }
+    requires space { len + 6 ≤ length text.old }
+    ensures written { take result text.new ≡ take len text.old ++ alone digits.now }
+    ensures len { result ≤ len + 6 }
+    ensures size { length text.new ≡ length text.old }
+{
+    if is_surrogate(value) {
+        push_verbatim(text, len, digits)
+    } else {
+        push_char(text, len, value)
+    }
+}
+
+// A high unit and the unit right after it.
+fn push_together(text: &mut [u8], len: usize, high: &HexUnit<'_>, next: &HexUnit<'_>) -> usize
+    requires four { (length high.now.digits.now ≡ 4) × (length next.now.digits.now ≡ 4) }
+    requires value { (high.now.value ≡ digits_value 16 high.now.digits.now)
+        × (next.now.value ≡ digits_value 16 next.now.digits.now) }
+    requires is_high { is_high_surrogate high.now.value ≡ true }
+    requires space { len + 12 ≤ length text.old }
+    ensures written { take result text.new ≡ take len text.old ++ together high.now.digits.now next.now.digits.now }
+    ensures len { result ≤ len + 12 }
+    ensures size { length text.new ≡ length text.old }
+{
+    if is_surrogate_low(next.value) {
+        push_char(
+            text,
+            len,
+            0x10000 + (high.value - 0xD800) * 0x400 + (next.value - 0xDC00),
+        )
+    } else {
+        let len = push_verbatim(text, len, high.digits);
+        push_verbatim(text, len, next.digits)
+    }
+}
+
+// What follows the `\u` that the bytes begin with.
+fn after_unit_mark(bytes: &[u8]) -> Option<&[u8]>
+    ensures some { IfSome result (λ rest. bytes.now ≡ ascii.backslash ∷ ascii.lower_u ∷ rest.now) }
+    ensures len { IfSome result (λ rest. length rest.now + 2 ≡ length bytes.now) }
+    ensures none { IfNone result ((rest : List ℕ) → bytes.now ≢ ascii.backslash ∷ ascii.lower_u ∷ rest) }
+{
+    let (first, rest) = bytes.split_first()?;
+    let (second, rest) = rest.split_first()?;
+    if *first == b'\\' && *second == b'u' {
+        Some(rest)
+    } else {
+        None
+    }
+}
+
+// What follows the next `\u`, where it is right after a high unit.
+fn after_next_mark<'a>(unit: &HexUnit<'a>) -> Option<&'a [u8]>
+    ensures some { IfSome result (λ rest. (is_high_surrogate unit.now.value ≡ true)
+        × (unit.now.rest.now ≡ ascii.backslash ∷ ascii.lower_u ∷ rest.now)) }
+    ensures len { IfSome result (λ rest. length rest.now + 2 ≡ length unit.now.rest.now) }
+    ensures none { IfNone result ((is_high_surrogate unit.now.value ≡ false)
+        ⊎ ((rest : List ℕ) → unit.now.rest.now ≢ ascii.backslash ∷ ascii.lower_u ∷ rest)) }
+{
+    if is_surrogate_high(unit.value) {
+        after_unit_mark(unit.rest)
+    } else {
+        None
+    }
+}
+
+// Decodes the unit whose `\u` is before the bytes, with the next one where the two are taken together.
+#[inline(always)]
+pub(super) fn units<'a>(
+    bytes: &'a [u8],
+    text: &mut [u8],
+    len: usize,
+) -> std::result::Result<Decoded<'a>, DecodingFault>
+    requires { len + min (2 + length bytes.now) 12 ≤ length text.old }
+    ensures ok { IfOk result (λ done. (mode : GrammarMode) → Adds mode
+        (ascii.backslash ∷ ascii.lower_u ∷ bytes.now) done.rest.now (take len text.old) (take done.len text.new)) }
+    ensures shorter { IfOk result (λ done. length done.rest.now ≤ length bytes.now) }
+    ensures space { IfOk result (λ done. done.len + length done.rest.now ≤ len + 2 + length bytes.now) }
+    ensures within { IfOk result (λ done. done.len ≤ length text.new) }
+    ensures err { IfErr result (λ fault. (mode : GrammarMode) → StopsAtEscape mode
+        (ascii.backslash ∷ ascii.lower_u ∷ bytes.now) (code_of fault.code) fault.left) }
+    ensures same { OnErr result (text.new ≡ text.old) }
+    ensures size { length text.new ≡ length text.old }
+{
+    let first = read_unit(bytes)?;
+    let Some(after) = after_next_mark(&first) else {
+        let len = push_alone(text, len, first.digits, first.value);
+        return Ok(Decoded {
+            rest: first.rest,
+            len,
+        });
+    };
+    let next = read_unit(after)?;
+    let len = push_together(text, len, &first, &next);
+    Ok(Decoded {
+        rest: next.rest,
+        len,
+    })
+}
+
+// Passes the unit whose `\u` is before the bytes, with the next one where the two are taken together, and returns
+// what follows.
+#[inline(never)]
+pub(super) fn pass_units(bytes: &[u8]) -> std::result::Result<&[u8], DecodingFault>
+    ensures ok { IfOk result (λ rest. (mode : GrammarMode) → IsDecodedUpTo mode
+        (ascii.backslash ∷ ascii.lower_u ∷ bytes.now) rest.now) }
+    ensures shorter { IfOk result (λ rest. length rest.now ≤ length bytes.now) }
+    ensures err { IfErr result (λ fault. (mode : GrammarMode) → StopsAtEscape mode
+        (ascii.backslash ∷ ascii.lower_u ∷ bytes.now) (code_of fault.code) fault.left) }
+{
+    let first = read_unit(bytes)?;
+    let Some(after) = after_next_mark(&first) else {
+        return Ok(first.rest);
+    };
+    let next = read_unit(after)?;
+    Ok(next.rest)
+}

@@ -1,0 +1,91 @@
+-- The sink for a sort key where an object ends: its members are put in order, or a key comes twice.
+use Rattle.std.proofs.Common.{◌≡◌, ℕ, ◌+◌, true, false, List, [], ◌∷◌, ◌++◌, map, length, Option, Some, None, MatchOption, Result, Ok, Err, IfOk, refl, sym, ap, ap₂, subst, ◌∙◌, arith, append_assoc, length-append}
+use Rattle.std.proofs.lemmas.List.{length-take-le}
+use Rattle.std.specs.Option.{is_some}
+use Rattle.jsonb_spec.specs.Tree.{Mark}
+use Rattle.text_scan.specs.Open.{Open, members_so_far}
+use Rattle.jsonb_spec.specs.Source.{Found, sort_by, spot_of}
+use Rattle.text_write.specs.Members.{join_pieces, member_key}
+use Rattle.text_write.specs.OpenMembers.{AreOf, AreSettled, EndIn, EndsObject, KeysAscendFrom, PutsInOrder, ReportsRepeatOf}
+use Rattle.text_write.specs.OpenKey.{keys_joined, open_key}
+use Rattle.text_write.specs.KeySink.{Closes, Held, HeldFits, IsSettled, PreservesMembers, KeyFilled, KeyHolds, base_of, members, key_layout}
+use Rattle.text_write.specs.declared.key.KeySink.{KeySink}
+use Rattle.text_write.proofs.Keys.OpenKeys.{object_ended}
+use Rattle.text_write.proofs.Objects.Ascending.{ascending_new}
+use Rattle.text_write.proofs.Objects.Closing.{stays}
+use Rattle.text_write.proofs.OpenMembers as opened
+
+-- what is before the first member
+abbrev front : KeySink → List Open → List ℕ
+front r cs = base_of r ++ (open_key true cs ++ 209 ∷ [])
+
+front_length : (r : KeySink) (cs : List Open) → r.base + length (open_key true cs) + 1 ≡ length (front r cs)
+front_length r cs =
+    omega (
+      arith,
+      length-take-le r.base r.out.items r.based,
+      length-append (base_of r) (open_key true cs ++ 209 ∷ []),
+      length-append (open_key true cs) (209 ∷ []),
+    )
+
+behind_front : (base before keys : List ℕ) → base ++ (before ++ 209 ∷ keys) ≡ (base ++ (before ++ 209 ∷ [])) ++ keys
+behind_front base before keys = ap (λ xs. base ++ xs) (sym (append_assoc before (209 ∷ []) keys)) ∙ sym (append_assoc base (before ++ 209 ∷ []) keys)
+
+-- members joined behind what is before them
+joined_behind : (r : KeySink) (cs : List Open) (fs : List Found) → base_of r ++ (open_key true cs ++ 209 ∷ keys_joined (map member_key fs)) ≡ front r cs ++ join_pieces false (map member_key fs)
+joined_behind r cs fs = behind_front (base_of r) (open_key true cs) (keys_joined (map member_key fs))
+
+-- ---- members put in order
+
+pub settled : {E : Type 0} (r s : KeySink) (first : ℕ) (answer : Result (Option ℕ) E) → IfOk answer (PutsInOrder false r.base r.members s.members first r.out.items s.out.items)
+    → IfOk answer (λ reported. (text : List ℕ) → (held : List Held) → (fs : List Found) → (key : Mark × List ℕ) → (offset : ℕ) → (cs : List Open) → KeyHolds text r false (members first ∷ held) (members_so_far fs key offset ∷ cs) → MatchOption reported (IsSettled r s fs cs) (ReportsRepeatOf s.members first fs))
+settled r s first (Err e) h = tt
+settled r s first (Ok reported) h = λ text held fs key offset cs sink. by fs cs reported (
+    h member_key (front r cs) fs (omega (arith, front_length r cs)) (subst (λ n. EndIn false member_key r.members first n fs) (front_length r cs) (opened.ends_in sink.members sink.fits.0)) (sink.bytes ∙ joined_behind r cs fs)
+    )
+  where
+    by : (fs : List Found) (cs : List Open) (reported : Option ℕ) → MatchOption reported (AreSettled false member_key (front r cs) fs s.out.items) (ReportsRepeatOf s.members first fs) → MatchOption reported (IsSettled r s fs cs) (ReportsRepeatOf s.members first fs)
+    by fs cs None is = record { written = is.written ∙ sym (joined_behind r cs (sort_by spot_of fs)); new_keys = is.new_keys }
+    by fs cs (Some i) is = is
+
+pub same_members : (r : KeySink) → PreservesMembers r r
+same_members r = record { base = refl; before = refl; members = opened.same r.members }
+
+-- keys that ascend
+pub in_order : {text : List ℕ} {r : KeySink} {first : ℕ} {held : List Held} {fs : List Found} {key : Mark × List ℕ} {offset : ℕ} {cs : List Open} → KeyHolds text r false (members first ∷ held) (members_so_far fs key offset ∷ cs) → KeysAscendFrom r.members first
+    → IsSettled r r fs cs
+in_order {r = r} {first = first} {fs = fs} {cs = cs} sink up =
+    let ascending = opened.ascending false member_key r.members first (r.base + length (open_key true cs) + 1) fs (opened.ends_in sink.members sink.fits.0) up in
+    record {
+      written = sink.bytes ∙ ap (λ (gs : List Found). base_of r ++ (open_key true cs ++ 209 ∷ keys_joined (map member_key gs))) (sym (stays fs ascending));
+      new_keys = ascending_new (map spot_of fs) ascending;
+    }
+
+-- ---- the end
+
+pub ended : {text : List ℕ} {r s t : KeySink} {first : ℕ} {held : List Held} {fs : List Found} {key : Mark × List ℕ} {offset : ℕ} {cs : List Open} → KeyHolds text r false (members first ∷ held) (members_so_far fs key offset ∷ cs) → PreservesMembers r s → IsSettled r s fs cs → Closes first s t
+    → EndsObject (KeyFilled text) t fs held cs
+ended {text = text} {r = r} {t = t} {held = held} {fs = fs} {cs = cs} sink preserves is closes =
+    let body = open_key true cs ++ 209 ∷ keys_joined (map member_key (sort_by spot_of fs)) in
+    let base : r.base ≡ t.base = sym (closes.base ∙ preserves.base) in
+    record {
+      filled = record {
+        bytes =
+            closes.written ∙ ap (λ xs. xs ++ 0 ∷ 0 ∷ []) is.written ∙ append_assoc (base_of r) body (0 ∷ 0 ∷ [])
+            ∙ ap₂ (λ b n. b ++ n) (sym (closes.before ∙ preserves.before)) (object_ended fs cs is.new_keys);
+        members = subst (λ b. AreOf (key_layout b) text t.members true cs) base (opened.closed sink.members sink.fits.0 preserves.members closes.members);
+        fits = subst (λ b. HeldFits (key_layout b) held cs) base sink.fits.1;
+      };
+      new_keys = is.new_keys;
+    }
+
+-- ---- what was reported
+
+pub if_some : (text : List ℕ) (r s : KeySink) (first : ℕ) (fs : List Found) (held : List Held) (cs : List Open) (reported : Option ℕ) → true ≡ is_some reported → MatchOption reported (IsSettled r s fs cs) (ReportsRepeatOf s.members first fs)
+    → MatchOption reported (EndsObject (KeyFilled text) s fs held cs) (ReportsRepeatOf s.members first fs)
+if_some text r s first fs held cs None e h = absurd cc
+if_some text r s first fs held cs (Some n) e h = h
+
+pub if_none : (r s : KeySink) (first : ℕ) (fs : List Found) (cs : List Open) (reported : Option ℕ) → false ≡ is_some reported → MatchOption reported (IsSettled r s fs cs) (ReportsRepeatOf s.members first fs) → IsSettled r s fs cs
+if_none r s first fs cs None e h = h
+if_none r s first fs cs (Some n) e h = absurd cc

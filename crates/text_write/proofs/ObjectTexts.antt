@@ -1,0 +1,48 @@
+-- The text of an object whose members are in the order of their keys.
+use Rattle.std.proofs.Common.{◌≡◌, ℕ, true, List, [], ◌∷◌, ◌++◌, map, None, refl, sym, ap, ap₂, ◌∙◌, append_assoc}
+use Rattle.jsonb_spec.specs.Text.{member_texts, tree_text, with_commas}
+use Rattle.jsonb_spec.specs.Text.StringText.{quoted_text}
+use Rattle.jsonb_spec.specs.Tree.{object}
+use Rattle.text_scan.specs.Open.{Open}
+use Rattle.jsonb_spec.specs.Source.{Found, first_repeat, object_source, object_source_of, sort_by, source_members_of, spot_of}
+use Rattle.text_write.specs.Members.{Piece, SpotsAscend, join_pieces}
+use Rattle.text_write.specs.OpenText.{member_text, open_text}
+use Rattle.text_common.specs.SourceText.{source_text}
+use Rattle.text_write.proofs.Objects.Closing as closing
+
+-- ---- the tree
+
+listed_texts : (fs : List Found) → member_texts (closing.listed fs) ≡ map member_text fs
+listed_texts [] = refl
+listed_texts (f ∷ fs) =
+    ap₂ (λ text texts. text ∷ texts) (sym (append_assoc (quoted_text f.key) (58 ∷ []) (source_text f.source))) (listed_texts fs)
+
+object_text : (fs : List Found) → SpotsAscend (map spot_of fs) → source_text (object_source (source_members_of fs)) ≡ 123 ∷ with_commas (map member_text fs) ++ 125 ∷ []
+object_text fs up = ap (λ ms. tree_text (object ms)) (closing.put_listed fs up) ∙ ap (λ texts. 123 ∷ with_commas texts ++ 125 ∷ []) (listed_texts fs)
+
+-- ---- the order
+
+pub sort_ascends : (fs : List Found) → first_repeat (map spot_of fs) ≡ None → SpotsAscend (map spot_of (sort_by spot_of fs))
+sort_ascends = closing.sort_ascends
+
+pub stays : (fs : List Found) → SpotsAscend (map spot_of fs) → sort_by spot_of fs ≡ fs
+stays = closing.stays
+
+-- ---- an object that ends
+
+pub object_ended : (fs : List Found) (cs : List Open) → SpotsAscend (map spot_of (sort_by spot_of fs)) → (open_text true cs ++ 123 ∷ with_commas (map member_text (sort_by spot_of fs))) ++ 125 ∷ [] ≡ open_text true cs ++ source_text (object_source_of fs)
+object_ended fs cs up =
+    append_assoc (open_text true cs) (123 ∷ with_commas (map member_text (sort_by spot_of fs))) (125 ∷ [])
+    ∙ ap (λ text. open_text true cs ++ text) (sym (object_text (sort_by spot_of fs) up))
+
+-- ---- pieces
+
+-- a member's spot and its text
+abbrev pub piece_of : Found → Piece
+piece_of f = (spot_of f, member_text f)
+
+pub piece_spots : (fs : List Found) → map (λ (p : Piece). p.0) (map piece_of fs) ≡ map spot_of fs
+piece_spots = closing.piece_spots member_text
+
+pub joined_is : (texts : List (List ℕ)) → join_pieces true texts ≡ with_commas texts
+joined_is = closing.with_commas_joined

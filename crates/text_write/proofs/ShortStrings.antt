@@ -1,0 +1,302 @@
+-- Strings whose escapes are of one letter, written from the left.
+use Rattle.std.proofs.Common.{◌≡◌, ◌≢◌, ℕ, zero, suc, ◌+◌, ◌-◌, ◌<◌, ◌≤◌, Bool, true, false, List, [], ◌∷◌, ◌++◌, length, take, drop, get_or, Option, Some, None, ⊎_elim, refl, sym, ap, ap₂, subst, ◌∙◌, arith, append_assoc, append-nil, drop-drop, length-drop, length-append, map, slice_range, ◌==◌}
+use Rattle.std.specs.List.{flat_map, AllByRecursion}
+use Rattle.std.proofs.lemmas.List.{get_or-drop, drop_more, drop-take, drop_all, length-take-le, take-append-drop, take-take}
+use Rattle.std.proofs.lemmas.List.Concat.{flat_map-append}
+use Rattle.jsonb_spec.specs.Grammar.StringBody.{Item, raw, escape, unit, encoding, standard_escape}
+use Rattle.std.specs.Bool.{if◌then◌else◌}
+use Rattle.std.proofs.Math.Seq.{take-append-add, take-append_seam}
+use Rattle.std.proofs.lemmas.Bool.{cond-false, ne_eqb}
+use Rattle.jsonb_spec.specs.SortKey.{byte_key}
+use Rattle.jsonb_spec.specs.Source.{Source}
+use Rattle.jsonb_spec.specs.Text.{in_quotes}
+use Rattle.jsonb_spec.specs.Text.StringText.{ArePlain, byte_text}
+use Rattle.text_write.specs.Escaped.{IsVerbatimLetter}
+use Rattle.text_write.specs.Members.{source_key}
+use Rattle.text_common.specs.VerbatimScalar.{IsShortAt}
+use Rattle.text_common.specs.SourceText.{source_text}
+use Rattle.text_common.specs.ShortString.{IsShort, IsShortItem, short_byte}
+use Rattle.jsonb_value.proofs.Strings.PlainTexts.{fewer_plain, no_mark, one_plain, rest_plain}
+use Rattle.text_write.specs.ShortString.{WritesFront, written_byte, written_bytes}
+
+-- ---- the first item
+
+record StripsRaw (b : ℕ) (bs text : List ℕ) : Type 0 where
+  left : List ℕ
+  short : IsShort bs left
+  is : text ≡ b ∷ left
+  plain : byte_text b ≡ b ∷ []
+
+by_raw : (b : ℕ) (bs text : List ℕ) (items : List Item) → AllByRecursion IsShortItem items → b ∷ bs ≡ flat_map encoding items → text ≡ map short_byte items → b ≢ 92 → StripsRaw b bs text
+by_raw b bs text [] each encoded means other = absurd (omega (arith, ap length encoded))
+by_raw b bs text (raw c ∷ items) each encoded means other =
+    let same : b ≡ c = ap (λ xs. get_or xs 0 0) encoded in
+    record { left = map short_byte items; short = record { items = items; each = each.1; encoded = ap (drop 1) encoded; means = refl }; is = means ∙ ap (λ x. x ∷ map short_byte items) (sym same); plain = subst (λ x. byte_text x ≡ x ∷ []) (sym same) each.0 }
+by_raw b bs text (escape letter byte ∷ items) each encoded means other = absurd (other (ap (λ xs. get_or xs 0 0) encoded))
+by_raw b bs text (unit braces digits ∷ items) each encoded means other = absurd each.0
+
+strip_raw : (b : ℕ) (bs text : List ℕ) → IsShort (b ∷ bs) text → b ≢ 92 → StripsRaw b bs text
+strip_raw b bs text short other = by_raw b bs text short.items short.each short.encoded short.means other
+
+pub record StripsEscape (bs text : List ℕ) : Type 0 where
+  pub some : 0 < length bs
+  pub byte : ℕ
+  pub left : List ℕ
+  pub short : IsShort (drop 1 bs) left
+  pub holds : standard_escape (get_or bs 0 0) ≡ Some byte
+  pub is : text ≡ byte ∷ left
+
+by_escape : (bs text : List ℕ) (items : List Item) → AllByRecursion IsShortItem items → 92 ∷ bs ≡ flat_map encoding items → text ≡ map short_byte items → StripsEscape bs text
+by_escape bs text [] each encoded means = absurd (omega (arith, ap length encoded))
+by_escape bs text (raw c ∷ items) each encoded means = absurd (no_mark 92 c (omega arith) each.0 (sym (ap (λ xs. get_or xs 0 0) encoded)))
+by_escape bs text (escape letter byte ∷ items) each encoded means =
+    let behind : bs ≡ letter ∷ flat_map encoding items = ap (drop 1) encoded in
+    record {
+      some = omega (arith, ap length behind);
+      byte = byte;
+      left = map short_byte items;
+      short = record { items = items; each = each.1; encoded = ap (drop 1) behind; means = refl };
+      holds = ap (λ xs. standard_escape (get_or xs 0 0)) behind ∙ each.0;
+      is = means;
+    }
+by_escape bs text (unit braces digits ∷ items) each encoded means = absurd each.0
+
+pub strip_escape : (bytes text : List ℕ) → 0 < length bytes → get_or bytes 0 0 ≡ 92 → IsShort bytes text → StripsEscape (drop 1 bytes) text
+strip_escape [] text some first short = absurd (omega (arith, some))
+strip_escape (b ∷ bs) text some first short =
+    by_escape bs text short.items short.each (ap (λ x. x ∷ bs) (sym first) ∙ short.encoded) short.means
+
+none_left : (text : List ℕ) (items : List Item) → AllByRecursion IsShortItem items → [] ≡ flat_map encoding items → text ≡ map short_byte items → text ≡ []
+none_left text [] each encoded means = means
+none_left text (raw c ∷ items) each encoded means = absurd (omega (arith, ap length encoded))
+none_left text (escape letter byte ∷ items) each encoded means = absurd (omega (arith, ap length encoded))
+none_left text (unit braces digits ∷ items) each encoded means = absurd each.0
+
+-- ---- what is written
+
+one_written : (as_text : Bool) (b : ℕ) (old new left text : List ℕ) → new ≡ old ++ written_byte as_text b → text ≡ b ∷ left → new ++ written_bytes as_text left ≡ old ++ written_bytes as_text text
+one_written as_text b old new left text w is =
+    ap (λ xs. xs ++ written_bytes as_text left) w ∙ append_assoc old (written_byte as_text b) (written_bytes as_text left) ∙ ap (λ t. old ++ written_bytes as_text t) (sym is)
+
+pub writes_raw : (as_text : Bool) (bytes text old new : List ℕ) → 0 < length bytes → get_or bytes 0 0 ≢ 92 → new ≡ old ++ written_byte as_text (get_or bytes 0 0) → IsShort bytes text → WritesFront as_text bytes text old new 1
+writes_raw as_text [] text old new some other w short = absurd (omega (arith, some))
+writes_raw as_text (b ∷ bs) text old new some other w short =
+    let s = strip_raw b bs text short other in
+    record { left = s.left; within = omega arith; short = s.short; written = one_written as_text b old new s.left text w s.is }
+
+plain_byte : (as_text : Bool) (b : ℕ) → byte_text b ≡ b ∷ [] → written_byte as_text b ≡ b ∷ []
+plain_byte true b h = h
+plain_byte false b h = refl
+
+-- the byte itself
+pub puts_raw : (as_text : Bool) (bytes text old new : List ℕ) → 0 < length bytes → get_or bytes 0 0 ≢ 92 → new ≡ old ++ get_or bytes 0 0 ∷ [] → IsShort bytes text → WritesFront as_text bytes text old new 1
+puts_raw as_text [] text old new some other w short = absurd (omega (arith, some))
+puts_raw as_text (b ∷ bs) text old new some other w short =
+    let plain = (strip_raw b bs text short other).plain in
+    writes_raw as_text (b ∷ bs) text old new some other (w ∙ ap (λ xs. old ++ xs) (sym (plain_byte as_text b plain))) short
+
+some_same : (a b : ℕ) → ◌≡◌ {A = Option ℕ} (Some a) (Some b) → a ≡ b
+some_same a b e = cc
+
+pub writes_escape : (as_text : Bool) (bytes text old new : List ℕ) (byte : ℕ) → 0 < length bytes → get_or bytes 0 0 ≡ 92 → standard_escape (get_or bytes 1 0) ≡ Some byte → new ≡ old ++ written_byte as_text byte → IsShort bytes text
+    → WritesFront as_text bytes text old new 2
+writes_escape as_text [] text old new byte some first is w short = absurd (omega (arith, some))
+writes_escape as_text (b ∷ []) text old new byte some first is w short = absurd (omega (arith, (strip_escape (b ∷ []) text some first short).some))
+writes_escape as_text (b ∷ c ∷ bs) text old new byte some first is w short =
+    let s = strip_escape (b ∷ c ∷ bs) text some first short in
+    let same : s.byte ≡ byte = some_same s.byte byte (sym s.holds ∙ is) in
+    record { left = s.left; within = omega arith; short = s.short; written = one_written as_text byte old new s.left text w (s.is ∙ ap (λ x. x ∷ s.left) same) }
+
+-- an escape that is written as it is
+pub verbatim_text : (letter byte : ℕ) → IsVerbatimLetter letter → standard_escape letter ≡ Some byte → byte_text byte ≡ 92 ∷ letter ∷ []
+verbatim_text letter byte is holds =
+    ⊎_elim (λ e. at 34 34 e refl refl) (λ is2. ⊎_elim (λ e. at 92 92 e refl refl) (λ is3. ⊎_elim (λ e. at 110 10 e refl refl) (λ is4. ⊎_elim (λ e. at 114 13 e refl refl) (λ e. at 116 9 e refl refl) is4) is3) is2) is
+  where
+    at : (n m : ℕ) → letter ≡ n → standard_escape n ≡ Some m → byte_text m ≡ 92 ∷ n ∷ [] → byte_text byte ≡ 92 ∷ letter ∷ []
+    at n m e one text =
+        let same : byte ≡ m = some_same byte m (sym holds ∙ ap standard_escape e ∙ one) in
+        ap byte_text same ∙ text ∙ ap (λ l. 92 ∷ l ∷ []) (sym e)
+
+record StripsRun (bytes text : List ℕ) (run : ℕ) : Type 0 where
+  left : List ℕ
+  short : IsShort (drop run bytes) left
+  is : text ≡ take run bytes ++ left
+
+strip_run : (run : ℕ) (bytes text : List ℕ) → run ≤ length bytes → ArePlain (take run bytes) → IsShort bytes text → StripsRun bytes text run
+strip_run zero bytes text within plain short = record { left = text; short = short; is = refl }
+strip_run (suc run) [] text within plain short = absurd (omega (arith, within))
+strip_run (suc run) (b ∷ bs) text within plain short =
+    let s = strip_raw b bs text short (no_mark 92 b (omega arith) (one_plain b (take run bs) plain)) in
+    let rest = strip_run run bs s.left (omega (arith, within)) (rest_plain b (take run bs) plain) s.short in
+    record { left = rest.left; short = rest.short; is = s.is ∙ ap (λ xs. b ∷ xs) rest.is }
+
+pub as_they_are : (bytes : List ℕ) → flat_map (written_byte false) bytes ≡ bytes
+as_they_are [] = refl
+as_they_are (b ∷ bytes) = ap (λ xs. b ∷ xs) (as_they_are bytes)
+
+with_escapes : (bytes : List ℕ) → flat_map (written_byte true) bytes ≡ flat_map byte_text bytes
+with_escapes [] = refl
+with_escapes (b ∷ bytes) = ap (λ xs. byte_text b ++ xs) (with_escapes bytes)
+
+run_written : (as_text : Bool) (bytes : List ℕ) → ArePlain bytes → written_bytes as_text bytes ≡ bytes
+run_written true bytes h = with_escapes bytes ∙ h
+run_written false bytes h = as_they_are bytes
+
+writes_run : (as_text : Bool) (run : ℕ) (bytes text old new : List ℕ) → run ≤ length bytes → ArePlain (take run bytes) → new ≡ old ++ take run bytes → IsShort bytes text → WritesFront as_text bytes text old new run
+writes_run as_text run bytes text old new within plain w short =
+    let s = strip_run run bytes text within plain short in
+    let front = take run bytes in
+    record {
+      left = s.left;
+      within = within;
+      short = s.short;
+      written = ap (λ xs. xs ++ written_bytes as_text s.left) w ∙ append_assoc old front (written_bytes as_text s.left)
+          ∙ ap (λ xs. old ++ xs) (ap (λ xs. xs ++ written_bytes as_text s.left) (sym (run_written as_text front plain)) ∙ sym (flat_map-append (written_byte as_text) front s.left) ∙ ap (written_bytes as_text) (sym s.is));
+    }
+
+writes_then : (as_text : Bool) (bytes text old middle new : List ℕ) (n m : ℕ) (f : WritesFront as_text bytes text old middle n) → WritesFront as_text (drop n bytes) f.left middle new m → WritesFront as_text bytes text old new (n + m)
+writes_then as_text bytes text old middle new n m f g = record {
+  left = g.left;
+  within = omega (arith, f.within, g.within, length-drop n bytes);
+  short = subst (λ xs. IsShort xs g.left) (drop-drop m n bytes) g.short;
+  written = g.written ∙ f.written;
+}
+
+-- ---- the contents of a string
+
+-- so many bytes of the contents are written
+abbrev pub WritesSome : Bool → List ℕ → ℕ → List ℕ → List ℕ → ℕ → Type 0
+WritesSome as_text bytes count old new at = (text : List ℕ) → IsShort (take count bytes) text → WritesFront as_text (take count bytes) text old new at
+
+-- what is left of the contents
+left_is : (bytes : List ℕ) (count at : ℕ) → at ≤ count → drop at (take count bytes) ≡ take (count - at) (drop at bytes)
+left_is bytes count at within = ap (λ n. drop at (take n bytes)) {x = count} {y = at + (count - at)} (omega (arith, within)) ∙ drop-take at (count - at) bytes
+
+pub some_run : (as_text : Bool) (bytes : List ℕ) (count at near run : ℕ) (old middle new : List ℕ) → at ≤ count → count ≤ length bytes → WritesSome as_text bytes count old middle at → ArePlain (take near (drop at bytes))
+    → run ≤ near → run ≤ count - at → new ≡ middle ++ take run (drop at bytes) → WritesSome as_text bytes count old new (at + run)
+some_run as_text bytes count at near run old middle new within inside f plain less few w text short =
+    let front = f text short in
+    let left = left_is bytes count at within in
+    let taken : take run (drop at (take count bytes)) ≡ take run (drop at bytes) = ap (take run) left ∙ take-take run (count - at) (drop at bytes) few in
+    let long : length (drop at (take count bytes)) ≡ count - at = ap length left ∙ length-take-le (count - at) (drop at bytes) (omega (arith, length-drop at bytes, inside, within)) in
+    writes_then as_text (take count bytes) text old middle new at run front
+    (writes_run as_text run (drop at (take count bytes)) front.left middle new (omega (arith, long, few)) (subst (λ xs. ArePlain xs) (sym taken) (fewer_plain (drop at bytes) near run plain less)) (w ∙ ap (λ xs. middle ++ xs) (sym taken)) front.short)
+
+pub some_item : (as_text : Bool) (bytes item : List ℕ) (count at size : ℕ) (old middle new : List ℕ) → at ≤ count → WritesSome as_text bytes count old middle at → item ≡ take (count - at) (drop at bytes)
+    → ((text : List ℕ) → IsShort item text → WritesFront as_text item text middle new size) → WritesSome as_text bytes count old new (at + size)
+some_item as_text bytes item count at size old middle new within f is g text short =
+    let front = f text short in
+    let same : drop at (take count bytes) ≡ item = left_is bytes count at within ∙ sym is in
+    writes_then as_text (take count bytes) text old middle new at size front
+    (subst (λ xs. WritesFront as_text xs front.left middle new size) (sym same) (g front.left (subst (λ xs. IsShort xs front.left) same front.short)))
+
+pub some_all : (as_text : Bool) (bytes : List ℕ) (count at : ℕ) (old new text : List ℕ) → count ≤ length bytes → count ≤ at → WritesSome as_text bytes count old new at → IsShort (take count bytes) text → new ≡ old ++ written_bytes as_text text
+some_all as_text bytes count at old new text inside over f short =
+    let front = f text short in
+    let none : drop at (take count bytes) ≡ [] = drop_all at (take count bytes) (omega (arith, length-take-le count bytes inside, over)) in
+    let left = none_left front.left front.short.items front.short.each (sym none ∙ front.short.encoded) front.short.means in
+    sym (append-nil new) ∙ ap (λ t. new ++ written_bytes as_text t) (sym left) ∙ front.written
+
+-- so many bytes of what was put into a row
+pub put_some : (row put chunk : List ℕ) (end all run : ℕ) → run ≤ length chunk → end ≤ length row → all ≤ length put → take all put ≡ take end row ++ chunk
+    → (take (end + run) put ≡ take end row ++ take run chunk) × (end + run ≤ length put)
+put_some row put chunk end all run few within inside is =
+    let long = length-take-le end row within in
+    let size : all ≡ end + length chunk = omega (arith, length-take-le all put inside, ap length is, length-append (take end row) chunk, long) in (
+      sym (take-take (end + run) all put (omega (arith, size, few))) ∙ ap (take (end + run)) is
+          ∙ ap (λ n. take (n + run) (take end row ++ chunk)) (sym long) ∙ take-append-add (take end row) chunk run,
+      omega (arith, size, few, inside),
+    )
+
+-- what is taken of a buffer behind whose old bytes a row was written
+pub row_taken : (old added ext row back : List ℕ) (start end len : ℕ) → ext ≡ old ++ added → start ≡ length old → take start row ≡ take start ext → start ≤ end → len ≡ length ext
+    → back ≡ take end (take len (row ++ drop (length row) ext)) → (more : List ℕ) × (back ≡ old ++ more) × (end ≡ start → more ≡ [])
+row_taken old added ext row back start end len grown count verbatim behind size taken =
+    let same : take start row ≡ take start (old ++ added) = verbatim ∙ ap (take start) grown in
+    let is : back ≡ take end (take len (row ++ drop (length row) (old ++ added))) = taken ∙ ap (λ xs. take end (take len (row ++ drop (length row) xs))) grown in
+    let within : start ≤ len = omega (arith, count, size, ap length grown, length-append old added) in
+    let front : take start row ≡ old = same ∙ ap (λ n. take n (old ++ added)) count ∙ take-append_seam old added in
+    let rest = drop start row ++ drop (length row) (old ++ added) in
+    let whole : row ++ drop (length row) (old ++ added) ≡ old ++ rest =
+    ap (λ xs. xs ++ drop (length row) (old ++ added)) (sym (take-append-drop start row) ∙ ap (λ xs. xs ++ drop start row) front) ∙ append_assoc old (drop start row) (drop (length row) (old ++ added)) in
+    let first : take len (old ++ rest) ≡ old ++ take (len - start) rest =
+    ap (λ n. take n (old ++ rest)) {x = len} {y = length old + (len - start)} (omega (arith, count, within)) ∙ take-append-add old rest (len - start) in
+    let more = take (end - start) (take (len - start) rest) in
+    let second : take end (old ++ take (len - start) rest) ≡ old ++ more =
+    ap (λ n. take n (old ++ take (len - start) rest)) {x = end} {y = length old + (end - start)} (omega (arith, count, behind)) ∙ take-append-add old (take (len - start) rest) (end - start) in (
+      more,
+      is ∙ ap (take end) (ap (take len) whole ∙ first) ∙ second,
+      λ e. ap (λ n. take n (take (len - start) rest)) {x = end - start} {y = 0} (omega (arith, e)),
+    )
+
+-- ---- what no contents begin with
+
+pub never_alone : (bytes text : List ℕ) → length bytes ≡ 1 → get_or bytes 0 0 ≡ 92 → IsShort bytes text → ⊥
+never_alone bytes text one first short =
+    let s = strip_escape bytes text (omega (arith, one)) first short in
+    absurd (omega (arith, s.some, length-drop 1 bytes, one))
+
+pub never_other : (bytes text : List ℕ) → 0 < length bytes → get_or bytes 0 0 ≡ 92 → standard_escape (get_or bytes 1 0) ≡ None → IsShort bytes text → ⊥
+never_other bytes text some first other short =
+    let s = strip_escape bytes text some first short in
+    let both : ◌≡◌ {A = Option ℕ} None (Some s.byte) = sym other ∙ ap standard_escape (sym (get_or-drop 1 bytes 0 0)) ∙ s.holds in
+    cc
+
+-- ---- where such a string is
+
+-- the bytes between the quotes
+body_there : (text body : List ℕ) (from to count : ℕ) → from + 2 + count ≡ to → to ≤ length text → slice_range text from to ≡ in_quotes body → take count (drop (from + 1) text) ≡ body
+body_there text body from to count sum inside holds =
+    let rest = drop (from + 1) text in
+    let first = drop_more text from 0 (omega (arith, sum, inside)) in
+    let size : to - from ≡ suc (count + 1) = omega (arith, sum) in
+    let all : get_or text from 0 ∷ take (count + 1) rest ≡ 34 ∷ (body ++ 34 ∷ []) = sym (ap₂ (λ n xs. take n xs) size first) ∙ holds in
+    let inner : take (count + 1) rest ≡ body ++ 34 ∷ [] = ap (drop 1) all in
+    let long : length body ≡ count =
+    omega (arith, ap length inner, length-append body (34 ∷ []), length-take-le (count + 1) rest (omega (arith, length-drop (from + 1) text, sum, inside))) in
+    sym (take-take count (count + 1) rest (omega arith)) ∙ ap₂ (λ n xs. take n xs) (sym long) inner ∙ take-append_seam body (34 ∷ [])
+
+pub short_there : (text : List ℕ) (s : Source) (from to count : ℕ) → from + 2 + count ≡ to → to ≤ length text → (at : IsShortAt text from to s) → IsShort (take count (drop (from + 1) text)) at.meaning
+short_there text s from to count sum inside at = subst (λ xs. IsShort xs at.meaning) (sym (body_there text at.body from to count sum inside at.holds)) at.short
+
+pub short_text : (text : List ℕ) (s : Source) (from to : ℕ) (at : IsShortAt text from to s) → 34 ∷ (written_bytes true at.meaning ++ 34 ∷ []) ≡ source_text s
+short_text text s from to at = ap (λ xs. 34 ∷ (xs ++ 34 ∷ [])) (with_escapes at.meaning) ∙ sym (ap source_text at.is)
+
+-- ---- no byte of such a string is zero
+
+either : (P : Option ℕ → Type 0) (test : Bool) (x y : Option ℕ) → P x → P y → P (if test then x else y)
+either P true x y p q = p
+either P false x y p q = q
+
+never_zero : (letter : ℕ) → ◌≡◌ {A = Option ℕ} (standard_escape letter) (Some 0) → ⊥
+never_zero letter =
+    let P : Option ℕ → Type 0 = λ r. ◌≡◌ {A = Option ℕ} r (Some 0) → ⊥ in
+    either P (letter == 34) _ _ (λ e. cc)
+    (either P (letter == 92) _ _ (λ e. cc)
+    (either P (letter == 47) _ _ (λ e. cc)
+    (either P (letter == 98) _ _ (λ e. cc)
+    (either P (letter == 102) _ _ (λ e. cc)
+    (either P (letter == 110) _ _ (λ e. cc)
+    (either P (letter == 114) _ _ (λ e. cc)
+    (either P (letter == 116) _ _ (λ e. cc) (λ e. cc))))))))
+
+one_key : (b : ℕ) → b ≢ 0 → byte_key b ≡ b ∷ []
+one_key b some = cond-false (b == 0) _ _ (ne_eqb b 0 some)
+
+keys_are : (items : List Item) → AllByRecursion IsShortItem items → flat_map byte_key (map short_byte items) ≡ map short_byte items
+keys_are [] each = refl
+keys_are (raw b ∷ items) each = ap₂ (λ xs ys. xs ++ ys) (one_key b (no_mark 0 b (omega arith) each.0)) (keys_are items each.1)
+keys_are (escape letter byte ∷ items) each =
+    ap₂ (λ xs ys. xs ++ ys) (one_key byte (λ z. never_zero letter (each.0 ∙ ap Some z))) (keys_are items each.1)
+keys_are (unit braces digits ∷ items) each = absurd each.0
+
+pub short_key : (text : List ℕ) (s : Source) (from to : ℕ) (at : IsShortAt text from to s) → 208 ∷ (at.meaning ++ 0 ∷ 1 ∷ []) ≡ source_key s
+short_key text s from to at =
+    let same : at.meaning ≡ flat_map byte_key at.meaning =
+    at.short.means ∙ sym (keys_are at.short.items at.short.each) ∙ ap (flat_map byte_key) (sym at.short.means) in
+    ap (λ xs. 208 ∷ (xs ++ 0 ∷ 1 ∷ [])) same ∙ sym (ap source_key at.is)
+
+pub key_written : (old first middle last meaning bytes : List ℕ) → first ≡ old ++ 208 ∷ [] → middle ≡ first ++ written_bytes false meaning → last ≡ middle ++ 0 ∷ 1 ∷ [] → 208 ∷ (meaning ++ 0 ∷ 1 ∷ []) ≡ bytes → last ≡ old ++ bytes
+key_written old first middle last meaning bytes a b c is =
+    c ∙ ap (λ xs. xs ++ 0 ∷ 1 ∷ []) (b ∙ ap₂ (λ xs ys. xs ++ ys) a (as_they_are meaning)) ∙ append_assoc (old ++ 208 ∷ []) meaning (0 ∷ 1 ∷ []) ∙ append_assoc old (208 ∷ []) (meaning ++ 0 ∷ 1 ∷ [])
+    ∙ ap (λ xs. old ++ xs) is

@@ -1,0 +1,28 @@
+use Rattle.std.proofs.Common.{subst, sym}
+use Rattle.std.specs.Result.{OnOk}
+use Rattle.jsonb_spec.specs.Source.{Source}
+use Rattle.text_write.specs.KeySink.{Writes}
+use Rattle.text_write.specs.Members.{source_key}
+use Rattle.text_common.specs.VerbatimScalar.{IsVerbatimAt}
+use Rattle.text_write.proofs.IntegerKeys.{integer_written}
+use Rattle.text_write.proofs.Sinks.{on_ok}
+use Rattle.text_write.proofs.key.KeySink.verbatim.Goals as goal
+
+pub returns-in-Integer-clause-bytes : goal.returns-in-Integer-clause-bytes
+returns-in-Integer-clause-bytes c =
+    let r = c.args.self.now in
+    subst (λ k. OnOk c.integer.result ((s : Source) → IsVerbatimAt k r.members.text.now c.args.from c.args.to s → Writes (source_key s) r c.integer.new.self)) (sym c.in-Integer.is)
+    (on_ok c.integer.result c.integer.ensures.bytes (λ wrote s at. integer_written s c.args.from c.args.to at wrote))
+
+pub returns-in-Same-clause-bytes : goal.returns-in-Same-clause-bytes
+returns-in-Same-clause-bytes c =
+    let r = c.args.self.now in
+    let sink = c.short_string.new.self in
+    subst (λ k. OnOk c.short_string.result ((s : Source) → IsVerbatimAt k r.members.text.now c.args.from c.args.to s → Writes (source_key s) r sink)) (sym c.in-Same.is)
+    (on_ok c.short_string.result c.short_string.ensures.bytes (λ w s at. w s at.0))
+
+pub returns-in-Short-clause-bytes : goal.returns-in-Short-clause-bytes
+returns-in-Short-clause-bytes c =
+    let r = c.args.self.now in
+    let sink = c.short_string-in-Short.new.self in
+    subst (λ k. OnOk c.short_string-in-Short.result ((s : Source) → IsVerbatimAt k r.members.text.now c.args.from c.args.to s → Writes (source_key s) r sink)) (sym c.in-Short.is) c.short_string-in-Short.ensures.bytes

@@ -1,0 +1,7 @@
+use Rattle.std.proofs.Common.{append-nil}
+use Rattle.text_write.proofs.Keys.KeyMembers.{value_holds}
+use Rattle.text_write.proofs.Keys.KeySinks.{unchanged}
+use Rattle.text_write.proofs.key.KeySinkSink.insert_inner.Goals as goal
+
+pub returns-clause-holds : goal.returns-clause-holds
+returns-clause-holds c = λ text s held fs k offset cs next other sink. value_holds s next other sink (unchanged c.args.self.now) (append-nil _)

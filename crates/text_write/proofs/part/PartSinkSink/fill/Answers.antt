@@ -1,0 +1,11 @@
+use Rattle.text_write.proofs.PartSinks.{alone, alone_around, alone_in}
+use Rattle.text_write.proofs.Sinks.{on_ok, same_only}
+use Rattle.text_write.proofs.part.PartSinkSink.fill.Goals as goal
+
+pub returns-then-not-is_written-clause-holds : goal.returns-then-not-is_written-clause-holds
+returns-then-not-is_written-clause-holds c = λ text s held cs sink sees encoded. alone_around s c.if-not-is_written.ensures (alone c.args.part.now s sees) sink
+
+pub returns-clause-holds : goal.returns-clause-holds
+returns-clause-holds c =
+    on_ok c.end_inner.result c.end_inner.ensures.holds (λ ends text s held cs sink sees encoded.
+    ends text s held cs (alone_in c.in_ok-self.field-0 c.in_ok-self.ensures (same_only c.fill.ensures.base) (λ hs ds holds_so. c.in_ok-fill.ensures.holds text s hs ds holds_so sees encoded) sink c.if-not-is_written.ensures))

@@ -1,0 +1,26 @@
+use Rattle.std.proofs.Common.{subst, sym}
+use Rattle.std.specs.Result.{OnOk}
+use Rattle.jsonb_spec.specs.Source.{Source}
+use Rattle.text_write.specs.TextSink.{Writes}
+use Rattle.text_common.specs.VerbatimScalar.{IsVerbatimAt}
+use Rattle.text_common.specs.SourceText.{source_text}
+use Rattle.text_write.proofs.Sinks.{on_ok}
+use Rattle.text_write.proofs.text.TextSink.verbatim.Goals as goal
+
+pub returns-in-Integer-clause-bytes : goal.returns-in-Integer-clause-bytes
+returns-in-Integer-clause-bytes c =
+    let r = c.args.self.now in
+    subst (λ k. OnOk c.preserve_range.result ((s : Source) → IsVerbatimAt k r.written.text.now c.args.from c.args.to s → Writes (source_text s) r c.preserve_range.new.self)) (sym c.in-Integer.is)
+    (on_ok c.preserve_range.result c.preserve_range.ensures.bytes (λ w s at. subst (λ bytes. Writes bytes r c.preserve_range.new.self) at.same w))
+
+pub returns-in-Same-clause-bytes : goal.returns-in-Same-clause-bytes
+returns-in-Same-clause-bytes c =
+    let r = c.args.self.now in
+    let sink = c.preserve_range-in-Same.new.self in
+    subst (λ k. OnOk c.preserve_range-in-Same.result ((s : Source) → IsVerbatimAt k r.written.text.now c.args.from c.args.to s → Writes (source_text s) r sink)) (sym c.in-Same.is)
+    (on_ok c.preserve_range-in-Same.result c.preserve_range-in-Same.ensures.bytes (λ w s at. subst (λ bytes. Writes bytes r sink) at.1 w))
+
+pub returns-in-Short-clause-bytes : goal.returns-in-Short-clause-bytes
+returns-in-Short-clause-bytes c =
+    let r = c.args.self.now in
+    subst (λ k. OnOk c.short_string.result ((s : Source) → IsVerbatimAt k r.written.text.now c.args.from c.args.to s → Writes (source_text s) r c.short_string.new.self)) (sym c.in-Short.is) c.short_string.ensures.bytes

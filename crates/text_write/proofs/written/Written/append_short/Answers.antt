@@ -1,0 +1,29 @@
+use Rattle.std.proofs.Common.{◌≡◌, ◌+◌, ◌++◌, ◌∷◌, [], true, List, ℕ, ap, sym, subst, take, drop, ◌∙◌}
+use Rattle.std.proofs.lemmas.List.{append-nil, take_rest}
+use Rattle.text_common.specs.ShortString.{IsShort}
+use Rattle.text_write.specs.ShortString.{written_bytes}
+use Rattle.text_write.specs.Written.{bytes_of}
+use Rattle.text_write.proofs.EscapedTexts.{quoted_bytes}
+use Rattle.text_write.proofs.Sinks.{on_ok}
+use Rattle.text_write.proofs.ShortStrings.{short_text, short_there}
+use Rattle.text_write.proofs.written.Written.append_short.Goals as goal
+
+pub returns-in_default-clause-bytes : goal.returns-in_default-clause-bytes
+returns-in_default-clause-bytes c = λ s at. absurd (c.in_default.ensures.none s at)
+
+pub returns-clause-bytes : goal.returns-clause-bytes
+returns-clause-bytes c =
+    on_ok c.put.result c.put.ensures.bytes (λ last s at.
+    let w = c.args.self.now in
+    let text = w.text.now in
+    let found = c.in-Some.ensures.some in
+    let flushed = c.in_ok-flush.ensures in
+    let out : List ℕ = c.append_row.new.out.items in
+    let short = short_there text s c.args.from c.args.to c.in-Some.count found.0 found.1 at in
+    let same = ap (λ t. t.now) (flushed.text ∙ c.in_ok-put_at.ensures.text) in
+    let body = take_rest c.flush.new.self.text.now (c.args.from + 1) ∙ ap (drop (c.args.from + 1)) same in
+    let meant = c.in_ok-append_row.ensures.bytes at.meaning (subst (λ xs. IsShort (take c.in-Some.count xs) at.meaning) (sym body) short) in
+    let front : c.try_reserve.new.self.items ≡ bytes_of w ++ 34 ∷ [] = c.in_ok-try_reserve.ensures.items ∙ sym flushed.copied ∙ flushed.bytes ∙ c.in_ok-put_at.ensures.bytes in
+    let there : bytes_of c.go_on.new.self ≡ out = c.go_on.ensures.bytes ∙ ap (λ (u : List ℕ). out ++ u) flushed.empty ∙ append-nil out in
+    quoted_bytes (bytes_of w) c.try_reserve.new.self.items out (bytes_of c.put.new.self) (written_bytes true at.meaning) front meant (last ∙ ap (λ (u : List ℕ). u ++ 34 ∷ []) there)
+    ∙ ap (λ xs. bytes_of w ++ xs) (short_text text s c.args.from c.args.to at))

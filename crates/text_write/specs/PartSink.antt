@@ -1,0 +1,235 @@
+-- What is in the space that the text of a part is written to, while arrays and objects are open.
+use Rattle.std.specs.Prelude.{◌≡◌, ◌⊎◌, ℕ, zero, suc, ◌+◌, ◌<◌, ◌≤◌, Bool, true, false, ◌==◌, if◌then◌else◌, nat_lt, List, [], ◌∷◌, length, map, drop, take, string_bytes, Option, Some, None, MatchOption}
+use Rattle.std.specs.Option.{option_and_then, option_map, option_map_or, option_or}
+use Rattle.std.specs.Str.{bytes_eq}
+use Rattle.jsonb_spec.specs.Text.{tree_text}
+use Rattle.jsonb_spec.specs.Tree.{Tree}
+use Rattle.text_scan.specs.Open.{Open, elements_so_far, members_so_far}
+use Rattle.jsonb_spec.specs.Source.{Found, Source, tree_of_source}
+use Rattle.jsonb_spec.specs.PartAt.{index_named, part_at}
+use Rattle.text_write.specs.CheckSink.{CheckHolds}
+use Rattle.text_write.specs.KeySink as key
+use Rattle.text_write.specs.TextSink as text
+use Rattle.text_write.specs.TextSink.{TextFilled, TextHolds, base_of}
+use Rattle.text_write.specs.declared.check.CheckSink.{CheckSink}
+use Rattle.text_write.specs.declared.open_members.OpenMembers.{OpenMembers}
+use Rattle.text_write.specs.declared.part.PartItems.{PartItems}
+use Rattle.text_write.specs.declared.part.PartMembers.{PartMembers}
+use Rattle.text_write.specs.declared.part.PartSink.{PartSink}
+
+-- ---- the path and what is open
+
+-- whether the part that the container waits for is at this key
+abbrev pub waits_at : Open → List ℕ → Bool
+waits_at (elements_so_far ss) key = option_map_or (λ i. i == length ss) (index_named key) false
+waits_at (members_so_far fs k offset) key = bytes_eq key k.1
+
+-- what is left of the path behind the part that the container waits for
+abbrev pub follow : Open → List (List ℕ) → Option (List (List ℕ))
+follow c [] = None
+follow c (key ∷ keys) = if waits_at c key then Some keys else None
+
+-- What is left of the path behind the containers that are open, the innermost first. None where they lead elsewhere.
+abbrev pub path_behind : List (List ℕ) → List Open → Option (List (List ℕ))
+path_behind keys [] = Some keys
+path_behind keys (c ∷ cs) = option_and_then (follow c) (path_behind keys cs)
+
+-- the part in one of the members with this key
+abbrev pub in_members : List ℕ → List (List ℕ) → List Found → Option Tree
+in_members key keys [] = None
+in_members key keys (f ∷ fs) =
+    option_or (if bytes_eq key f.key then part_at keys (tree_of_source f.source) else None) (in_members key keys fs)
+
+-- the part in the item of an index, where the first one has another index
+abbrev pub in_items : ℕ → ℕ → List (List ℕ) → List Source → Option Tree
+in_items index first keys [] = None
+in_items index first keys (s ∷ ss) =
+    option_or (if index == first then part_at keys (tree_of_source s) else None) (in_items index (suc first) keys ss)
+
+-- the part in one of the parts of a container that ended
+abbrev pub within : Open → List (List ℕ) → Option Tree
+within c [] = None
+within (elements_so_far ss) (key ∷ keys) = option_and_then (λ i. in_items i 0 keys ss) (index_named key)
+within (members_so_far fs k offset) (key ∷ keys) = in_members key keys fs
+
+-- the part in what ended of all that is open
+abbrev pub part_of_ended : List (List ℕ) → List Open → Option Tree
+part_of_ended keys [] = None
+part_of_ended keys (c ∷ cs) = option_or (part_of_ended keys cs) (option_and_then (within c) (path_behind keys cs))
+
+-- the part in what ended of all that is open, and in a value where one was due
+abbrev pub part_with_value : List (List ℕ) → Source → List Open → Option Tree
+part_with_value keys s cs = option_or (part_of_ended keys cs) (option_and_then (λ rest. part_at rest (tree_of_source s))
+    (path_behind keys cs))
+
+-- ---- what is left of the path
+
+-- the keys behind so many, if that is known
+abbrev pub rest_at : List (List ℕ) → Option ℕ → Option (List (List ℕ))
+rest_at keys level = option_map (λ l. drop l keys) level
+
+-- the first of these keys
+abbrev pub first_key : List (List ℕ) → Option (List ℕ)
+first_key [] = None
+first_key (key ∷ keys) = Some key
+
+-- the others
+abbrev pub other_keys : List (List ℕ) → Option (List (List ℕ))
+other_keys [] = None
+other_keys (key ∷ keys) = Some keys
+
+-- the others, where the first one is this key
+abbrev pub follow_key : List ℕ → List (List ℕ) → Option (List (List ℕ))
+follow_key name [] = None
+follow_key name (key ∷ keys) = if bytes_eq key name then Some keys else None
+
+-- the index that the first of these keys names
+abbrev pub first_index : List (List ℕ) → Option ℕ
+first_index [] = None
+first_index (key ∷ keys) = index_named key
+
+-- the part inside a value, which isn't the value itself
+abbrev pub part_inside : Source → List (List ℕ) → Option Tree
+part_inside s [] = None
+part_inside s (key ∷ keys) = part_at (key ∷ keys) (tree_of_source s)
+
+-- the part in what ended of all that is open, or inside a value where one was due
+abbrev pub part_with_inside : List (List ℕ) → Source → List Open → Option Tree
+part_with_inside keys s cs = option_or (part_of_ended keys cs) (option_and_then (part_inside s) (path_behind keys cs))
+
+-- ---- what is held
+
+-- So many keys of the path lead to what the containers wait for, or it isn't on the path.
+abbrev pub Leads : List (List ℕ) → Option ℕ → List Open → Type 0
+Leads keys level cs = path_behind keys cs ≡ rest_at keys level
+
+-- So many elements come before the one on the path, or it is among those that there are, or there is none.
+abbrev pub IsAhead : Option ℕ → Option ℕ → ℕ → Type 0
+IsAhead wanted (Some n) count = wanted ≡ Some (count + n)
+IsAhead wanted None count = MatchOption wanted (Unit {0}) (λ i. i < count)
+
+-- one less, and none behind the one on the path
+abbrev pub less : Option ℕ → Option ℕ
+less None = None
+less (Some zero) = None
+less (Some (suc n)) = Some n
+
+-- What is held of an open container.
+pub data PartHeld : Type 0 where
+  array_held : PartItems → PartHeld
+  object_held : PartMembers → PartHeld
+
+-- what is held of it where it is written
+abbrev pub text_held : PartHeld → text.Held
+text_held (array_held f) = text.items f.is_first
+text_held (object_held f) = text.members f.first
+
+-- what is held of it where it is only checked
+abbrev pub check_held : PartHeld → key.Held
+check_held (array_held f) = key.items
+check_held (object_held f) = key.members f.first
+
+-- So many keys of the path lead to the container. It isn't the part, unless the part was found before.
+pub record IsOutside (keys : List (List ℕ)) (found : Bool) (level : Option ℕ) (cs : List Open) : Type 0 where
+  pub leads : Leads keys level cs
+  pub other : rest_at keys level ≡ Some [] → found ≡ true
+
+-- What is held fits the containers.
+abbrev pub HeldFits : List (List ℕ) → Bool → List PartHeld → List Open → Type 0
+HeldFits keys found [] [] = Unit {0}
+HeldFits keys found (array_held f ∷ held) (elements_so_far ss ∷ cs) =
+    IsOutside keys found f.level cs
+    × (IsAhead (option_and_then first_index (path_behind keys cs)) f.ahead (length ss) × HeldFits keys found held cs)
+HeldFits keys found (object_held f ∷ held) (members_so_far fs key offset ∷ cs) =
+    IsOutside keys found f.level cs × HeldFits keys found held cs
+HeldFits keys found held cs = ⊥
+
+-- ---- around the part
+
+-- The keys of what is open are held, and this is the text of the part, if it ended. So many keys of the path lead to
+-- the value that is due.
+pub record IsSeeking (document : List ℕ) (check : CheckSink) (keys : List (List ℕ)) (level : Option ℕ) (found : Bool)
+    (part : Option (List ℕ)) (due : Bool) (held : List PartHeld) (cs : List Open) : Type 0 where
+  pub holds : CheckHolds document check due (map check_held held) cs
+  pub fits : HeldFits keys found held cs
+  pub leads : due ≡ true → Leads keys level cs
+  pub part_is : part ≡ option_map tree_text (part_of_ended keys cs)
+
+-- A value ended where one was due, and this is the text of the part, if it ended.
+pub record IsSought (document : List ℕ) (check : CheckSink) (keys : List (List ℕ)) (found : Bool)
+    (part : Option (List ℕ)) (s : Source) (held : List PartHeld) (cs : List Open) : Type 0 where
+  pub holds : CheckHolds document check true (map check_held held) cs
+  pub fits : HeldFits keys found held cs
+  pub part_is : part ≡ option_map tree_text (part_with_value keys s cs)
+
+-- ---- the sink
+
+-- the keys of the path
+abbrev pub keys_of : PartSink → List (List ℕ)
+keys_of sink = map string_bytes sink.path.now
+
+-- the text of the part, if it ended
+abbrev pub part_of : PartSink → Option (List ℕ)
+part_of sink = if sink.found then Some sink.text.written.out.items else None
+
+-- the members among which those of the innermost object are
+abbrev pub members_of : PartSink → OpenMembers
+members_of sink = if nat_lt 0 sink.inside then sink.text.members else sink.check.members
+
+-- The value that is due is written: it is the part, or is in it.
+abbrev pub IsWritten : PartSink → Type 0
+IsWritten sink = (0 < sink.inside)
+    ⊎ ((sink.inside ≡ 0) × (sink.found ≡ false) × (rest_at (keys_of sink) sink.due ≡ Some []))
+
+-- The value that is due isn't written. If it is at the path, the part was found before.
+abbrev pub IsAround : PartSink → Type 0
+IsAround sink = (sink.inside ≡ 0) × (rest_at (keys_of sink) sink.due ≡ Some [] → sink.found ≡ true)
+
+-- So many of the innermost containers are written, around which the part is due.
+pub record IsInPart (n : ℕ) (document : List ℕ) (sink : PartSink) (held : List PartHeld) (cs : List Open)
+    : Type 0 where
+  pub seeks : IsSeeking document sink.check (keys_of sink) sink.due false None true (drop n held) (drop n cs)
+  pub open_yet : sink.found ≡ false
+  pub here : rest_at (keys_of sink) sink.due ≡ Some []
+  pub few : n ≤ length held
+
+-- with so many containers written
+abbrev pub HoldsAt : ℕ → List ℕ → PartSink → Bool → List PartHeld → List Open → Type 0
+HoldsAt zero document sink due held cs =
+    IsSeeking document sink.check (keys_of sink) sink.due sink.found (part_of sink) due held cs
+    × (sink.found ≡ false → TextHolds document sink.text true [] [])
+HoldsAt (suc n) document sink due held cs =
+    IsInPart (suc n) document sink held cs
+    × TextHolds document sink.text due (map text_held (take (suc n) held)) (take (suc n) cs)
+
+-- The part is written so far, and of what is open around it the keys are held.
+pub record PartHolds (document : List ℕ) (sink : PartSink) (due : Bool) (held : List PartHeld) (cs : List Open)
+    : Type 0 where
+  pub base : base_of sink.text ≡ []
+  pub holds : HoldsAt sink.inside document sink due held cs
+
+-- A value ended with so many containers written around it, the part among them or the value itself.
+abbrev pub EndsAt : ℕ → List ℕ → PartSink → Source → List PartHeld → List Open → Type 0
+EndsAt n document sink s held cs =
+    IsInPart n document sink held cs × TextFilled document sink.text s (map text_held (take n held)) (take n cs)
+
+-- with so many containers written
+abbrev pub FilledAt : ℕ → List ℕ → PartSink → Source → List PartHeld → List Open → Type 0
+FilledAt zero document sink s held cs =
+    IsSought document sink.check (keys_of sink) sink.found (part_of sink) s held cs
+    × (sink.found ≡ false → TextHolds document sink.text true [] [])
+FilledAt (suc n) document sink s held cs = EndsAt (suc n) document sink s held cs
+
+-- A value ended where one was due, and the part is written so far.
+pub record PartFilled (document : List ℕ) (sink : PartSink) (s : Source) (held : List PartHeld) (cs : List Open)
+    : Type 0 where
+  pub base : base_of sink.text ≡ []
+  pub filled : FilledAt sink.inside document sink s held cs
+
+-- A value that is written ended, and is still counted as open.
+pub record InnerEnds (document : List ℕ) (sink : PartSink) (s : Source) (held : List PartHeld) (cs : List Open)
+    : Type 0 where
+  pub base : base_of sink.text ≡ []
+  pub outer : ℕ
+  pub count : sink.inside ≡ suc outer
+  pub ends : EndsAt outer document sink s held cs

@@ -1,0 +1,411 @@
+//! The text of one part of a document. The part is written, and all around it is only checked.
+ghost use Rattle.std.specs.Prelude.{◌≡◌, ◌+◌, ◌-◌, ◌<◌, ◌∷◌, [], ℕ, List, Some, true, false, length, map, string_bytes, IfOk, MatchBool, OnOk};
+ghost use Rattle.std.specs.Option.{option_and_then, option_map};
+ghost use Rattle.text_write.specs.PartSink.{less};
+
+use crate::check::CheckSink;
+use crate::contents::Contents;
+use crate::open_members::OpenMembers;
+use crate::sink::Sink;
+use crate::text::{Part, TextSink};
+use jsonb_path::index_of;
+use jsonb_value::error::Error;
+use std::alloc::{AllocError, Global};
+use std::borrow::CowStr;
+use text_common::verbatim::Verbatim;
+use text_scan::parser::Mode;
+
+/// What is held of an array: whether it has no items yet, how many of its items come before the one on the path, if
+/// that is still to come, and how many keys of the path lead to the array, if it is on the path. Of an array that is
+/// written only the first counts.
+#[derive(Clone, Copy)]
+pub struct PartItems {
+    pub is_first: bool,
+    pub ahead: Option<usize>,
+    pub level: Option<usize>,
+}
+
+/// What is held of an object: the index of its first member, among those that are written or among those around the
+/// part, and how many keys of the path lead to the object, if it is on the path.
+#[derive(Clone, Copy)]
+pub struct PartMembers {
+    pub first: usize,
+    pub level: Option<usize>,
+}
+
+/// The keys of the objects that are open around the part at a path, and the text of the part.
+#[derive(Drop)]
+pub struct PartSink<'a> {
+    pub check: CheckSink<'a>,
+    pub text: TextSink<'a>,
+    pub path: &'a [String],
+    /// How many keys of the path lead to the value that is due, if it is on the path. In the part this stays as it is.
+    pub due: Option<usize>,
+    /// How many of the containers that are open are written: the part, and what is open in it.
+    pub inside: usize,
+    /// Whether the part ended.
+    pub found: bool,
+}
+
+impl<'a> PartSink<'a> {
+    ghost use Rattle.text_scan.specs.Open.{Open};
+    ghost use Rattle.text_scan.specs.Open.Open.{elements_so_far};
+    ghost use Rattle.jsonb_spec.specs.Source.{Source};
+    ghost use Rattle.text_write.specs.PartSink.{InnerEnds, IsAhead, IsAround, IsWritten, Leads, PartFilled, PartHeld, PartHolds, first_index, first_key, follow_key, keys_of, members_of, path_behind, other_keys, part_of, rest_at};
+    ghost use Rattle.text_write.specs.PartSink.PartHeld.{array_held, object_held};
+
+    /// No part yet, of a document of which nothing was parsed.
+    pub fn new(alloc: Global, text: &'a [u8], path: &'a [String]) -> PartSink<'a>
+        ensures holds { PartHolds text.entry.now result true [] [] }
+        ensures keys { keys_of result ≡ map string_bytes path.entry.now }
+    {
+        PartSink {
+            check: CheckSink::new(alloc, text),
+            text: TextSink::new(alloc, text, Vec::new(alloc)),
+            path,
+            due: Some(0),
+            inside: 0,
+            found: false,
+        }
+    }
+
+    // The key of the path behind so many.
+    #[inline(always)]
+    fn next_key(&self, level: Option<usize>) -> Option<&str>
+        ensures { option_map (λ key. key.now) result ≡ option_and_then first_key (rest_at (keys_of self.now) level) }
+    {
+        match self.path.get(level?) {
+            Some(key) => Some(key.as_str()),
+            None => None,
+        }
+    }
+
+    // How many keys of the path lead to what is at one key more.
+    fn deeper(&self, level: Option<usize>) -> Option<usize>
+        ensures { rest_at (keys_of self.now) result
+            ≡ option_and_then other_keys (rest_at (keys_of self.now) level) }
+    {
+        match level {
+            Some(level) if level < self.path.len() => Some(level + 1),
+            _ => None,
+        }
+    }
+
+    // How many keys of the path lead to the member with this key.
+    #[inline(always)]
+    fn follow(&self, level: Option<usize>, key: &str) -> Option<usize>
+        ensures { rest_at (keys_of self.now) result
+            ≡ option_and_then (follow_key key.now) (rest_at (keys_of self.now) level) }
+    {
+        match self.next_key(level) {
+            Some(next) if next == key => self.deeper(level),
+            _ => None,
+        }
+    }
+
+    // The index of the item that is on the path.
+    fn index_ahead(&self, level: Option<usize>) -> Option<usize>
+        ensures { result ≡ option_and_then first_index (rest_at (keys_of self.now) level) }
+    {
+        match self.next_key(level) {
+            Some(key) => index_of(key),
+            None => None,
+        }
+    }
+
+    // Whether the whole path leads there.
+    #[inline(always)]
+    fn is_part(&self, level: Option<usize>) -> bool
+        ensures { MatchBool result (rest_at (keys_of self.now) level ≡ Some [])
+            (rest_at (keys_of self.now) level ≡ Some [] → ⊥) }
+    {
+        match level {
+            Some(level) => level >= self.path.len(),
+            None => false,
+        }
+    }
+
+    // Whether the value that is due is written: it is the part, or is in it.
+    #[inline(always)]
+    pub(crate) fn is_written(&self) -> bool
+        ensures { MatchBool result (IsWritten self.now) (IsAround self.now) }
+    {
+        if self.inside > 0 {
+            return true;
+        }
+        if self.found {
+            return false;
+        }
+        self.is_part(self.due)
+    }
+
+    // How many of the containers that are open are written, and one more.
+    #[inline(always)]
+    pub(crate) fn one_more(&self) -> Result<usize, AllocError>
+        ensures { IfOk result (λ inside. inside ≡ self.now.inside + 1) }
+    {
+        match self.inside.checked_add(1) {
+            Some(inside) => Ok(inside),
+            None => Err(AllocError),
+        }
+    }
+
+    // The part is written.
+    fn finish(&mut self) -> Result<(), AllocError>
+        ensures holds { OnOk result ((text : List ℕ) → (s : Source) → (held : List PartHeld) → (cs : List Open)
+            → InnerEnds text self.old s held cs → self.old.inside ≡ 1 → PartFilled text self.new s held cs) }
+        ensures keys { keys_of self.new ≡ keys_of self.old }
+    {
+        self.text.finish()?;
+        self.inside = 0;
+        self.found = true;
+        Ok(())
+    }
+
+    // A container that is written ended.
+    pub(crate) fn end_inner(&mut self) -> Result<(), AllocError>
+        requires { 0 < self.old.inside }
+        ensures holds { OnOk result ((text : List ℕ) → (s : Source) → (held : List PartHeld) → (cs : List Open)
+            → InnerEnds text self.old s held cs → PartFilled text self.new s held cs) }
+        ensures keys { keys_of self.new ≡ keys_of self.old }
+    {
+        if self.inside == 1 {
+            return self.finish();
+        }
+        self.inside -= 1;
+        Ok(())
+    }
+
+    // How many keys of the path lead to the next item.
+    #[inline(always)]
+    fn item_level(&self, items: &PartItems) -> Option<usize>
+        ensures { (ss : List Source) → (cs : List Open) → Leads (keys_of self.now) items.now.level cs
+            → IsAhead (option_and_then first_index (path_behind (keys_of self.now) cs)) items.now.ahead (length ss)
+            → Leads (keys_of self.now) result (elements_so_far ss ∷ cs) }
+    {
+        match items.ahead {
+            Some(0) => self.deeper(items.level),
+            _ => None,
+        }
+    }
+
+    /// The text of the part, if the document has it.
+    pub fn into_part(self) -> Option<Vec<u8>>
+        ensures { option_map (λ part. part.items) result ≡ part_of self.entry }
+    {
+        let PartSink { text, found, .. } = self;
+        if found {
+            Some(text.into_buffer())
+        } else {
+            None
+        }
+    }
+}
+
+impl<'a> Sink<'a> for PartSink<'a> {
+    ghost use Rattle.text_write.specs.PartSink.{PartFilled, PartHeld, PartHolds, keys_of, members_of};
+    ghost use Rattle.text_write.specs.PartSink.PartHeld.{array_held, object_held};
+
+    type Items = PartItems;
+
+    type Members = PartMembers;
+
+    ghost Held = { PartHeld };
+
+    ghost array = { array_held };
+
+    ghost object = { object_held };
+
+    ghost holds = { PartHolds };
+
+    ghost filled = { PartFilled };
+
+    ghost base = { keys_of };
+
+    ghost opened = { members_of };
+
+    ghost first = { λ members. members.first };
+
+    #[inline(always)]
+    fn contents(
+        body: &'a str,
+        mode: Mode,
+        offset: usize,
+    ) -> std::result::Result<Contents<'a>, Error> {
+        Contents::for_text(body, mode, offset)
+    }
+
+    #[inline(always)]
+    fn fill(&mut self, part: &Part<'a>, from: usize, to: usize) -> Result<(), AllocError> {
+        if !self.is_written() {
+            return Ok(());
+        }
+        self.text.fill(part, from, to)?;
+        self.inside = self.one_more()?;
+        self.end_inner()
+    }
+
+    #[inline(always)]
+    fn fill_verbatim(
+        &mut self,
+        verbatim: Verbatim,
+        from: usize,
+        to: usize,
+    ) -> Result<(), AllocError> {
+        if !self.is_written() {
+            return Ok(());
+        }
+        self.text.fill_verbatim(verbatim, from, to)?;
+        self.inside = self.one_more()?;
+        self.end_inner()
+    }
+
+    fn begin_array(&mut self, at: usize) -> Result<PartItems, AllocError> {
+        if !self.is_written() {
+            return Ok(PartItems {
+                is_first: true,
+                ahead: self.index_ahead(self.due),
+                level: self.due,
+            });
+        }
+        let is_first = self.text.begin_array(at)?;
+        self.inside = self.one_more()?;
+        Ok(PartItems {
+            is_first,
+            ahead: None,
+            level: None,
+        })
+    }
+
+    #[inline(always)]
+    fn next_item(&mut self, items: &mut PartItems) -> Result<(), AllocError> {
+        if self.inside > 0 {
+            return self.text.next_item(&mut items.is_first);
+        }
+        self.due = self.item_level(items);
+        Ok(())
+    }
+
+    #[inline(always)]
+    fn push_inner(&mut self, items: &mut PartItems) {
+        if self.inside > 0 {
+            self.text.push_inner(&mut items.is_first);
+            return;
+        }
+        items.ahead = one_less(items.ahead);
+    }
+
+    fn end_array(&mut self, items: &PartItems, at: usize) -> Result<(), AllocError> {
+        if self.inside == 0 {
+            return Ok(());
+        }
+        self.text.end_array(&items.is_first, at)?;
+        self.end_inner()
+    }
+
+    fn begin_object(&mut self, at: usize) -> Result<PartMembers, AllocError> {
+        if !self.is_written() {
+            return Ok(PartMembers {
+                first: self.check.begin_object(),
+                level: self.due,
+            });
+        }
+        let first = self.text.begin_object(at)?;
+        self.inside = self.one_more()?;
+        Ok(PartMembers { first, level: None })
+    }
+
+    fn borrowed_key(
+        &mut self,
+        members: &PartMembers,
+        key: &'a str,
+        from: usize,
+        after: usize,
+    ) -> Result<(), AllocError> {
+        if self.inside > 0 {
+            return self.text.borrowed_key(&members.first, key, from, after);
+        }
+        self.due = self.follow(members.level, key);
+        self.check.borrowed_key(members.first, key, from, after)
+    }
+
+    fn plain_key(
+        &mut self,
+        members: &PartMembers,
+        key: &'a str,
+        from: usize,
+        after: usize,
+    ) -> Result<(), AllocError> {
+        if self.inside > 0 {
+            return self.text.plain_key(&members.first, key, from, after);
+        }
+        self.due = self.follow(members.level, key);
+        self.check.borrowed_key(members.first, key, from, after)
+    }
+
+    fn key(
+        &mut self,
+        members: &PartMembers,
+        key: CowStr<'a>,
+        after: usize,
+    ) -> Result<(), AllocError> {
+        if self.inside > 0 {
+            return self.text.key(&members.first, key, after);
+        }
+        self.due = self.follow(members.level, key.as_str());
+        self.check.key(members.first, key, after)
+    }
+
+    #[inline(always)]
+    fn insert_inner(&mut self, members: &PartMembers) {
+        if self.inside > 0 {
+            self.text.insert_inner(&members.first);
+        }
+    }
+
+    fn end_object(
+        &mut self,
+        members: &PartMembers,
+        at: usize,
+    ) -> Result<Option<usize>, AllocError> {
+        if self.inside == 0 {
+            return self.check.end_object(members.first);
+        }
+        let repeat = self.text.end_object(&members.first, at)?;
+        if repeat.is_none() {
+            self.end_inner()?;
+        }
+        Ok(repeat)
+    }
+
+    fn open_members(&self) -> &OpenMembers<'a> {
+        if self.inside > 0 {
+            &self.text.members
+        } else {
+            &self.check.members
+        }
+    }
+
+    #[inline(always)]
+    fn first_member(members: &PartMembers) -> usize
+        ensures { result ≡ members.now.first }
+    {
+        members.first
+    }
+
+    #[inline(always)]
+    fn moved_much(&self) -> bool {
+        self.text.moved_much()
+    }
+}
+
+// One less, and none behind the one on the path.
+#[inline(always)]
+fn one_less(ahead: Option<usize>) -> Option<usize>
+    ensures { result ≡ less ahead }
+{
+    match ahead {
+        Some(ahead) if ahead > 0 => Some(ahead - 1),
+        _ => None,
+    }
+}

@@ -1,0 +1,278 @@
+//! Strings whose escapes are of one letter, written from where they are in the text: each run is looked at and
+//! copied at once.
+ghost use Rattle.std.specs.Prelude.{◌≡◌, ◌+◌, ◌-◌, ◌≤◌, ◌<◌, ◌++◌, ◌∷◌, [], ℕ, List, true, false, length, take, slice_range, IfNone, IfOk, IfSome, MatchBool, OnOk};
+ghost use Rattle.jsonb_spec.specs.Source.{Source};
+ghost use Rattle.jsonb_spec.specs.Text.Appending.{Extends};
+ghost use Rattle.text_write.specs.Members.{source_key};
+ghost use Rattle.text_write.specs.ShortString.{WritesFront, written_byte, written_bytes};
+ghost use Rattle.text_common.specs.VerbatimScalar.{IsShortAt};
+ghost use Rattle.jsonb_spec.specs.Text.StringText.{ArePlain};
+ghost use Rattle.text_common.specs.ShortString.{IsShort};
+ghost use Rattle.text_common.specs.SourceText.{source_text};
+
+use crate::escaped::is_verbatim_letter;
+use crate::key::KeySink;
+use crate::members::put_at;
+use crate::short::append_first;
+use crate::text::TextSink;
+use crate::written::Written;
+use jsonb_value::plain::{append_byte, run_of_few, run_of_sixteen};
+use jsonb_value::sort_key::kind;
+use std::alloc::AllocError;
+use std::simd::prelude::*;
+use text_common::verbatim::short_byte;
+
+// How many of the first bytes are written as they are, or as many of them as are looked at.
+#[inline(always)]
+fn near_run(bytes: &[u8]) -> usize
+    ensures within { result ≤ length bytes.now }
+    ensures plain { ArePlain (take result bytes.now) }
+{
+    if bytes.len() < 16 {
+        return run_of_few(bytes);
+    }
+    run_of_sixteen(bytes)
+}
+
+// Appends a byte, with the escape that a text needs, or as it is.
+#[inline(always)]
+fn append_one(byte: u8, as_text: bool, out: &mut Vec<u8>) -> Result<(), AllocError>
+    ensures bytes { OnOk result (out.new.items ≡ out.old.items ++ written_byte as_text byte) }
+    ensures retained { Extends out.old.items out.new.items }
+{
+    if as_text {
+        return append_byte(byte, out);
+    }
+    out.extend_from_slice(&[byte])
+}
+
+// Appends what the first item means, and returns how many bytes it has.
+#[inline(always)]
+fn append_item(bytes: &[u8], as_text: bool, out: &mut Vec<u8>) -> Result<usize, AllocError>
+    requires { 0 < length bytes.now }
+    ensures item { IfOk result (λ count. (text : List ℕ) → IsShort bytes.now text
+        → WritesFront as_text bytes.now text out.old.items out.new.items count) }
+    ensures onward { IfOk result (λ count. (0 < count) × (count ≤ length bytes.now)) }
+    ensures retained { Extends out.old.items out.new.items }
+{
+    if bytes[0] != b'\\' {
+        append_one(bytes[0], as_text, out)?;
+        return Ok(1);
+    }
+    if bytes.len() == 1 {
+        return Ok(1);
+    }
+    let Some(byte) = short_byte(bytes[1]) else {
+        return Ok(1);
+    };
+    append_one(byte, as_text, out)?;
+    Ok(2)
+}
+
+// Appends the contents of a string, which are the first bytes.
+#[inline(always)]
+fn append_short(
+    bytes: &[u8],
+    count: usize,
+    as_text: bool,
+    out: &mut Vec<u8>,
+) -> Result<(), AllocError>
+    requires { count ≤ length bytes.now }
+    ensures bytes { OnOk result ((text : List ℕ) → IsShort (take count bytes.now) text
+        → out.new.items ≡ out.old.items ++ written_bytes as_text text) }
+    ensures retained { Extends out.old.items out.new.items }
+{
+    let mut at = 0;
+    'items: while at < count {
+        let run = near_run(&bytes[at..]).min(count - at);
+        append_first(&bytes[at..], run, out)?;
+        at += run;
+        if run < 16 && at < count {
+            at += append_item(&bytes[at..count], as_text, out)?;
+        }
+    }
+    Ok(())
+}
+
+// Puts what the first item means into a row, and returns where it ends there, and how many bytes the item has. Nothing
+// where that has more bytes than the item.
+#[inline(always)]
+fn put_item(bytes: &[u8], as_text: bool, row: &mut [u8], at: usize) -> Option<(usize, usize)>
+    requires { 0 < length bytes.now }
+    ensures item { IfSome result (λ r. (text : List ℕ) → IsShort bytes.now text
+        → WritesFront as_text bytes.now text (take at row.old) (take r.0 row.new) r.1) }
+    ensures onward { IfSome result (λ r. (0 < r.1) × (r.1 ≤ length bytes.now)) }
+    ensures within { IfSome result (λ r. (at ≤ r.0) × (r.0 ≤ length row.new)) }
+    ensures front { (n : ℕ) → n ≤ at → take n row.new ≡ take n row.old }
+{
+    if bytes[0] != b'\\' {
+        let end = put_at(row, at, &[bytes[0]])?;
+        return Some((end, 1));
+    }
+    if bytes.len() == 1 {
+        return None;
+    }
+    let byte = short_byte(bytes[1])?;
+    if !as_text {
+        let end = put_at(row, at, &[byte])?;
+        return Some((end, 2));
+    }
+    if byte == b'/' {
+        let end = put_at(row, at, b"/")?;
+        return Some((end, 2));
+    }
+    if !is_verbatim_letter(bytes[1]) {
+        return None;
+    }
+    let end = put_at(row, at, &[b'\\', bytes[1]])?;
+    Some((end, 2))
+}
+
+// Puts 16 bytes into a row by one store, where there is space for them.
+#[inline(always)]
+fn put_sixteen(row: &mut [u8], at: usize, chunk: &[u8; 16]) -> bool
+    ensures within { MatchBool result (at + 16 ≤ length row.new) (Unit {0}) }
+    ensures put { MatchBool result (take (at + 16) row.new ≡ take at row.old ++ chunk.now) (Unit {0}) }
+    ensures front { (n : ℕ) → n ≤ at → take n row.new ≡ take n row.old }
+{
+    if row.len() < 16 || at > row.len() - 16 {
+        return false;
+    }
+    u8x16::from_slice(chunk).copy_to_slice(&mut row[at..]);
+    true
+}
+
+// Puts contents into a row, from an index on, and returns where they end there. They are the first bytes. Nothing
+// where they are near the end of the bytes or of the row, or may need more bytes there.
+#[inline(always)]
+fn put_short(
+    bytes: &[u8],
+    count: usize,
+    as_text: bool,
+    row: &mut [u8],
+    start: usize,
+) -> Option<usize>
+    requires inside { count ≤ length bytes.now }
+    requires space { start ≤ length row.old }
+    ensures put { IfSome result (λ end. (text : List ℕ) → IsShort (take count bytes.now) text
+        → take end row.new ≡ take start row.old ++ written_bytes as_text text) }
+    ensures within { IfSome result (λ end. (start ≤ end) × (end ≤ length row.new)) }
+    ensures front { take start row.new ≡ take start row.old }
+{
+    let mut at = 0;
+    let mut end = start;
+    'items: while at < count {
+        let chunk = bytes[at..].first_chunk::<16>()?;
+        let run = run_of_sixteen(chunk).min(count - at);
+        if !put_sixteen(row, end, chunk) {
+            return None;
+        }
+        at += run;
+        end += run;
+        if run < 16 && at < count {
+            let (next, size) = put_item(&bytes[at..count], as_text, row, end)?;
+            end = next;
+            at += size;
+        }
+    }
+    Some(end)
+}
+
+// Appends contents, which are the first bytes. A row of their length is there before, so that they are put into it with
+// no test of its sink.
+#[inline(always)]
+fn append_row(
+    bytes: &[u8],
+    count: usize,
+    as_text: bool,
+    out: &mut Vec<u8>,
+) -> Result<(), AllocError>
+    requires { count ≤ length bytes.now }
+    ensures bytes { OnOk result ((text : List ℕ) → IsShort (take count bytes.now) text
+        → out.new.items ≡ out.old.items ++ written_bytes as_text text) }
+    ensures retained { Extends out.old.items out.new.items }
+{
+    if bytes.len() - count < 16 {
+        return append_short(bytes, count, as_text, out);
+    }
+    let start = out.len();
+    out.extend_from_slice(&bytes[..count + 16])?;
+    let Some(end) = put_short(bytes, count, as_text, out, start) else {
+        out.truncate(start);
+        return append_short(bytes, count, as_text, out);
+    };
+    out.truncate(end);
+    Ok(())
+}
+
+// How many bytes such a string has between its quotes, where it is there in the text.
+#[inline(always)]
+fn body_len(text: &[u8], from: usize, to: usize) -> Option<usize>
+    ensures some { IfSome result (λ count. (from + 2 + count ≡ to) × (to ≤ length text.now)) }
+    ensures none { IfNone result ((s : Source) → IsShortAt text.now from to s → ⊥) }
+{
+    if to > text.len() {
+        return None;
+    }
+    to.checked_sub(from)?.checked_sub(2)
+}
+
+impl<'a> Written<'a> {
+    ghost use Rattle.text_write.specs.Written.{bytes_of};
+
+    // Writes a string whose escapes are of one letter, which is there in the text.
+    #[inline(never)]
+    fn append_short(&mut self, from: usize, to: usize) -> Result<(), AllocError>
+        ensures bytes { OnOk result ((s : Source) → IsShortAt self.old.text.now from to s
+            → bytes_of self.new ≡ bytes_of self.old ++ source_text s) }
+        ensures text { self.new.text ≡ self.old.text }
+        ensures retained { Extends self.old.out.items self.new.out.items }
+    {
+        let Some(count) = body_len(self.text, from, to) else {
+            return Ok(());
+        };
+        self.put_at(b'"', from)?;
+        self.flush()?;
+        // With space for what is copied behind it too, a long string lets the buffer grow once.
+        self.out.try_reserve(count + 32)?;
+        append_row(&self.text[from + 1..], count, true, &mut self.out)?;
+        self.go_on(to - 1);
+        self.put(b'"')
+    }
+}
+
+impl<'a> TextSink<'a> {
+    ghost use Rattle.text_write.specs.TextSink.{Writes, base_of};
+
+    // Writes a string whose escapes are of one letter, which is there in the text.
+    #[inline(always)]
+    pub(crate) fn short_string(&mut self, from: usize, to: usize) -> Result<(), AllocError>
+        ensures bytes { OnOk result ((s : Source) → IsShortAt self.old.written.text.now from to s
+            → Writes (source_text s) self.old self.new) }
+        ensures base { base_of self.new ≡ base_of self.old }
+    {
+        self.written.append_short(from, to)
+    }
+}
+
+impl<'a> KeySink<'a> {
+    ghost use Rattle.text_write.specs.KeySink.{Writes, base_of};
+
+    // Writes a string whose escapes are of one letter, which is there in the text.
+    #[inline(never)]
+    pub(crate) fn short_string(&mut self, from: usize, to: usize) -> Result<(), AllocError>
+        ensures bytes { OnOk result ((s : Source) → IsShortAt self.old.members.text.now from to s
+            → Writes (source_key s) self.old self.new) }
+        ensures base { base_of self.new ≡ base_of self.old }
+    {
+        let Some(count) = body_len(self.members.text, from, to) else {
+            return Ok(());
+        };
+        self.out.try_reserve(count + 35)?;
+        self.out.extend_from_slice(&[kind::STRING])?;
+        append_row(&self.members.text[from + 1..], count, false, &mut self.out)?;
+        self.out
+            .extend_from_slice(&[kind::TERMINATOR, kind::TEXT_END])?;
+        Ok(())
+    }
+}
