@@ -383,12 +383,10 @@ append_json(StringInfo out, Datum json)
 static void
 append_vjson(StringInfo out, Datum value)
 {
-	VjsonParts	parts;
+	Document	document = document_of_datum(value);
 	size_t		size;
-	char	   *text;
+	char	   *text = vjson_text(&document, &size);
 
-	get_parts((struct varlena *) PG_DETOAST_DATUM_PACKED(value), false, &parts);
-	text = vjson_text(&parts, &size);
 	appendBinaryStringInfo(out, text, (int) size);
 	pfree(text);
 }

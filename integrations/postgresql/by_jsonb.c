@@ -317,13 +317,14 @@ wanted_by_path(FunctionCallInfo fcinfo, bool answers_parts)
  * goes on; and also where the third argument has to be rejected.
  */
 static Finding
-find_by_names(FunctionCallInfo fcinfo, const KnownPath *known, VjsonParts *parts, Range *part)
+find_by_names(FunctionCallInfo fcinfo, const KnownPath *known, Document *document, Range *part)
 {
 	if (!known->is_names)
 		return UNKNOWN;
-	if (PG_NARGS() > 2 && kind_of(get_whole(PG_GETARG_VARLENA_PP(2), parts)) != VIZHONIKU_OBJECT)
+	if (PG_NARGS() > 2 && kind_of(get_key(PG_GETARG_VARLENA_PP(2))) != VIZHONIKU_OBJECT)
 		return UNKNOWN;
-	*part = get_whole(PG_GETARG_VARLENA_PP(0), parts);
+	*document = get_document(PG_GETARG_VARLENA_PP(0));
+	*part = document->key;
 	for (int i = 0; i < known->steps; i++)
 	{
 		if (kind_of(*part) != VIZHONIKU_OBJECT)
@@ -350,9 +351,9 @@ answer_by_path(FunctionCallInfo fcinfo, PGFunction function)
 static Datum
 existence_by_path(FunctionCallInfo fcinfo, PGFunction function)
 {
-	VjsonParts	parts;
+	Document	document;
 	Range		part;
-	Finding		finding = find_by_names(fcinfo, known_path(fcinfo, false), &parts, &part);
+	Finding		finding = find_by_names(fcinfo, known_path(fcinfo, false), &document, &part);
 
 	if (finding != UNKNOWN)
 		PG_RETURN_BOOL(finding == FOUND);
@@ -370,13 +371,13 @@ document_by_path(FunctionCallInfo fcinfo, PGFunction function)
 static Datum
 first_by_path(FunctionCallInfo fcinfo, PGFunction function)
 {
-	VjsonParts	parts;
+	Document	document;
 	Range		part;
 
-	switch (find_by_names(fcinfo, known_path(fcinfo, true), &parts, &part))
+	switch (find_by_names(fcinfo, known_path(fcinfo, true), &document, &part))
 	{
 		case FOUND:
-			PG_RETURN_POINTER(vjson_part(&parts, part));
+			PG_RETURN_POINTER(vjson_part(&document, part));
 		case NOT_THERE:
 			PG_RETURN_NULL();
 		default:

@@ -1,7 +1,7 @@
 /*-------------------------------------------------------------------------
  *
  * jsonb_key.c
- *	  The value of a jsonb: its sort key and its zeros.
+ *	  The document of a jsonb: its sort key and the zeros that end decimals.
  *
  * The jsonb is read once.  The members of an object, which it has in the order
  * of the lengths of their names, are put into the order of a key, that of the
@@ -23,6 +23,7 @@
 
 #include "key_walk.h"
 #include "vjson.h"
+#include "zeros.h"
 
 /* Members up to which an object needs no memory but the machine stack, and a key up to this size. */
 #define FEW_MEMBERS		8
@@ -33,9 +34,10 @@ PG_FUNCTION_INFO_V1(vjson_from_jsonb);
 /* A key that is written, into memory that has space for all of it. */
 typedef struct
 {
+	unsigned char *key;
 	unsigned char *at;
 	const unsigned char *end;	/* of the memory */
-	KeyZeros	zeros;
+	ZerosWriter zeros;
 	bool		ascii_alone;	/* whether other strings go by the text */
 	int			levels;			/* arrays and objects that are open */
 } Writer;
@@ -116,8 +118,8 @@ write_number(Writer *writer, Numeric numeric)
 		vjson_raise_out_of_memory(size);
 	if (status != VIZHONIKU_ACCEPTED)
 		return false;
+	add_zeros(&writer->zeros, writer->at - writer->key, zeros_of(digits, size));
 	writer->at += key_size;
-	key_zeros_add(&writer->zeros, zeros_of(digits, size));
 	pfree(digits);
 	return true;
 }
@@ -245,6 +247,21 @@ write_container(Writer *writer, const JsonbContainer *container)
  * Values
  */
 
+/* The value of what was written. */
+static struct varlena *
+value_of_writer(Writer *writer)
+{
+	size_t		key_size = writer->at - writer->key;
+	char	   *block;
+
+	end_zeros(&writer->zeros);
+	block = palloc_extended(VARHDRSZ + key_size + writer->zeros.size, MCXT_ALLOC_HUGE);
+	memcpy(block + VARHDRSZ, writer->key, key_size);
+	if (writer->zeros.size > 0)
+		memcpy(block + VARHDRSZ + key_size, writer->zeros.bytes, writer->zeros.size);
+	return vjson_value(block, key_size + writer->zeros.size);
+}
+
 /*
  * The value of what an array or an object has, or of a whole jsonb.  NULL if it
  * goes by the text.
@@ -260,11 +277,11 @@ value_of_child(const Child *child)
 	size_t		capacity = child->end - child->start + sizeof(JEntry);
 	unsigned char small[SMALL_KEY];
 	unsigned char *key = capacity <= sizeof small ? small : palloc_extended(capacity, MCXT_ALLOC_HUGE);
-	Writer		writer = {.at = key, .end = key + capacity, .ascii_alone = GetDatabaseEncoding() != PG_UTF8};
+	Writer		writer = {.key = key, .at = key, .end = key + capacity, .ascii_alone = GetDatabaseEncoding() != PG_UTF8};
 	struct varlena *value = NULL;
 
 	if (write_child(&writer, child))
-		value = vjson_of_key((Range) {key, writer.at - key}, (Range) {writer.zeros.bytes, writer.zeros.size});
+		value = value_of_writer(&writer);
 	if (writer.zeros.bytes != NULL)
 		pfree(writer.zeros.bytes);
 	if (key != small)

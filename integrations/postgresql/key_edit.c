@@ -1,11 +1,9 @@
 /*-------------------------------------------------------------------------
  *
  * key_edit.c
- *	  Documents changed: the library splices their sort keys.
+ *	  Documents changed, by the library.
  *
  * The names, the arguments and the NULLs of the functions are those of jsonb.
- * A key doesn't say how many zeros end its decimals, so the zeros of the
- * answer are put together here, of those of the documents that it is made of.
  *
  *-------------------------------------------------------------------------
  */
@@ -20,7 +18,6 @@
 #include "utils/json.h"
 #include "utils/memutils.h"
 
-#include "key_text.h"
 #include "key_walk.h"
 #include "vjson.h"
 
@@ -32,243 +29,80 @@ PG_FUNCTION_INFO_V1(vjson_delete_path);
 PG_FUNCTION_INFO_V1(vjson_set);
 PG_FUNCTION_INFO_V1(vjson_set_lax);
 PG_FUNCTION_INFO_V1(vjson_insert);
+PG_FUNCTION_INFO_V1(vjson_strip_nulls);
 
-/* The keys of two values that begin with different bytes, and are one byte each. */
-static const unsigned char null_key[] = {NULL_KEY};
-static const unsigned char true_key[] = {TRUE_KEY};
+/* From how many names on they are removed together. */
+#define MANY_NAMES		8
 
-/* A document, of which nothing is written to: its key and the zeros of its numbers. */
-typedef struct
-{
-	Range		key;
-	Range		zeros;
-} Document;
-
-/* A change, as the library makes it. */
+/* A change of a document, as the library makes it. */
 typedef struct
 {
 	enum
 	{
-		SET, REMOVE, MERGE
+		SET, INSERT, REMOVE, WITHOUT, WITHOUT_NULLS, MERGE
 	}			what;
 	Range		path;
-	Range		part;			/* what is put there, or what is merged */
-	bool		create;
+	Document	part;			/* what is put there, whose names are left out, or what is merged */
+	bool		flag;			/* whether a part is made that isn't there yet, an item goes behind the one that is
+								 * there, or items that are null are left out too */
+	Document	document;
 } Change;
 
-static Document
-get_document_and_parts(Datum datum, VjsonParts *parts)
-{
-	Document	document;
-
-	document.key = get_whole((struct varlena *) PG_DETOAST_DATUM_PACKED(datum), parts);
-	document.zeros.at = parts->rest;
-	document.zeros.size = parts->form == KEY_AND_ZEROS ? parts->rest_size : 0;
-	return document;
-}
-
-static Document
-get_document(Datum datum)
-{
-	VjsonParts	parts;
-
-	return get_document_and_parts(datum, &parts);
-}
-
-static Datum
-make_datum(const Document *document)
-{
-	return PointerGetDatum(vjson_of_key(document->key, document->zeros));
-}
-
-
-/*
- * Keys
- */
-
 static uint32
-call_library(Range key, const Change *change, unsigned char *buffer, size_t capacity, size_t *size)
+write_change(const void *arguments, unsigned char *buffer, size_t capacity, size_t *size)
 {
+	const Change *change = arguments;
+	const unsigned char *whole = change->document.key.at;
+	size_t		whole_size = change->document.size;
 	Range		path = change->path;
-	Range		part = change->part;
+	Range		part = {change->part.key.at, change->part.size};
+	uint32		status;
 
 	switch (change->what)
 	{
 		case SET:
-			return vizhoniku_key_set(key.at, key.size, path.at, path.size, part.at, part.size, change->create,
-									 buffer, capacity, size);
+			return vizhoniku_document_set(whole, whole_size, path.at, path.size, part.at, part.size, change->flag, buffer,
+										  capacity, size);
+		case INSERT:
+			status = vizhoniku_document_insert(whole, whole_size, path.at, path.size, part.at, part.size, change->flag,
+											   buffer, capacity, size);
+			if (status == VIZHONIKU_PRESENT)
+				ereport(ERROR,
+						(errcode(ERRCODE_INVALID_PARAMETER_VALUE),
+						 errmsg("cannot replace existing key"),
+						 errhint("Try using the function vjson_set to replace key value.")));
+			return status;
 		case REMOVE:
-			return vizhoniku_key_remove(key.at, key.size, path.at, path.size, buffer, capacity, size);
+			return vizhoniku_document_remove(whole, whole_size, path.at, path.size, buffer, capacity, size);
+		case WITHOUT:
+			return vizhoniku_document_without(whole, whole_size, part.at, part.size, buffer, capacity, size);
+		case WITHOUT_NULLS:
+			return vizhoniku_document_strip_nulls(whole, whole_size, change->flag, buffer, capacity, size);
 		default:
-			return vizhoniku_key_merge(key.at, key.size, part.at, part.size, buffer, capacity, size);
+			return vizhoniku_document_merge(whole, whole_size, part.at, part.size, buffer, capacity, size);
 	}
 }
 
-/* The key of what a change makes of a document. False if nothing changes. */
-static bool
-change_key(Range key, const Change *change, Range *changed)
+/* What the change makes of its document; NULL if nothing changes. */
+static struct varlena *
+changed(const Change *change)
 {
-	size_t		capacity = key.size + change->path.size + change->part.size + 16;
+	size_t		size;
+	char	   *block;
 
 	CHECK_FOR_INTERRUPTS();
-	for (;;)
-	{
-		unsigned char *buffer = palloc_extended(capacity, MCXT_ALLOC_HUGE);
-		size_t		size;
-		uint32		status = call_library(key, change, buffer, capacity, &size);
-
-		if (status == VIZHONIKU_ACCEPTED)
-		{
-			changed->at = buffer;
-			changed->size = size;
-			return true;
-		}
-		pfree(buffer);
-		if (status == VIZHONIKU_OUT_OF_MEMORY)
-			vjson_raise_out_of_memory(key.size);
-		if (status == VIZHONIKU_TOO_DEEP)
-			ereport(ERROR,
-					(errcode(ERRCODE_PROGRAM_LIMIT_EXCEEDED),
-					 errmsg("vjson value has more than 512 nested arrays and objects")));
-		if (status != VIZHONIKU_TOO_SHORT)
-			return is_found(status);
-		capacity = size;
-	}
+	block = vjson_written(write_change, change, VARHDRSZ, change->document.size + change->path.size + change->part.size + 16,
+						  &size);
+	return block != NULL ? vjson_value(block, size) : NULL;
 }
 
-
-/*
- * Zeros
- */
-
-static size_t
-count_numbers(Range key)
+/* That, or the datum of the document if nothing changes. */
+static Datum
+changed_or(const Change *change, Datum datum)
 {
-	size_t		before;
-	size_t		numbers;
+	struct varlena *value = changed(change);
 
-	if (!key_numbers(key.at, key.size, 0, key.size, &before, &numbers))
-		vjson_raise_corrupted();
-	return numbers;
-}
-
-static void
-append_zeros(KeyZeros *zeros, const Document *document, size_t first, size_t numbers)
-{
-	if (!key_zeros_append(zeros, document->zeros.at, document->zeros.size, first, numbers))
-		vjson_raise_corrupted();
-}
-
-/*
- * How many numbers stay before the location of a change, and how many after it.
- * The location is where two answers differ that have null and true there.
- */
-static void
-count_kept(Range key, const Change *change, size_t *before, size_t *after)
-{
-	Change		mark = {SET, change->path, {null_key, 1}, change->what == SET && change->create};
-	Range		one;
-	Range		other;
-	size_t		none;
-	size_t		slot = 0;
-
-	if (!change_key(key, &mark, &one))
-		vjson_raise_corrupted();
-	mark.part.at = true_key;
-	if (!change_key(key, &mark, &other) || one.size != other.size)
-		vjson_raise_corrupted();
-	while (slot < one.size && one.at[slot] == other.at[slot])
-		slot++;
-	if (!key_numbers(one.at, one.size, slot, 1, before, &none))
-		vjson_raise_corrupted();
-	*after = count_numbers(one) - *before;
-	pfree(unconstify(unsigned char *, one.at));
-	pfree(unconstify(unsigned char *, other.at));
-}
-
-/* Append the zeros of the part that comes next, or pass over them. */
-static void
-take_zeros(KeyZerosReader *reader, Range part, KeyZeros *into)
-{
-	if (!key_zeros_take(reader, count_numbers(part), into))
-		vjson_raise_corrupted();
-}
-
-/* The zeros of two objects that are merged: of each name the right one's, where both have it. */
-static void
-merge_members(KeyZeros *zeros, const Document *left, const Document *right)
-{
-	Walk		ours;
-	Walk		theirs;
-	KeyZerosReader left_zeros;
-	KeyZerosReader right_zeros;
-	bool		has_ours;
-	bool		has_theirs;
-
-	key_zeros_begin(&left_zeros, left->zeros.at, left->zeros.size);
-	key_zeros_begin(&right_zeros, right->zeros.at, right->zeros.size);
-	begin_walk(&ours, left->key);
-	begin_walk(&theirs, right->key);
-	has_ours = next_in_walk(&ours);
-	has_theirs = next_in_walk(&theirs);
-	while (has_ours || has_theirs)
-	{
-		int			order = !has_ours ? 1 : !has_theirs ? -1 :
-			memcmp(ours.name.at, theirs.name.at, Min(ours.name.size, theirs.name.size));
-
-		CHECK_FOR_INTERRUPTS();
-		if (order <= 0)
-		{
-			take_zeros(&left_zeros, ours.value, order < 0 ? zeros : NULL);
-			has_ours = next_in_walk(&ours);
-		}
-		if (order >= 0)
-		{
-			take_zeros(&right_zeros, theirs.value, zeros);
-			has_theirs = next_in_walk(&theirs);
-		}
-	}
-}
-
-static Range
-zeros_of_change(const Document *document, const Change *change, const Document *part)
-{
-	KeyZeros	zeros = {0};
-	Range		result;
-	size_t		total = count_numbers(document->key);
-	size_t		before;
-	size_t		after;
-
-	if (change->what == MERGE && kind_of(document->key) == VIZHONIKU_OBJECT && kind_of(part->key) == VIZHONIKU_OBJECT)
-		merge_members(&zeros, document, part);
-	else
-	{
-		before = total;
-		after = 0;
-		if (change->what != MERGE)
-			count_kept(document->key, change, &before, &after);
-		append_zeros(&zeros, document, 0, before);
-		if (change->what != REMOVE)
-			append_zeros(&zeros, part, 0, count_numbers(part->key));
-		append_zeros(&zeros, document, total - after, after);
-	}
-	result.at = zeros.bytes;
-	result.size = zeros.size;
-	return result;
-}
-
-/* Change the document. False if nothing changes. */
-static bool
-change_document(Document *document, const Change *change, const Document *part)
-{
-	Range		key;
-
-	if (!change_key(document->key, change, &key))
-		return false;
-	if (document->zeros.size > 0 || (part != NULL && part->zeros.size > 0))
-		document->zeros = zeros_of_change(document, change, part);
-	document->key = key;
-	return true;
+	return value != NULL ? PointerGetDatum(value) : datum;
 }
 
 
@@ -294,161 +128,160 @@ path_of_name(Range name)
 	return result;
 }
 
-/*
- * Remove the members of names, or the items that are those strings, in one pass
- * over the key: what stays is copied between its first byte and those that end
- * it.  False if nothing changes.
- */
-static bool
-remove_names(Document *document, const Datum *words, const bool *nulls, int count)
+/* Words as a string of JSON, with a zero byte at its end. */
+static char *
+json_string(text *words)
 {
-	Range		key = document->key;
-	bool		is_object = kind_of(key) == VIZHONIKU_OBJECT;
-	size_t		end_size = is_object ? 2 : 1;
-	Range	   *names = palloc(Max(count, 1) * sizeof(Range));
+	StringInfoData out;
+
+	initStringInfo(&out);
+	escape_json(&out, text_to_cstring(words));
+	return out.data;
+}
+
+static int
+compare_words(const void *left, const void *right)
+{
+	return strcmp(*(char *const *) left, *(char *const *) right);
+}
+
+/* An object with a member for each of the names, where a NULL among them is passed over. */
+static Document
+object_of_names(const Datum *words, const bool *nulls, int count)
+{
+	char	  **names = palloc(Max(count, 1) * sizeof(char *));
 	int			wanted = 0;
-	unsigned char *kept = palloc_extended(key.size, MCXT_ALLOC_HUGE);
-	size_t		kept_size = 1;
-	KeyZerosReader reader;
-	KeyZeros	zeros = {0};
-	Walk		walk;
+	StringInfoData object;
+	const char *last = NULL;
+	char	   *utf8;
 
 	for (int i = 0; i < count; i++)
 	{
 		if (nulls == NULL || !nulls[i])
-			names[wanted++] = name_as_in_key(DatumGetTextPP(words[i]));
+			names[wanted++] = json_string(DatumGetTextPP(words[i]));
 	}
-	qsort(names, wanted, sizeof(Range), compare_ranges);
-	kept[0] = key.at[0];
-	key_zeros_begin(&reader, document->zeros.at, document->zeros.size);
-	begin_walk(&walk, key);
-	while (next_in_walk(&walk))
+	qsort(names, wanted, sizeof(char *), compare_words);
+	initStringInfo(&object);
+	for (int i = 0; i < wanted; i++)
 	{
-		const unsigned char *start = is_object ? walk.name.at : walk.value.at;
-		size_t		size = walk.value.at + walk.value.size - start;
-		Range		name;
-		bool		is_removed = name_in_walk(&walk, &name) &&
-			bsearch(&name, names, wanted, sizeof(Range), compare_ranges) != NULL;
-
-		CHECK_FOR_INTERRUPTS();
-		if (document->zeros.size > 0)
-			take_zeros(&reader, walk.value, is_removed ? NULL : &zeros);
-		if (is_removed)
+		if (last != NULL && strcmp(names[i], last) == 0)
 			continue;
-		if (kept_size + size + end_size > key.size)
-			vjson_raise_corrupted();
-		memcpy(kept + kept_size, start, size);
-		kept_size += size;
+		appendStringInfo(&object, "%s%s:null", last == NULL ? "{" : ",", names[i]);
+		last = names[i];
 	}
-	if (kept_size + end_size >= key.size)
-		return false;
-	memcpy(kept + kept_size, key.at + key.size - end_size, end_size);
-	document->key.at = kept;
-	document->key.size = kept_size + end_size;
-	document->zeros.at = zeros.bytes;
-	document->zeros.size = zeros.size;
-	return true;
+	appendStringInfoString(&object, last == NULL ? "{}" : "}");
+	utf8 = pg_server_to_any(object.data, object.len, PG_UTF8);
+	return get_document(vjson_of_text(utf8, strlen(utf8)));
 }
 
-/* Remove the member of a name, or the items that are that string. False if nothing changes. */
-static bool
-remove_name(Document *document, text *words)
+/* The object without the members of few names, one after the other. */
+static Datum
+without_each(Datum datum, Change *change, const Datum *words, const bool *nulls, int count)
 {
-	Datum		datum = PointerGetDatum(words);
-	Change		change = {REMOVE, {NULL, 0}, {NULL, 0}, false};
+	change->what = REMOVE;
+	for (int i = 0; i < count; i++)
+	{
+		struct varlena *value;
 
-	if (kind_of(document->key) != VIZHONIKU_OBJECT)
-		return remove_names(document, &datum, NULL, 1);
-	change.path = path_of_name(utf8_of(words));
-	return change_document(document, &change, NULL);
+		if (nulls[i])
+			continue;
+		change->path = path_of_name(utf8_of(DatumGetTextPP(words[i])));
+		value = changed(change);
+		if (value == NULL)
+			continue;
+		datum = PointerGetDatum(value);
+		change->document = get_document(value);
+	}
+	return datum;
 }
 
 Datum
 vjson_concat(PG_FUNCTION_ARGS)
 {
-	Document	document = get_document(PG_GETARG_DATUM(0));
-	Document	part = get_document(PG_GETARG_DATUM(1));
-	Change		change = {MERGE, {NULL, 0}, part.key, false};
+	Change		change = {MERGE, .document = document_of_datum(PG_GETARG_DATUM(0)),
+	.part = document_of_datum(PG_GETARG_DATUM(1))};
 
-	change_document(&document, &change, &part);
-	return make_datum(&document);
+	PG_RETURN_POINTER(changed(&change));
 }
 
 Datum
 vjson_delete(PG_FUNCTION_ARGS)
 {
-	Document	document = get_document(PG_GETARG_DATUM(0));
+	Datum		datum = PG_GETARG_DATUM(0);
+	text	   *name = PG_GETARG_TEXT_PP(1);
+	Datum		words = PointerGetDatum(name);
+	Change		change = {REMOVE, .document = document_of_datum(datum)};
+	uint32		kind = kind_of(change.document.key);
 
-	if (is_scalar(kind_of(document.key)))
+	if (is_scalar(kind))
 		raise_wrong_kind("cannot delete from scalar");
-	if (!remove_name(&document, PG_GETARG_TEXT_PP(1)))
-		PG_RETURN_DATUM(PG_GETARG_DATUM(0));
-	return make_datum(&document);
+	if (kind == VIZHONIKU_OBJECT)
+		change.path = path_of_name(utf8_of(name));
+	else
+	{
+		change.what = WITHOUT;
+		change.part = object_of_names(&words, NULL, 1);
+	}
+	return changed_or(&change, datum);
 }
 
-/* A NULL among the names is passed over. */
 Datum
 vjson_delete_array(PG_FUNCTION_ARGS)
 {
-	Document	document = get_document(PG_GETARG_DATUM(0));
+	Datum		datum = PG_GETARG_DATUM(0);
 	ArrayType  *array = PG_GETARG_ARRAYTYPE_P(1);
+	Change		change = {WITHOUT, .document = document_of_datum(datum)};
 	Datum	   *names;
 	bool	   *nulls;
 	int			count;
 
 	if (ARR_NDIM(array) > 1)
 		ereport(ERROR, (errcode(ERRCODE_ARRAY_SUBSCRIPT_ERROR), errmsg("wrong number of array subscripts")));
-	if (is_scalar(kind_of(document.key)))
+	if (is_scalar(kind_of(change.document.key)))
 		raise_wrong_kind("cannot delete from scalar");
 	deconstruct_array(array, TEXTOID, -1, false, TYPALIGN_INT, &names, &nulls, &count);
-	if (!remove_names(&document, names, nulls, count))
-		PG_RETURN_DATUM(PG_GETARG_DATUM(0));
-	return make_datum(&document);
+	if (count < MANY_NAMES && kind_of(change.document.key) == VIZHONIKU_OBJECT)
+		return without_each(datum, &change, names, nulls, count);
+	change.part = object_of_names(names, nulls, count);
+	return changed_or(&change, datum);
 }
 
 Datum
 vjson_delete_idx(PG_FUNCTION_ARGS)
 {
-	Document	document = get_document(PG_GETARG_DATUM(0));
+	Datum		datum = PG_GETARG_DATUM(0);
 	char		path[16];
-	Change		change = {REMOVE, {(unsigned char *) path, 0}, {NULL, 0}, false};
-	uint32		kind = kind_of(document.key);
+	Change		change = {REMOVE, .path.at = (unsigned char *) path, .document = document_of_datum(datum)};
+	uint32		kind = kind_of(change.document.key);
 
 	if (is_scalar(kind))
 		raise_wrong_kind("cannot delete from scalar");
 	if (kind == VIZHONIKU_OBJECT)
 		raise_wrong_kind("cannot delete from object using integer index");
 	change.path.size = snprintf(path, sizeof(path), "/%d", PG_GETARG_INT32(1));
-	if (!change_document(&document, &change, NULL))
-		PG_RETURN_DATUM(PG_GETARG_DATUM(0));
-	return make_datum(&document);
+	return changed_or(&change, datum);
 }
 
 Datum
 vjson_delete_path(PG_FUNCTION_ARGS)
 {
-	Document	document = get_document(PG_GETARG_DATUM(0));
-	Change		change = {REMOVE, utf8_of(PG_GETARG_TEXT_PP(1)), {NULL, 0}, false};
+	Datum		datum = PG_GETARG_DATUM(0);
+	Change		change = {REMOVE, .path = utf8_of(PG_GETARG_TEXT_PP(1)), .document = document_of_datum(datum)};
 
-	if (is_scalar(kind_of(document.key)))
+	if (is_scalar(kind_of(change.document.key)))
 		raise_wrong_kind("cannot delete path in scalar");
-	if (!change_document(&document, &change, NULL))
-		PG_RETURN_DATUM(PG_GETARG_DATUM(0));
-	return make_datum(&document);
+	return changed_or(&change, datum);
 }
 
 static Datum
-set_part(Datum datum, text *path, Datum part_datum, bool create)
+set_part(Datum datum, text *path, Datum part, bool create)
 {
-	Document	document = get_document(datum);
-	Document	part = get_document(part_datum);
-	Change		change = {SET, utf8_of(path), part.key, create};
+	Change		change = {SET, .path = utf8_of(path), .part = document_of_datum(part), .flag = create,
+	.document = document_of_datum(datum)};
 
-	if (is_scalar(kind_of(document.key)))
+	if (is_scalar(kind_of(change.document.key)))
 		raise_wrong_kind("cannot set path in scalar");
-	if (!change_document(&document, &change, &part))
-		return datum;
-	return make_datum(&document);
+	return changed_or(&change, datum);
 }
 
 Datum
@@ -492,201 +325,25 @@ vjson_set_lax(PG_FUNCTION_ARGS)
 }
 
 
-/*
- * Items put between others
- */
-
-/* The next step of the path, with its escapes. False at its end. */
-static bool
-next_step(Range *path, Range *step)
-{
-	const unsigned char *end;
-
-	if (path->size == 0)
-		return false;
-	step->at = path->at + 1;
-	end = memchr(step->at, '/', path->size - 1);
-	step->size = end != NULL ? (size_t) (end - step->at) : path->size - 1;
-	path->at = step->at + step->size;
-	path->size -= step->size + 1;
-	return true;
-}
-
-/* The index that a step has as the library reads it: no zeros at its front, and with a minus sign from the end. */
-static bool
-index_of_step(Range step, int64 *index)
-{
-	bool		is_negative = step.size > 0 && step.at[0] == '-';
-	Range		digits = {step.at + is_negative, step.size - is_negative};
-
-	if (digits.size == 0 || digits.size > 18 || (digits.at[0] == '0' && (digits.size > 1 || is_negative)))
-		return false;
-	*index = 0;
-	for (size_t i = 0; i < digits.size; i++)
-	{
-		if (digits.at[i] < '0' || digits.at[i] > '9')
-			return false;
-		*index = *index * 10 + (digits.at[i] - '0');
-	}
-	if (is_negative)
-		*index = -*index;
-	return true;
-}
-
-/* The name that a step has. */
-static Range
-name_of_step(Range step)
-{
-	unsigned char *name = palloc(step.size + 1);
-	Range		result = {name, 0};
-
-	for (size_t i = 0; i < step.size; i++)
-	{
-		if (step.at[i] == '~')
-			name[result.size++] = step.at[++i] == '0' ? '~' : '/';
-		else
-			name[result.size++] = step.at[i];
-	}
-	return result;
-}
-
-/* The part to which a step leads. */
-static bool
-take_step(Range key, Range step, Range *part)
-{
-	int64		index;
-
-	switch (kind_of(key))
-	{
-		case VIZHONIKU_OBJECT:
-			return find_member(key, name_of_step(step), part);
-		case VIZHONIKU_ARRAY:
-			return index_of_step(step, &index) && find_item(key, index, part);
-		default:
-			return false;
-	}
-}
-
-bool
-vjson_find_by_steps(Range key, Range path, Range *part)
-{
-	Range		step;
-
-	while (next_step(&path, &step))
-	{
-		if (!take_step(key, step, part))
-			return false;
-		key = *part;
-	}
-	*part = key;
-	return true;
-}
-
-/* The array with the item put before the one of the index, or behind all. */
-static struct varlena *
-with_item(const VjsonParts *whole, Range array, int64 index, const VjsonParts *item)
-{
-	VjsonParts	parts;
-	size_t		size;
-	size_t		item_size;
-	char	   *text;
-	char	   *item_text = vjson_text(item, &item_size);
-	StringInfoData changed;
-	int64		items = 0;
-	int			levels = 0;
-
-	get_parts(vjson_part(whole, array), false, &parts);
-	text = vjson_text(&parts, &size);
-	initStringInfo(&changed);
-	for (size_t at = 0; at < size; at++)
-	{
-		bool		is_end = levels == 1 && text[at] == ']';
-
-		/* Behind the bracket that opens the array, or a comma of it, an item begins. */
-		if (levels == 1 && (text[at - 1] == ',' || at == 1) && !is_end && items++ == index)
-		{
-			appendBinaryStringInfo(&changed, item_text, (int) item_size);
-			appendStringInfoChar(&changed, ',');
-		}
-		if (is_end && items <= index)
-		{
-			if (items > 0)
-				appendStringInfoChar(&changed, ',');
-			appendBinaryStringInfo(&changed, item_text, (int) item_size);
-		}
-		if (text[at] == '"')
-		{
-			size_t		start = at;
-
-			for (at++; at < size && text[at] != '"'; at++)
-			{
-				if (text[at] == '\\')
-					at++;
-			}
-			appendBinaryStringInfo(&changed, text + start, (int) (Min(at + 1, size) - start));
-			continue;
-		}
-		levels += text[at] == '[' || text[at] == '{';
-		levels -= text[at] == ']' || text[at] == '}';
-		appendStringInfoChar(&changed, text[at]);
-	}
-	return vjson_of_text(changed.data, changed.len);
-}
-
 Datum
 vjson_insert(PG_FUNCTION_ARGS)
 {
 	Datum		datum = PG_GETARG_DATUM(0);
-	Range		path = utf8_of(PG_GETARG_TEXT_PP(1));
-	Datum		new_datum = PG_GETARG_DATUM(2);
-	bool		insert_after = PG_GETARG_BOOL(3);
-	VjsonParts	whole;
-	VjsonParts	item;
-	Document	document = get_document_and_parts(datum, &whole);
-	Document	part = get_document_and_parts(new_datum, &item);
-	Range		at = document.key;
-	Range		rest = path;
-	Range		step;
-	Range		next;
-	int64		index;
-	size_t		count;
-	Change		change = {SET, path, part.key, true};
+	Change		change = {INSERT, .path = utf8_of(PG_GETARG_TEXT_PP(1)), .part = document_of_datum(PG_GETARG_DATUM(2)),
+	.flag = PG_GETARG_BOOL(3), .document = document_of_datum(datum)};
 
-	if (is_scalar(kind_of(document.key)))
+	if (is_scalar(kind_of(change.document.key)))
 		raise_wrong_kind("cannot set path in scalar");
-	if (!next_step(&rest, &step))
-		PG_RETURN_DATUM(datum);
-	while (rest.size > 0)
-	{
-		if (!take_step(at, step, &next))
-			PG_RETURN_DATUM(datum);
-		at = next;
-		next_step(&rest, &step);
-	}
-	if (kind_of(at) == VIZHONIKU_OBJECT && take_step(at, step, &next))
-		ereport(ERROR,
-				(errcode(ERRCODE_INVALID_PARAMETER_VALUE),
-				 errmsg("cannot replace existing key"),
-				 errhint("Try using the function vjson_set to replace key value.")));
-	if (kind_of(at) == VIZHONIKU_ARRAY)
-	{
-		if (!index_of_step(step, &index))
-			PG_RETURN_DATUM(datum);
-		if (!is_found(vizhoniku_key_count(at.at, at.size, &count)))
-			vjson_raise_corrupted();
-		if (index < 0 && -index > (int64) count)
-			index = 0;
-		else
-			index += (index < 0 ? (int64) count : 0) + insert_after;
-		change.path.size = step.at - 1 - path.at;
-		part = get_document(PointerGetDatum(with_item(&whole, at, index, &item)));
-		change.part = part.key;
-		if (change.path.size == 0)
-			return make_datum(&part);
-	}
-	if (!change_document(&document, &change, &part))
-		PG_RETURN_DATUM(datum);
-	return make_datum(&document);
+	return changed_or(&change, datum);
+}
+
+/* Without the members that are null, and the items too where that is asked for. */
+Datum
+vjson_strip_nulls(PG_FUNCTION_ARGS)
+{
+	Change		change = {WITHOUT_NULLS, .flag = PG_GETARG_BOOL(1), .document = document_of_datum(PG_GETARG_DATUM(0))};
+
+	return changed_or(&change, PG_GETARG_DATUM(0));
 }
 
 
@@ -783,31 +440,21 @@ wrapped_in_steps(const VjsonStep *steps, int count, const char *value, size_t si
 	return out;
 }
 
-Datum
-vjson_assign(Datum datum, const VjsonStep *steps, int count, Datum part_datum)
+/*
+ * Follow the steps as far as there are parts.  The answer is how many lead to
+ * what is there, with one more where the next one leads to an object that has
+ * no such member, or behind the items of an array: *gap is how many items are
+ * missing there, and -1 where it isn't such an array.
+ */
+static int
+follow_steps(Range *at, const VjsonStep *steps, int count, StringInfo path, int64 *gap)
 {
-	VjsonParts	whole;
-	VjsonParts	value;
-	Document	document = get_document_and_parts(datum, &whole);
-	Document	part = get_document_and_parts(part_datum, &value);
-	Range		at = document.key;
-	StringInfoData path;
-	StringInfoData made;
-	int			taken;
-	int64		gap = -1;
-	size_t		size;
-	const char *text;
-	Change		change = {SET, {NULL, 0}, {NULL, 0}, true};
-
-	/* Where the steps lead as far as there are parts: the path as far as that, and what is there. */
-	initStringInfo(&path);
-	for (taken = 0; taken < count; taken++)
+	*gap = -1;
+	for (int taken = 0; taken < count; taken++)
 	{
 		const VjsonStep *step = &steps[taken];
-		uint32		kind = kind_of(at);
+		uint32		kind = kind_of(*at);
 		Range		next;
-		Range		added;
-		bool		found;
 
 		if (is_scalar(kind))
 			ereport(ERROR,
@@ -819,56 +466,84 @@ vjson_assign(Datum datum, const VjsonStep *steps, int count, Datum part_datum)
 			size_t		items;
 			int64		index;
 
-			if (!is_found(vizhoniku_key_count(at.at, at.size, &items)))
+			if (!is_found(vizhoniku_key_count(at->at, at->size, &items)))
 				vjson_raise_corrupted();
 			index = slot_of_step(step, taken, items);
 			if (index >= (int64) items)
 			{
-				gap = index - (int64) items;
-				break;
+				*gap = index - (int64) items;
+				return taken;
 			}
-			found = find_item(at, index, &next);
-			appendStringInfo(&path, "/" INT64_FORMAT, index);
+			appendStringInfo(path, "/" INT64_FORMAT, index);
+			if (!find_item(*at, index, &next))
+				return taken;
 		}
 		else
 		{
-			found = find_member(at, step->name, &next);
-			added = path_of_name(step->name);
-			appendBinaryStringInfo(&path, (const char *) added.at, (int) added.size);
-		}
-		if (!found)
-			break;
-		at = next;
-	}
+			Range		added = path_of_name(step->name);
 
-	/* What is put there: the part, in the arrays and objects that aren't there yet, and behind nulls up to its index. */
-	if (taken + 1 < count)
-	{
-		text = vjson_text(&value, &size);
-		made = wrapped_in_steps(steps + taken + 1, count - taken - 1, text, size);
-		part = get_document_and_parts(PointerGetDatum(vjson_of_text(made.data, made.len)), &value);
+			appendBinaryStringInfo(path, (const char *) added.at, (int) added.size);
+			if (!find_member(*at, step->name, &next))
+				return taken;
+		}
+		*at = next;
 	}
+	return count;
+}
+
+/* The part in the arrays and objects that the steps lead into. */
+static Document
+wrapped(Document part, const VjsonStep *steps, int count)
+{
+	size_t		size;
+	const char *text;
+	StringInfoData made;
+
+	if (count <= 0)
+		return part;
+	text = vjson_text(&part, &size);
+	made = wrapped_in_steps(steps, count, text, size);
+	return get_document(vjson_of_text(made.data, made.len));
+}
+
+/* The array with the part behind so many nulls more. */
+static struct varlena *
+extended(Document array, int64 nulls, Document part)
+{
+	size_t		size;
+	const char *text = vjson_text(&part, &size);
+	StringInfoData items;
+	Change		merge = {MERGE, .document = array};
+
+	initStringInfo(&items);
+	appendStringInfoChar(&items, '[');
+	append_items(&items, nulls, text, size);
+	appendStringInfoChar(&items, ']');
+	merge.part = get_document(vjson_of_text(items.data, items.len));
+	return changed(&merge);
+}
+
+Datum
+vjson_assign(Datum datum, const VjsonStep *steps, int count, Datum part)
+{
+	Change		change = {SET, .flag = true, .document = document_of_datum(datum)};
+	Range		at = change.document.key;
+	StringInfoData path;
+	int64		gap;
+	int			taken;
+
+	initStringInfo(&path);
+	taken = follow_steps(&at, steps, count, &path, &gap);
+	change.part = wrapped(document_of_datum(part), steps + taken + 1, count - taken - 1);
 	if (gap >= 0)
 	{
-		Document	array = get_document(PointerGetDatum(vjson_part(&whole, at)));
-		Change		merge = {MERGE, {NULL, 0}, {NULL, 0}, false};
+		struct varlena *array = extended(get_document(vjson_part(&change.document, at)), gap, change.part);
 
-		text = vjson_text(&value, &size);
-		initStringInfo(&made);
-		appendStringInfoChar(&made, '[');
-		append_items(&made, gap, text, size);
-		appendStringInfoChar(&made, ']');
-		part = get_document(PointerGetDatum(vjson_of_text(made.data, made.len)));
-		merge.part = part.key;
-		change_document(&array, &merge, &part);
-		part = array;
 		if (path.len == 0)
-			return make_datum(&part);
+			return PointerGetDatum(array);
+		change.part = get_document(array);
 	}
 	change.path.at = (unsigned char *) path.data;
 	change.path.size = path.len;
-	change.part = part.key;
-	if (!change_document(&document, &change, &part))
-		return datum;
-	return make_datum(&document);
+	return changed_or(&change, datum);
 }

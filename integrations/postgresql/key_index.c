@@ -122,10 +122,9 @@ add_names(Entries *entries, Range key)
 Datum *
 vjson_entries(Datum document, int32 *count)
 {
-	VjsonParts	parts;
 	Entries		entries = {palloc(FIRST_ROOM * sizeof(Datum)), 0, FIRST_ROOM};
 
-	add_entries(&entries, 0, get_whole((struct varlena *) PG_DETOAST_DATUM_PACKED(document), &parts));
+	add_entries(&entries, 0, key_of_datum(document));
 	*count = entries.count;
 	return entries.at;
 }
@@ -133,10 +132,9 @@ vjson_entries(Datum document, int32 *count)
 Datum *
 vjson_name_entries(Datum document, int32 *count)
 {
-	VjsonParts	parts;
 	Entries		entries = {palloc(FIRST_ROOM * sizeof(Datum)), 0, FIRST_ROOM};
 
-	add_names(&entries, get_whole((struct varlena *) PG_DETOAST_DATUM_PACKED(document), &parts));
+	add_names(&entries, key_of_datum(document));
 	*count = entries.count;
 	return entries.at;
 }
@@ -217,8 +215,7 @@ gin_extract_vjson(PG_FUNCTION_ARGS)
 {
 	int32	   *count = (int32 *) PG_GETARG_POINTER(1);
 	Entries		entries = {palloc(FIRST_ROOM * sizeof(Datum)), 0, FIRST_ROOM};
-	VjsonParts	parts;
-	Range		key = get_whole(PG_GETARG_VARLENA_PP(0), &parts);
+	Range		key = get_key(PG_GETARG_VARLENA_PP(0));
 
 	add_entries(&entries, 0, key);
 	add_names(&entries, key);

@@ -1,9 +1,9 @@
 /*-------------------------------------------------------------------------
  *
  * key_jsonb.c
- *	  The jsonb of a value, from its sort key and its zeros.
+ *	  The jsonb of a document.
  *
- * The key is read once, from its first byte to its last, as docs/SORT_KEYS.md
+ * Its key is read once, from its first byte to its last, as docs/SORT_KEYS.md
  * describes it.  Names and strings stay where they are in it until the server
  * writes the jsonb.  What isn't made so goes by the text that the server reads:
  * strings with a zero byte or of another encoding, of which it says what is
@@ -28,9 +28,11 @@
 
 #include "key_walk.h"
 #include "vjson.h"
+#include "zeros.h"
 
-/* Pairs of digits that a number has at most, and digits of which each number is an int64. */
+/* Pairs of digits that a number has at most, bytes of its document, and digits of which each number is an int64. */
 #define MOST_PAIRS		20
+#define LONGEST_NUMBER	(2 + MOST_PAIRS + 4)
 #define INT64_DIGITS	18
 
 /* What a jsonb takes at most of a part, beside the bytes of a text or a number: its entry, a header, and zeros before. */
@@ -59,10 +61,10 @@ PG_FUNCTION_INFO_V1(vjson_to_jsonb);
  */
 typedef struct
 {
+	const unsigned char *key;
 	const unsigned char *at;
-	const unsigned char *end;
-	KeyZerosReader zeros;
-	size_t		passed;			/* numbers whose zeros aren't passed yet */
+	const unsigned char *end;	/* of the key */
+	ZerosReader zeros;
 	JsonbValue *parts;
 	size_t		count;
 	size_t		capacity;
@@ -154,26 +156,25 @@ read_text(Reader *reader, JsonbValue *value)
 	return !reader->ascii_alone || is_ascii(start, zero - start);
 }
 
-/* Pass the zeros of the numbers that were passed. */
-static inline void
-pass_zeros(Reader *reader)
-{
-	if (reader->passed > 0 && !key_zeros_take(&reader->zeros, reader->passed, NULL))
-		vjson_raise_corrupted();
-	reader->passed = 0;
-}
-
 /* The number whose key goes from the start to where the reader is, of its text. */
 static Numeric
 numeric_of_text(const Reader *reader, const unsigned char *start, unsigned char zeros)
 {
-	const unsigned char own_zeros[] = {0, zeros};
+	unsigned char bytes[LONGEST_NUMBER];
+	Document	document = {{bytes, reader->at - start}, 0};
+	ZerosWriter writer = {0};
 	size_t		size;
-	char	   *text = key_text_write(start, reader->at - start, own_zeros, zeros > 0 ? sizeof own_zeros : 0, &size);
+	char	   *text;
 	Datum		number;
 
-	if (text == NULL)
-		vjson_raise_corrupted();
+	add_zeros(&writer, 0, zeros);
+	end_zeros(&writer);
+	document.size = document.key.size + writer.size;
+	Assert(document.size <= sizeof bytes);
+	memcpy(bytes, start, document.key.size);
+	if (writer.size > 0)
+		memcpy(bytes + document.key.size, writer.bytes, writer.size);
+	text = vjson_text(&document, &size);
 	number = DirectFunctionCall3(numeric_in, CStringGetDatum(text), ObjectIdGetDatum(InvalidOid), Int32GetDatum(-1));
 	pfree(text);
 	return DatumGetNumeric(number);
@@ -195,9 +196,7 @@ read_number(Reader *reader)
 	int			scale;
 	unsigned char zeros;
 
-	pass_zeros(reader);
-	if (!key_zeros_next(&reader->zeros, &zeros))
-		vjson_raise_corrupted();
+	zeros = take_zeros(&reader->zeros, start - reader->key);
 	if (byte == ZERO_KEY)
 		return int64_div_fast_to_numeric(0, zeros);
 	if (byte == MORE_EXPONENT)
@@ -430,17 +429,16 @@ behind_number(const unsigned char *at, const unsigned char *end)
 }
 
 /*
- * Behind the array or the object that begins here, whose numbers are counted.
- * No number has a zero byte, so that in an object the next one ends the name
- * behind a number, or the object.
+ * Behind the array or the object that begins here.  No number has a zero byte,
+ * so that in an object the next one ends the name behind a number, or the
+ * object.
  */
 static const unsigned char *
-behind_container(const unsigned char *at, const unsigned char *end, size_t *numbers)
+behind_container(const unsigned char *at, const unsigned char *end)
 {
 	bool		is_object[MOST_LEVELS];
 	bool		in_object = *at++ == OBJECT_KEY;
 	int			levels = 0;		/* round the innermost one */
-	size_t		count = 0;
 
 	for (;;)
 	{
@@ -479,14 +477,8 @@ behind_container(const unsigned char *at, const unsigned char *end, size_t *numb
 			at++;
 		}
 		else
-		{
-			bool		is_a_number = is_number(first);
-
-			count += is_a_number;
-			at = is_a_number && !in_object ? behind_number(at, end) : at + 1;
-		}
+			at = !in_object && is_number(first) ? behind_number(at, end) : at + 1;
 	}
-	*numbers += count;
 	return at;
 }
 
@@ -503,12 +495,9 @@ pass_value(Reader *reader)
 	if (first == STRING_KEY)
 		reader->at = behind_text(at + 1, reader->end);
 	else if (first == OBJECT_KEY || first == ARRAY_KEY)
-		reader->at = behind_container(at, reader->end, &reader->passed);
+		reader->at = behind_container(at, reader->end);
 	else if (is_number(first))
-	{
-		reader->passed++;
 		reader->at = behind_number(at, reader->end);
-	}
 	else
 		reader->at++;
 }
@@ -689,11 +678,11 @@ read_value(Reader *reader)
 Datum
 vjson_jsonb(Datum document, const VjsonWanted *wanted)
 {
-	VjsonParts	parts;
-	Range		key = get_whole((struct varlena *) PG_DETOAST_DATUM_PACKED(document), &parts);
+	Document	whole = document_of_datum(document);
+	Range		key = whole.key;
 	JsonbValue	first_parts[FIRST_ROOM];
 	int64		first_block[FIRST_BLOCK / sizeof(int64)];
-	Reader		reader = {.at = key.at, .end = key.at + key.size, .wanted = wanted};
+	Reader		reader = {.key = key.at, .at = key.at, .end = key.at + key.size, .wanted = wanted};
 	JsonbValue	value;
 
 	reader.parts = first_parts;
@@ -701,13 +690,13 @@ vjson_jsonb(Datum document, const VjsonWanted *wanted)
 	reader.block = (char *) first_block;
 	reader.block_size = sizeof first_block;
 	reader.ascii_alone = GetDatabaseEncoding() != PG_UTF8;
-	key_zeros_begin(&reader.zeros, parts.rest, parts.form == KEY_AND_ZEROS ? parts.rest_size : 0);
+	begin_zeros(&reader.zeros, &whole);
 	if (!read_value(&reader))
-		return DirectFunctionCall1(jsonb_in, CStringGetDatum(vjson_server_text(&parts)));
+		return DirectFunctionCall1(jsonb_in, CStringGetDatum(vjson_server_text(&whole)));
 	if (!reader.is_cut)
 	{
-		pass_zeros(&reader);
-		if (reader.at != reader.end || !key_zeros_ended(&reader.zeros))
+		pass_zeros(&reader.zeros, key.size);
+		if (reader.at != reader.end || reader.zeros.offset != SIZE_MAX)
 			vjson_raise_corrupted();
 	}
 	value = reader.parts[0];

@@ -11,6 +11,8 @@
  */
 #include "postgres.h"
 
+#include <float.h>
+
 #include "fmgr.h"
 #include "funcapi.h"
 #include "catalog/pg_type.h"
@@ -23,15 +25,17 @@
 
 #include <vizhoniku.h>
 
-#include "key_text.h"
 #include "key_walk.h"
 #include "vjson.h"
 
-/* How much of a value is looked at for its kind: the form, the size of the key, and its first byte. */
-#define KIND_SLICE		(FORM_SIZE + KEY_SIZE_SIZE + 1)
+/* How much of a value is looked at for its kind: of an older form a byte, the size of the key, and its first byte. */
+#define KIND_SLICE		6
 
 /* From how many names on they are looked for together. */
 #define MANY_NAMES		8
+
+/* Space for the document of a part; more is asked for if needed. */
+#define FIRST_PART		256
 
 PG_FUNCTION_INFO_V1(vjson_object_field);
 PG_FUNCTION_INFO_V1(vjson_object_field_text);
@@ -61,110 +65,6 @@ PG_FUNCTION_INFO_V1(vjson_to_float8);
 
 
 /*
- * Values and texts of parts
- */
-
-/* The text of a string's key, or of a name's, in the encoding of the database. */
-static text *
-text_of_string(Range key, bool is_name)
-{
-	text	   *result = (text *) palloc(VARHDRSZ + key.size);
-	unsigned char *bytes = (unsigned char *) VARDATA(result);
-	size_t		size;
-	uint32		status = is_name ? vizhoniku_key_name(key.at, key.size, bytes, key.size, &size) :
-		vizhoniku_key_string(key.at, key.size, bytes, key.size, &size);
-
-	if (!is_found(status))
-		vjson_raise_corrupted();
-	if (memchr(bytes, 0, size))
-		ereport(ERROR,
-				(errcode(ERRCODE_UNTRANSLATABLE_CHARACTER),
-				 errmsg("a string with \\u0000 cannot be converted to text")));
-	SET_VARSIZE(result, VARHDRSZ + size);
-	if (GetDatabaseEncoding() == PG_UTF8)
-		return result;
-	return cstring_to_text(pg_any_to_server(pnstrdup((char *) bytes, size), (int) size, PG_UTF8));
-}
-
-struct varlena *
-vjson_of_key(Range key, Range zeros)
-{
-	size_t		size = VARHDRSZ + FORM_SIZE + key.size + (zeros.size > 0 ? KEY_SIZE_SIZE + zeros.size : 0);
-	uint32		stored_size = (uint32) key.size;
-	struct varlena *result;
-	char	   *into;
-
-	if (size > MaxAllocSize)
-		ereport(ERROR, (errcode(ERRCODE_PROGRAM_LIMIT_EXCEEDED), errmsg("vjson value is too large")));
-	result = palloc(size);
-	SET_VARSIZE(result, size);
-	into = VARDATA(result) + FORM_SIZE;
-	if (zeros.size == 0)
-	{
-		*VARDATA(result) = KEY_ALONE;
-		memcpy(into, key.at, key.size);
-		return result;
-	}
-	*VARDATA(result) = KEY_AND_ZEROS;
-	memcpy(into, &stored_size, KEY_SIZE_SIZE);
-	memcpy(into + KEY_SIZE_SIZE, key.at, key.size);
-	memcpy(into + KEY_SIZE_SIZE + key.size, zeros.at, zeros.size);
-	return result;
-}
-
-/* The text of a key, as vjson_of_key has it as a value: a string without its quotes, and NULL where it is null. */
-static text *
-make_text(Range key, Range zeros)
-{
-	VjsonParts	parts = {zeros.size > 0 ? KEY_AND_ZEROS : KEY_ALONE, key.at, key.size, zeros.at, zeros.size};
-
-	switch (kind_of(key))
-	{
-		case VIZHONIKU_NULL:
-			return NULL;
-		case VIZHONIKU_STRING:
-			return text_of_string(key, false);
-		default:
-			return cstring_to_text(vjson_server_text(&parts));
-	}
-}
-
-/* The zeros of the numbers of a part, which are among those of the whole. */
-static Range
-zeros_of_part(const VjsonParts *whole, Range part)
-{
-	Range		result = {NULL, 0};
-	uint32		kind = kind_of(part);
-	unsigned char *zeros;
-	size_t		before;
-	size_t		numbers;
-
-	if (whole->form != KEY_AND_ZEROS || (is_scalar(kind) && kind != VIZHONIKU_NUMBER))
-		return result;
-	if (!key_numbers(whole->key, whole->key_size, part.at - whole->key, part.size, &before, &numbers))
-		vjson_raise_corrupted();
-	zeros = palloc(whole->rest_size);
-	result.size = key_part_zeros(whole->rest, whole->rest_size, before, numbers, zeros);
-	if (result.size == SIZE_MAX)
-		vjson_raise_corrupted();
-	result.at = zeros;
-	return result;
-}
-
-struct varlena *
-vjson_part(const VjsonParts *whole, Range part)
-{
-	return vjson_of_key(part, zeros_of_part(whole, part));
-}
-
-text *
-vjson_part_text(const VjsonParts *whole, Range part)
-{
-	return make_text(part, zeros_of_part(whole, part));
-}
-
-
-/*
  * Members and items
  */
 
@@ -184,25 +84,23 @@ find_element(Range key, int32 index, Range *part)
 Datum
 vjson_object_field(PG_FUNCTION_ARGS)
 {
-	VjsonParts	parts;
-	Range		key = get_whole(PG_GETARG_VARLENA_PP(0), &parts);
+	Document	document = get_document(PG_GETARG_VARLENA_PP(0));
 	Range		part;
 
-	if (!find_member(key, utf8_of(PG_GETARG_TEXT_PP(1)), &part))
+	if (!find_member(document.key, utf8_of(PG_GETARG_TEXT_PP(1)), &part))
 		PG_RETURN_NULL();
-	PG_RETURN_POINTER(vjson_part(&parts, part));
+	PG_RETURN_POINTER(vjson_part(&document, part));
 }
 
 Datum
 vjson_object_field_text(PG_FUNCTION_ARGS)
 {
-	VjsonParts	parts;
-	Range		key = get_whole(PG_GETARG_VARLENA_PP(0), &parts);
+	Document	document = get_document(PG_GETARG_VARLENA_PP(0));
 	Range		part;
 	text	   *result = NULL;
 
-	if (find_member(key, utf8_of(PG_GETARG_TEXT_PP(1)), &part))
-		result = vjson_part_text(&parts, part);
+	if (find_member(document.key, utf8_of(PG_GETARG_TEXT_PP(1)), &part))
+		result = vjson_part_text(&document, part);
 	if (result == NULL)
 		PG_RETURN_NULL();
 	PG_RETURN_TEXT_P(result);
@@ -211,25 +109,23 @@ vjson_object_field_text(PG_FUNCTION_ARGS)
 Datum
 vjson_array_element(PG_FUNCTION_ARGS)
 {
-	VjsonParts	parts;
-	Range		key = get_whole(PG_GETARG_VARLENA_PP(0), &parts);
+	Document	document = get_document(PG_GETARG_VARLENA_PP(0));
 	Range		part;
 
-	if (!find_element(key, PG_GETARG_INT32(1), &part))
+	if (!find_element(document.key, PG_GETARG_INT32(1), &part))
 		PG_RETURN_NULL();
-	PG_RETURN_POINTER(vjson_part(&parts, part));
+	PG_RETURN_POINTER(vjson_part(&document, part));
 }
 
 Datum
 vjson_array_element_text(PG_FUNCTION_ARGS)
 {
-	VjsonParts	parts;
-	Range		key = get_whole(PG_GETARG_VARLENA_PP(0), &parts);
+	Document	document = get_document(PG_GETARG_VARLENA_PP(0));
 	Range		part;
 	text	   *result = NULL;
 
-	if (find_element(key, PG_GETARG_INT32(1), &part))
-		result = vjson_part_text(&parts, part);
+	if (find_element(document.key, PG_GETARG_INT32(1), &part))
+		result = vjson_part_text(&document, part);
 	if (result == NULL)
 		PG_RETURN_NULL();
 	PG_RETURN_TEXT_P(result);
@@ -262,28 +158,117 @@ find_by_names(Range key, ArrayType *array, Range *part)
 Datum
 vjson_extract_path(PG_FUNCTION_ARGS)
 {
-	VjsonParts	parts;
-	Range		key = get_whole(PG_GETARG_VARLENA_PP(0), &parts);
+	Document	document = get_document(PG_GETARG_VARLENA_PP(0));
 	Range		part;
 
-	if (!find_by_names(key, PG_GETARG_ARRAYTYPE_P(1), &part))
+	if (!find_by_names(document.key, PG_GETARG_ARRAYTYPE_P(1), &part))
 		PG_RETURN_NULL();
-	PG_RETURN_POINTER(vjson_part(&parts, part));
+	PG_RETURN_POINTER(vjson_part(&document, part));
 }
 
 Datum
 vjson_extract_path_text(PG_FUNCTION_ARGS)
 {
-	VjsonParts	parts;
-	Range		key = get_whole(PG_GETARG_VARLENA_PP(0), &parts);
+	Document	document = get_document(PG_GETARG_VARLENA_PP(0));
 	Range		part;
 	text	   *result = NULL;
 
-	if (find_by_names(key, PG_GETARG_ARRAYTYPE_P(1), &part))
-		result = vjson_part_text(&parts, part);
+	if (find_by_names(document.key, PG_GETARG_ARRAYTYPE_P(1), &part))
+		result = vjson_part_text(&document, part);
 	if (result == NULL)
 		PG_RETURN_NULL();
 	PG_RETURN_TEXT_P(result);
+}
+
+
+/*
+ * Steps of a path, in which an index may count from the end
+ */
+
+/* The next step of the path, with its escapes. False at its end. */
+static bool
+next_step(Range *path, Range *step)
+{
+	const unsigned char *end;
+
+	if (path->size == 0)
+		return false;
+	step->at = path->at + 1;
+	end = memchr(step->at, '/', path->size - 1);
+	step->size = end != NULL ? (size_t) (end - step->at) : path->size - 1;
+	path->at = step->at + step->size;
+	path->size -= step->size + 1;
+	return true;
+}
+
+/* The index that a step has as the library reads it: no zeros at its front, and with a minus sign from the end. */
+static bool
+index_of_step(Range step, int64 *index)
+{
+	bool		is_negative = step.size > 0 && step.at[0] == '-';
+	Range		digits = {step.at + is_negative, step.size - is_negative};
+
+	if (digits.size == 0 || digits.size > 18 || (digits.at[0] == '0' && (digits.size > 1 || is_negative)))
+		return false;
+	*index = 0;
+	for (size_t i = 0; i < digits.size; i++)
+	{
+		if (digits.at[i] < '0' || digits.at[i] > '9')
+			return false;
+		*index = *index * 10 + (digits.at[i] - '0');
+	}
+	if (is_negative)
+		*index = -*index;
+	return true;
+}
+
+/* The name that a step has. */
+static Range
+name_of_step(Range step)
+{
+	unsigned char *name = palloc(step.size + 1);
+	Range		result = {name, 0};
+
+	for (size_t i = 0; i < step.size; i++)
+	{
+		if (step.at[i] == '~')
+			name[result.size++] = step.at[++i] == '0' ? '~' : '/';
+		else
+			name[result.size++] = step.at[i];
+	}
+	return result;
+}
+
+/* The part to which a step leads. */
+static bool
+take_step(Range key, Range step, Range *part)
+{
+	int64		index;
+
+	switch (kind_of(key))
+	{
+		case VIZHONIKU_OBJECT:
+			return find_member(key, name_of_step(step), part);
+		case VIZHONIKU_ARRAY:
+			return index_of_step(step, &index) && find_item(key, index, part);
+		default:
+			return false;
+	}
+}
+
+bool
+vjson_find_by_steps(Range key, Range path, Range *part)
+{
+	Range		step;
+
+	while (next_step(&path, &step))
+	{
+		if (!take_step(key, step, part))
+			return false;
+		key = *part;
+	}
+	*part = key;
+	return true;
 }
 
 
@@ -320,8 +305,7 @@ has_name(Range key, text *words)
 Datum
 vjson_exists(PG_FUNCTION_ARGS)
 {
-	VjsonParts	parts;
-	Range		key = get_whole(PG_GETARG_VARLENA_PP(0), &parts);
+	Range		key = get_key(PG_GETARG_VARLENA_PP(0));
 
 	PG_RETURN_BOOL(has_name(key, PG_GETARG_TEXT_PP(1)));
 }
@@ -370,8 +354,7 @@ count_names(Range key, const Datum *words, const bool *nulls, int *count)
 static bool
 any_name(FunctionCallInfo fcinfo, bool wanted)
 {
-	VjsonParts	parts;
-	Range		key = get_whole(PG_GETARG_VARLENA_PP(0), &parts);
+	Range		key = get_key(PG_GETARG_VARLENA_PP(0));
 	Datum	   *names;
 	bool	   *nulls;
 	int			count;
@@ -415,20 +398,17 @@ vjson_typeof(PG_FUNCTION_ARGS)
 		[VIZHONIKU_NULL] = "null",[VIZHONIKU_BOOLEAN] = "boolean",[VIZHONIKU_NUMBER] = "number",
 		[VIZHONIKU_STRING] = "string",[VIZHONIKU_ARRAY] = "array",[VIZHONIKU_OBJECT] = "object"
 	};
-	VjsonParts	parts;
-	Range		key;
+	Range		front = bytes_of(PG_DETOAST_DATUM_SLICE(PG_GETARG_DATUM(0), 0, KIND_SLICE));
 
-	get_parts(PG_DETOAST_DATUM_SLICE(PG_GETARG_DATUM(0), 0, KIND_SLICE), true, &parts);
-	key.at = parts.key;
-	key.size = parts.key_size;
-	PG_RETURN_TEXT_P(cstring_to_text(names[kind_of(key)]));
+	if (*front.at < OLD_FORMS)
+		front = vjson_old_key(front, true);
+	PG_RETURN_TEXT_P(cstring_to_text(names[kind_of(front)]));
 }
 
 Datum
 vjson_array_length(PG_FUNCTION_ARGS)
 {
-	VjsonParts	parts;
-	Range		key = get_whole(PG_GETARG_VARLENA_PP(0), &parts);
+	Range		key = get_key(PG_GETARG_VARLENA_PP(0));
 	uint32		kind = kind_of(key);
 	size_t		count;
 
@@ -455,56 +435,93 @@ typedef enum
 	TEXTS = 4
 } Columns;
 
+/* The parts of a document, one after the other. */
+typedef struct
+{
+	Document	whole;
+	Walk		walk;			/* over its key, where it has no zeros */
+	struct vizhoniku_document_cursor cursor;	/* over it, where it has some */
+	struct vizhoniku_key_entry entry;
+	Range		name;			/* of a member */
+	Document	part;
+	struct varlena *value;		/* NULL where it isn't made yet */
+} Parts;
+
+static void
+begin_parts(Parts *parts, Document whole)
+{
+	parts->whole = whole;
+	if (whole.size == whole.key.size)
+		begin_walk(&parts->walk, whole.key);
+	else if (!is_found(vizhoniku_document_begin(whole.key.at, whole.size, &parts->cursor)))
+		vjson_raise_corrupted();
+}
+
+static uint32
+write_next(const void *arguments, unsigned char *buffer, size_t capacity, size_t *size)
+{
+	Parts	   *parts = unconstify(Parts *, (const Parts *) arguments);
+
+	return vizhoniku_document_next(parts->whole.key.at, parts->whole.size, &parts->cursor, &parts->entry, buffer, capacity,
+								   size);
+}
+
+/* Go on to the next part. False at the end. */
+static bool
+next_part(Parts *parts)
+{
+	Document	whole = parts->whole;
+	size_t		size;
+	char	   *block;
+
+	parts->value = NULL;
+	if (whole.size == whole.key.size)
+	{
+		if (!next_in_walk(&parts->walk))
+			return false;
+		parts->name = parts->walk.name;
+		parts->part.key = parts->walk.value;
+		parts->part.size = parts->walk.value.size;
+		return true;
+	}
+	block = vjson_written(write_next, parts, VARHDRSZ, FIRST_PART, &size);
+	if (block == NULL)
+		return false;
+	parts->name.at = whole.key.at + parts->entry.name_offset;
+	parts->name.size = parts->entry.name_size;
+	parts->value = vjson_value(block, size);
+	parts->part = get_document(parts->value);
+	return true;
+}
+
 /* Put a row for each part of the value into the set that is answered. */
 static void
-put_parts(FunctionCallInfo fcinfo, const VjsonParts *whole, Range key, int columns)
+put_parts(FunctionCallInfo fcinfo, Document whole, int columns)
 {
 	ReturnSetInfo *set = (ReturnSetInfo *) fcinfo->resultinfo;
 	MemoryContext rows = AllocSetContextCreate(CurrentMemoryContext, "parts of a vjson", ALLOCSET_DEFAULT_SIZES);
 	MemoryContext caller = CurrentMemoryContext;
-	KeyZerosReader reader;
-	KeyZeros	zeros = {0};
-	Walk		walk;
+	Parts		parts;
 
-	key_zeros_begin(&reader, whole->rest, whole->form == KEY_AND_ZEROS ? whole->rest_size : 0);
-	begin_walk(&walk, key);
-	while (next_in_walk(&walk))
+	begin_parts(&parts, whole);
+	MemoryContextSwitchTo(rows);
+	while (next_part(&parts))
 	{
 		Datum		values[2];
 		bool		nulls[2] = {false, false};
 		int			column = 0;
 
 		CHECK_FOR_INTERRUPTS();
-		MemoryContextSwitchTo(rows);
 		if (columns & NAMES)
-			values[column++] = PointerGetDatum(text_of_string(walk.name, true));
-		if (columns & (VALUES | TEXTS))
+			values[column++] = PointerGetDatum(vjson_text_of_string(parts.name, true));
+		if (columns & VALUES)
+			values[column] = PointerGetDatum(parts.value != NULL ? parts.value : vjson_of_key(parts.part.key));
+		if (columns & TEXTS)
 		{
-			Range		own;
+			text	   *words = vjson_text_of(&parts.part);
 
-			MemoryContextSwitchTo(caller);
-			if (whole->form == KEY_AND_ZEROS)
-			{
-				size_t		none;
-				size_t		numbers;
-
-				zeros.size = zeros.plain = 0;
-				if (!key_numbers(walk.value.at, walk.value.size, 0, walk.value.size, &none, &numbers) ||
-					!key_zeros_take(&reader, numbers, &zeros))
-					vjson_raise_corrupted();
-			}
-			own.at = zeros.bytes;
-			own.size = zeros.size;
-			MemoryContextSwitchTo(rows);
-			if (columns & VALUES)
-				values[column] = PointerGetDatum(vjson_of_key(walk.value, own));
-			else
-			{
-				text	   *words = make_text(walk.value, own);
-
-				values[column] = PointerGetDatum(words);
-				nulls[column] = words == NULL;
-			}
+			values[column] = PointerGetDatum(words);
+			nulls[column] = words == NULL;
 		}
 		tuplestore_putvalues(set->setResult, set->setDesc, values, nulls);
 		MemoryContextReset(rows);
@@ -516,24 +533,22 @@ put_parts(FunctionCallInfo fcinfo, const VjsonParts *whole, Range key, int colum
 static Datum
 put_members(FunctionCallInfo fcinfo, const char *function, int columns)
 {
-	VjsonParts	parts;
-	Range		key = get_whole(PG_GETARG_VARLENA_PP(0), &parts);
+	Document	document = get_document(PG_GETARG_VARLENA_PP(0));
 
-	if (kind_of(key) != VIZHONIKU_OBJECT)
+	if (kind_of(document.key) != VIZHONIKU_OBJECT)
 		ereport(ERROR,
 				(errcode(ERRCODE_INVALID_PARAMETER_VALUE),
 				 errmsg("cannot call %s on a non-object", function)));
 	InitMaterializedSRF(fcinfo, MAT_SRF_BLESS);
-	put_parts(fcinfo, &parts, key, columns);
+	put_parts(fcinfo, document, columns);
 	PG_RETURN_NULL();
 }
 
 static Datum
 put_items(FunctionCallInfo fcinfo, int columns)
 {
-	VjsonParts	parts;
-	Range		key = get_whole(PG_GETARG_VARLENA_PP(0), &parts);
-	uint32		kind = kind_of(key);
+	Document	document = get_document(PG_GETARG_VARLENA_PP(0));
+	uint32		kind = kind_of(document.key);
 
 	if (kind != VIZHONIKU_ARRAY)
 		ereport(ERROR,
@@ -541,7 +556,7 @@ put_items(FunctionCallInfo fcinfo, int columns)
 				 is_scalar(kind) ? errmsg("cannot extract elements from a scalar") :
 				 errmsg("cannot extract elements from an object")));
 	InitMaterializedSRF(fcinfo, MAT_SRF_USE_EXPECTED_DESC | MAT_SRF_BLESS);
-	put_parts(fcinfo, &parts, key, columns);
+	put_parts(fcinfo, document, columns);
 	PG_RETURN_NULL();
 }
 
@@ -572,9 +587,8 @@ vjson_array_elements_text(PG_FUNCTION_ARGS)
 Datum
 vjson_object_keys(PG_FUNCTION_ARGS)
 {
-	VjsonParts	parts;
-	Range		key = get_whole(PG_GETARG_VARLENA_PP(0), &parts);
-	uint32		kind = kind_of(key);
+	Document	document = get_document(PG_GETARG_VARLENA_PP(0));
+	uint32		kind = kind_of(document.key);
 
 	if (kind != VIZHONIKU_OBJECT)
 		ereport(ERROR,
@@ -582,7 +596,8 @@ vjson_object_keys(PG_FUNCTION_ARGS)
 				 is_scalar(kind) ? errmsg("cannot call %s on a scalar", "vjson_object_keys") :
 				 errmsg("cannot call %s on an array", "vjson_object_keys")));
 	InitMaterializedSRF(fcinfo, MAT_SRF_USE_EXPECTED_DESC | MAT_SRF_BLESS);
-	put_parts(fcinfo, &parts, key, NAMES);
+	document.size = document.key.size;	/* names have no zeros */
+	put_parts(fcinfo, document, NAMES);
 	PG_RETURN_NULL();
 }
 
@@ -595,9 +610,8 @@ vjson_object_keys(PG_FUNCTION_ARGS)
 static bool
 contains(Datum left, Datum right)
 {
-	VjsonParts	parts;
-	Range		ours = get_whole((struct varlena *) PG_DETOAST_DATUM_PACKED(left), &parts);
-	Range		theirs = get_whole((struct varlena *) PG_DETOAST_DATUM_PACKED(right), &parts);
+	Range		ours = key_of_datum(left);
+	Range		theirs = key_of_datum(right);
 
 	check_stack_depth();
 	return is_found(vizhoniku_key_contains(ours.at, ours.size, theirs.at, theirs.size));
@@ -643,125 +657,131 @@ is_cast_to_null(uint32 kind)
 	return PG_VERSION_NUM >= 180000 && kind == VIZHONIKU_NULL;
 }
 
-/* The text of a number. NULL where a null becomes SQL's NULL. */
-static const char *
-number_text(FunctionCallInfo fcinfo, const char *type)
+/* Get the number that is cast to the type. False where a null becomes SQL's NULL. */
+static bool
+get_number(FunctionCallInfo fcinfo, const char *type, Document *number)
 {
-	VjsonParts	parts;
-	Range		key = get_whole(PG_GETARG_VARLENA_PP(0), &parts);
-	uint32		kind = kind_of(key);
+	uint32		kind;
 
+	*number = get_document(PG_GETARG_VARLENA_PP(0));
+	kind = kind_of(number->key);
 	if (is_cast_to_null(kind))
-		return NULL;
+		return false;
 	if (kind != VIZHONIKU_NUMBER)
 		raise_cannot_cast(kind, type);
-	return vjson_server_text(&parts);
+	return true;
 }
 
-/* Whether the text of a number is of an integer, with so many digits at most. */
+/* Whether the number is an integer of at most this magnitude. */
 static inline bool
-is_short_integer(const char *text, size_t digits)
+is_integer_within(const Document *number, int64 bound, int64 *integer)
 {
-	size_t		size = strlen(text);
-
-	return size - (text[0] == '-') <= digits && memchr(text, '.', size) == NULL;
+	return is_found(vizhoniku_key_integer(number->key.at, number->key.size, integer)) && *integer >= -bound &&
+		*integer <= bound;
 }
 
 /* The number as a numeric, which keeps its zeros. */
 static Datum
-numeric_of(const char *text)
+numeric_of(const Document *number)
 {
-	return DirectFunctionCall3(numeric_in, CStringGetDatum(text), ObjectIdGetDatum(InvalidOid), Int32GetDatum(-1));
+	int64		integer;
+
+	if (number->size == number->key.size && is_integer_within(number, PG_INT64_MAX, &integer))
+		return NumericGetDatum(int64_to_numeric(integer));
+	return DirectFunctionCall3(numeric_in, CStringGetDatum(vjson_server_text(number)), ObjectIdGetDatum(InvalidOid),
+							   Int32GetDatum(-1));
 }
 
 Datum
 vjson_to_bool(PG_FUNCTION_ARGS)
 {
-	VjsonParts	parts;
-	Range		key = get_whole(PG_GETARG_VARLENA_PP(0), &parts);
+	Range		key = get_key(PG_GETARG_VARLENA_PP(0));
 	uint32		kind = kind_of(key);
+	uint32		boolean;
 
 	if (is_cast_to_null(kind))
 		PG_RETURN_NULL();
-	if (kind != VIZHONIKU_BOOLEAN)
+	if (!is_found(vizhoniku_key_boolean(key.at, key.size, &boolean)))
 		raise_cannot_cast(kind, "boolean");
-	PG_RETURN_BOOL(key.at[0] == TRUE_KEY);
+	PG_RETURN_BOOL(boolean);
 }
 
 /*
- * An integer that is exact in the type for each number with so few digits is
- * taken straight from the text.  Others are made by way of numeric, with its
- * rounding and its errors.
+ * An integer that the type has exactly is taken from the key.  Others are made
+ * by way of numeric, with its rounding and its errors.
  */
 
 Datum
 vjson_to_numeric(PG_FUNCTION_ARGS)
 {
-	const char *text = number_text(fcinfo, "numeric");
+	Document	number;
 
-	if (text == NULL)
+	if (!get_number(fcinfo, "numeric", &number))
 		PG_RETURN_NULL();
-	if (is_short_integer(text, 18))
-		PG_RETURN_NUMERIC(int64_to_numeric(pg_strtoint64(text)));
-	return numeric_of(text);
+	PG_RETURN_DATUM(numeric_of(&number));
 }
 
 Datum
 vjson_to_int2(PG_FUNCTION_ARGS)
 {
-	const char *text = number_text(fcinfo, "smallint");
+	Document	number;
+	int64		integer;
 
-	if (text == NULL)
+	if (!get_number(fcinfo, "smallint", &number))
 		PG_RETURN_NULL();
-	if (is_short_integer(text, 4))
-		PG_RETURN_INT16((int16) pg_strtoint64(text));
-	return DirectFunctionCall1(numeric_int2, numeric_of(text));
+	if (is_integer_within(&number, PG_INT16_MAX, &integer))
+		PG_RETURN_INT16((int16) integer);
+	return DirectFunctionCall1(numeric_int2, numeric_of(&number));
 }
 
 Datum
 vjson_to_int4(PG_FUNCTION_ARGS)
 {
-	const char *text = number_text(fcinfo, "integer");
+	Document	number;
+	int64		integer;
 
-	if (text == NULL)
+	if (!get_number(fcinfo, "integer", &number))
 		PG_RETURN_NULL();
-	if (is_short_integer(text, 9))
-		PG_RETURN_INT32((int32) pg_strtoint64(text));
-	return DirectFunctionCall1(numeric_int4, numeric_of(text));
+	if (is_integer_within(&number, PG_INT32_MAX, &integer))
+		PG_RETURN_INT32((int32) integer);
+	return DirectFunctionCall1(numeric_int4, numeric_of(&number));
 }
 
 Datum
 vjson_to_int8(PG_FUNCTION_ARGS)
 {
-	const char *text = number_text(fcinfo, "bigint");
+	Document	number;
+	int64		integer;
 
-	if (text == NULL)
+	if (!get_number(fcinfo, "bigint", &number))
 		PG_RETURN_NULL();
-	if (is_short_integer(text, 18))
-		PG_RETURN_INT64(pg_strtoint64(text));
-	return DirectFunctionCall1(numeric_int8, numeric_of(text));
+	if (is_integer_within(&number, PG_INT64_MAX, &integer))
+		PG_RETURN_INT64(integer);
+	return DirectFunctionCall1(numeric_int8, numeric_of(&number));
 }
 
 Datum
 vjson_to_float4(PG_FUNCTION_ARGS)
 {
-	const char *text = number_text(fcinfo, "real");
+	Document	number;
+	int64		integer;
 
-	if (text == NULL)
+	if (!get_number(fcinfo, "real", &number))
 		PG_RETURN_NULL();
-	if (is_short_integer(text, 7))
-		PG_RETURN_FLOAT4((float4) pg_strtoint64(text));
-	return DirectFunctionCall1(numeric_float4, numeric_of(text));
+	if (is_integer_within(&number, INT64CONST(1) << FLT_MANT_DIG, &integer))
+		PG_RETURN_FLOAT4((float4) integer);
+	return DirectFunctionCall1(numeric_float4, numeric_of(&number));
 }
 
 Datum
 vjson_to_float8(PG_FUNCTION_ARGS)
 {
-	const char *text = number_text(fcinfo, "double precision");
+	Document	number;
+	int64		integer;
 
-	if (text == NULL)
+	if (!get_number(fcinfo, "double precision", &number))
 		PG_RETURN_NULL();
-	if (is_short_integer(text, 15))
-		PG_RETURN_FLOAT8((float8) pg_strtoint64(text));
-	return DirectFunctionCall1(numeric_float8, numeric_of(text));
+	if (is_integer_within(&number, INT64CONST(1) << DBL_MANT_DIG, &integer))
+		PG_RETURN_FLOAT8((float8) integer);
+	return DirectFunctionCall1(numeric_float8, numeric_of(&number));
 }

@@ -14,21 +14,7 @@
 #include <vizhoniku.h>
 
 #include "key_bytes.h"
-#include "key_text.h"
 #include "vjson.h"
-
-/* The parts of a value, and its key. */
-static inline Range
-get_whole(struct varlena *value, VjsonParts *parts)
-{
-	Range		key;
-
-	get_parts(value, false, parts);
-	key_text_to_zeros(parts);
-	key.at = parts->key;
-	key.size = parts->key_size;
-	return key;
-}
 
 static inline bool
 same_bytes(Range left, Range right)
@@ -59,17 +45,23 @@ utf8_of(text *words)
 	return range;
 }
 
-/* Whether a call found what it was asked for. */
+/* Whether a call found what it was asked for. An error is raised where the bytes that were passed are none of a value. */
 static inline bool
 is_found(uint32 status)
 {
 	if (likely(status == VIZHONIKU_ACCEPTED))
 		return true;
-	if (status == VIZHONIKU_NO_KEY)
-		vjson_raise_corrupted();
-	if (status != VIZHONIKU_NO_PART)
-		vjson_raise_unexpected(status);
-	return false;
+	switch (status)
+	{
+		case VIZHONIKU_NO_PART:
+			return false;
+		case VIZHONIKU_NO_KEY:
+		case VIZHONIKU_NO_DOCUMENT:
+		case VIZHONIKU_NO_ZEROS:
+			vjson_raise_corrupted();
+		default:
+			vjson_raise_unexpected(status);
+	}
 }
 
 /* The key of a string, whose text is of the server: so it has no zero byte, which takes two in a key. */

@@ -44,8 +44,7 @@ check_columns(FunctionCallInfo fcinfo, const char *function)
 static void
 check_objects(Datum document)
 {
-	VjsonParts	parts;
-	Range		key = get_whole((struct varlena *) PG_DETOAST_DATUM_PACKED(document), &parts);
+	Range		key = key_of_datum(document);
 	Walk		walk;
 
 	if (kind_of(key) != VIZHONIKU_ARRAY)

@@ -1,10 +1,8 @@
 /*-------------------------------------------------------------------------
  *
  * shape.c
- *	  Documents in another shape, made of their texts: indented, and without
- *	  members that are null.
+ *	  Documents over lines, indented, made of their texts.
  *
- * The names, the arguments and the NULLs of the functions are those of jsonb.
  * The text of a value is the library's, without whitespace, so that each byte
  * outside of strings is of a number or a word, or structure.
  *
@@ -26,16 +24,14 @@
 #define INDENT			4
 
 PG_FUNCTION_INFO_V1(vjson_pretty);
-PG_FUNCTION_INFO_V1(vjson_strip_nulls);
 
 /* The text of a document, in UTF-8. */
 static const char *
 get_text(Datum datum, size_t *size)
 {
-	VjsonParts	parts;
+	Document	document = document_of_datum(datum);
 
-	get_parts((struct varlena *) PG_DETOAST_DATUM_PACKED(datum), false, &parts);
-	return vjson_text(&parts, size);
+	return vjson_text(&document, size);
 }
 
 /* Behind the string that begins here. */
@@ -102,81 +98,4 @@ vjson_pretty(PG_FUNCTION_ARGS)
 		}
 	}
 	PG_RETURN_TEXT_P(cstring_to_text(pg_any_to_server(out.data, out.len, PG_UTF8)));
-}
-
-
-/*
- * Without nulls
- */
-
-/* Whether null is here, as a whole value. */
-static inline bool
-is_null_at(const char *text, size_t at)
-{
-	return strncmp(text + at, "null", 4) == 0;
-}
-
-Datum
-vjson_strip_nulls(PG_FUNCTION_ARGS)
-{
-	bool		in_arrays = PG_GETARG_BOOL(1);
-	size_t		size;
-	const char *text = get_text(PG_GETARG_DATUM(0), &size);
-	bool		is_object[MOST_LEVELS + 1];
-	bool		is_first[MOST_LEVELS + 1];
-	int			levels = 0;
-	StringInfoData out;
-	size_t		next;
-
-	initStringInfo(&out);
-	is_object[0] = false;
-	is_first[0] = true;
-	for (size_t at = 0; at < size; at = next)
-	{
-		next = behind_token(text, at);
-		CHECK_FOR_INTERRUPTS();
-		if (text[at] == ',')
-			continue;			/* one is put before each that stays, but the first */
-		if (text[at] == '}' || text[at] == ']')
-		{
-			levels = Max(levels - 1, 0);
-			appendStringInfoChar(&out, text[at]);
-			continue;
-		}
-		if (is_object[levels] && text[at] == '"')
-		{
-			/* A member: its name and the colon are put with what comes next. */
-			if (text[next] != ':')
-				vjson_raise_corrupted();
-			if (is_null_at(text, next + 1))
-			{
-				next += 5;
-				continue;
-			}
-			if (!is_first[levels])
-				appendStringInfoChar(&out, ',');
-			is_first[levels] = false;
-			next++;
-			appendBinaryStringInfo(&out, text + at, (int) (next - at));
-			at = next;
-			next = behind_token(text, at);
-		}
-		else
-		{
-			if (in_arrays && levels > 0 && is_null_at(text, at))
-				continue;
-			if (!is_first[levels])
-				appendStringInfoChar(&out, ',');
-			is_first[levels] = false;
-		}
-		appendBinaryStringInfo(&out, text + at, (int) (next - at));
-		if (text[at] == '{' || text[at] == '[')
-		{
-			if (++levels > MOST_LEVELS)
-				vjson_raise_corrupted();
-			is_object[levels] = text[at] == '{';
-			is_first[levels] = true;
-		}
-	}
-	PG_RETURN_POINTER(vjson_of_text(out.data, out.len));
 }

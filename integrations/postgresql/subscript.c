@@ -116,8 +116,8 @@ fetch_part(ExprState *state, ExprEvalStep *op, ExprContext *econtext)
 {
 	SubscriptingRefState *reference = op->d.sbsref.state;
 	Steps	   *steps = reference->workspace;
-	VjsonParts	parts;
-	Range		part = get_whole((struct varlena *) PG_DETOAST_DATUM_PACKED(*op->resvalue), &parts);
+	Document	document = document_of_datum(*op->resvalue);
+	Range		part = document.key;
 
 	(void) state;
 	(void) econtext;
@@ -133,7 +133,7 @@ fetch_part(ExprState *state, ExprEvalStep *op, ExprContext *econtext)
 		}
 		part = next;
 	}
-	*op->resvalue = PointerGetDatum(vjson_part(&parts, part));
+	*op->resvalue = PointerGetDatum(vjson_part(&document, part));
 	*op->resnull = false;
 }
 

@@ -4,17 +4,11 @@
  *	  The type vjson: JSON documents that are compared, indexed and hashed by
  *	  value.
  *
- * A datum of vjson is a varlena with the sort key of the value: bytes whose
- * order, by memcmp, is the order of values, and that are equal exactly for
- * equal values.  Comparing and hashing look at it alone.  The first byte says
- * what else there is:
- *
- *	- 0: nothing.  The text is written from the key.
- *	- 1: the zeros that end decimals, with which the text is written from the
- *	  key.  The size of the key, in 4 bytes, comes first, then the key, the
- *	  zeros.
- *	- 2: the text.  The size of the key comes first, then the key, the text.
- *	  Older versions wrote it, and it is still understood.
+ * A datum of vjson is a varlena with a document of the library.  That begins with
+ * the sort key of the value: bytes whose order, by memcmp, is the order of
+ * values, and that are equal exactly for equal values.  Comparing and hashing
+ * look at it alone.  Behind it are the zeros that end decimals, where there are
+ * any.  Values that older versions stored are still read (old_forms.c).
  *
  * Keys and texts are in UTF-8 whatever the encoding of the database.
  *
@@ -46,8 +40,7 @@
 
 #include <vizhoniku.h>
 
-#include "key_bytes.h"
-#include "key_text.h"
+#include "key_walk.h"
 #include "vjson.h"
 
 PG_MODULE_MAGIC;
@@ -64,8 +57,8 @@ PG_MODULE_MAGIC;
 /* The longest path that is shown. */
 #define LONGEST_PATH	500
 
-/* The longest text with decimals of which the key alone is made. Of a longer one key and text might exceed 1 GB. */
-#define LONGEST_FOR_KEY	(MaxAllocSize / 8)
+/* The longest text of which it is clear that what is written of the value is at most 1 GB. */
+#define LONGEST_CLEAR	(MaxAllocSize / 8)
 
 /*
  * The machine stack that one call of the library may take, in bytes: at most
@@ -81,6 +74,9 @@ PG_MODULE_MAGIC;
 
 /* How much of a compressed value is looked at first. */
 #define FIRST_SLICE		256
+
+/* What zeros take at most, beside twice as many bytes as the key. */
+#define MOST_OF_ZEROS	10
 
 /* How a text is read. */
 typedef enum
@@ -347,132 +343,50 @@ check_stack(const char *text, size_t size)
 					 max_stack_depth)));
 }
 
-/*
- * Make the value of a key and its text.  The result has the key behind the byte
- * of the form, and space for as much as the text and 4 bytes more; the text lies
- * elsewhere in it, behind these.
- */
+/* Raise an error where the text of a value exceeds 1 GB, so that no row is kept that can't be shown or dumped. */
 static void
-finish_value(char *result, size_t key_size, const char *text, size_t text_size)
+check_size_of_text(struct varlena *value)
 {
-	char	   *form = result + VARHDRSZ;
-	char	   *key = form + FORM_SIZE;
-	uint32		stored_size = (uint32) key_size;
-	unsigned char *zeros;
-	size_t		zeros_size;
+	Document	document = get_document(value);
+	size_t		size;
 
-	key_text_zeros(text, text_size, &zeros, &zeros_size);
-	if (zeros_size == 0)
-	{
-		*form = KEY_ALONE;
-		SET_VARSIZE(result, VARHDRSZ + FORM_SIZE + key_size);
-	}
-	else
-	{
-		*form = KEY_AND_ZEROS;
-		memmove(key + KEY_SIZE_SIZE, key, key_size);
-		memcpy(key, &stored_size, KEY_SIZE_SIZE);
-		memcpy(key + KEY_SIZE_SIZE + key_size, zeros, zeros_size);
-		SET_VARSIZE(result, VARHDRSZ + FORM_SIZE + KEY_SIZE_SIZE + key_size + zeros_size);
-	}
-	if (zeros)
-		pfree(zeros);
-}
-
-/* The size of a value that is its key alone. */
-static inline size_t
-size_of_key_alone(size_t key_size)
-{
-	size_t		size = VARHDRSZ + FORM_SIZE + key_size;
-
-	if (size > MaxAllocSize)
-		ereport(ERROR,
-				(errcode(ERRCODE_PROGRAM_LIMIT_EXCEEDED),
-				 errmsg("vjson value is too large"),
-				 errdetail("Its sort key of %zu bytes exceeds %zu bytes.", key_size, (size_t) MaxAllocSize)));
-	return size;
-}
-
-/* Make the value of a text in which no decimal ends in a zero, so that its key alone has all of it. */
-static uint32
-make_key_value(uint32 mode, const char *text, size_t size, struct varlena **value, struct vizhoniku_error *error)
-{
-	size_t		key_capacity = size + SPARE_ROOM;
-
-	for (;;)
-	{
-		char	   *result = palloc_extended(VARHDRSZ + FORM_SIZE + key_capacity, MCXT_ALLOC_HUGE);
-		char	   *form = result + VARHDRSZ;
-		size_t		key_size;
-		uint32		status = vizhoniku_sort_key(mode, (const unsigned char *) text, size,
-												(unsigned char *) form + FORM_SIZE, key_capacity, &key_size, error);
-
-		if (status == VIZHONIKU_ACCEPTED)
-		{
-			*form = KEY_ALONE;
-			SET_VARSIZE(result, size_of_key_alone(key_size));
-			*value = (struct varlena *) result;
-			return status;
-		}
-		pfree(result);
-		if (status != VIZHONIKU_TOO_SHORT)
-			return status;
-		key_capacity = key_size;
-	}
-}
-
-/* Make the value of a text of extended mode, with the zeros that end its decimals. */
-static uint32
-make_zeros_value(const char *text, size_t size, struct varlena **value, struct vizhoniku_error *error)
-{
-	size_t		key_capacity = size + SPARE_ROOM;
-	size_t		text_capacity = size + SPARE_ROOM;
-
-	for (;;)
-	{
-		char	   *result = palloc_extended(VARHDRSZ + FORM_SIZE + key_capacity + KEY_SIZE_SIZE + text_capacity,
-											 MCXT_ALLOC_HUGE);
-		char	   *key = result + VARHDRSZ + FORM_SIZE;
-		char	   *written = key + key_capacity + KEY_SIZE_SIZE;
-		size_t		key_size;
-		size_t		text_size;
-		uint32		status = vizhoniku_text_and_key(VIZHONIKU_EXTENDED, (const unsigned char *) text, size,
-													(unsigned char *) written, text_capacity, &text_size,
-													(unsigned char *) key, key_capacity, &key_size, error);
-
-		if (status == VIZHONIKU_ACCEPTED)
-		{
-			if (VARHDRSZ + FORM_SIZE + KEY_SIZE_SIZE + key_size + text_size > MaxAllocSize)
-				ereport(ERROR,
-						(errcode(ERRCODE_PROGRAM_LIMIT_EXCEEDED),
-						 errmsg("vjson value is too large"),
-						 errdetail("Its text of %zu bytes and its sort key of %zu bytes exceed %zu bytes.",
-								   text_size, key_size, (size_t) MaxAllocSize)));
-			finish_value(result, key_size, written, text_size);
-			*value = (struct varlena *) result;
-			return status;
-		}
-		pfree(result);
-		if (status != VIZHONIKU_TOO_SHORT)
-			return status;
-		key_capacity = Max(key_capacity, key_size);
-		text_capacity = Max(text_capacity, text_size);
-	}
+	pfree(vjson_text(&document, &size));
 }
 
 /*
- * Read the text in this mode, and make the value.  Answers the status of the
- * library; *value is set where it is VIZHONIKU_ACCEPTED.
+ * Read the text in this mode, and make the value.  Where no decimal ends in a
+ * zero the key alone is its document, which takes less time.  Answers the status
+ * of the library; *value is set where it is VIZHONIKU_ACCEPTED.
  */
 static uint32
 make_value(uint32 mode, bool has_zeros, const char *text, size_t size, struct varlena **value,
 		   struct vizhoniku_error *error)
 {
+	size_t		capacity = size + SPARE_ROOM;
+	const unsigned char *bytes = (const unsigned char *) text;
+
 	CHECK_FOR_INTERRUPTS();
 	check_stack(text, size);
-	if (has_zeros)
-		return make_zeros_value(text, size, value, error);
-	return make_key_value(mode, text, size, value, error);
+	for (;;)
+	{
+		char	   *block = palloc_extended(VARHDRSZ + capacity, MCXT_ALLOC_HUGE);
+		unsigned char *into = (unsigned char *) VARDATA(block);
+		size_t		written;
+		uint32		status = has_zeros ? vizhoniku_document(mode, bytes, size, into, capacity, &written, error) :
+			vizhoniku_sort_key(mode, bytes, size, into, capacity, &written, error);
+
+		if (status == VIZHONIKU_ACCEPTED)
+		{
+			*value = vjson_value(block, written);
+			if (mode != VIZHONIKU_STANDARD && size > LONGEST_CLEAR)
+				check_size_of_text(*value);
+			return status;
+		}
+		pfree(block);
+		if (status != VIZHONIKU_TOO_SHORT)
+			return status;
+		capacity = written;
+	}
 }
 
 /*
@@ -502,7 +416,7 @@ report_no_json(const char *text, size_t size, JsonParseErrorType error, size_t p
 	why->parsed = rest;
 }
 
-/* Whether the text is JSON as the server's own type json takes it. If it isn't, *why says why, where it isn't NULL. */
+/* Whether the text is JSON as the server's own type json takes it. If it isn't, *why says why. */
 static bool
 is_json(const char *text, size_t size, VjsonRejection *why)
 {
@@ -515,8 +429,7 @@ is_json(const char *text, size_t size, VjsonRejection *why)
 
 	if (error != JSON_SUCCESS)
 	{
-		if (why != NULL)
-			report_no_json(text, size, error, lex->token_start ? (size_t) (lex->token_start - lex->input) : size, why);
+		report_no_json(text, size, error, lex->token_start ? (size_t) (lex->token_start - lex->input) : size, why);
 		return false;
 	}
 	pfree(lex);
@@ -655,7 +568,7 @@ value_of_json(const char *text, size_t size, Numbers numbers)
 		text = plain;
 	}
 	if (status == VIZHONIKU_ACCEPTED)
-		status = make_value(VIZHONIKU_EXTENDED, numbers.some_zeros || size > LONGEST_FOR_KEY, text, size, &value,
+		status = make_value(VIZHONIKU_EXTENDED, numbers.some_zeros, text, size, &value,
 							&error);
 	if (plain != NULL)
 		pfree(plain);
@@ -675,7 +588,7 @@ try_json(const char *text, size_t size, bool is_known)
 	numbers = look_at_numbers(text, size);
 	if (numbers.is_deep)
 		return NULL;
-	if (!is_known && (!numbers.some_fraction || !is_json(text, size, NULL)))
+	if (!is_known && (!numbers.some_fraction || !vizhoniku_is_strict((const unsigned char *) text, size)))
 		return NULL;
 	return value_of_json(text, size, numbers);
 }
@@ -816,70 +729,21 @@ vjson_raise_corrupted(void)
 	ereport(ERROR, (errcode(ERRCODE_DATA_CORRUPTED), errmsg("vjson value is corrupted")));
 }
 
-/* The sort key of a value. What is answered is to be freed by free_key. */
+/* The value of a datum, and its key. What is answered is to be freed by free_value. */
 static inline struct varlena *
-get_key(Datum datum, VjsonParts *parts)
+value_of(Datum datum, Range *key)
 {
 	struct varlena *value = PG_DETOAST_DATUM_PACKED(datum);
 
-	get_parts(value, false, parts);
+	*key = get_key(value);
 	return value;
 }
 
 static inline void
-free_key(struct varlena *value, Datum datum)
+free_value(struct varlena *value, Datum datum)
 {
 	if ((Pointer) value != DatumGetPointer(datum))
 		pfree(value);
-}
-
-/* The written text in UTF-8, with a zero byte at its end. */
-char *
-vjson_text(const VjsonParts *parts, size_t *size)
-{
-	char	   *text;
-
-	if (parts->form == KEY_AND_TEXT)
-	{
-		*size = parts->rest_size;
-		return pnstrdup((const char *) parts->rest, parts->rest_size);
-	}
-	text = key_text_write(parts->key, parts->key_size, parts->rest, parts->rest_size, size);
-	if (text == NULL)
-		vjson_raise_corrupted();
-	if (*size > MaxAllocSize)
-		ereport(ERROR,
-				(errcode(ERRCODE_PROGRAM_LIMIT_EXCEEDED),
-				 errmsg("vjson value is too large"),
-				 errdetail("Its text of %zu bytes exceeds %zu bytes.", *size, (size_t) MaxAllocSize)));
-	return text;
-}
-
-/* The written text in the encoding of the database, with a zero byte at its end. */
-char *
-vjson_server_text(const VjsonParts *parts)
-{
-	size_t		size;
-	char	   *text = vjson_text(parts, &size);
-
-	return GetDatabaseEncoding() == PG_UTF8 ? text : pg_any_to_server(text, (int) size, PG_UTF8);
-}
-
-/*
- * A value that was made can be written in the encoding of the database, or else
- * an error is raised, so that no row is kept that can't be shown or dumped.
- */
-struct varlena *
-vjson_checked_for_output(struct varlena *value)
-{
-	if (GetDatabaseEncoding() != PG_UTF8)
-	{
-		VjsonParts	parts;
-
-		get_parts(value, false, &parts);
-		pfree(vjson_server_text(&parts));
-	}
-	return value;
 }
 
 
@@ -901,11 +765,9 @@ vjson_in(PG_FUNCTION_ARGS)
 Datum
 vjson_out(PG_FUNCTION_ARGS)
 {
-	struct varlena *value = PG_GETARG_VARLENA_PP(0);
-	VjsonParts	parts;
+	Document	document = get_document(PG_GETARG_VARLENA_PP(0));
 
-	get_parts(value, false, &parts);
-	PG_RETURN_CSTRING(vjson_server_text(&parts));
+	PG_RETURN_CSTRING(vjson_server_text(&document));
 }
 
 /* The binary form is the text, as that of json is. */
@@ -922,13 +784,10 @@ vjson_recv(PG_FUNCTION_ARGS)
 Datum
 vjson_send(PG_FUNCTION_ARGS)
 {
-	struct varlena *value = PG_GETARG_VARLENA_PP(0);
-	VjsonParts	parts;
-	char	   *text;
+	Document	document = get_document(PG_GETARG_VARLENA_PP(0));
+	char	   *text = vjson_server_text(&document);
 	StringInfoData buffer;
 
-	get_parts(value, false, &parts);
-	text = vjson_server_text(&parts);
 	pq_begintypsend(&buffer);
 	pq_sendtext(&buffer, text, (int) strlen(text));
 	PG_RETURN_BYTEA_P(pq_endtypsend(&buffer));
@@ -945,14 +804,7 @@ vjson_extended(PG_FUNCTION_ARGS)
 Datum
 vjson_sort_key(PG_FUNCTION_ARGS)
 {
-	VjsonParts	parts;
-	bytea	   *result;
-
-	get_key(PG_GETARG_DATUM(0), &parts);
-	result = (bytea *) palloc(VARHDRSZ + parts.key_size);
-	SET_VARSIZE(result, VARHDRSZ + parts.key_size);
-	memcpy(VARDATA(result), parts.key, parts.key_size);
-	PG_RETURN_BYTEA_P(result);
+	PG_RETURN_BYTEA_P((bytea *) vjson_of_key(key_of_datum(PG_GETARG_DATUM(0))));
 }
 
 
@@ -975,19 +827,17 @@ report_no_path(Node *context, const char *path)
  * key.
  */
 static uint32
-find_part(const unsigned char *key, size_t key_size, const char *path, size_t path_size, Range *part)
+find_part(Range key, const char *path, size_t path_size, Range *part)
 {
 	size_t		offset;
-	uint32		status = vizhoniku_key_part(key, key_size, (const unsigned char *) path, path_size,
+	uint32		status = vizhoniku_key_part(key.at, key.size, (const unsigned char *) path, path_size,
 											&offset, &part->size);
 
-	if (status == VIZHONIKU_NO_KEY)
-		vjson_raise_corrupted();
 	if (status == VIZHONIKU_OUT_OF_MEMORY)
-		vjson_raise_out_of_memory(key_size);
-	if (status != VIZHONIKU_ACCEPTED && status != VIZHONIKU_NO_PART && status != VIZHONIKU_NO_PATH)
-		vjson_raise_unexpected(status);
-	part->at = key + offset;
+		vjson_raise_out_of_memory(key.size);
+	if (status != VIZHONIKU_NO_PATH)
+		is_found(status);
+	part->at = key.at + offset;
 	return status;
 }
 
@@ -1050,14 +900,15 @@ path_of_array(char *words, Node *context)
 static text *
 make_path(const char *path, size_t size, Node *context)
 {
-	static const unsigned char any_key[] = {NULL_KEY};
+	static const unsigned char null_key[] = {NULL_KEY};
+	Range		any_key = {null_key, sizeof null_key};
 	char	   *utf8;
 	Range		part;
 
 	if (size > 0 && path[0] == '{')
 		return path_of_array(pnstrdup(path, size), context);
 	utf8 = pg_server_to_any(path, (int) size, PG_UTF8);
-	if (find_part(any_key, sizeof any_key, utf8, utf8 == path ? size : strlen(utf8), &part) == VIZHONIKU_NO_PATH)
+	if (find_part(any_key, utf8, utf8 == path ? size : strlen(utf8), &part) == VIZHONIKU_NO_PATH)
 	{
 		report_no_path(context, pnstrdup(path, size));
 		return NULL;
@@ -1113,25 +964,18 @@ get_part(struct varlena *value, text *words)
 {
 	char	   *path = pg_server_to_any(VARDATA_ANY(words), (int) VARSIZE_ANY_EXHDR(words), PG_UTF8);
 	size_t		path_size = path == VARDATA_ANY(words) ? VARSIZE_ANY_EXHDR(words) : strlen(path);
-	VjsonParts	parts;
+	Document	document = get_document(value);
+	Range		steps = {(const unsigned char *) path, path_size};
 	Range		part;
-	Range		whole;
-	Range		steps;
 
-	get_parts(value, false, &parts);
-	key_text_to_zeros(&parts);
-	switch (find_part(parts.key, parts.key_size, path, path_size, &part))
+	switch (find_part(document.key, path, path_size, &part))
 	{
 		case VIZHONIKU_ACCEPTED:
-			return vjson_part(&parts, part);
+			return vjson_part(&document, part);
 		case VIZHONIKU_NO_PART:
-			whole.at = parts.key;
-			whole.size = parts.key_size;
-			steps.at = (const unsigned char *) path;
-			steps.size = path_size;
-			if (memchr(path, '-', path_size) == NULL || !vjson_find_by_steps(whole, steps, &part))
+			if (memchr(path, '-', path_size) == NULL || !vjson_find_by_steps(document.key, steps, &part))
 				return NULL;
-			return vjson_part(&parts, part);
+			return vjson_part(&document, part);
 		case VIZHONIKU_NO_PATH:
 			report_no_path(NULL, text_to_cstring(words));
 			return NULL;
@@ -1155,16 +999,13 @@ Datum
 vjson_get_text(PG_FUNCTION_ARGS)
 {
 	struct varlena *part = get_part(PG_GETARG_VARLENA_PP(0), PG_GETARG_TEXT_PP(1));
-	VjsonParts	parts;
-	Range		whole;
+	Document	document;
 	text	   *result;
 
 	if (part == NULL)
 		PG_RETURN_NULL();
-	get_parts(part, false, &parts);
-	whole.at = parts.key;
-	whole.size = parts.key_size;
-	result = vjson_part_text(&parts, whole);
+	document = get_document(part);
+	result = vjson_text_of(&document);
 	if (result == NULL)
 		PG_RETURN_NULL();
 	PG_RETURN_TEXT_P(result);
@@ -1188,11 +1029,9 @@ static char *
 text_of_argument(Datum datum)
 {
 	struct varlena *value = PG_DETOAST_DATUM_PACKED(datum);
-	VjsonParts	parts;
-	char	   *text;
+	Document	document = get_document(value);
+	char	   *text = vjson_server_text(&document);
 
-	get_parts(value, false, &parts);
-	text = vjson_server_text(&parts);
 	if ((Pointer) value != DatumGetPointer(datum))
 		pfree(value);
 	return text;
@@ -1210,25 +1049,38 @@ vjson_to_json(PG_FUNCTION_ARGS)
  */
 
 static inline int
-compare_keys(const VjsonParts *left, const VjsonParts *right)
+compare_keys(Range left, Range right)
 {
-	int			order = memcmp(left->key, right->key, Min(left->key_size, right->key_size));
+	int			order = memcmp(left.at, right.at, Min(left.size, right.size));
 
 	if (order != 0)
 		return order < 0 ? -1 : 1;
-	return (left->key_size > right->key_size) - (left->key_size < right->key_size);
+	return (left.size > right.size) - (left.size < right.size);
 }
 
-/* The sort key of a value, or its front where the value is compressed. */
+/*
+ * The key of a value, or its front where the value is compressed: as many of its
+ * first bytes as are surely of the key, since the zeros take at most twice as
+ * many bytes as the key, and ten.
+ */
 static inline struct varlena *
-get_front(Datum datum, VjsonParts *parts)
+front_of(Datum datum, Range *front)
 {
+	Pointer		compressed = DatumGetPointer(datum);
 	struct varlena *value;
+	size_t		size;
 
-	if (!VARATT_IS_COMPRESSED(DatumGetPointer(datum)))
-		return get_key(datum, parts);
+	if (!VARATT_IS_COMPRESSED(compressed))
+		return value_of(datum, front);
 	value = PG_DETOAST_DATUM_SLICE(datum, 0, FIRST_SLICE);
-	get_parts(value, true, parts);
+	*front = bytes_of(value);
+	if (unlikely(*front->at < OLD_FORMS))
+	{
+		*front = vjson_old_key(*front, true);
+		return value;
+	}
+	size = VARDATA_COMPRESSED_GET_EXTSIZE(compressed);
+	front->size = Min(front->size, size > MOST_OF_ZEROS ? (size - MOST_OF_ZEROS) / 3 : 0);
 	return value;
 }
 
@@ -1242,10 +1094,10 @@ compare_compressed(Datum left, Datum right, int *order)
 {
 	Pointer		left_value = DatumGetPointer(left);
 	Pointer		right_value = DatumGetPointer(right);
-	struct varlena *left_front;
-	struct varlena *right_front;
-	VjsonParts	left_parts;
-	VjsonParts	right_parts;
+	struct varlena *left_slice;
+	struct varlena *right_slice;
+	Range		left_front;
+	Range		right_front;
 
 	if (VARATT_IS_EXTERNAL(left_value) || VARATT_IS_EXTERNAL(right_value))
 		return false;
@@ -1256,11 +1108,11 @@ compare_compressed(Datum left, Datum right, int *order)
 		*order = 0;
 		return true;
 	}
-	left_front = get_front(left, &left_parts);
-	right_front = get_front(right, &right_parts);
-	*order = memcmp(left_parts.key, right_parts.key, Min(left_parts.key_size, right_parts.key_size));
-	free_key(left_front, left);
-	free_key(right_front, right);
+	left_slice = front_of(left, &left_front);
+	right_slice = front_of(right, &right_front);
+	*order = memcmp(left_front.at, right_front.at, Min(left_front.size, right_front.size));
+	free_value(left_slice, left);
+	free_value(right_slice, right);
 	return *order != 0;
 }
 
@@ -1273,40 +1125,39 @@ is_compressed(Datum datum)
 static int
 compare_datums(Datum left, Datum right)
 {
-	VjsonParts	left_parts;
-	VjsonParts	right_parts;
-	struct varlena *left_key;
-	struct varlena *right_key;
+	Range		left_key;
+	Range		right_key;
+	struct varlena *left_value;
+	struct varlena *right_value;
 	int			order;
 
 	if ((is_compressed(left) || is_compressed(right)) && compare_compressed(left, right, &order))
 		return order < 0 ? -1 : order > 0;
-	left_key = get_key(left, &left_parts);
-	right_key = get_key(right, &right_parts);
-	order = compare_keys(&left_parts, &right_parts);
-	free_key(left_key, left);
-	free_key(right_key, right);
+	left_value = value_of(left, &left_key);
+	right_value = value_of(right, &right_key);
+	order = compare_keys(left_key, right_key);
+	free_value(left_value, left);
+	free_value(right_value, right);
 	return order;
 }
 
 static bool
 equal_datums(Datum left, Datum right)
 {
-	VjsonParts	left_parts;
-	VjsonParts	right_parts;
-	struct varlena *left_key;
-	struct varlena *right_key;
+	Range		left_key;
+	Range		right_key;
+	struct varlena *left_value;
+	struct varlena *right_value;
 	int			order;
 	bool		equal;
 
 	if ((is_compressed(left) || is_compressed(right)) && compare_compressed(left, right, &order))
 		return order == 0;
-	left_key = get_key(left, &left_parts);
-	right_key = get_key(right, &right_parts);
-	equal = left_parts.key_size == right_parts.key_size &&
-		memcmp(left_parts.key, right_parts.key, left_parts.key_size) == 0;
-	free_key(left_key, left);
-	free_key(right_key, right);
+	left_value = value_of(left, &left_key);
+	right_value = value_of(right, &right_key);
+	equal = same_bytes(left_key, right_key);
+	free_value(left_value, left);
+	free_value(right_value, right);
 	return equal;
 }
 
@@ -1400,8 +1251,8 @@ vjson_abbreviate(Datum original, SortSupport ssup)
 {
 	VjsonSort  *sort = (VjsonSort *) ssup->ssup_extra;
 	bool		slice = sort->pivot_size > 0 && VARATT_IS_COMPRESSED(DatumGetPointer(original));
-	VjsonParts	parts;
-	struct varlena *value = slice ? get_front(original, &parts) : get_key(original, &parts);
+	Range		key;
+	struct varlena *value = slice ? front_of(original, &key) : value_of(original, &key);
 	size_t		limit;
 	size_t		front = 0;
 	bool		below;
@@ -1409,32 +1260,32 @@ vjson_abbreviate(Datum original, SortSupport ssup)
 
 	if (sort->pivot_size == 0)
 	{
-		sort->pivot_size = Min(parts.key_size, FRONT_LIMIT);
+		sort->pivot_size = Min(key.size, FRONT_LIMIT);
 		sort->pivot = MemoryContextAlloc(ssup->ssup_cxt, Max(sort->pivot_size, 1));
-		memcpy(sort->pivot, parts.key, sort->pivot_size);
+		memcpy(sort->pivot, key.at, sort->pivot_size);
 	}
 
 	for (;;)
 	{
-		limit = Min(parts.key_size, sort->pivot_size);
+		limit = Min(key.size, sort->pivot_size);
 		while (front + sizeof(uint64) <= limit &&
-			   memcmp(parts.key + front, sort->pivot + front, sizeof(uint64)) == 0)
+			   memcmp(key.at + front, sort->pivot + front, sizeof(uint64)) == 0)
 			front += sizeof(uint64);
-		while (front < limit && parts.key[front] == sort->pivot[front])
+		while (front < limit && key.at[front] == sort->pivot[front])
 			front++;
-		if (!slice || front + SHOWN_BYTES <= parts.key_size)
+		if (!slice || front + SHOWN_BYTES <= key.size)
 			break;
 		slice = false;			/* the slice may be too short */
-		free_key(value, original);
-		value = get_key(original, &parts);
+		free_value(value, original);
+		value = value_of(original, &key);
 	}
 
 	/* No key begins another: one with all bytes of the pivot is the pivot, or has FRONT_LIMIT bytes in common. */
-	below = front < limit && parts.key[front] < sort->pivot[front];
+	below = front < limit && key.at[front] < sort->pivot[front];
 	result = below ? (uint64) front : (uint64) (2 * FRONT_LIMIT + 1 - front);
 	for (size_t i = front; i < front + SHOWN_BYTES; i++)
-		result = (result << 8) | (i < parts.key_size ? parts.key[i] : 0);
-	free_key(value, original);
+		result = (result << 8) | (i < key.size ? key.at[i] : 0);
+	free_value(value, original);
 
 	sort->input_count++;
 	if (sort->estimating)
@@ -1500,23 +1351,23 @@ vjson_sortsupport(PG_FUNCTION_ARGS)
 Datum
 vjson_hash(PG_FUNCTION_ARGS)
 {
-	VjsonParts	parts;
+	Range		key;
 	Datum		datum = PG_GETARG_DATUM(0);
-	struct varlena *value = get_key(datum, &parts);
-	Datum		result = hash_any(parts.key, (int) parts.key_size);
+	struct varlena *value = value_of(datum, &key);
+	Datum		result = hash_any(key.at, (int) key.size);
 
-	free_key(value, datum);
+	free_value(value, datum);
 	PG_RETURN_DATUM(result);
 }
 
 Datum
 vjson_hash_extended(PG_FUNCTION_ARGS)
 {
-	VjsonParts	parts;
+	Range		key;
 	Datum		datum = PG_GETARG_DATUM(0);
-	struct varlena *value = get_key(datum, &parts);
-	Datum		result = hash_any_extended(parts.key, (int) parts.key_size, PG_GETARG_INT64(1));
+	struct varlena *value = value_of(datum, &key);
+	Datum		result = hash_any_extended(key.at, (int) key.size, PG_GETARG_INT64(1));
 
-	free_key(value, datum);
+	free_value(value, datum);
 	PG_RETURN_DATUM(result);
 }

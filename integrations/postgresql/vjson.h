@@ -1,7 +1,7 @@
 /*-------------------------------------------------------------------------
  *
  * vjson.h
- *	  What the files of the extension share: the parts of a stored value.
+ *	  What the files of the extension share: stored values, and what is made of them.
  *
  *-------------------------------------------------------------------------
  */
@@ -41,22 +41,12 @@
 	} while (0)
 #endif
 
-#define KEY_ALONE		0
-#define KEY_AND_ZEROS	1
-#define KEY_AND_TEXT	2
-
-#define FORM_SIZE		1
-#define KEY_SIZE_SIZE	sizeof(uint32)
-
-/* The parts of a value. */
-typedef struct
-{
-	int			form;
-	const unsigned char *key;
-	size_t		key_size;
-	const unsigned char *rest;	/* zeros or text */
-	size_t		rest_size;
-} VjsonParts;
+/*
+ * A datum is a document of the library: the sort key of the value and, where
+ * decimals end in zeros, these behind it.  A key's first byte is above those of
+ * the forms that older versions stored (old_forms.c), which are still read.
+ */
+#define OLD_FORMS		3
 
 /* A range of bytes: a key, a name in a key, or a name in UTF-8. */
 typedef struct
@@ -64,6 +54,13 @@ typedef struct
 	const unsigned char *at;
 	size_t		size;
 } Range;
+
+/* A document, which begins with its key. */
+typedef struct
+{
+	Range		key;
+	size_t		size;
+} Document;
 
 /* Why a text in UTF-8 was rejected: what the library says of it, and that in words. */
 typedef struct
@@ -172,56 +169,84 @@ extern Datum vjson_of_item(JsonbContainer *array, uint32 index);
 extern struct varlena *vjson_checked_for_output(struct varlena *value);
 
 /* The written text in UTF-8, of at most 1 GB, with a zero byte at its end. */
-extern char *vjson_text(const VjsonParts *parts, size_t *size);
+extern char *vjson_text(const Document *document, size_t *size);
 
 /* The written text in the encoding of the database, with a zero byte at its end. */
-extern char *vjson_server_text(const VjsonParts *parts);
+extern char *vjson_server_text(const Document *document);
 
-/* The value of a key and of the zeros of its numbers. An error is raised if it takes more than 1 GB. */
-extern struct varlena *vjson_of_key(Range key, Range zeros);
+/* A call of the library that writes to the start of a buffer. */
+typedef uint32 (*Writes) (const void *arguments, unsigned char *buffer, size_t capacity, size_t *size);
 
-/* The value of a part of the key, with the zeros of its numbers. */
-extern struct varlena *vjson_part(const VjsonParts *whole, Range part);
+/*
+ * What a call writes, in a block of its own behind so many bytes, and with space
+ * for a zero byte behind it.  It is tried with this capacity first.  NULL where
+ * there is no such part, or nothing changes.
+ */
+extern char *vjson_written(Writes write, const void *arguments, size_t front, size_t capacity, size_t *size);
 
-/* That as a text: a string without its quotes and escapes, and NULL where it is null. */
-extern text *vjson_part_text(const VjsonParts *whole, Range part);
+/* The value of a document of so many bytes, which were written to a block behind VARHDRSZ bytes. */
+extern struct varlena *vjson_value(char *block, size_t size);
 
-/* The parts of the value, or of its first bytes where it is a slice. */
-static inline void
-get_parts(struct varlena *value, bool slice, VjsonParts *parts)
+/* The value of a key without zeros. */
+extern struct varlena *vjson_of_key(Range key);
+
+/* The value of a part of the document's key, with the zeros of its numbers. */
+extern struct varlena *vjson_part(const Document *whole, Range part);
+
+/* A document, and a part, as a text: a string without its quotes and escapes, and NULL where it is null. */
+extern text *vjson_text_of(const Document *document);
+extern text *vjson_part_text(const Document *whole, Range part);
+
+/* The text of a string's key, or of a name's, in the encoding of the database. */
+extern text *vjson_text_of_string(Range key, bool is_name);
+
+/* The document of a value that an older version stored, and its key, for which no document is made. */
+extern Document vjson_old_document(Range value);
+extern Range vjson_old_key(Range value, bool is_slice);
+
+static inline Range
+bytes_of(struct varlena *value)
 {
-	const unsigned char *data = (const unsigned char *) VARDATA_ANY(value);
-	size_t		size = VARSIZE_ANY_EXHDR(value);
-	uint32		key_size;
+	Range		bytes = {(const unsigned char *) VARDATA_ANY(value), VARSIZE_ANY_EXHDR(value)};
 
-	if (size < FORM_SIZE)
+	if (unlikely(bytes.size == 0))
 		vjson_raise_corrupted();
-	parts->form = data[0];
-	data += FORM_SIZE;
-	size -= FORM_SIZE;
-	if (likely(parts->form == KEY_ALONE))
-	{
-		parts->key = data;
-		parts->key_size = size;
-		parts->rest = NULL;
-		parts->rest_size = 0;
-		return;
-	}
-	if (parts->form > KEY_AND_TEXT || size < KEY_SIZE_SIZE)
-		vjson_raise_corrupted();
-	memcpy(&key_size, data, KEY_SIZE_SIZE);
-	data += KEY_SIZE_SIZE;
-	size -= KEY_SIZE_SIZE;
-	if (key_size > size)
-	{
-		if (!slice)
-			vjson_raise_corrupted();
-		key_size = size;
-	}
-	parts->key = data;
-	parts->key_size = key_size;
-	parts->rest = data + key_size;
-	parts->rest_size = size - key_size;
+	return bytes;
+}
+
+static inline Document
+get_document(struct varlena *value)
+{
+	Range		bytes = bytes_of(value);
+	Document	document = {bytes, bytes.size};
+
+	if (unlikely(*bytes.at < OLD_FORMS))
+		return vjson_old_document(bytes);
+	document.key.size = vizhoniku_document_key(bytes.at, bytes.size);
+	return document;
+}
+
+static inline Range
+get_key(struct varlena *value)
+{
+	Range		bytes = bytes_of(value);
+
+	if (unlikely(*bytes.at < OLD_FORMS))
+		return vjson_old_key(bytes, false);
+	bytes.size = vizhoniku_document_key(bytes.at, bytes.size);
+	return bytes;
+}
+
+static inline Document
+document_of_datum(Datum datum)
+{
+	return get_document((struct varlena *) PG_DETOAST_DATUM_PACKED(datum));
+}
+
+static inline Range
+key_of_datum(Datum datum)
+{
+	return get_key((struct varlena *) PG_DETOAST_DATUM_PACKED(datum));
 }
 
 #endif							/* VJSON_H */

@@ -1,11 +1,12 @@
 """Documents in LMDB, one for each value, in the order of their values.
 
-A document is stored under its sort key. LMDB bounds its keys, at 511 bytes as Debian builds it. A sort key past the
-bound is cut, and the beginning of a hash of the whole key follows what is left. A cut key that differs from
-another key still has the order of the values; documents whose cut keys are equal are sorted by their whole keys when
-they are read.
+A document is stored under its sort key, and what is stored there is the rest of it (vizhoniku.Document): nothing where
+no decimal ends in zeros. LMDB bounds its keys, at 511 bytes as Debian builds it. A sort key past the bound is cut, the
+beginning of a hash of the whole key follows what is left, and the whole document is stored there. A cut key that differs
+from another key still has the order of the values; documents whose cut keys are equal are sorted by their whole keys
+when they are read.
 
-A sort key is a document too (vizhoniku.Key), so that parts are found in the keys, with no text read or parsed.
+An environment in which the texts of documents were stored, as an older version did it, is read as well.
 
 Numbers with an exponent are taken as vizhoniku takes them, and stored as decimals without one.
 """
@@ -18,6 +19,8 @@ import lmdb
 import vizhoniku
 
 _HASH = 16  # bytes of the hash behind a cut key
+_END = b"\xff"  # of a document with zeros behind its key; no text has this byte
+_ABOVE_TEXTS = 0x80  # the first byte of a long document, which is no number, is from here on, and that of a text below
 
 
 class Documents:
@@ -36,101 +39,107 @@ class Documents:
     def _is_cut(self, stored: bytes) -> bool:
         return len(stored) == self._bound
 
+    def _document(self, stored: bytes, value: bytes) -> vizhoniku.Document:
+        if self._is_cut(stored):
+            is_text, whole = value[0] < _ABOVE_TEXTS, value
+        else:
+            is_text, whole = bool(value) and not value.endswith(_END), stored + value
+        return vizhoniku.Document(value.decode(), self._mode) if is_text else vizhoniku.Document.from_bytes(whole)
+
     def put(self, text: vizhoniku.Text) -> bool:
         """Stores the document, and returns whether it is new. One of an equal value stays as it was."""
-        document, whole = vizhoniku.text_and_key(text, self._mode)
-        stored = self._stored(whole)
+        document = vizhoniku.Document(text, self._mode)
+        key = bytes(document.key)
+        stored = self._stored(key)
+        value = bytes(document) if self._is_cut(stored) else bytes(document)[len(key):]
         with self._environment.begin(write=True) as transaction:
-            if transaction.put(stored, document.encode(), overwrite=False):
+            if transaction.put(stored, value, overwrite=False):
                 return True
-            self._same(transaction.get(stored), whole)
+            self._find(transaction, key)
             return False
 
     def get(self, text: vizhoniku.Text) -> Optional[str]:
-        """The stored document whose value equals the text's, or None."""
-        whole = vizhoniku.sort_key(text, self._mode)
+        """The text of the stored document whose value equals the text's, or None."""
         with self._environment.begin() as transaction:
-            found = transaction.get(self._stored(whole))
-            return None if found is None else self._same(found, whole)
+            found = self._find(transaction, vizhoniku.sort_key(text, self._mode))
+            return None if found is None else found.text()
+
+    def _find(self, transaction: lmdb.Transaction, key: bytes) -> Optional[vizhoniku.Document]:
+        stored = self._stored(key)
+        value = transaction.get(stored)
+        if value is None:
+            return None
+        document = self._document(stored, value)
+        if bytes(document.key) != key:
+            raise RuntimeError("two documents that differ have one hash")
+        return document
 
     def between(self, low: vizhoniku.Text, high: vizhoniku.Text) -> Iterator[str]:
-        """The documents from low up to and without high, in the order of their values."""
-        with self._environment.begin() as transaction:
-            for whole in self._keys(transaction, low, high):
-                yield self._text(transaction, whole)
+        """The texts of the documents from low up to and without high, in the order of their values."""
+        return (document.text() for document in self.documents(low, high))
 
     def __iter__(self) -> Iterator[str]:
-        """All documents, in the order of their values."""
-        with self._environment.begin() as transaction:
-            for whole in self._keys(transaction, None, None):
-                yield self._text(transaction, whole)
+        """The texts of all documents, in the order of their values."""
+        return (document.text() for document in self.documents())
 
     def keys(self, low: Optional[vizhoniku.Text] = None, high: Optional[vizhoniku.Text] = None
              ) -> Iterator[vizhoniku.Key]:
-        """The documents from low up to and without high, as keys. No text is read but those of cut keys."""
-        with self._environment.begin() as transaction:
-            for whole in self._keys(transaction, low, high):
-                yield vizhoniku.Key.from_bytes(whole)
+        """The keys of the documents from low up to and without high.
 
-    def part(self, key: vizhoniku.Key, path: vizhoniku.Text) -> Optional[vizhoniku.Key]:
+        ValueError is raised where something else is stored in the environment.
+        """
+        return (vizhoniku.Key.from_bytes(bytes(document.key)) for document in self.documents(low, high))
+
+    def documents(self, low: Optional[vizhoniku.Text] = None, high: Optional[vizhoniku.Text] = None
+                  ) -> Iterator[vizhoniku.Document]:
+        """The documents from low up to and without high, in the order of their values."""
+        first = b"" if low is None else vizhoniku.sort_key(low, self._mode)
+        last = None if high is None else vizhoniku.sort_key(high, self._mode)
+        with self._environment.begin() as transaction:
+            for document in self._from(transaction, first[:self._bound - _HASH]):
+                key = bytes(document.key)
+                if last is not None and key >= last:
+                    return
+                if key >= first:
+                    yield document
+
+    def part(self, key: vizhoniku.Key, path: vizhoniku.Text) -> Optional[vizhoniku.Document]:
         """The part at the path of the stored document whose key this is. None where either isn't there."""
-        part, whole = key.get(path), bytes(key)
-        if part is None:
+        if key.get(path) is None:
             return None
-        with self._environment.begin() as transaction, transaction.cursor() as cursor:
-            if not cursor.set_key(self._stored(whole)):
-                return None
-            if self._is_cut(cursor.key()):
-                self._same(cursor.value(), whole)
-            return part
+        with self._environment.begin() as transaction:
+            found = self._find(transaction, bytes(key))
+            return None if found is None else found.get(path)
 
     def where(self, path: vizhoniku.Text, low: vizhoniku.Text, high: Optional[vizhoniku.Text] = None) -> Iterator[str]:
-        """The documents whose part at the path equals low or, with high, is from low up to and without high.
+        """The texts of the documents whose part at the path equals low or, with high, is from low up to and without high.
 
-        They are in the order of their values. All keys are read, and the texts of these documents.
+        They are in the order of their values. All documents are read.
         """
         first = vizhoniku.Key(low, self._mode)
         last = None if high is None else vizhoniku.Key(high, self._mode)
         first.get(path)  # so that a path that is none is rejected where nothing is stored too
-        with self._environment.begin() as transaction:
-            for whole in self._keys(transaction, None, None):
-                part = vizhoniku.Key.from_bytes(whole).get(path)
-                if part is not None and (part == first if last is None else first <= part < last):
-                    yield self._text(transaction, whole)
 
-    def _text(self, transaction: lmdb.Transaction, whole: bytes) -> str:
-        document: str = transaction.get(self._stored(whole)).decode()
-        return document
+        def is_wanted(document: vizhoniku.Document) -> bool:
+            part = document.key.get(path)
+            return part is not None and (part == first if last is None else first <= part < last)
 
-    def _keys(self, transaction: lmdb.Transaction, low: Optional[vizhoniku.Text], high: Optional[vizhoniku.Text]
-              ) -> Iterator[bytes]:
-        first = b"" if low is None else vizhoniku.sort_key(low, self._mode)
-        last = None if high is None else vizhoniku.sort_key(high, self._mode)
-        for whole in self._from(transaction, first[:self._bound - _HASH]):
-            if last is not None and whole >= last:
-                return
-            if whole >= first:
-                yield whole
+        return (document.text() for document in self.documents() if is_wanted(document))
 
-    def _from(self, transaction: lmdb.Transaction, first: bytes) -> Iterator[bytes]:
-        run: List[bytes] = []  # whole keys of documents whose cut keys are equal
+    def _from(self, transaction: lmdb.Transaction, first: bytes) -> Iterator[vizhoniku.Document]:
+        run: List[vizhoniku.Document] = []  # those whose cut keys are equal
         front = b""
         with transaction.cursor() as cursor:
             if not cursor.set_range(first):
                 return
-            for stored in cursor.iternext(keys=True, values=False):
+            for stored, value in cursor:
                 if run and not (self._is_cut(stored) and stored.startswith(front)):
                     yield from sorted(run)
                     run = []
+                document = self._document(stored, value)
                 if self._is_cut(stored):
                     front = stored[:-_HASH]
-                    run.append(vizhoniku.sort_key(cursor.value().decode(), self._mode))
+                    run.append(document)
                 else:
-                    yield stored
+                    yield document
         yield from sorted(run)
-
-    def _same(self, found: bytes, whole: bytes) -> str:
-        document = found.decode()
-        if vizhoniku.sort_key(document, self._mode) != whole:
-            raise RuntimeError("two documents that differ have one hash")
-        return document

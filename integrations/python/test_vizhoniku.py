@@ -1798,23 +1798,53 @@ class InLmdb(unittest.TestCase):
     def test_part(self) -> None:
         for order in self.put_orders():
             key = v.Key(json.dumps(order))
-            self.assertEqual(self.documents.part(key, "/number"), v.Key(str(order["number"])))
-            self.assertEqual(self.documents.part(key, "/tags"), v.Key(json.dumps(order["tags"])))
-            self.assertEqual(self.documents.part(key, ""), key)
+            self.assertEqual(self.documents.part(key, "/number"), v.Document(str(order["number"])))
+            self.assertEqual(self.documents.part(key, "/tags"), v.Document(json.dumps(order["tags"])))
+            self.assertEqual(self.documents.part(key, ""), v.Document(key.text()))
             self.assertIsNone(self.documents.part(key, "/tags/2"))
             order["number"] += 1000
             self.assertIsNone(self.documents.part(v.Key(json.dumps(order)), "/number"))  # it isn't stored
 
-    def test_parts_are_of_keys(self) -> None:
-        """What a text says doesn't matter where its key isn't cut."""
-        self.documents.put('{"a": 1}')
+    def test_digits_are_kept(self) -> None:
+        self.assertTrue(self.documents.put('{"price": 1.50, "of": [2.0, 3]}'))
+        self.assertFalse(self.documents.put('{"price": 1.5, "of": [2, 3]}'))
+        self.assertTrue(self.documents.put('["%s", 1.50]' % ("x" * 600)))
+        stored, long = '{"of":[2.0,3],"price":1.50}', '["%s",1.50]' % ("x" * 600)
+        self.assertEqual(list(self.documents), [stored, long])
+        self.assertEqual(self.documents.get('{"price": 1.500, "of": [2, 3.0]}'), stored)
+        self.assertEqual(list(self.documents.where("/price", "1.5")), [stored])
+        self.assertEqual([document.text() for document in self.documents.documents()], [stored, long])
+        part = self.documents.part(v.Key(stored), "/price")
+        assert part is not None
+        self.assertEqual(part.text(), "1.50")
+        part = self.documents.part(v.Key(long), "/1")
+        assert part is not None
+        self.assertEqual(part.text(), "1.50")
+
+    def test_what_is_stored(self) -> None:
+        """Nothing but the zeros beside a key, and the whole document beside one that is cut."""
+        long = '["%s",1.50]' % ("x" * 600)
+        for text in ('{"a": 1.5}', "1.50", long):
+            self.documents.put(text)
+        with self.environment.begin() as transaction, transaction.cursor() as cursor:
+            self.assertEqual([value for _, value in cursor],
+                             [bytes.fromhex("000102ff"), b"", bytes(v.Document(long))])
+
+    def test_texts_that_were_stored(self) -> None:
+        """What an older version stored are texts."""
+        texts = ['{"a":1.50,"b":2}', "7", "1.50", '"x"', '["%s",1.50]' % ("x" * 600), '"%s"' % ("y" * 600), "null"]
         with self.environment.begin(write=True) as transaction:
-            transaction.put(v.sort_key('{"a": 1}'), b"\xff")
-        self.assertEqual([key.text() for key in self.documents.keys()], ['{"a":1}'])
-        self.assertEqual(self.documents.part(v.Key('{"a": 1}'), "/a"), v.Key("1"))
-        self.assertEqual(list(self.documents.where("/a", "2")), [])
+            for text in texts:
+                transaction.put(self.documents._stored(v.sort_key(text)), text.encode())
+        self.assertEqual(sorted(self.documents), sorted(texts))
+        self.assertEqual([key.text() for key in self.documents.keys("0", '""')], ["1.5", "7"])
+        for text in texts:
+            self.assertEqual(self.documents.get(text), text)
+            self.assertFalse(self.documents.put(text))
+
+    def test_what_is_no_document(self) -> None:
         with self.environment.begin(write=True) as transaction:
-            transaction.put(b"no key", b"1")
+            transaction.put(b"no key", b"")
         self.assertRaises(ValueError, list, self.documents.keys())
 
     def test_exponents(self) -> None:
@@ -1831,7 +1861,7 @@ class InLmdb(unittest.TestCase):
         self.assertEqual([key.text() for key in self.documents.keys("1e-7", "[1e2]")], [stored])
         self.assertEqual(list(self.documents.where("/share", "1e-07")), [stored])
         self.assertEqual(list(self.documents.where("/1", "1e1", "1e3")), [long])
-        self.assertEqual(self.documents.part(v.Key("[1e2]"), "/0"), v.Key("1e2"))
+        self.assertEqual(self.documents.part(v.Key("[1e2]"), "/0"), v.Document("1e2"))
         for call in (self.documents.put, self.documents.get):
             with self.assertRaises(v.RejectedText) as raised:
                 call("[1e300]")
@@ -1843,16 +1873,16 @@ class InLmdb(unittest.TestCase):
         with unittest.mock.patch("lmdb_documents.hashlib.sha256") as hash_of:
             hash_of.return_value.digest.return_value = bytes(32)
             self.assertTrue(self.documents.put(one))
-            self.assertEqual(self.documents.part(v.Key(one), ""), v.Key(one))
+            self.assertEqual(self.documents.part(v.Key(one), ""), v.Document(one))
             for call in (self.documents.put, self.documents.get, lambda text: self.documents.part(v.Key(text), "/a")):
                 with self.assertRaisesRegex(RuntimeError, "two documents that differ have one hash"):
                     call(two)
 
     def test_no_path(self) -> None:
         self.assertRaises(v.PathError, self.documents.part, v.Key("1"), "a")
-        self.assertRaises(v.PathError, list, self.documents.where("a", "1"))
-        self.assertRaises(v.RejectedText, list, self.documents.where("/a", "[1"))
-        self.assertRaises(v.RejectedText, list, self.documents.where("/a", "1", "[1"))
+        self.assertRaises(v.PathError, self.documents.where, "a", "1")
+        self.assertRaises(v.RejectedText, self.documents.where, "/a", "[1")
+        self.assertRaises(v.RejectedText, self.documents.where, "/a", "1", "[1")
 
     def test_readers_that_stop_early(self) -> None:
         self.put_orders()

@@ -1,6 +1,6 @@
 //! Documents: values with all digits of their numbers, in the order of the values.
 
-use crate::{ffi, utf8, write, Error, Key, KeyRef};
+use crate::{ffi, utf8, write_of, Error, Key, KeyRef};
 use std::fmt;
 
 /// A value as a store keeps it: its sort key, and behind it the zeros that end its decimals, so that `1.50` stays so.
@@ -216,13 +216,7 @@ impl Document {
         capacity: usize,
         call: impl Fn(*const u8, usize, *mut u8, usize, &mut usize) -> u32,
     ) -> Result<Option<Vec<u8>>, Error> {
-        let (bytes, status) =
-            write(capacity, |buffer, capacity, size| call(self.0.as_ptr(), self.0.len(), buffer, capacity, size))?;
-        match status {
-            ffi::ACCEPTED => Ok(Some(bytes)),
-            ffi::NO_PART => Ok(None),
-            _ => Err(Error::of_document(status)),
-        }
+        write_of(&self.0, capacity, call, Error::of_document)
     }
 }
 

@@ -1,7 +1,7 @@
 //! Sort keys as documents.
 
 use crate::ffi;
-use crate::{utf8, write, Error};
+use crate::{utf8, write, write_of, Error};
 use std::borrow::Borrow;
 use std::fmt;
 use std::ops::Deref;
@@ -465,13 +465,7 @@ impl KeyRef {
         capacity: usize,
         call: impl Fn(*const u8, usize, *mut u8, usize, &mut usize) -> u32,
     ) -> Result<Option<Vec<u8>>, Error> {
-        let (bytes, status) =
-            write(capacity, |buffer, capacity, size| call(self.0.as_ptr(), self.0.len(), buffer, capacity, size))?;
-        match status {
-            ffi::ACCEPTED => Ok(Some(bytes)),
-            ffi::NO_PART => Ok(None),
-            _ => Err(Error::of_key(status)),
-        }
+        write_of(&self.0, capacity, call, Error::of_key)
     }
 }
 

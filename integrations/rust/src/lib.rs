@@ -68,6 +68,22 @@ pub(crate) fn write(capacity: usize, mut call: impl FnMut(*mut u8, usize, &mut u
     }
 }
 
+/// What a call writes of a key or a document, or `None` where it says `NO_PART`.
+pub(crate) fn write_of(
+    bytes: &[u8],
+    capacity: usize,
+    call: impl Fn(*const u8, usize, *mut u8, usize, &mut usize) -> u32,
+    error: fn(u32) -> Error,
+) -> Result<Option<Vec<u8>>, Error> {
+    let (written, status) =
+        write(capacity, |buffer, capacity, size| call(bytes.as_ptr(), bytes.len(), buffer, capacity, size))?;
+    match status {
+        ffi::ACCEPTED => Ok(Some(written)),
+        ffi::NO_PART => Ok(None),
+        _ => Err(error(status)),
+    }
+}
+
 /// The error of the status of a call with texts, of which none is rejected.
 fn accept(status: u32) -> Result<(), Error> {
     match status {

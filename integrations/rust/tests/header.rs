@@ -1,10 +1,11 @@
 //! The functions and the structs of src/ffi.rs are those of vizhoniku.h. The crate has no call for the zeros of decimals,
-//! compares documents and makes keys and paths by Rust's own types.
+//! takes one part of a document at a time, leaves no names and nulls out, and compares documents and makes keys and paths
+//! by Rust's own types.
 
 use std::collections::BTreeMap;
 use std::path::Path;
 
-const LEFT_OUT: [&str; 10] = [
+const LEFT_OUT: [&str; 18] = [
     "vizhoniku_zeros_of_text",
     "vizhoniku_text_with_zeros",
     "vizhoniku_key_numbers",
@@ -15,6 +16,14 @@ const LEFT_OUT: [&str; 10] = [
     "vizhoniku_path_step",
     "vizhoniku_document_compare",
     "vizhoniku_document_range",
+    "vizhoniku_document_begin",
+    "vizhoniku_document_next",
+    "vizhoniku_is_strict",
+    "vizhoniku_key_integer",
+    "vizhoniku_key_of_integer",
+    "vizhoniku_document_without",
+    "vizhoniku_document_strip_nulls",
+    "vizhoniku_document_insert",
 ];
 
 fn between<'a>(text: &'a str, left: &str, right: &str) -> Vec<(&'a str, &'a str)> {
@@ -39,6 +48,7 @@ fn in_rust(declared: &str) -> String {
         "size_t" => "usize",
         "size_t*" => "*mut usize",
         "int32_t*" => "*mut i32",
+        "int64_t*" => "*mut i64",
         "uint32_t*" => "*mut u32",
         "const unsigned char*" => "*const u8",
         "unsigned char*" => "*mut u8",
@@ -47,6 +57,7 @@ fn in_rust(declared: &str) -> String {
         "struct vizhoniku_location*" => "*mut Location",
         "struct vizhoniku_key_cursor*" => "*mut KeyCursor",
         "struct vizhoniku_key_entry*" => "*mut KeyEntry",
+        "struct vizhoniku_document_cursor*" => "*mut DocumentCursor",
         other => panic!("a type that isn't known: {other}"),
     };
     format!("{name}: {kind}")
