@@ -26,38 +26,56 @@ def index_of(step):
     return -number if 0 < number < 2 ** 64 else None
 
 
-def changed(tree, path, new, create):
-    """The tree with another part at the path, or without it where `new` is REMOVE; None where nothing changes."""
-    if not path or tree[0] not in ("array", "object"):
-        return None
-    step, rest = path[0], path[1:]
-    parts = list(tree[1])
+def slot_of(tree, step):
+    """Where a step leads in an object or an array: the index of the part, or None where there is none, and the index at
+    which an item is put then. None where the step is no index of an array."""
     if tree[0] == "object":
-        at = next((i for i, member in enumerate(parts) if member[1] == step), None)
-    else:
-        index = index_of(step)
-        if index is None:
-            return None
-        at = index + (len(parts) if index < 0 else 0)
-        missing = 0 if at < 0 else len(parts)
-        at = at if 0 <= at < len(parts) else None
-    if at is None:
-        if rest or new is REMOVE or not create:
-            return None
-        if tree[0] == "array":
-            parts.insert(missing, new)
-        else:
-            parts = sorted(parts + [("owned", step, 0, new)], key=lambda member: member[1])
-        return (tree[0], parts)
-    if rest:
-        new = changed(parts[at][3] if tree[0] == "object" else parts[at], rest, new, create)
-        if new is None:
-            return None
+        return next((i for i, member in enumerate(tree[1]) if member[1] == step), None), None
+    index = index_of(step)
+    if index is None:
+        return None
+    at = index + (len(tree[1]) if index < 0 else 0)
+    return (at, at) if 0 <= at < len(tree[1]) else (None, 0 if at < 0 else len(tree[1]))
+
+
+def part_in(tree, at):
+    """The item, or the value of the member, at the index."""
+    return tree[1][at] if tree[0] == "array" else tree[1][at][3]
+
+
+def with_part(tree, at, new):
+    """The tree with another item or value at the index, or without it where `new` is REMOVE."""
+    parts = list(tree[1])
     if new is REMOVE:
         del parts[at]
     else:
         parts[at] = new if tree[0] == "array" else (*parts[at][:3], new)
     return (tree[0], parts)
+
+
+def with_new(tree, step, at, new):
+    """The object with a member more, of that name, or the array with an item more, at the index."""
+    if tree[0] == "array":
+        return ("array", [*tree[1][:at], new, *tree[1][at:]])
+    return ("object", sorted([*tree[1], ("owned", step, 0, new)], key=lambda member: member[1]))
+
+
+def changed(tree, path, new, create):
+    """The tree with another part at the path, or without it where `new` is REMOVE; None where nothing changes."""
+    if not path or tree[0] not in ("array", "object"):
+        return None
+    step, rest = path[0], path[1:]
+    slot = slot_of(tree, step)
+    if slot is None:
+        return None
+    at, put_at = slot
+    if at is None:
+        return None if rest or new is REMOVE or not create else with_new(tree, step, put_at, new)
+    if rest:
+        new = changed(part_in(tree, at), rest, new, create)
+        if new is None:
+            return None
+    return with_part(tree, at, new)
 
 
 def inserted(tree, path, new, after):
@@ -67,29 +85,16 @@ def inserted(tree, path, new, after):
     if not path or tree[0] not in ("array", "object"):
         return None
     step, rest = path[0], path[1:]
-    parts = list(tree[1])
-    if tree[0] == "object":
-        at = next((i for i, member in enumerate(parts) if member[1] == step), None)
-    else:
-        at = index_of(step)
-        if at is None:
-            return None
-        before_all = at < -len(parts)
-        at += len(parts) if at < 0 else 0
+    slot = slot_of(tree, step)
+    if slot is None:
+        return None
+    at, put_at = slot
     if rest:
-        if at is None or not 0 <= at < len(parts):
-            return None
-        inner = inserted(parts[at][3] if tree[0] == "object" else parts[at], rest, new, after)
-        if inner is None or inner is PRESENT:
-            return inner
-        parts[at] = inner if tree[0] == "array" else (*parts[at][:3], inner)
-    elif tree[0] == "array":
-        parts.insert(0 if before_all else min(at + after, len(parts)), new)
-    elif at is not None:
-        return PRESENT
-    else:
-        parts = sorted(parts + [("owned", step, 0, new)], key=lambda member: member[1])
-    return (tree[0], parts)
+        inner = None if at is None else inserted(part_in(tree, at), rest, new, after)
+        return inner if inner is None or inner is PRESENT else with_part(tree, at, inner)
+    if at is None:
+        return with_new(tree, step, put_at, new)
+    return PRESENT if tree[0] == "object" else with_new(tree, step, at + after, new)
 
 
 def merged(left, right):
