@@ -364,41 +364,20 @@ uint32_t vizhoniku_key_push(const unsigned char *key, size_t key_size, const uns
 uint32_t vizhoniku_key_merge(const unsigned char *left, size_t left_size, const unsigned char *right, size_t right_size,
                              unsigned char *buffer, size_t buffer_size, size_t *size);
 
-/* The zeros that end decimals. A sort key has all of a value but them: 1.5 and 1.50 have one key. Stored beside the key
- * they give the text of the value again:
+/* The zeros that end decimals, where they are stored apart from a sort key, which has all of a value but them (documents,
+ * below, hold both): writes the text of a value from the one that vizhoniku_key_text writes of its key, and its zeros.
  *
- *  - vizhoniku_zeros_of_text writes the zeros of a value from its text, as vizhoniku_text wrote that. A text without a
- *    point has none.
- *  - vizhoniku_text_with_zeros writes the text, from the one that vizhoniku_key_text writes of the key, and the zeros.
- *
- * They have an entry for each number with such zeros, in the order of the text: how many numbers without any come before
- * it, since the last entry (LEB128: seven bits in a byte, the lowest first, with the highest bit where more follow), and
- * how many zeros it has, in one byte. They are never longer than the text.
+ * The zeros have an entry for each number that some end behind the point, in the order of the text: how many numbers
+ * without any come before it, since the last entry (LEB128: seven bits in a byte, the lowest first, with the highest bit
+ * where more follow), and how many zeros it has, in one byte.
  *
  *  - VIZHONIKU_ACCEPTED: *size bytes were written. The rest of the buffer is as before.
  *  - VIZHONIKU_TOO_SHORT: *size bytes are needed, and nothing was written.
  *  - VIZHONIKU_NO_ZEROS: the bytes aren't the text of a value, or not the zeros of one with this text. *size is 0, and
  *    nothing was written. Not all such bytes are found: of others any bytes may be written.
  *  - VIZHONIKU_OUT_OF_MEMORY: *size is 0, and nothing was written. */
-uint32_t vizhoniku_zeros_of_text(const unsigned char *text, size_t text_size, unsigned char *buffer, size_t buffer_size,
-                                 size_t *size);
-
 uint32_t vizhoniku_text_with_zeros(const unsigned char *text, size_t text_size, const unsigned char *zeros,
                                    size_t zeros_size, unsigned char *buffer, size_t buffer_size, size_t *size);
-
-/* Counts the numbers of a part of a value, and those before it in the value, from the value's key and the range in it
- * that is the part's key, as the calls above give it. VIZHONIKU_NO_KEY: no part was found there; both are 0. */
-uint32_t vizhoniku_key_numbers(const unsigned char *key, size_t key_size, size_t offset, size_t size, size_t *before,
-                               size_t *numbers);
-
-/* Writes the entries of the numbers from index first to index first + numbers - 1, where the index of a value's first
- * number is 0. With 0 in *plain these are the zeros of a part, where first and numbers are what vizhoniku_key_numbers
- * gives for it. To put together the zeros of several parts, write those of each behind those before it: *plain is how
- * many numbers without zeros come last in what was written before, and the call changes it to how many come last then.
- * The statuses are as above, and *plain changes with VIZHONIKU_ACCEPTED alone. VIZHONIKU_NO_ZEROS: the bytes aren't the
- * zeros of so many numbers. */
-uint32_t vizhoniku_zeros_of_numbers(const unsigned char *zeros, size_t zeros_size, size_t first, size_t numbers,
-                                    size_t *plain, unsigned char *buffer, size_t buffer_size, size_t *size);
 
 /* Documents: values as a store keeps them, in their order, and with the zeros that end their decimals. A sort key has all
  * of a value but these: 1.5 and 1.50 have one key. A document is the sort key of a value, and where zeros end some of its

@@ -62,14 +62,8 @@ uint32_t proved_key_push(const unsigned char *key, size_t key_size, const unsign
                          unsigned char *buffer, size_t buffer_size, size_t *size);
 uint32_t proved_key_merge(const unsigned char *left, size_t left_size, const unsigned char *right, size_t right_size,
                           unsigned char *buffer, size_t buffer_size, size_t *size);
-uint32_t proved_zeros_of_text(const unsigned char *text, size_t text_size, unsigned char *buffer, size_t buffer_size,
-                              size_t *size);
 uint32_t proved_text_with_zeros(const unsigned char *text, size_t text_size, const unsigned char *zeros,
                                 size_t zeros_size, unsigned char *buffer, size_t buffer_size, size_t *size);
-uint32_t proved_key_numbers(const unsigned char *key, size_t key_size, size_t offset, size_t size, size_t *before,
-                            size_t *numbers);
-uint32_t proved_zeros_of_numbers(const unsigned char *zeros, size_t zeros_size, size_t first, size_t numbers,
-                                 size_t *plain, unsigned char *buffer, size_t buffer_size, size_t *size);
 uint32_t proved_document(uint32_t mode, const unsigned char *text, size_t text_size, unsigned char *buffer,
                          size_t buffer_size, size_t *size, struct vizhoniku_error *error);
 uint32_t proved_document_check(const unsigned char *document, size_t document_size);
@@ -282,26 +276,10 @@ uint32_t vizhoniku_key_merge(const unsigned char *left, size_t left_size, const 
                           buffer_at(buffer, buffer_size), buffer_size, size);
 }
 
-uint32_t vizhoniku_zeros_of_text(const unsigned char *text, size_t text_size, unsigned char *buffer, size_t buffer_size,
-                                 size_t *size) {
-  return proved_zeros_of_text(bytes_at(text, text_size), text_size, buffer_at(buffer, buffer_size), buffer_size, size);
-}
-
 uint32_t vizhoniku_text_with_zeros(const unsigned char *text, size_t text_size, const unsigned char *zeros,
                                    size_t zeros_size, unsigned char *buffer, size_t buffer_size, size_t *size) {
   return proved_text_with_zeros(bytes_at(text, text_size), text_size, bytes_at(zeros, zeros_size), zeros_size,
                                 buffer_at(buffer, buffer_size), buffer_size, size);
-}
-
-uint32_t vizhoniku_key_numbers(const unsigned char *key, size_t key_size, size_t offset, size_t size, size_t *before,
-                               size_t *numbers) {
-  return proved_key_numbers(bytes_at(key, key_size), key_size, offset, size, before, numbers);
-}
-
-uint32_t vizhoniku_zeros_of_numbers(const unsigned char *zeros, size_t zeros_size, size_t first, size_t numbers,
-                                    size_t *plain, unsigned char *buffer, size_t buffer_size, size_t *size) {
-  return proved_zeros_of_numbers(bytes_at(zeros, zeros_size), zeros_size, first, numbers, plain,
-                                 buffer_at(buffer, buffer_size), buffer_size, size);
 }
 
 uint32_t vizhoniku_document(uint32_t mode, const unsigned char *text, size_t text_size, unsigned char *buffer,

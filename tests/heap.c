@@ -97,8 +97,7 @@ struct text {
   size_t size, room;
 };
 
-static void add(struct text *text, const char *bytes) {
-  size_t size = strlen(bytes);
+static void append(struct text *text, const void *bytes, size_t size) {
   if (text->size + size > text->room) {
     text->room = 2 * (text->room + size);
     text->bytes = __real_realloc(text->bytes, text->room);
@@ -110,6 +109,8 @@ static void add(struct text *text, const char *bytes) {
   memcpy(text->bytes + text->size, bytes, size);
   text->size += size;
 }
+
+static void add(struct text *text, const char *bytes) { append(text, bytes, strlen(bytes)); }
 
 /* What the documents are made of. */
 enum kind {
@@ -328,7 +329,6 @@ enum key_function {
   KEY_PART,
   KEY_STRING,
   KEY_CONTAINS,
-  KEY_NUMBERS,
   KEY_ESCAPED_PART,
   KEY_TEXT,
   KEY_SET,
@@ -349,9 +349,7 @@ enum key_function {
   DOCUMENT_MERGE,
   DOCUMENT_WITHOUT,
   DOCUMENT_STRIP,
-  ZEROS_OF_TEXT,
   TEXT_WITH_ZEROS,
-  ZEROS_OF_NUMBERS,
   PLAIN_NUMBERS,
   MASKED_NUMBERS,
   KEY_OF_STRING,
@@ -365,19 +363,19 @@ enum key_function {
 
 static const char *const key_functions[] = {
     "vizhoniku_key_check", "vizhoniku_key_count", "vizhoniku_key_next", "vizhoniku_key_member", "vizhoniku_key_item",
-    "vizhoniku_key_part", "vizhoniku_key_string", "vizhoniku_key_contains", "vizhoniku_key_numbers",
+    "vizhoniku_key_part", "vizhoniku_key_string", "vizhoniku_key_contains",
     "vizhoniku_key_part with an escape", "vizhoniku_key_text", "vizhoniku_key_set", "vizhoniku_key_remove",
     "vizhoniku_key_put", "vizhoniku_key_push", "vizhoniku_key_merge", "vizhoniku_document_check", "vizhoniku_document_text",
     "vizhoniku_document_part",
     "vizhoniku_document_range", "vizhoniku_document_next", "vizhoniku_document_set", "vizhoniku_document_remove",
     "vizhoniku_document_put", "vizhoniku_document_push", "vizhoniku_document_insert", "vizhoniku_document_merge",
-    "vizhoniku_document_without", "vizhoniku_document_strip_nulls", "vizhoniku_zeros_of_text",
-    "vizhoniku_text_with_zeros", "vizhoniku_zeros_of_numbers", "vizhoniku_plain_numbers", "vizhoniku_masked_numbers",
+    "vizhoniku_document_without", "vizhoniku_document_strip_nulls",
+    "vizhoniku_text_with_zeros", "vizhoniku_plain_numbers", "vizhoniku_masked_numbers",
     "vizhoniku_key_of_string", "vizhoniku_key_of_integer", "vizhoniku_path_step", "vizhoniku_error_path",
 };
 
-/* The zeros of the text that the functions over zeros take, which is passed in the place of a key as that of the
- * functions behind them is, and that text with the fewest digits. */
+/* What the function over zeros takes: the zeros of a text, which is passed in the place of a key as that of the functions
+ * behind it is, and that text with the fewest digits. */
 static struct text zeros, shortest;
 
 /* Why the text is rejected of which vizhoniku_error_path writes the path. */
@@ -413,7 +411,6 @@ static uint32_t call_over_key(enum key_function function, const struct text *key
         return VIZHONIKU_NO_PART;
       return vizhoniku_key_string(key->bytes + offset, part_size, buffer, room, size);
     case KEY_CONTAINS: return vizhoniku_key_contains(key->bytes, key->size, null_key, sizeof null_key);
-    case KEY_NUMBERS: return vizhoniku_key_numbers(key->bytes, key->size, 0, key->size, &offset, &part_size);
     case KEY_ESCAPED_PART:
       return vizhoniku_key_part(key->bytes, key->size, (const unsigned char *)"/~0/a~1b", 8, &offset, &part_size);
     case KEY_TEXT: return vizhoniku_key_text(key->bytes, key->size, buffer, room, size);
@@ -447,12 +444,8 @@ static uint32_t call_over_key(enum key_function function, const struct text *key
     case DOCUMENT_WITHOUT:
       return vizhoniku_document_without(key->bytes, key->size, names, sizeof names, buffer, room, size);
     case DOCUMENT_STRIP: return vizhoniku_document_strip_nulls(key->bytes, key->size, 1, buffer, room, size);
-    case ZEROS_OF_TEXT: return vizhoniku_zeros_of_text(key->bytes, key->size, buffer, room, size);
     case TEXT_WITH_ZEROS:
       return vizhoniku_text_with_zeros(shortest.bytes, shortest.size, zeros.bytes, zeros.size, buffer, room, size);
-    case ZEROS_OF_NUMBERS:
-      part_size = 0;
-      return vizhoniku_zeros_of_numbers(zeros.bytes, zeros.size, 0, zeros.size / 2, &part_size, buffer, room, size);
     case PLAIN_NUMBERS: return vizhoniku_plain_numbers(key->bytes, key->size, buffer, room, size, &error);
     case MASKED_NUMBERS: return vizhoniku_masked_numbers(key->bytes, key->size, buffer, room, size);
     case KEY_OF_STRING: return vizhoniku_key_of_string(key->bytes, key->size, buffer, room, size);
@@ -502,7 +495,7 @@ static size_t bound_over_key(enum key_function function, const struct text *key,
   if (function == PLAIN_NUMBERS) return 512 + key->size + ROOM(written);
   if (function == MASKED_NUMBERS) return 512 + key->size;
   if (function == ERROR_PATH) return 512 + ROOM(key->size) + ROOM(written) + levels_of(key) * STEP;
-  if (function >= ZEROS_OF_TEXT) return 512 + ROOM(written);
+  if (function >= TEXT_WITH_ZEROS) return 512 + ROOM(written);
   return 512 + 3 * key->size / 2 + ROOM(written);
 }
 
@@ -560,22 +553,18 @@ static void measure_over_key(enum kind kind, int count, const struct text *key, 
   __real_free(buffer);
 }
 
-/* Decimals, each of which a zero ends: the functions over zeros. */
+/* Decimals, each of which a zero ends: the text with these zeros. */
 static void measure_zeros(int count) {
   struct text text = {0};
   zeros.size = shortest.size = 0;
   for (int i = 0; i < count; i++) {
     add(&text, i ? ",12345.50" : "[12345.50");
     add(&shortest, i ? ",12345.5" : "[12345.5");
+    append(&zeros, "\0\1", 2);
   }
   add(&text, count ? "]" : "[]");
   add(&shortest, count ? "]" : "[]");
-  zeros.room = text.size;
-  zeros.bytes = __real_realloc(zeros.bytes, zeros.room);
-  if (!zeros.bytes || vizhoniku_zeros_of_text(text.bytes, text.size, zeros.bytes, zeros.room, &zeros.size) !=
-                          VIZHONIKU_ACCEPTED)
-    exit(2);
-  measure_over_key(NUMBERS, count, &text, ZEROS_OF_TEXT, PLAIN_NUMBERS, 1);
+  measure_over_key(NUMBERS, count, &text, TEXT_WITH_ZEROS, PLAIN_NUMBERS, 1);
   __real_free(text.bytes);
 }
 
@@ -614,7 +603,7 @@ int main(void) {
       struct text text = make((enum kind)kind, counts[i]);
       measure((enum kind)kind, counts[i], &text, VIZHONIKU_ACCEPTED);
       struct text key = key_of(&text);
-      measure_over_key((enum kind)kind, counts[i], &key, KEY_CHECK, ZEROS_OF_TEXT, 1);
+      measure_over_key((enum kind)kind, counts[i], &key, KEY_CHECK, TEXT_WITH_ZEROS, 1);
       __real_free(key.bytes);
       add(&text, "?"); /* a byte too much */
       measure((enum kind)kind, counts[i], &text, VIZHONIKU_REJECTED);

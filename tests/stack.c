@@ -194,8 +194,8 @@ static struct text make(const struct shape *shape) {
  * by a number. */
 enum function {
   CHECK, TEXT, SORT_KEY, TEXT_AND_KEY, DOCUMENT, PART, COMPARE, MESSAGE, REASON, KEY_CHECK, KEY_TEXT, KEY_PART,
-  KEY_COUNT, KEY_CONTAINS, KEY_SET, KEY_REMOVE, KEY_MERGE, KEY_NUMBERS, DOCUMENT_CHECK, DOCUMENT_TEXT, DOCUMENT_PART,
-  DOCUMENT_NEXT, DOCUMENT_SET, DOCUMENT_REMOVE, DOCUMENT_INSERT, DOCUMENT_MERGE, DOCUMENT_STRIP, ZEROS, TEXT_WITH_ZEROS,
+  KEY_COUNT, KEY_CONTAINS, KEY_SET, KEY_REMOVE, KEY_MERGE, DOCUMENT_CHECK, DOCUMENT_TEXT, DOCUMENT_PART,
+  DOCUMENT_NEXT, DOCUMENT_SET, DOCUMENT_REMOVE, DOCUMENT_INSERT, DOCUMENT_MERGE, DOCUMENT_STRIP, TEXT_WITH_ZEROS,
   PLAIN_NUMBERS, MASKED_NUMBERS, ERROR_PATH, FUNCTIONS
 };
 
@@ -205,9 +205,9 @@ static const char *const functions[] = {
     "vizhoniku_compare", "vizhoniku_message", "vizhoniku_reason", "vizhoniku_key_check", "vizhoniku_key_text",
     "vizhoniku_key_part",
     "vizhoniku_key_count", "vizhoniku_key_contains", "vizhoniku_key_set", "vizhoniku_key_remove", "vizhoniku_key_merge",
-    "vizhoniku_key_numbers", "vizhoniku_document_check", "vizhoniku_document_text", "vizhoniku_document_part",
+    "vizhoniku_document_check", "vizhoniku_document_text", "vizhoniku_document_part",
     "vizhoniku_document_next", "vizhoniku_document_set", "vizhoniku_document_remove", "vizhoniku_document_insert",
-    "vizhoniku_document_merge", "vizhoniku_document_strip_nulls", "vizhoniku_zeros_of_text", "vizhoniku_text_with_zeros",
+    "vizhoniku_document_merge", "vizhoniku_document_strip_nulls", "vizhoniku_text_with_zeros",
     "vizhoniku_plain_numbers", "vizhoniku_masked_numbers", "vizhoniku_error_path",
 };
 
@@ -216,12 +216,11 @@ static const size_t told[FUNCTIONS][2] = {
     [CHECK] = {22, 0},        [TEXT] = {22, 110},      [SORT_KEY] = {22, 110},     [TEXT_AND_KEY] = {22, 110},
     [PART] = {22, 110},       [COMPARE] = {22, 110},   [MESSAGE] = {22, 0},        [KEY_CHECK] = {5, 0},
     [KEY_TEXT] = {2, 0},      [KEY_PART] = {2, 0},     [KEY_COUNT] = {2, 0},       [KEY_CONTAINS] = {25, 0},
-    [KEY_SET] = {2, 0},       [KEY_REMOVE] = {2, 0},   [KEY_MERGE] = {2, 0},       [KEY_NUMBERS] = {2, 0},
-    [ZEROS] = {2, 0},         [TEXT_WITH_ZEROS] = {2, 0}, [PLAIN_NUMBERS] = {2, 0},   [MASKED_NUMBERS] = {2, 0},
-    [ERROR_PATH] = {2, 0},    [REASON] = {22, 0},      [DOCUMENT_PART] = {2, 0},   [DOCUMENT_SET] = {2, 0},
-    [DOCUMENT_NEXT] = {2, 0}, [DOCUMENT_INSERT] = {2, 0},
-    [DOCUMENT] = {22, 110},   [DOCUMENT_CHECK] = {5, 0}, [DOCUMENT_TEXT] = {2, 0},  [DOCUMENT_REMOVE] = {2, 0}, [DOCUMENT_MERGE] = {3, 0},
-    [DOCUMENT_STRIP] = {2, 0},
+    [KEY_SET] = {2, 0},       [KEY_REMOVE] = {2, 0},   [KEY_MERGE] = {2, 0},       [TEXT_WITH_ZEROS] = {2, 0},
+    [PLAIN_NUMBERS] = {2, 0}, [MASKED_NUMBERS] = {2, 0}, [ERROR_PATH] = {2, 0},    [REASON] = {22, 0},
+    [DOCUMENT] = {22, 110},   [DOCUMENT_CHECK] = {5, 0}, [DOCUMENT_TEXT] = {2, 0}, [DOCUMENT_PART] = {2, 0},
+    [DOCUMENT_NEXT] = {2, 0}, [DOCUMENT_SET] = {2, 0}, [DOCUMENT_INSERT] = {2, 0}, [DOCUMENT_REMOVE] = {2, 0},
+    [DOCUMENT_MERGE] = {3, 0}, [DOCUMENT_STRIP] = {2, 0},
 };
 
 struct call {
@@ -286,9 +285,6 @@ static void *run(void *given) {
       call->status = vizhoniku_key_merge(call->key, call->key_size, call->key, call->key_size, call->buffer, call->room,
                                          &size);
       break;
-    case KEY_NUMBERS:
-      call->status = vizhoniku_key_numbers(call->key, call->key_size, 0, call->key_size, &size, &key_size);
-      break;
     case DOCUMENT:
       call->status = vizhoniku_document(call->mode, bytes, text_size, call->buffer, call->room, &size, &error);
       break;
@@ -327,7 +323,6 @@ static void *run(void *given) {
     case DOCUMENT_STRIP:
       call->status = vizhoniku_document_strip_nulls(call->key, call->key_size, 1, call->buffer, call->room, &size);
       break;
-    case ZEROS: call->status = vizhoniku_zeros_of_text(bytes, text_size, call->buffer, call->room, &size); break;
     case TEXT_WITH_ZEROS:
       call->status = vizhoniku_text_with_zeros(bytes, text_size, NULL, 0, call->buffer, call->room, &size);
       break;

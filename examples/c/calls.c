@@ -119,20 +119,13 @@ static void write_path(uint32_t mode, const char *text, size_t buffer_size) {
   printf("\n");
 }
 
-/* The zeros of a text, the text with them, and the zeros of its second and third number. */
-static void write_zeros(const char *text, const char *shortest, size_t buffer_size) {
-  unsigned char zeros[40], buffer[40];
-  size_t zeros_size = 99, size = 99, plain = 1;
-  memset(zeros, 0, sizeof zeros);
+/* The text of a value, from the one with the fewest digits and the value's zeros. */
+static void write_zeros(const char *shortest, const unsigned char *zeros, size_t zeros_size, size_t buffer_size) {
+  unsigned char buffer[40];
+  size_t size = 99;
   memset(buffer, '.', sizeof buffer);
-  uint32_t status = vizhoniku_zeros_of_text(BYTES(text), zeros, buffer_size, &zeros_size);
-  printf("zeros of %s: status %u size %zu bytes ", text, (unsigned)status, zeros_size);
-  for (size_t i = 0; i < 8; i++) printf("%02x", (unsigned)zeros[i]);
-  if (status != VIZHONIKU_ACCEPTED) zeros_size = 0;
-  status = vizhoniku_text_with_zeros(BYTES(shortest), zeros, zeros_size, buffer, buffer_size, &size);
-  printf(" text: status %u size %zu buffer %.16s", (unsigned)status, size, (char *)buffer);
-  status = vizhoniku_zeros_of_numbers(zeros, zeros_size, 1, 2, &plain, buffer, buffer_size, &size);
-  printf(" some: status %u size %zu plain %zu\n", (unsigned)status, size, plain);
+  uint32_t status = vizhoniku_text_with_zeros(BYTES(shortest), zeros, zeros_size, buffer, buffer_size, &size);
+  printf("%s with zeros: status %u size %zu buffer %.21s\n", shortest, (unsigned)status, size, (char *)buffer);
 }
 
 /* The sort key of a text, whose parts the functions below find. */
@@ -171,12 +164,6 @@ static void find_part(const char *path) {
   size_t offset = 99, size = 99;
   uint32_t status = vizhoniku_key_part(key, key_size, BYTES(path), &offset, &size);
   print_range("part", status, offset, size);
-}
-
-static void count_numbers(size_t offset, size_t size) {
-  size_t before = 99, numbers = 99;
-  uint32_t status = vizhoniku_key_numbers(key, key_size, offset, size, &before, &numbers);
-  printf("numbers at %zu: status %u before %zu in it %zu\n", offset, (unsigned)status, before, numbers);
 }
 
 static void walk(void) {
@@ -333,15 +320,8 @@ static void pass_null_keys(void) {
   printf(" string %u", (unsigned)vizhoniku_key_string(NULL, 0, NULL, 0, &size));
   printf(" name %u", (unsigned)vizhoniku_key_name(NULL, 0, NULL, 0, &size));
   printf(" contains %u", (unsigned)vizhoniku_key_contains(NULL, 0, NULL, 0));
-  printf(" numbers %u", (unsigned)vizhoniku_key_numbers(NULL, 0, 0, 0, &offset, &count));
-  printf(" %zu %zu\n", offset, count);
-  printf("null zeros: %u", (unsigned)vizhoniku_zeros_of_text(NULL, 0, NULL, 0, &size));
-  printf(" size %zu", size);
-  printf(" text %u", (unsigned)vizhoniku_text_with_zeros(NULL, 0, NULL, 0, NULL, 0, &size));
-  printf(" size %zu", size);
-  count = 7;
-  printf(" some %u", (unsigned)vizhoniku_zeros_of_numbers(NULL, 0, 0, 2, &count, NULL, 0, &size));
-  printf(" size %zu plain %zu\n", size, count);
+  printf("\nnull with zeros: %u", (unsigned)vizhoniku_text_with_zeros(NULL, 0, NULL, 0, NULL, 0, &size));
+  printf(" size %zu\n", size);
 }
 
 /* Prints the status, the size and the bytes of a key that was changed. */
@@ -699,9 +679,9 @@ int main(void) {
   write_key_text(key, sizeof key, 16);
   write_key_text(key, 0, 16);
 
-  write_zeros("[1.50,2,\"3.0\",4.000]", "[1.5,2,\"3.0\",4]", 40);
-  write_zeros("[1.50,2,\"3.0\",4.000]", "[1.5,2,\"3.0\",4]", 3);
-  write_zeros("[1,\"2.0", "[1,2]", 40);
+  write_zeros("[1.5,2,\"3.0\",4]", (const unsigned char *)"\0\1\1\3", 4, 40);
+  write_zeros("[1.5,2,\"3.0\",4]", (const unsigned char *)"\0\1\1\3", 4, 3);
+  write_zeros("[1,2]", (const unsigned char *)"\2\1", 2, 40);
   write_plain("[1e-7, \"1e5\", 1.50E+1]", 40);
   write_plain("[1e-7]", 5);
   write_plain("[1, 1e400]", 40);
@@ -712,10 +692,6 @@ int main(void) {
   write_path(VIZHONIKU_STANDARD, "[1, x]", 1);
   write_path(9, "1", 40);
   make_key("{a: [1.50, {b: 2}], c: 3}");
-  count_numbers(0, key_size);
-  count_numbers(4, key_size - 11);
-  count_numbers(key_size - 4, 2);
-  count_numbers(key_size, 0);
 
   pass_null(VIZHONIKU_STANDARD);
   pass_null(VIZHONIKU_EXTENDED);

@@ -49,14 +49,14 @@ static const char *const texts[] = {
 };
 
 /* Each function of the library that takes memory, by a number below this one. */
-#define FUNCTIONS 35
+#define FUNCTIONS 33
 
 static uint32_t call(int which, uint32_t mode, const unsigned char *text, size_t text_size, size_t capacity) {
   static const unsigned char path[] = {'/', 'c', '/', 'k'};
   static const unsigned char key[] = {0xD2, 0xD0, 'a', '\n', 0, 1, 0xA1, 0x1E, 0xD1, 0, 0, 0};
   static const unsigned char object_key[] = {0xD1, 'c', 0, 1, 0xD1, 'k', 0, 1, 0xD3, 0, 0, 0, 0};
   static const unsigned char document[] = {0xD1, 'c', 0, 1, 0xD2, 0xA1, 0x1E, 0, 0, 0, 5, 1, 2, 0xFF};
-  static const unsigned char decimals[] = "[1.50,2,4.000,5.0]", shortest[] = "[1.5,2,4,5]", zeros[] = {0, 1, 1, 3, 0, 1};
+  static const unsigned char shortest[] = "[1.5,2,4,5]", zeros[] = {0, 1, 1, 3, 0, 1};
   unsigned char buffer[400], key_buffer[400];
   struct vizhoniku_error error;
   struct vizhoniku_document_cursor cursor;
@@ -80,41 +80,37 @@ static uint32_t call(int which, uint32_t mode, const unsigned char *text, size_t
     case 9: return vizhoniku_key_remove(object_key, sizeof object_key, path, sizeof path, buffer, capacity, &size);
     case 10: return vizhoniku_key_merge(object_key, sizeof object_key, key, sizeof key, buffer, capacity, &size);
     case 12: return vizhoniku_key_put(object_key, sizeof object_key, path, 2, key, sizeof key, buffer, capacity, &size);
-    case 14: return vizhoniku_zeros_of_text(decimals, sizeof decimals - 1, buffer, capacity, &size);
-    case 15:
+    case 14:
       return vizhoniku_text_with_zeros(shortest, sizeof shortest - 1, zeros, sizeof zeros, buffer, capacity, &size);
-    case 16:
-      size = 0;
-      return vizhoniku_zeros_of_numbers(zeros, sizeof zeros, 0, 3, &size, buffer, capacity, &key_size);
     case 13: return vizhoniku_key_push(key, sizeof key, key, sizeof key, buffer, capacity, &size);
     case 11:
       return vizhoniku_key_merge(object_key, sizeof object_key, object_key, sizeof object_key, buffer, capacity, &size);
-    case 17: return vizhoniku_reason(mode, text, text_size, buffer, capacity, &size);
-    case 18: return vizhoniku_key_of_string(key + 2, 2, buffer, capacity, &size);
-    case 19: return vizhoniku_path_step(path, sizeof path, buffer, capacity, &size);
-    case 20:
+    case 15: return vizhoniku_reason(mode, text, text_size, buffer, capacity, &size);
+    case 16: return vizhoniku_key_of_string(key + 2, 2, buffer, capacity, &size);
+    case 17: return vizhoniku_path_step(path, sizeof path, buffer, capacity, &size);
+    case 18:
       return vizhoniku_document_part(document, sizeof document, path, 2, buffer, capacity, &size);
-    case 21: return vizhoniku_document_range(document, sizeof document, 5, 2, buffer, capacity, &size);
-    case 22:
+    case 19: return vizhoniku_document_range(document, sizeof document, 5, 2, buffer, capacity, &size);
+    case 20:
       return vizhoniku_document_set(document, sizeof document, path, sizeof path, document, sizeof document, 1, buffer,
                                     capacity, &size);
-    case 23: return vizhoniku_document_remove(document, sizeof document, path, 2, buffer, capacity, &size);
-    case 24:
+    case 21: return vizhoniku_document_remove(document, sizeof document, path, 2, buffer, capacity, &size);
+    case 22:
       return vizhoniku_document_put(document, sizeof document, path, 2, document, sizeof document, buffer, capacity,
                                     &size);
-    case 25:
+    case 23:
       return vizhoniku_document_merge(document, sizeof document, document, sizeof document, buffer, capacity, &size);
-    case 26: return vizhoniku_document(mode, text, text_size, buffer, capacity, &size, &error);
-    case 27: return vizhoniku_document_text(document, sizeof document, buffer, capacity, &size);
-    case 28: return vizhoniku_document_check(document, sizeof document);
-    case 29:
+    case 24: return vizhoniku_document(mode, text, text_size, buffer, capacity, &size, &error);
+    case 25: return vizhoniku_document_text(document, sizeof document, buffer, capacity, &size);
+    case 26: return vizhoniku_document_check(document, sizeof document);
+    case 27:
       if (vizhoniku_document_begin(document, sizeof document, &cursor)) return VIZHONIKU_NO_DOCUMENT;
       return vizhoniku_document_next(document, sizeof document, &cursor, &entry, buffer, capacity, &size);
-    case 30: return vizhoniku_key_of_integer(-1500, buffer, capacity, &size);
-    case 31:
+    case 28: return vizhoniku_key_of_integer(-1500, buffer, capacity, &size);
+    case 29:
       return vizhoniku_document_without(object_key, sizeof object_key, document, sizeof document, buffer, capacity, &size);
-    case 32: return vizhoniku_document_strip_nulls(document, sizeof document, 1, buffer, capacity, &size);
-    case 33:
+    case 30: return vizhoniku_document_strip_nulls(document, sizeof document, 1, buffer, capacity, &size);
+    case 31:
       return vizhoniku_document_insert(document, sizeof document, path, sizeof path, document, sizeof document, 0,
                                        buffer, capacity, &size);
     default: return vizhoniku_compare(mode, text, text_size, text, text_size, &order, &error);

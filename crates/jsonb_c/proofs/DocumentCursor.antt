@@ -52,9 +52,6 @@ no_parts (timestamp micros) s = refl
 no_parts (timestamp_tz offset micros) s = refl
 no_parts (interval months days micros) s = refl
 
-pub none_begun : (t : Tree) (cursor : DocumentCursor) → all_parts t ≡ None → IsBegunBefore t (all_parts t) 5 cursor
-none_begun t cursor e = subst (λ parts. IsBegunBefore t parts 5 cursor) (sym e) refl
-
 -- ---- the part at the cursor
 
 -- The first part that is left is at this range, and the cursor is behind it.

@@ -19,13 +19,6 @@ use Rattle.key_zeros.proofs.Joining.{zeros_joined}
 
 -- ---- bytes written, and left out
 
-pub bytes_written : (o : Output) (bytes counts behind : List ℕ) (old new : Vec ℕ Global) → o ≡ Bytes → new.items ≡ old.items ++ bytes → WritesOn o bytes counts behind (Ok Bytes) old new
-bytes_written o bytes counts behind old new is e = subst (λ x. WritesOn x bytes counts behind (Ok Bytes) old new) (sym is) (e, tt, λ later later_counts. refl)
-
-pub bytes_lacking : (o : Output) (bytes counts behind : List ℕ) (r : Result Output DocumentError) (old new : Vec ℕ Global) → o ≡ Bytes → IsErrAnd r (λ e. e ≡ OutOfMemory) → vec_capacity old < vec_len old + length bytes → WritesOn o bytes counts behind r old new
-bytes_lacking o bytes counts behind (Ok x) old new is h full = absurd h
-bytes_lacking o bytes counts behind (Err e) old new is h full = subst (λ x. WritesOn x bytes counts behind (Err e) old new) (sym is) (h, full)
-
 module _ (plain : ℕ) (left : Option (ℕ × ℕ × Bor (List ℕ))) (counts behind : List ℕ) (size : ℕ) (long : length counts ≡ size) where
   pub taken : take size (counts ++ behind) ≡ counts
   taken = ap (λ n. take n (counts ++ behind)) (sym long) ∙ take-append_seam counts behind
@@ -44,18 +37,9 @@ module _ (plain : ℕ) (left : Option (ℕ × ℕ × Bor (List ℕ))) (counts be
         λ later later_counts. zeros_joined plain counts later_counts ∙ ap (λ n. zeros_of plain counts ++ zeros_of n later_counts) (sym more_is),
       )
 
-  pub zeros_lacking : (o : Output) (bytes : List ℕ) (r : Result Output DocumentError) (old new : Vec ℕ Global) (error : DocumentError) → o ≡ Zeros plain left → IsErrAnd r (λ e. e ≡ error) → (error ≡ OutOfMemory) × (vec_capacity old < vec_len old + length (zeros_of plain (take size (counts ++ behind))))
-      → WritesOn o bytes counts behind r old new
-  zeros_lacking o bytes (Ok x) old new error is h full = absurd h
-  zeros_lacking o bytes (Err e) old new error is h full =
-      subst (λ y. WritesOn y bytes counts behind (Err e) old new) (sym is) (h ∙ full.0, subst (λ l. vec_capacity old < vec_len old + length (zeros_of plain l)) taken full.1)
-
   pub zeros_left_out : (o : Output) (rest : Option (ℕ × ℕ × Bor (List ℕ))) → o ≡ Zeros plain left → AreAhead (Zeros plain left) (counts ++ behind) → Pends (drop size (counts ++ behind)) rest → LeavesOut o behind (Ok (Zeros plain rest))
   zeros_left_out o rest is a p =
       subst (λ y. LeavesOut y behind (Ok (Zeros plain rest))) (sym is) ((subst (λ l. Pends l rest) dropped p, omega (arith, a.1, length-append counts behind)), λ later later_counts. refl)
-
-pub bytes_left_out : (o : Output) (behind : List ℕ) → o ≡ Bytes → LeavesOut o behind (Ok Bytes)
-bytes_left_out o behind is = subst (λ y. LeavesOut y behind (Ok Bytes)) (sym is) (tt, λ later later_counts. refl)
 
 -- what is written of bytes is part of what is written of more
 pub front_output : (o : Output) (bytes more counts more_counts : List ℕ) → length (output_of o bytes counts) ≤ length (output_of o (bytes ++ more) (counts ++ more_counts))

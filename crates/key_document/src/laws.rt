@@ -36,8 +36,8 @@ pub fn each_byte_has_a_count()
     ensures { (t : Tree) → IsProper t → length (counts_at t) ≡ length (key_of t) }
 {}
 
-/// Where the key of a part is in that of a value, the counts of its bytes are in the same slot. So the zeros of
-/// a part are had by `write_zeros_of_numbers`, with the offset and the size of its key.
+/// Where the key of a part is in that of a value, the counts of its bytes are in the same slot. So the zeros of a part
+/// are had with the offset and the size of its key.
 pub fn parts_have_their_zeros()
     ensures occur { (t part : Tree) → IsProper t → (before : List ℕ) → (numbers : ℕ)
         → OccursIn t before numbers part → IsPartBehind t before part }

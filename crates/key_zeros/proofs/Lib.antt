@@ -4,12 +4,10 @@ pub mod Decimals
 pub mod Sevens
 pub mod Finding
 pub mod Splitting
-pub mod Collecting
 pub mod Restoring
 pub mod Errors
 pub mod Counting
 pub mod Taking
 pub mod Telling
 pub mod Joining
-pub mod Backwards
 pub mod Ahead

@@ -42,11 +42,6 @@ seven_written n left old now new h is s = go s.more s.below s.underway
       underway = goes_on new ((128 + left % 128) ∷ []) (in_sevens more (left / 128)) u (many more left h) is;
     }
 
-pub last_written : (n left : ℕ) (old now new : List ℕ) → left < 128 → new ≡ now ++ left ∷ [] → SevensLeft n left old now → new ≡ old ++ in_sevens 8 n
-last_written n left old now new h is s =
-    let u = goes_on new (left ∷ []) [] s.underway (few s.more left h) is in
-    u.appended ∙ ap (λ t. old ++ t) (sym (u.whole ∙ append-nil u.front))
-
 pub some_sevens : (more n : ℕ) → 0 < length (in_sevens more n)
 some_sevens zero n = omega (arith, ap length (last n))
 some_sevens (suc more) n = elim (cases_lt n 128) [
@@ -71,9 +66,6 @@ pub record SevensToCome (all n unit : ℕ) (rest more : List ℕ) : Type 0 where
 -- Whatever number the bytes begin with, the rest of it is left.
 abbrev pub ReadsSevens : List ℕ → ℕ → ℕ → List ℕ → Type 0
 ReadsSevens bytes n unit rest = (all : ℕ) → all < 2 ^ 63 → (more : List ℕ) → bytes ≡ in_sevens 8 all ++ more → SevensToCome all n unit rest more
-
-pub sevens_to_come : (bytes : List ℕ) → ReadsSevens bytes 0 1 bytes
-sevens_to_come bytes = λ all small more e. record { groups = 8; left = all; scale = refl; sum = omega arith; occurs = e }
 
 -- a byte that is the last one
 pub last_read : (byte : ℕ) (others bytes rest : List ℕ) (n unit : ℕ) → ReadsSevens bytes n unit rest → rest ≡ byte ∷ others → byte < 128 → (all : ℕ) → all < 2 ^ 63 → (more : List ℕ) → bytes ≡ in_sevens 8 all ++ more → (n + byte * unit ≡ all) × (others ≡ more)

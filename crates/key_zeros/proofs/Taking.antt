@@ -205,13 +205,3 @@ module _ (plain : ℕ) (taken old now others : List ℕ) (left more before count
         fit = omega (arith, c.fit, less, is_gap, is, cond-false (count == 0) (suc gap) 0 (ne_eqb count 0 (λ e. omega (arith, e, p.some))));
         short = omega (arith, c.short, long);
       }
-
--- ---- what is reported
-
-pub copied_as : (plain : ℕ) (taken : List ℕ) (r : Result ℕ ZerosError) (old new : Vec ℕ Global) (sum : ℕ) → MatchResult r (λ s. s ≡ sum) (λ e. ⊥) → (new.items ≡ old.items ++ zeros_of plain taken) × (sum ≡ plain_at_end plain taken) → CopiesNumbers plain taken r old new
-copied_as plain taken (Ok s) old new sum is x = (x.0, is ∙ x.1)
-copied_as plain taken (Err e) old new sum is x = absurd is
-
-pub no_capacity : (plain : ℕ) (taken : List ℕ) (r : Result ℕ ZerosError) (old new : Vec ℕ Global) → IsErrAnd r (λ e. e ≡ OutOfMemory) → vec_capacity old < vec_len old + length (zeros_of plain taken) → CopiesNumbers plain taken r old new
-no_capacity plain taken (Ok s) old new is full = absurd is
-no_capacity plain taken (Err e) old new is full = (is, full)

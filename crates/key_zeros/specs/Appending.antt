@@ -14,10 +14,6 @@ AppendsOr error result old new bytes = MatchResult result
     (λ _. new.items ≡ old.items ++ bytes)
     (λ e. (e ≡ error) × (vec_capacity old < vec_len old + length bytes))
 
--- Whichever value the text is the serialized form of, this is so of it.
-abbrev pub OfText : List ℕ → (Tree → Type 0) → Type 0
-OfText text Is = (t : Tree) → IsReadable t → text ≡ tree_text t → Is t
-
 -- Whichever value has this text with the fewest digits, and these zeros, this is so of it.
 abbrev pub OfTextAndZeros : List ℕ → List ℕ → (Tree → Type 0) → Type 0
 OfTextAndZeros shortest zeros Is =

@@ -47,37 +47,3 @@ abbrev mutual
 abbrev pub numbers_open : Open → ℕ
 numbers_open (items ts) = length (counts_in_items ts)
 numbers_open (members ms) = length (counts_in_members ms)
-
--- The part is in what is left of it.
-abbrev pub OccursInOpen : Open → List ℕ → ℕ → Tree → Type 0
-OccursInOpen (items ts) before numbers part = OccursInItems ts before numbers part
-OccursInOpen (members ms) before numbers part = OccursInMembers ms before numbers part
-
--- The rest of the bytes begins with the key of a part, before which so many numbers come.
-pub record FoundPart (Occurs : List ℕ → ℕ → Tree → Type 0) (bytes rest : List ℕ) (numbers : ℕ) : Type 0 where
-  pub part : Tree
-  pub before : List ℕ
-  pub occurs : Occurs before numbers part
-  pub inside : bytes ≡ before ++ rest
-  pub behind : List ℕ
-  pub key : rest ≡ key_of part ++ behind
-
--- At the offset a part of the value is whose key has this size, before which so many numbers come, and which has
--- so many.
-pub record IsCounted (t : Tree) (offset size before numbers : ℕ) : Type 0 where
-  pub part : Tree
-  pub front : List ℕ
-  pub occurs : OccursIn t front before part
-  pub offset_is : offset ≡ length front
-  pub size_is : size ≡ length (key_of part)
-  pub numbers_are : numbers ≡ numbers_in part
-
--- So many numbers are counted, and these bytes are left.
-abbrev pub Counts : ℕ → List ℕ → Option (ℕ × Bor (List ℕ)) → Type 0
-Counts numbers more result = MatchOption result ⊥ (λ r. (r.0 ≡ numbers) × (r.1.now ≡ more))
-
--- Where a part is from which on there are so many bytes, the numbers before it are counted, and these are left.
-abbrev pub StopsAtPart : (List ℕ → ℕ → Tree → Type 0) → ℕ → List ℕ → Option (ℕ × Bor (List ℕ)) → Type 0
-StopsAtPart Occurs stop bytes result =
-    (before : List ℕ) → (numbers : ℕ) → (part : Tree) → Occurs before numbers part
-    → stop + length before ≡ length bytes → MatchOption result ⊥ (λ r. (r.0 ≡ numbers) × (length r.1.now ≡ stop))

@@ -16,7 +16,9 @@ use key_walk::walk::front;
 use std::alloc::AllocError;
 
 /// Appends the serialized form of a value, from the one with the fewest digits, as `write_text_of_key` of the crate
-/// `key_text` writes it, and the zeros of the value, as `write_zeros_of_text` writes them. After an error `buf` has
+/// `key_text` writes it, and the zeros of the value: of each number that zeros end behind the point, in the order of
+/// the text, how many numbers without any come before it since the last with some (seven bits in a byte, the lowest
+/// first, and the highest bit where more follow), and how many zeros there are, in one byte. After an error `buf` has
 /// the same bytes as before.
 ///
 /// The time is linear in the text that is appended and the zeros. The only allocations are those of `buf`, and no

@@ -6,10 +6,7 @@ use std::collections::BTreeMap;
 use std::path::Path;
 
 const LEFT_OUT: [&str; 18] = [
-    "vizhoniku_zeros_of_text",
     "vizhoniku_text_with_zeros",
-    "vizhoniku_key_numbers",
-    "vizhoniku_zeros_of_numbers",
     "vizhoniku_message",
     "vizhoniku_key_boolean",
     "vizhoniku_key_of_string",
