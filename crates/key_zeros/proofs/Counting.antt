@@ -1,12 +1,9 @@
 -- What is left while a key is walked.
-use Rattle.std.proofs.Common.{◌≡◌, ◌≢◌, ℕ, zero, suc, ◌+◌, ◌<◌, ◌≤◌, ◌⊎◌, inl, inr, Bool, true, false, ◌&&◌, if◌then◌else◌, List, [], ◌∷◌, ◌++◌, Some, None, get_or, set, length, refl, sym, ap, ap₂, subst, ◌∙◌, arith, append_assoc, append-nil, length-append}
+use Rattle.std.proofs.Common.{◌≡◌, ℕ, zero, suc, ◌+◌, ◌<◌, ◌≤◌, ◌⊎◌, inl, inr, Bool, true, false, ◌&&◌, if◌then◌else◌, List, [], ◌∷◌, ◌++◌, Some, None, get_or, set, length, refl, sym, ap, subst, ◌∙◌, arith, append_assoc, append-nil, length-append}
 use Rattle.std.specs.Bool.{⊤, nat_lt}
-use Rattle.std.proofs.lemmas.Bool.{cond-false, cases_eq, lt-ltb, le-ltb}
+use Rattle.std.proofs.lemmas.Bool.{cond-false, lt-ltb, le-ltb}
 use Rattle.std.proofs.lemmas.List.{get_or-set_same}
-use Rattle.key_value.specs.Readable.{IsAnyNumber, IsReadableAt}
-use Rattle.jsonb_spec.specs.Proper.{AreProper, HaveProperParts}
-use Rattle.jsonb_spec.specs.Text.Range.{AreWithin, HaveWithin}
-use Rattle.key_walk.proofs.Holding.{readable_up}
+use Rattle.key_value.specs.Readable.{IsReadableAt}
 use Rattle.key_walk.specs.Open.{Open, items, members, is_object, open_key, IsOpen, end_key, name_key, opening_byte, IsScalar}
 use Rattle.key_walk.specs.Parts.{opened_tree}
 use Rattle.key_walk.proofs.Opens.{opens_key, AreOpen, Stacks, no_end, stack_retained}
@@ -15,9 +12,8 @@ use Rattle.key_value.proofs.FirstBytes.{no_key}
 use Rattle.jsonb_spec.specs.SortKey.{key_of, items_key, members_key, text_key}
 use Rattle.jsonb_value.proofs.SortKeys.Kinds.{is_small, number_begins}
 use Rattle.jsonb_value.proofs.Trees.Runs.{heads, tails}
-use Rattle.jsonb_spec.specs.Tree.{Tree, null, boolean, string, number, array, object, binary, date, timestamp, timestamp_tz, interval, Trees, no_trees, more_trees, Members, no_members, more_members}
-use Rattle.key_zeros.specs.Zeros.{counts_in, counts_in_items, counts_in_members}
-use Rattle.key_zeros.specs.PartsOf.{numbers_in, number_count, IsWhole, OccursIn, OccursInItems, OccursInMembers, numbers_open, OccursInOpen}
+use Rattle.jsonb_spec.specs.Tree.{Tree, null, boolean, string, number, array, object, no_trees, more_trees, no_members, more_members}
+use Rattle.key_zeros.specs.PartsOf.{numbers_in, number_count}
 
 -- What holds of those that are open.
 pub record Walked (objects : List Bool) (depth : ℕ) (rest more : List ℕ) (Holds : List Open → Type 0) : Type 0 where

@@ -1,10 +1,6 @@
 -- The zeros of numbers that are put together.
-use Rattle.std.proofs.Common.{◌≡◌, ℕ, ◌+◌, ◌≤◌, inl, inr, List, [], ◌∷◌, ◌++◌, length, take, drop, refl, sym, ap, subst, ◌∙◌, arith, append_assoc, append-nil, length-append}
-use Rattle.std.proofs.Math.Seq.{drop-append_seam, take-append_seam}
-use Rattle.jsonb_spec.specs.Tree.{Tree, null, boolean, string, number, array, object, binary, date, timestamp, timestamp_tz, interval, Trees, no_trees, more_trees, Members, no_members, more_members}
-use Rattle.key_zeros.specs.Numbers.{counts_taken}
-use Rattle.key_zeros.specs.PartsOf.{numbers_in, IsWhole, OccursIn, OccursInItems, OccursInMembers}
-use Rattle.key_zeros.specs.Zeros.{counts_in, counts_in_items, counts_in_members, entry_of, plain_behind, zeros_of, plain_at_end}
+use Rattle.std.proofs.Common.{◌≡◌, ℕ, List, [], ◌∷◌, ◌++◌, refl, sym, ap, ◌∙◌, append_assoc}
+use Rattle.key_zeros.specs.Zeros.{entry_of, plain_behind, zeros_of, plain_at_end}
 
 pub zeros_joined : (plain : ℕ) (front back : List ℕ) → zeros_of plain (front ++ back) ≡ zeros_of plain front ++ zeros_of (plain_at_end plain front) back
 zeros_joined plain [] back = refl

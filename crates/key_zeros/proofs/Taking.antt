@@ -1,13 +1,9 @@
 -- The zeros of some of the numbers, from those of all.
-use Rattle.std.proofs.Common.{◌≡◌, ℕ, zero, suc, ◌+◌, ◌-◌, ◌^◌, ◌<◌, ◌≤◌, ◌⊎◌, inl, inr, ◌==◌, List, [], ◌∷◌, ◌++◌, Result, Ok, Err, length, take, drop, replicate, refl, sym, ap, ap₂, subst, ◌∙◌, arith, append-nil, length-append}
+use Rattle.std.proofs.Common.{◌≡◌, ℕ, zero, suc, ◌+◌, ◌-◌, ◌^◌, ◌<◌, ◌≤◌, ◌⊎◌, inl, inr, ◌==◌, List, [], ◌∷◌, ◌++◌, length, take, drop, replicate, refl, sym, ap, ap₂, subst, ◌∙◌, arith, append-nil, length-append}
 use Rattle.std.proofs.lemmas.Bool.{cases_eq, cond-false, ne_eqb}
 use Rattle.std.proofs.lemmas.List.{take-append-le, take-replicate, length-replicate}
 use Rattle.jsonb_value.proofs.Appending.Appended.{IsUnderway, begun, goes_on, fits}
-use Rattle.std.specs.Prelude.{IsErrAnd, MatchResult, Vec, vec_len, vec_capacity}
-use Rattle.std.specs.declared.alloc.Global.{Global}
-use Rattle.key_zeros.specs.declared.error.ZerosError.{ZerosError}
-use Rattle.key_zeros.specs.declared.error.ZerosError.TheVariants.{OutOfMemory}
-use Rattle.key_zeros.specs.Numbers.{PendsAt, CopiesNumbers}
+use Rattle.key_zeros.specs.Numbers.{PendsAt}
 use Rattle.key_zeros.specs.Zeros.{in_sevens, entry_of, plain_behind, zeros_of, plain_at_end}
 use Rattle.key_zeros.proofs.Sevens.{some_sevens}
 use Rattle.key_zeros.proofs.Splitting.{plain_first, entry_first}

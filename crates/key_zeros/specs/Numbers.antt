@@ -1,10 +1,7 @@
 -- The zeros of some of a value's numbers.
-use Rattle.std.specs.Prelude.{◌≡◌, ℕ, ◌+◌, ◌<◌, ◌≤◌, ◌^◌, List, ◌∷◌, ◌++◌, length, take, drop, replicate, MatchResult, Result, Option, Some, None, Vec, vec_len, vec_capacity}
+use Rattle.std.specs.Prelude.{◌≡◌, ℕ, ◌<◌, List, ◌∷◌, ◌++◌, length, take, drop, replicate, Option, Some, None}
 use Rattle.std.specs.Borrow.{Bor}
-use Rattle.std.specs.declared.alloc.Global.{Global}
-use Rattle.key_zeros.specs.Zeros.{zeros_of, plain_at_end}
-use Rattle.key_zeros.specs.declared.error.ZerosError.{ZerosError}
-use Rattle.key_zeros.specs.declared.error.ZerosError.TheVariants.{OutOfMemory}
+use Rattle.key_zeros.specs.Zeros.{zeros_of}
 
 -- of these counts so many, from the first on, whose own index is 0
 abbrev pub counts_taken : ℕ → ℕ → List ℕ → List ℕ

@@ -2,7 +2,7 @@ use Rattle.std.proofs.Common.{length, sym, subst, ap, ◌∙◌, arith, eqb-true
 use Rattle.key_value.proofs.Texts.{none_some, some_same}
 use Rattle.key_zeros.specs.Scan.{ending_of, ZerosAhead}
 use Rattle.key_zeros.proofs.Ahead.{ends_so}
-use Rattle.key_zeros.proofs.write.next_count.Goals as goal
+use Rattle.key_zeros.proofs.next.next_count.Goals as goal
 
 pub returns-in_default : goal.returns-in_default
 returns-in_default c = record { taken = λ count counts a. absurd (none_some a.0 (c.in_default.ensures.found ∙ a.4)) }
