@@ -175,6 +175,12 @@ struct vizhoniku_location {
 void vizhoniku_locate(const unsigned char *text, size_t text_size, const struct vizhoniku_error *error,
                       struct vizhoniku_location *location);
 
+/* Returns which character of the text the byte at an index is of, counted from 1 at the byte at `first`. With the first
+ * byte of the line, location.index - (location.column - 1), that is the column in characters, and with 0 the character
+ * of the text. In UTF-8 each byte but 0x80 to 0xBF begins a character. An index past the end counts as the end of the
+ * text, where one begins too. It is 1 where the index isn't above `first`. */
+size_t vizhoniku_character(const unsigned char *text, size_t text_size, size_t first, size_t index);
+
 /* Writes the error message of the text to the start of the buffer, as the program jsonb_cat prints it, such as
  * `duplicate object attribute "a", pos 10`. The text is parsed for that, so no other call need check it before.
  *

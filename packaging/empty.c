@@ -23,6 +23,7 @@ uint32_t proved_compare(uint32_t mode, const unsigned char *left, size_t left_si
                         size_t right_size, int32_t *order, struct vizhoniku_error *error);
 void proved_locate(const unsigned char *text, size_t text_size, const struct vizhoniku_error *error,
                    struct vizhoniku_location *location);
+size_t proved_character(const unsigned char *text, size_t text_size, size_t first, size_t index);
 uint32_t proved_message(uint32_t mode, const unsigned char *text, size_t text_size, unsigned char *buffer,
                         size_t buffer_size, size_t *size);
 uint32_t proved_reason(uint32_t mode, const unsigned char *text, size_t text_size, unsigned char *buffer,
@@ -159,6 +160,10 @@ uint32_t vizhoniku_compare(uint32_t mode, const unsigned char *left, size_t left
 void vizhoniku_locate(const unsigned char *text, size_t text_size, const struct vizhoniku_error *error,
                       struct vizhoniku_location *location) {
   proved_locate(bytes_at(text, text_size), text_size, error, location);
+}
+
+size_t vizhoniku_character(const unsigned char *text, size_t text_size, size_t first, size_t index) {
+  return proved_character(bytes_at(text, text_size), text_size, first, index);
 }
 
 uint32_t vizhoniku_message(uint32_t mode, const unsigned char *text, size_t text_size, unsigned char *buffer,

@@ -119,6 +119,17 @@ static void write_path(uint32_t mode, const char *text, size_t buffer_size) {
   printf("\n");
 }
 
+/* Which characters bytes are of: in the second line, in the text, within a character, at the end, past it, and before the
+ * first one. */
+static void count_characters(void) {
+  static const unsigned char text[] = "[\"\xC3\xA9\",\n\"\xC3\xA9\xE2\x82\xAC\", x]";
+  const size_t size = sizeof text - 1;
+  printf("characters: %zu %zu %zu", vizhoniku_character(text, size, 7, 16), vizhoniku_character(text, size, 0, 16),
+         vizhoniku_character(text, size, 0, 9));
+  printf(" %zu %zu %zu\n", vizhoniku_character(text, size, 0, size), vizhoniku_character(text, size, 0, size + 9),
+         vizhoniku_character(text, size, 9, 7));
+}
+
 /* The text of a value, from the one with the fewest digits and the value's zeros. */
 static void write_zeros(const char *shortest, const unsigned char *zeros, size_t zeros_size, size_t buffer_size) {
   unsigned char buffer[40];
@@ -299,7 +310,8 @@ static void pass_null(uint32_t mode) {
   printf(" message %u", (unsigned)vizhoniku_message(mode, NULL, 0, NULL, 0, &size));
   printf(" size %zu,", size);
   vizhoniku_locate(NULL, 0, &error, &location);
-  printf(" place %zu %zu %zu\n", location.index, location.line, location.column);
+  printf(" place %zu %zu %zu", location.index, location.line, location.column);
+  printf(" character %zu\n", vizhoniku_character(NULL, 0, 0, location.index));
 }
 
 static void pass_null_keys(void) {
@@ -691,6 +703,7 @@ int main(void) {
   write_path(VIZHONIKU_STANDARD, "{\"a/b\":{\"c\":1,\"c\":2}}", 40);
   write_path(VIZHONIKU_STANDARD, "[1, x]", 1);
   write_path(9, "1", 40);
+  count_characters();
   make_key("{a: [1.50, {b: 2}], c: 3}");
 
   pass_null(VIZHONIKU_STANDARD);

@@ -33,7 +33,8 @@ static int print_failure(uint32_t mode, uint32_t status, const struct vizhoniku_
     return 2;
   }
   vizhoniku_locate(text, text_size, error, &location);
-  fprintf(stderr, "line %zu, column %zu: ", location.line, location.column);
+  fprintf(stderr, "line %zu, column %zu: ", location.line,
+          vizhoniku_character(text, text_size, location.index - (location.column - 1), location.index));
   if (vizhoniku_message(mode, text, text_size, words, sizeof words, &size) == VIZHONIKU_REJECTED)
     fwrite(words, 1, size, stderr);
   else

@@ -207,20 +207,6 @@ shown_line(const char *text, size_t size, const struct vizhoniku_location *where
 	return shown.data;
 }
 
-/* The column counted in characters, as users count it, of a location that counts bytes. */
-static size_t
-column_in_characters(const char *text, size_t size, const struct vizhoniku_location *where)
-{
-	size_t		column = 1;
-
-	for (size_t i = where->index - (where->column - 1) + 1; i <= where->index; i++)
-	{
-		if (i >= size || ((unsigned char) text[i] & 0xC0) != 0x80)
-			column++;
-	}
-	return column;
-}
-
 void
 vjson_locate(const VjsonRejection *why, VjsonLocation *where)
 {
@@ -229,7 +215,8 @@ vjson_locate(const VjsonRejection *why, VjsonLocation *where)
 	vizhoniku_locate((const unsigned char *) why->text, why->size, &why->error, &location);
 	where->index = location.index;
 	where->line = location.line;
-	where->column = column_in_characters(why->text, why->size, &location);
+	where->column = vizhoniku_character((const unsigned char *) why->text, why->size,
+										location.index - (location.column - 1), location.index);
 	where->shown = shown_line(why->text, why->size, &location);
 }
 

@@ -53,19 +53,6 @@ static int read_arguments(sqlite3_context *context, int count, sqlite3_value **v
   return read_mode(context, count, values, 1, mode) && vjson_read_bytes(context, values[0], text, size);
 }
 
-/* How many characters begin in the bytes. */
-static size_t characters(const unsigned char *bytes, size_t size) {
-  size_t count = 0;
-  for (size_t i = 0; i < size; i++) count += (bytes[i] & 0xC0) != 0x80;
-  return count;
-}
-
-/* The number of the character that the byte at the index belongs to, counted from 1 at the byte at `first`. */
-static size_t character_at(const unsigned char *text, size_t size, size_t first, size_t index) {
-  if (index >= size) return characters(text + first, size - first) + 1;
-  return characters(text + first, index + 1 - first);
-}
-
 /* A text as it is read: the one that was passed, or one that was made of it, which has to be freed. */
 struct read_text {
   const unsigned char *at;
@@ -151,7 +138,7 @@ static size_t write_location(char *words, size_t capacity, const struct read_tex
   struct vizhoniku_location location;
   vizhoniku_locate(text->at, text->size, error, &location);
   size_t first = location.index - (location.column - 1);
-  size_t column = text->size ? character_at(text->at, text->size, first, location.index) : 1;
+  size_t column = vizhoniku_character(text->at, text->size, first, location.index);
   return (size_t)snprintf(words, capacity, "%sline %zu, column %zu: ", is_error ? "malformed JSON: " : "",
                           location.line, column);
 }
@@ -235,7 +222,7 @@ static void call_error_position(sqlite3_context *context, int count, sqlite3_val
     sqlite3_result_int(context, 0);
   } else {
     vizhoniku_locate(read.at, read.size, &error, &location);
-    sqlite3_result_int64(context, size ? (sqlite3_int64)character_at(read.at, read.size, 0, location.index) : 1);
+    sqlite3_result_int64(context, (sqlite3_int64)vizhoniku_character(read.at, read.size, 0, location.index));
   }
   sqlite3_free(read.made);
 }

@@ -1,8 +1,10 @@
-//! The path of the part of a document's value at which its text is rejected.
+//! Where a text is rejected: the path of the part of a document's value, and the character.
 #![tactic(auto)]
 
+mod characters;
 mod handler;
 mod path;
 mod steps;
 
+pub use characters::character_at;
 pub use path::{Fault, append_path, append_step, error_path};

@@ -2,9 +2,10 @@
 ghost use Rattle.std.specs.Prelude.{◌≡◌, ◌⊎◌, ◌↔◌, ◌<◌};
 ghost use Rattle.jsonb_c.specs.Interface.{FillsBuffer};
 ghost use Rattle.jsonb_c.specs.Rejected.{IsSomePath};
+ghost use Rattle.error_path.specs.Characters.{character_at};
 
 use crate::{ACCEPTED, OUT_OF_MEMORY, Rejection, TOO_SHORT, UNKNOWN_MODE, choose_mode, put};
-use error_path::{Fault, error_path};
+use error_path::{Fault, character_at, error_path};
 use std::alloc::Global;
 
 // The codes of a repeated key, and of a number that isn't representable.
@@ -50,4 +51,12 @@ fn fault_of(rejection: &Rejection) -> Fault {
         NUMBER_NOT_CARRIED => Fault::Number(rejection.position),
         _ => Fault::Other,
     }
+}
+
+/// Returns which character of the text the byte at `index` is of, counted from 1 at the byte at `first`.
+#[unsafe(no_mangle)]
+pub extern "C" fn vizhoniku_character(text: &[u8], first: usize, index: usize) -> usize
+    ensures { result ≡ character_at text.now first index }
+{
+    character_at(text, first, index)
 }
