@@ -27,3 +27,7 @@ pub mod NamesLeft
 pub mod Answered
 pub mod Stripped
 pub mod Inserting
+pub mod Trailing
+pub mod MostZeros
+pub mod Fitting
+pub mod Checked

@@ -11,7 +11,7 @@ use key_zeros::entry::append_sevens;
 use std::alloc::AllocError;
 
 // The last byte of a document with zeros, with which no key ends.
-const ZEROS_MARK: u8 = 0xFF;
+pub(crate) const ZEROS_MARK: u8 = 0xFF;
 
 /// The key of a document, and its zeros by the bytes of the key. Of other bytes they are two ranges of them.
 ///

@@ -2,6 +2,7 @@
 #![tactic(auto)]
 
 pub mod build;
+pub mod check;
 pub mod cursor;
 pub mod document;
 pub mod edit;
@@ -20,6 +21,7 @@ pub mod text;
 mod zeros;
 
 pub use build::{append_with_item, append_with_member};
+pub use check::is_document;
 pub use cursor::{ZerosLeft, append_next_range, zeros_from};
 pub use document::split_document;
 pub use edit::{append_with_part, append_without_part};

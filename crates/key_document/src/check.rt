@@ -1,0 +1,295 @@
+//! Whether bytes are a document: checked with no memory.
+
+ghost use Rattle.std.specs.Prelude.{◌≡◌, ◌<◌, ◌≤◌, ◌^◌, ◌++◌, ◌↔◌, ℕ, List, length, map, reverse, IfSome, IsTrue, MatchOption};
+ghost use Rattle.jsonb_spec.specs.Proper.{IsProper, IsProperNumber};
+ghost use Rattle.jsonb_spec.specs.SortKey.{digits_key, invert_if, key_of, number_key};
+ghost use Rattle.jsonb_spec.specs.Tree.{Num, Tree};
+ghost use Rattle.key_document.specs.Check.{Fits, IsCounted, IsDocumentInRange, IsStripped, ZerosFit, most_at, most_open, most_zeros};
+ghost use Rattle.key_document.specs.Document.{end_of};
+ghost use Rattle.key_walk.specs.AtKeys.{Leaves, OfKey};
+ghost use Rattle.key_walk.specs.Open.{Open, IsOpen, IsScalar, is_object, open_key};
+ghost use Rattle.key_zeros.specs.PartsOf.{number_count, numbers_in};
+ghost use Rattle.key_zeros.specs.Zeros.{in_sevens};
+
+use crate::document::{ZEROS_MARK, split_document};
+use jsonb_value::sort_key::kind;
+use key_value::number::{invert_if, read_exponent};
+use key_walk::is_sort_key;
+use key_walk::skip::{MAX_DEPTH, after_end, after_name, after_scalar, kind_at, opening, outermost};
+use key_zeros::entry::next_entry;
+use key_zeros::number_count;
+
+// How many digits a number has at most, before the point and behind it.
+const MOST_DIGITS: u32 = 38;
+
+// What `read_exponent` adds to an exponent: a number without digits before the point has this one.
+const POINT: u32 = 255;
+
+/// What is known of the next number with zeros while a key is walked.
+#[derive(Clone, Copy)]
+pub(crate) struct ZerosDue<'z> {
+    /// How many bytes of the key are left where the number's first byte is; 0 where no zeros are left.
+    at: usize,
+    /// How many zeros it has.
+    count: u8,
+    /// The entries behind it.
+    entries: &'z [u8],
+}
+
+/// Whether bytes are the document of a value in range: of JSON's kinds, with at most 512 nested arrays and objects, and
+/// with numbers of at most 38 digits, before and behind the point. So each such document is that of an extended text.
+///
+/// The time is linear. Nothing is allocated, and no function calls itself.
+pub fn is_document(document: &[u8]) -> bool
+    ensures { IsTrue result ↔ IsDocumentInRange document.now }
+{
+    let (first, second) = split_document(document);
+    let (key, behind) = document.split_at(first.len());
+    let (zeros, end) = behind.split_at(second.len());
+    if !is_end(zeros.len(), end) {
+        return false;
+    }
+    if !is_sort_key(key) {
+        return false;
+    }
+    zeros_fit(key, zeros)
+}
+
+// Whether the bytes are what follows zeros that take so many bytes.
+fn is_end(size: usize, bytes: &[u8]) -> bool
+    ensures { size < 2 ^ 63 → IsTrue result ↔ (bytes.now ≡ end_of size) }
+{
+    if size == 0 {
+        return bytes.is_empty();
+    }
+    let Some((last, front)) = bytes.split_last() else {
+        return false;
+    };
+    if *last != ZEROS_MARK {
+        return false;
+    }
+    is_size(size, front)
+}
+
+// Whether the bytes are the number, seven bits in a byte, the lowest last.
+fn is_size(size: usize, bytes: &[u8]) -> bool
+    ensures { size < 2 ^ 63 → IsTrue result ↔ (reverse bytes.now ≡ in_sevens 8 size) }
+{
+    let mut left = size;
+    let mut rest = bytes;
+    'sevens: while let Some((byte, others)) = rest.split_last() {
+        if left < 128 {
+            if usize::from(*byte) != left {
+                return false;
+            }
+            return others.is_empty();
+        }
+        if usize::from(*byte) != 128 + left % 128 {
+            return false;
+        }
+        left /= 128;
+        rest = others;
+    }
+    false
+}
+
+// The bytes behind the number that they begin with, seven bits in a byte, the lowest first.
+fn after_sevens(number: usize, bytes: &[u8]) -> Option<&[u8]>
+    ensures { number < 2 ^ 63 → (more : List ℕ) → Leaves result more ↔ (bytes.now ≡ in_sevens 8 number ++ more) }
+{
+    let mut left = number;
+    let mut rest = bytes;
+    'sevens: while let Some((byte, others)) = rest.split_first() {
+        if left < 128 {
+            if usize::from(*byte) != left {
+                return None;
+            }
+            return Some(others);
+        }
+        if usize::from(*byte) != 128 + left % 128 {
+            return None;
+        }
+        left /= 128;
+        rest = others;
+    }
+    None
+}
+
+// Whether the zeros are those of numbers of this key, each of which stays in range with them.
+fn zeros_fit(key: &[u8], zeros: &[u8]) -> bool
+    ensures { OfKey key.now (λ t. IsTrue result ↔ ZerosFit (most_at t) zeros.now) }
+{
+    let Some(due) = next_due(key.len(), zeros) else {
+        return false;
+    };
+    if due.at == 0 {
+        return true;
+    }
+    let Some((first, parts)) = key.split_first() else {
+        return false;
+    };
+    match opening(*first) {
+        Some(object) => parts_fit(object, parts, &due),
+        None => match pass_scalar(*first, key, &due) {
+            Some(rest) => rest.at == 0,
+            None => false,
+        },
+    }
+}
+
+// What is known of the first number with zeros, where so many bytes of the key are left.
+fn next_due<'z>(left: usize, zeros: &'z [u8]) -> Option<ZerosDue<'z>>
+    ensures due { left < 2 ^ 63 → (most : List ℕ) → length most ≡ left
+        → MatchOption result (ZerosFit most zeros.now → ⊥) (λ due. Fits due most ↔ ZerosFit most zeros.now) }
+    ensures counted { IfSome result IsCounted }
+{
+    if zeros.is_empty() {
+        return Some(ZerosDue {
+            at: 0,
+            count: 0,
+            entries: zeros,
+        });
+    }
+    let Some((before, _, _)) = next_entry(zeros) else {
+        return None;
+    };
+    if before >= left {
+        return None;
+    }
+    let Some(behind) = after_sevens(before, zeros) else {
+        return None;
+    };
+    let Some((count, entries)) = behind.split_first() else {
+        return None;
+    };
+    if *count == 0 {
+        return None;
+    }
+    Some(ZerosDue {
+        at: left - before,
+        count: *count,
+        entries,
+    })
+}
+
+// Whether they are those of numbers of an array or an object, from the parts on, which the bytes are.
+fn parts_fit(object: bool, bytes: &[u8], begun: &ZerosDue<'_>) -> bool
+    ensures { (o : Open) → is_object o ≡ object → IsOpen o 511 → bytes.now ≡ open_key o → IsCounted begun.now
+        → IsTrue result ↔ Fits begun.now (most_open o) }
+{
+    let mut objects = outermost(object);
+    let mut depth: usize = 1;
+    let mut due = *begun;
+    let mut rest = bytes;
+    'parts: loop {
+        if due.at == 0 {
+            return true;
+        }
+        let Some(top) = depth.checked_sub(1) else {
+            return false;
+        };
+        let inside = kind_at(&objects, top);
+        if let Some(others) = after_end(inside, rest) {
+            depth = top;
+            rest = others;
+            continue;
+        }
+        let Some(value) = after_name(inside, rest) else {
+            return false;
+        };
+        let Some((first, others)) = value.split_first() else {
+            return false;
+        };
+        match opening(*first) {
+            Some(inner) => {
+                if depth == MAX_DEPTH {
+                    return false;
+                }
+                objects[depth] = inner;
+                depth += 1;
+                rest = others;
+            }
+            None => {
+                let Some(after) = after_scalar(value) else {
+                    return false;
+                };
+                let Some(next) = pass_scalar(*first, value, &due) else {
+                    return false;
+                };
+                due = next;
+                rest = after;
+            }
+        }
+    }
+}
+
+// Passes a value that is no array and no object, from whose key on the bytes are, and whose first byte is passed too.
+// `None` where it doesn't have the zeros that are due.
+fn pass_scalar<'z>(first: u8, bytes: &[u8], due: &ZerosDue<'z>) -> Option<ZerosDue<'z>>
+    ensures passed { (t : Tree) → IsScalar t → IsProper t → number_count first ≡ numbers_in t → (more : List ℕ)
+        → bytes.now ≡ key_of t ++ more → (most : List ℕ) → length most ≡ length more → IsCounted due.now
+        → MatchOption result (Fits due.now (most_at t ++ most) → ⊥)
+        (λ next. Fits next most ↔ Fits due.now (most_at t ++ most)) }
+    ensures counted { IsCounted due.now → IfSome result IsCounted }
+{
+    if bytes.len() != due.at {
+        return Some(*due);
+    }
+    if number_count(first) == 0 {
+        return None;
+    }
+    if u32::from(due.count) > most_zeros(bytes) {
+        return None;
+    }
+    next_due(bytes.len().saturating_sub(1), due.entries)
+}
+
+// How many zeros the number may end in whose key the bytes begin with.
+fn most_zeros(bytes: &[u8]) -> u32
+    ensures { (n : Num) → IsProperNumber n → (more : List ℕ) → bytes.now ≡ number_key n ++ more
+        → result ≡ most_zeros n }
+{
+    let Some((first, _)) = bytes.split_first() else {
+        return 0;
+    };
+    if *first == kind::ZERO {
+        return MOST_DIGITS;
+    }
+    let negative = *first < kind::ZERO;
+    let Some((exponent, digits)) = read_exponent(negative, bytes) else {
+        return 0;
+    };
+    let Some(count) = digit_count(negative, digits) else {
+        return 0;
+    };
+    // With the fewest digits so many are behind the point, and so many before it.
+    let behind = (POINT + count).saturating_sub(exponent);
+    let before = exponent.saturating_sub(POINT);
+    MOST_DIGITS.saturating_sub(behind + before)
+}
+
+// How many digits the bytes begin with, up to the last one that isn't 0.
+fn digit_count(negative: bool, bytes: &[u8]) -> Option<u32>
+    ensures found { (count magnitude : ℕ) → magnitude < 10 ^ count → 0 < magnitude → count ≤ 39 → (more : List ℕ)
+        → bytes.now ≡ map (invert_if negative) (digits_key count magnitude) ++ more
+        → MatchOption result ⊥ (λ read. IsStripped count magnitude read) }
+    ensures few { IfSome result (λ read. read ≤ 40) }
+{
+    let mut rest = bytes;
+    let mut count: u32 = 0;
+    'pairs: while let Some((byte, others)) = rest.split_first() {
+        let byte = invert_if(negative, *byte);
+        if count > 38 {
+            return None;
+        }
+        if byte % 2 == 0 {
+            if byte / 2 % 10 == 0 {
+                return Some(count + 1);
+            }
+            return Some(count + 2);
+        }
+        rest = others;
+        count += 2;
+    }
+    None
+}
