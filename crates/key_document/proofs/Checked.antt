@@ -1,6 +1,6 @@
 -- Bytes that are checked: numbers in groups of seven bits, and whole documents.
-use Rattle.std.proofs.Common.{◌≡◌, ◌≢◌, ℕ, zero, suc, ◌+◌, ◌/◌, ◌%◌, ◌^◌, ◌<◌, ◌≤◌, ◌↔◌, ◌==◌, IsTrue, Bool, false, true≢false, List, [], ◌∷◌, ◌++◌, length, take, drop, Some, None, refl, sym, ap, ap₂, ◌∙◌, arith, append-nil, length-append, eq-eqb, eqb-true}
-use Rattle.std.proofs.lemmas.List.{length-reverse, reverse-reverse, take-append-drop}
+use Rattle.std.proofs.Common.{◌≡◌, ℕ, zero, suc, ◌+◌, ◌/◌, ◌%◌, ◌^◌, ◌<◌, ◌≤◌, ◌↔◌, ◌==◌, IsTrue, Bool, false, true≢false, List, [], ◌∷◌, ◌++◌, length, take, drop, Some, None, refl, sym, ap, ap₂, ◌∙◌, arith, append-nil, length-append, eq-eqb, eqb-true}
+use Rattle.std.proofs.lemmas.List.{length-reverse, take-append-drop}
 use Rattle.std.specs.Prelude.{reverse}
 use Rattle.std.proofs.Math.Seq.{drop-append_seam, take-append_seam}
 use Rattle.jsonb_spec.specs.Grammar.{max_depth}
@@ -12,8 +12,6 @@ use Rattle.key_document.proofs.Trailing.{ending, own_counts}
 use Rattle.key_value.specs.Readable.{IsReadable}
 use Rattle.key_walk.specs.Checked.{IsSortKey}
 use Rattle.key_walk.proofs.InRange.{readable_at}
-use Rattle.key_document.proofs.Backwards.{turned_byte}
-use Rattle.key_document.proofs.Ending.{end_some}
 use Rattle.key_value.proofs.Texts.{none_some, some_same}
 use Rattle.std.proofs.Math.Nat.{pow-suc, pow-zero}
 use Rattle.jsonb_value.proofs.Trees.Runs.{heads, tails}
@@ -102,36 +100,9 @@ module _ (number : ℕ) (bytes : List ℕ) where
         none [] e = refl
         none (x ∷ xs) e = absurd (omega (arith, e))
 
--- ---- what follows zeros
-
+-- what isn't so is rejected
 pub refused : {P : Type 0} → (P → ⊥) → IsTrue false ↔ P
 refused other = (λ t. absurd (true≢false (sym t)), λ p. absurd (other p))
-
--- none follow
-pub no_end : (size : ℕ) (bytes : List ℕ) (empty : Bool) → size ≡ 0 → empty ≡ (length bytes == 0) → IsTrue empty ↔ (bytes ≡ end_of size)
-no_end zero [] empty none is = (λ t. refl, λ e. is)
-no_end zero (b ∷ bytes) empty none is = (λ t. absurd (omega (arith, eqb-true (length (b ∷ bytes)) 0 (sym is ∙ t))), λ e. absurd (omega (arith, ap length e)))
-no_end (suc size) bytes empty none is = absurd (omega (arith, none))
-
-pub end_missing : (size : ℕ) (bytes : List ℕ) → (size ≡ 0 → ⊥) → length bytes ≡ 0 → bytes ≡ end_of size → ⊥
-end_missing size bytes some none e =
-    omega (arith, none, ap length (e ∙ end_some size some), length-append (reverse (in_sevens 8 size)) (255 ∷ []))
-
-module _ (size last : ℕ) (bytes front : List ℕ) (some : size ≡ 0 → ⊥) (ends : bytes ≡ front ++ last ∷ []) where
-  turned : bytes ≡ end_of size → last ∷ reverse front ≡ 255 ∷ in_sevens 8 size
-  turned e =
-      sym (turned_byte bytes front last ends) ∙ turned_byte bytes (reverse (in_sevens 8 size)) 255 (e ∙ end_some size some) ∙ ap (λ l. 255 ∷ l) (reverse-reverse (in_sevens 8 size))
-
-  pub other_mark : last ≢ 255 → bytes ≡ end_of size → ⊥
-  other_mark other e = other (heads last 255 (reverse front) (in_sevens 8 size) (turned e))
-
-  pub end_there : last ≡ 255 → (r : Bool) → IsTrue r ↔ (reverse front ≡ in_sevens 8 size) → IsTrue r ↔ (bytes ≡ end_of size)
-  end_there mark r x = (
-    λ t.
-        let back : front ≡ reverse (in_sevens 8 size) = sym (reverse-reverse front) ∙ ap reverse (x.0 t) in
-        ends ∙ ap₂ (λ f b. f ++ b ∷ []) back mark ∙ sym (end_some size some),
-    λ e. x.1 (tails last 255 (reverse front) (in_sevens 8 size) (turned e)),
-  )
 
 -- ---- a document
 
