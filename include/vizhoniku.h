@@ -424,8 +424,7 @@ uint32_t vizhoniku_document(uint32_t mode, const unsigned char *text, size_t tex
 
 /* Checks whether bytes are the document of a value that a text can have: JSON, with at most 512 nested arrays and objects,
  * and numbers of at most 38 digits, before and behind the point. VIZHONIKU_NO_DOCUMENT: they aren't. Each text has one
- * document. The text is written for that and its document made, so of bytes that are none it may take memory for the
- * zeros that they have, at most 255 for each two bytes. */
+ * document. It takes no memory, and time linear in the bytes. */
 uint32_t vizhoniku_document_check(const unsigned char *document, size_t document_size);
 
 /* Writes the serialized form of the document's value, as vizhoniku_text wrote it of the text that the document was made

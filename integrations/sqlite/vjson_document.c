@@ -163,11 +163,7 @@ static void call_valid(sqlite3_context *context, int count, sqlite3_value **valu
   if (sqlite3_value_type(values[0]) != SQLITE_BLOB) {
     sqlite3_result_int(context, 0);
   } else if (read_document(context, values[0], &document)) {
-    uint32_t status = vizhoniku_document_check(document.at, document.size);
-    if (status == VIZHONIKU_OUT_OF_MEMORY)
-      sqlite3_result_error_nomem(context);
-    else
-      sqlite3_result_int(context, status == VIZHONIKU_ACCEPTED);
+    sqlite3_result_int(context, vizhoniku_document_check(document.at, document.size) == VIZHONIKU_ACCEPTED);
   }
 }
 

@@ -1,8 +1,6 @@
 -- What the statuses say of a document: a part of it, and what a change makes of it.
 use Rattle.std.specs.Prelude.{◌≡◌, ◌⊎◌, ℕ, List, Option}
 use Rattle.key_value.specs.Readable.{IsReadable}
-use Rattle.jsonb_spec.specs.Proper.{IsProper}
-use Rattle.jsonb_spec.specs.Text.Range.{IsInRange}
 use Rattle.jsonb_spec.specs.Tree.{Tree}
 use Rattle.jsonb_c.specs.Interface.{IsDocumentOf}
 use Rattle.jsonb_c.specs.KeyEdit.{IsAnswer}
@@ -20,13 +18,6 @@ pub record IsDocumentOfText (number : ℕ) (text bytes : List ℕ) : Type 0 wher
   pub tree : Tree
   pub read : IsDocumentOf number text tree
   pub is_document : bytes ≡ document_of tree
-
--- The bytes are the document of a value in range: one that a text of extended mode can have.
-pub record IsDocumentInRange (bytes : List ℕ) : Type 0 where
-  pub value : Tree
-  pub proper : IsProper value
-  pub in_range : IsInRange value
-  pub is_document : bytes ≡ document_of value
 
 -- The same of documents: the answer's is at the front of the buffer, or the status says why it isn't.
 abbrev pub IsDocumentAnswer : Option Tree → ℕ → ℕ → List ℕ → List ℕ → Type 0

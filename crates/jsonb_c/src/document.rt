@@ -3,22 +3,20 @@
 //!
 //! Any bytes are safe to pass. What a call writes is promised for the documents of values of JSON's kinds with at most
 //! 512 nested arrays and objects; of other bytes it may be `NO_DOCUMENT` or any bytes.
-ghost use Rattle.std.specs.Prelude.{◌≡◌, ◌⊎◌, ◌≤◌, IfOk, ℕ, List, [], length, map, string_bytes, Option, Some, Vec};
+ghost use Rattle.std.specs.Prelude.{◌≡◌, ◌⊎◌, ◌≤◌, ◌↔◌, IfOk, ℕ, List, [], length, map, string_bytes, Option, Some, Vec};
 ghost use Rattle.std.specs.declared.alloc.Global.{Global as GlobalAlloc};
-ghost use Rattle.jsonb_c.specs.Document.{document_status_of, IsDocumentAnswer, IsDocumentInRange, IsDocumentOfText, IsDocumentStatus, IsTreeDocument};
+ghost use Rattle.jsonb_c.specs.Document.{document_status_of, IsDocumentAnswer, IsDocumentOfText, IsDocumentStatus, IsTreeDocument};
 ghost use Rattle.jsonb_c.specs.Interface.{sign, FailsFor, FillsBuffer, FormMayAllocate, IsRejected, IsStatusOfForm, PreservesBuffer, Reports, ReportsPath};
 ghost use Rattle.jsonb_c.specs.KeyParts.{IsWritten};
 ghost use Rattle.key_value.specs.Readable.{IsReadable};
 ghost use Rattle.jsonb_path.specs.Path.{IsPath};
 ghost use Rattle.jsonb_spec.specs.Order.{tree_cmp};
 ghost use Rattle.jsonb_spec.specs.PartAt.{part_at};
-ghost use Rattle.jsonb_spec.specs.Proper.{IsProper};
 ghost use Rattle.jsonb_spec.specs.SortKey.{key_of};
-ghost use Rattle.jsonb_spec.specs.Text.{text_of, tree_text};
-ghost use Rattle.jsonb_spec.specs.Text.Range.{IsInRange};
+ghost use Rattle.jsonb_spec.specs.Text.{text_of};
 ghost use Rattle.jsonb_spec.specs.Tree.{Tree};
+ghost use Rattle.key_document.specs.Check.{IsDocumentInRange};
 ghost use Rattle.key_document.specs.Changes.{Answers, AppendsDocument, IsPartAt};
-ghost use Rattle.key_document.specs.Document.{document_of};
 
 use crate::{
     ACCEPTED, Failure, NO_DOCUMENT, NO_PART, NO_PATH, NOTHING, OUT_OF_MEMORY, Rejection, TOO_DEEP,
@@ -26,13 +24,9 @@ use crate::{
 };
 use key_document::{
     DocumentError, append_document, append_part, append_range, append_text_of_document,
-    compare_documents, split_document,
+    compare_documents, is_document, split_document,
 };
-use key_walk::is_sort_key;
 use std::alloc::Global;
-
-// The number of the mode whose texts have each number in range.
-const EXTENDED: u32 = 1;
 
 /// Writes the document of the text's value to the start of `out`, and its size to `size`. Where `out` is too
 /// short, it stays as it is, and `size` is what is needed.
@@ -80,48 +74,17 @@ fn document_of_text(alloc: Global, mode: u32, text: &[u8]) -> Result<Vec<u8>, Fa
     }
 }
 
-/// Whether bytes are the document of a value in range: of JSON's kinds, with at most 512 nested arrays and
-/// objects, and numbers of at most 38 digits, before and behind the point. Its text is written, and the document of that
-/// is compared.
+/// Whether bytes are the document of a value in range: of JSON's kinds, with at most 512 nested arrays and objects, and
+/// numbers of at most 38 digits, before and behind the point. Then its text is an extended document with that document.
 #[unsafe(no_mangle)]
-pub extern "C" fn vizhoniku_document_check(alloc: Global, document: &[u8]) -> u32
-    ensures status { (result ≡ ACCEPTED) ⊎ (result ≡ OUT_OF_MEMORY) ⊎ (result ≡ NO_DOCUMENT) }
-
-    // A document is accepted, and nothing else, unless memory ran out.
-    ensures accepted { result ≡ ACCEPTED → IsDocumentInRange document.now }
-    ensures no_document { result ≡ NO_DOCUMENT → IsDocumentInRange document.now → ⊥ }
+pub extern "C" fn vizhoniku_document_check(document: &[u8]) -> u32
+    ensures accepted { result ≡ ACCEPTED ↔ IsDocumentInRange document.now }
+    ensures status { (result ≡ ACCEPTED) ⊎ (result ≡ NO_DOCUMENT) }
 {
-    let (key, _) = split_document(document);
-    if !is_sort_key(key) {
-        return NO_DOCUMENT;
-    }
-    let mut text = Vec::new(alloc);
-    match append_text_of_document(alloc, &mut text, document) {
-        Ok(()) => check_by_text(alloc, &text, document),
-        Err(DocumentError::OutOfMemory) => OUT_OF_MEMORY,
-        Err(DocumentError::NoDocument) => NO_DOCUMENT,
-        Err(DocumentError::TooDeep) => NO_DOCUMENT,
-    }
-}
-
-// Whether bytes are the document of the value of this text.
-fn check_by_text(alloc: Global, text: &[u8], document: &[u8]) -> u32
-    ensures status { (result ≡ ACCEPTED) ⊎ (result ≡ OUT_OF_MEMORY) ⊎ (result ≡ NO_DOCUMENT) }
-    ensures accepted { result ≡ ACCEPTED → IsDocumentInRange document.now }
-    ensures no_document { result ≡ NO_DOCUMENT → (t : Tree) → IsProper t → IsInRange t → text.now ≡ tree_text t
-        → document.now ≡ document_of t → ⊥ }
-{
-    match document_of_text(alloc, EXTENDED, text) {
-        Ok(bytes) => {
-            if bytes.as_slice() == document {
-                ACCEPTED
-            } else {
-                NO_DOCUMENT
-            }
-        }
-        Err(Failure::OutOfMemory) => OUT_OF_MEMORY,
-        Err(Failure::Text(_)) => NO_DOCUMENT,
-        Err(Failure::UnknownMode) => NO_DOCUMENT,
+    if is_document(document) {
+        ACCEPTED
+    } else {
+        NO_DOCUMENT
     }
 }
 

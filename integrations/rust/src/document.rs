@@ -33,7 +33,7 @@ impl Document {
     ///
     /// # Errors
     ///
-    /// [`Error::NoDocument`] where they aren't a document, and [`Error::OutOfMemory`].
+    /// [`Error::NoDocument`] where they aren't a document.
     pub fn from_bytes(bytes: Vec<u8>) -> Result<Document, Error> {
         // SAFETY: the bytes have their size.
         match unsafe { ffi::vizhoniku_document_check(bytes.as_ptr(), bytes.len()) } {
