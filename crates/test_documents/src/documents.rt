@@ -4,7 +4,7 @@ use key_document::{
     DocumentError, Insertion, append_document, append_merged, append_next_range, append_part,
     append_text_of_document, append_with_inserted, append_with_item, append_with_member,
     append_with_part, append_without_names, append_without_nulls, append_without_part,
-    compare_documents, zeros_from,
+    compare_documents, is_document, zeros_from,
 };
 use std::cmp::Ordering;
 use std::process::Abort;
@@ -50,6 +50,7 @@ fn expect_text(
     key: &[u8],
     text: &[u8],
 ) -> Result<(), Fail> {
+    assert!(rt; is_document(document));
     let mut out = bytes_of(rt, "78")?;
     assert!(rt; append_text_of_document(rt.alloc(), &mut out, document).is_ok());
     let (_, written) = out.split_first().expect(rt, "what was there is gone");
@@ -176,6 +177,37 @@ fn what_is_no_document_has_no_text(rt: HostRuntime) -> Result<(), Fail> {
         let made = append_document(&mut out, text.as_bytes(), &bytes_of(&rt, word)?);
         assert!(&rt; matches!(made, Err(DocumentError::NoDocument)), "{text}");
         assert_eq!(&rt; out.as_slice(), b"x".as_slice());
+    }
+    Ok(())
+}
+
+// 1.50, and 0 with 38 zeros; then bytes that are the document of no value.
+#[test]
+fn bytes_are_checked(rt: HostRuntime) -> Result<(), Fail> {
+    for word in ["a11e000102ff", "80002602ff", "d2a11e00010102ff"] {
+        assert!(&rt; is_document(&bytes_of(&rt, word)?), "{word}");
+    }
+    // No key, bytes behind one, no mark, and a size of zeros that isn't theirs or has a byte too many.
+    for word in [
+        "ff",
+        "a11e00",
+        "a11e000102fe",
+        "a11e000101ff",
+        "a11e00010082ff",
+    ] {
+        assert!(&rt; !is_document(&bytes_of(&rt, word)?), "{word}");
+    }
+    // Entries without zeros, with a byte too many, at the array, behind all numbers and where one is; too many digits.
+    for word in [
+        "a11e000002ff",
+        "a11e80000103ff",
+        "d2a11e00000102ff",
+        "a11e010102ff",
+        "d2a11e000101010104ff",
+        "80002702ff",
+        "a11e002602ff",
+    ] {
+        assert!(&rt; !is_document(&bytes_of(&rt, word)?), "{word}");
     }
     Ok(())
 }
