@@ -115,7 +115,9 @@ fn after_sevens(number: usize, bytes: &[u8]) -> Option<&[u8]>
     None
 }
 
-// Whether the zeros are those of numbers of this key, each of which stays in range with them.
+// Whether the zeros are those of numbers of this key, each of which stays in range with them. A function of its own, so
+// that the check of the key takes no stack beside it.
+#[inline(never)]
 fn zeros_fit(key: &[u8], zeros: &[u8]) -> bool
     ensures { OfKey key.now (λ t. IsTrue result ↔ ZerosFit (most_at t) zeros.now) }
 {
@@ -225,6 +227,7 @@ fn parts_fit(object: bool, bytes: &[u8], begun: &ZerosDue<'_>) -> bool
 
 // Passes a value that is no array and no object, from whose key on the bytes are, and whose first byte is passed too.
 // `None` where it doesn't have the zeros that are due.
+#[inline(always)]
 fn pass_scalar<'z>(first: u8, bytes: &[u8], due: &ZerosDue<'z>) -> Option<ZerosDue<'z>>
     ensures passed { (t : Tree) → IsScalar t → IsProper t → number_count first ≡ numbers_in t → (more : List ℕ)
         → bytes.now ≡ key_of t ++ more → (most : List ℕ) → length most ≡ length more → IsCounted due.now
