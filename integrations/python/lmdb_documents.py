@@ -88,7 +88,7 @@ class Documents:
 
         ValueError is raised where something else is stored in the environment.
         """
-        return (vizhoniku.Key.from_bytes(bytes(document.key)) for document in self.documents(low, high))
+        return (document.key for document in self.documents(low, high))
 
     def documents(self, low: Optional[vizhoniku.Text] = None, high: Optional[vizhoniku.Text] = None
                   ) -> Iterator[vizhoniku.Document]:

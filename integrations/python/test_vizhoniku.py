@@ -899,12 +899,19 @@ class Digits(unittest.TestCase):
         self.assertEqual(v.Document("1.50e1").text(), "15.0")
         self.assertEqual(v.Document(text=b"[1]", mode=v.STANDARD).text(), "[1]")
         self.assertEqual(v.Document.from_bytes(bytes(v.Key("[1.50]"))).text(), "[1.5]")
+        for data in ("", "a11e00", "a11e0002ff", "a11e000002ff", "a11e010102ff", "a11e80000103ff", "a11e00018200ff",
+                     "a11e000126ff", "a11e000302fe"):
+            with self.assertRaises(ValueError) as invalid:
+                v.Document.from_bytes(bytes.fromhex(data))
+            self.assertEqual(str(invalid.exception), "the bytes aren't a document")
+            self.assertEqual(bytes(v.Document.from_trusted_bytes(bytes.fromhex(data))), bytes.fromhex(data))
         wrongs: List[Any] = ["1", 1, None, [0x80]]
         for wrong in wrongs:
-            with self.assertRaises(TypeError) as raised:
-                v.Document.from_bytes(wrong)
-            self.assertEqual(str(raised.exception), "a document is bytes, a bytearray or a memoryview, and not "
-                                                    + type(wrong).__name__)
+            for made in (v.Document.from_bytes, v.Document.from_trusted_bytes):
+                with self.assertRaises(TypeError) as raised:
+                    made(wrong)
+                self.assertEqual(str(raised.exception), "a document is bytes, a bytearray or a memoryview, and not "
+                                                        + type(wrong).__name__)
         for name in ("key", "other"):
             with self.assertRaises(AttributeError):
                 setattr(v.Document("1"), name, "x")
@@ -1064,7 +1071,7 @@ class Digits(unittest.TestCase):
         wrong: Any = 1
         deepest = v.Document("[" * 512 + "]" * 512)
         a_text = "a text is a str, bytes, a bytearray or a memoryview, and not int"
-        too_deep, none = "more than 512 nested arrays and objects", v.Document.from_bytes(b"")
+        too_deep, none = "more than 512 nested arrays and objects", v.Document.from_trusted_bytes(b"")
         no_document = "the bytes aren't a document"
         calls: List[Tuple[Callable[[], Any], Any, str]] = [
             (lambda: array.put("a", 1), TypeError, "array is no object"),
@@ -1081,13 +1088,13 @@ class Digits(unittest.TestCase):
             (lambda: whole.set("/a", deepest), ValueError, too_deep),
             (none.text, ValueError, no_document), (none.value, ValueError, no_document),
             (lambda: none.push(1), ValueError, no_document), (lambda: none.put("a", 1), ValueError, no_document),
-            (v.Document.from_bytes(b"\x00\xff").text, ValueError, no_document),
+            (v.Document.from_trusted_bytes(b"\x00\xff").text, ValueError, no_document),
             (lambda: v.Document.of([none]), ValueError, no_document)]
         for call, error, words in calls:
             with self.assertRaises(error) as raised:
                 call()
             self.assertEqual((type(raised.exception), str(raised.exception)), (error, words))
-        self.assertEqual((repr(none), bytes(none.key)), ("Document.from_bytes(b'')", b""))
+        self.assertEqual((repr(none), bytes(none.key)), ("Document.from_trusted_bytes(b'')", b""))
         untyped: Any = whole
         for missing in (lambda: untyped.set("/a"), lambda: untyped.put("a"), lambda: untyped.push(),
                         lambda: untyped.of(), lambda: untyped.remove(), lambda: untyped.merge(1, 2),
@@ -1098,10 +1105,16 @@ class Digits(unittest.TestCase):
     def test_damaged_bytes(self) -> None:
         """Of bytes that are no document the calls find nothing, or something in them, or raise ValueError."""
         whole = bytes(v.Document('{"a":[1.50,-2.00,"x",null,{"b":[[0.0]]}],"é":12345678901234567890.10}'))
-        passed = 0
+        passed = rejected = 0
         for i in range(len(whole)):
             for byte in (0, 1, 2, 0x14, 0x80, 0xA1, 0xD0, 0xD1, 0xD2, 0xFF):
-                document = v.Document.from_bytes(whole[:i] + bytes([byte]) + whole[i + 1:])
+                data = whole[:i] + bytes([byte]) + whole[i + 1:]
+                document = v.Document.from_trusted_bytes(data)
+                try:
+                    self.assertEqual(bytes(v.Document(v.Document.from_bytes(data).text())), data)
+                except ValueError as error:
+                    self.assertEqual(str(error), "the bytes aren't a document")
+                    rejected += 1
                 for call in (document.text, document.value, lambda: document.get("/a/0"),
                              lambda: document.remove("/a/1"), lambda: document.set("/a/0", document),
                              lambda: document.put("c", 1.0), lambda: document.merge([1.0]),
@@ -1113,6 +1126,7 @@ class Digits(unittest.TestCase):
                     except (ValueError, TypeError):
                         pass
         self.assertGreater(passed, 1000)
+        self.assertGreater(rejected, 100)
 
 
 class Both(unittest.TestCase):
@@ -1165,7 +1179,7 @@ class Both(unittest.TestCase):
                     outcome = [(name, one.default) for name, one in inspect.signature(found).parameters.items()]
                     self.assertEqual(outcome, self.parameters_of(call), call.name)
                     compared += 1
-        self.assertEqual(compared, 32)
+        self.assertEqual(compared, 33)
 
     def test_words_of_help(self) -> None:
         """What help() tells is the same by ctypes and by the module in C."""
@@ -1220,7 +1234,7 @@ class Both(unittest.TestCase):
     def test_references(self) -> None:
         """Calls keep nothing of their arguments, nor of what they make."""
         text, path, key = "[%s]" % ",".join("1" * 400), "/1", v.Key('{"a":[1,2],"b":"x"}')
-        document, none = v.Document('{"a":[1.50,2],"b":"x"}'), v.Document.from_bytes(b"")
+        document, none = v.Document('{"a":[1.50,2],"b":"x"}'), v.Document.from_trusted_bytes(b"")
         number: Any = 5
         wrongs: List[Callable[[], Any]] = [
             lambda: v.text("[x"), lambda: v.text(number), lambda: v.text("1", 7), lambda: key["zz"], lambda: key[0],
@@ -1284,7 +1298,7 @@ class Both(unittest.TestCase):
             v.Document(copied), document.text(), repr(document), document.get("/1"), document.get(""), document.key
             v.Document.from_bytes(bytearray(bytes(document))), v.Document.of(document.value())
             document.set("/1", document), document.remove("/1"), document.push(document), document.merge(document)
-            document.contains(document), repr(v.Document.from_bytes(bytes(document)[1:]))
+            document.contains(document), repr(v.Document.from_trusted_bytes(bytes(document)[1:]))
             v.Document("{}").put("x" * 4000, document), v.Key.of(document)
             self.assertRaises(v.RejectedText, v.check, '{"%s":1,"%s":1}' % ("x" * 4000, "x" * 4000))
             self.assertRaises(v.RejectedText, v.compare, "1e1", '{"%s":1e5, "%s":[x]}' % ("x" * 4000, "y" * 4000))
@@ -1366,6 +1380,7 @@ class Growth(unittest.TestCase):
             data, kept, part_of = bytes(document), v.Document.from_bytes(bytes(document)), v.Document("[1.50]")
             path = last if key.kind == "array" else f"/{name}"
             add("Document.from_bytes", what, v.Document.from_bytes, data)
+            add("Document.from_trusted_bytes", what, v.Document.from_trusted_bytes, data)
             add("Document.__bytes__", what, bytes, document)
             add("Document.text", what, document.text)
             add("Document.__repr__", what, repr, document)
@@ -1564,7 +1579,8 @@ size_t vizhoniku_document_key(const char *document, size_t size) {
 }
 
 #define DOCUMENT(name) uint32_t vizhoniku_document_##name(void) { return status; }
-DOCUMENT(text) DOCUMENT(part) DOCUMENT(set) DOCUMENT(remove) DOCUMENT(put) DOCUMENT(push) DOCUMENT(merge)
+DOCUMENT(check) DOCUMENT(text) DOCUMENT(part) DOCUMENT(set) DOCUMENT(remove) DOCUMENT(put) DOCUMENT(push)
+DOCUMENT(merge)
 
 void vizhoniku_locate(const char *text, size_t text_size, const struct error *error, struct location *location) {
   (void)text, (void)text_size, (void)error;
@@ -1845,7 +1861,8 @@ class InLmdb(unittest.TestCase):
     def test_what_is_no_document(self) -> None:
         with self.environment.begin(write=True) as transaction:
             transaction.put(b"no key", b"")
-        self.assertRaises(ValueError, list, self.documents.keys())
+        for read in (self.documents.keys, self.documents.documents, self.documents.__iter__):
+            self.assertRaises(ValueError, list, read())
 
     def test_exponents(self) -> None:
         """JSON with exponents is taken by each call, and is the value of its numbers written out."""

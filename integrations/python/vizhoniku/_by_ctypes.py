@@ -99,6 +99,7 @@ def _load() -> ctypes.CDLL:
         library.vizhoniku_key_merge.argtypes = [*text_in, *text_in, *text_out]
         library.vizhoniku_document.argtypes = [mode, *text_in, *text_out, error]
         library.vizhoniku_document_text.argtypes = [*text_in, *text_out]
+        library.vizhoniku_document_check.argtypes = text_in
         library.vizhoniku_document_key.argtypes = text_in
         library.vizhoniku_document_part.argtypes = [*text_in, *text_in, *text_out]
         library.vizhoniku_document_set.argtypes = [*text_in, *text_in, *text_in, ctypes.c_uint32, *text_out]
@@ -109,8 +110,9 @@ def _load() -> ctypes.CDLL:
         for name in ("check", "text", "part", "sort_key", "text_and_key", "compare", "reason", "key_check", "key_kind",
                      "key_count", "key_member", "key_item", "key_part", "key_begin", "key_next", "key_name",
                      "key_text", "key_contains", "key_set", "key_remove", "key_put", "key_push", "key_merge",
-                     "plain_numbers", "masked_numbers", "error_path", "document", "document_text", "document_part",
-                     "document_set", "document_remove", "document_put", "document_push", "document_merge"):
+                     "plain_numbers", "masked_numbers", "error_path", "document", "document_check", "document_text",
+                     "document_part", "document_set", "document_remove", "document_put", "document_push",
+                     "document_merge"):
             getattr(library, "vizhoniku_" + name).restype = status
         library.vizhoniku_document_key.restype = size
         library.vizhoniku_locate.restype = None
@@ -663,7 +665,18 @@ class Document(_Stored):
     def from_bytes(cls, data: Union[bytes, bytearray, memoryview]) -> "Document":
         """The document that bytes(document) was, or the one that bytes(key) is.
 
-        The bytes aren't checked. Of others the calls find nothing, or something in them, or raise ValueError.
+        Raises ValueError where the bytes aren't a document.
+        """
+        document = cls.from_trusted_bytes(data)
+        if _library.vizhoniku_document_check(document._data, len(document._data)) != _ACCEPTED:
+            raise ValueError(NO_DOCUMENT)
+        return document
+
+    @classmethod
+    def from_trusted_bytes(cls, data: Union[bytes, bytearray, memoryview]) -> "Document":
+        """The same of bytes that aren't checked.
+
+        Of others than from_bytes takes the calls find nothing, or something in them, or raise ValueError.
         """
         if not isinstance(data, (bytes, bytearray, memoryview)):
             raise TypeError(f"a document is bytes, a bytearray or a memoryview, and not {type(data).__name__}")
@@ -764,7 +777,7 @@ class Document(_Stored):
         try:
             return f"Document({self.text()!r})"
         except ValueError:
-            return f"Document.from_bytes({self._data!r})"
+            return f"Document.from_trusted_bytes({self._data!r})"
 
 
 def _raise_of_key(status: int) -> None:

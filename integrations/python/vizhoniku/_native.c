@@ -662,15 +662,41 @@ static PyObject *key_from_bytes(PyObject *type, PyObject *const *given, Py_ssize
   return NULL;
 }
 
-static PyObject *document_from_bytes(PyObject *type, PyObject *const *given, Py_ssize_t count, PyObject *keywords) {
-  struct text text = {NULL, 0, NULL};
-  PyObject *object = read_one("from_bytes", "data", given, count, keywords);
-  if (!object) return NULL;
+/* Reads the bytes of a document, which `function` is passed, and returns whether it could. */
+static int read_document(const char *function, PyObject *const *given, Py_ssize_t count, PyObject *keywords,
+                         struct text *text) {
+  PyObject *object = read_one(function, "data", given, count, keywords);
+  if (!object) return 0;
   if (PyUnicode_Check(object)) {
     raise_type(A_DOCUMENT, object);
-    return NULL;
+    return 0;
   }
-  return read_text(object, A_DOCUMENT, &text) ? make_stored((PyTypeObject *)type, text.holder) : NULL;
+  return read_text(object, A_DOCUMENT, text);
+}
+
+static PyObject *document_from_bytes(PyObject *type, PyObject *const *given, Py_ssize_t count, PyObject *keywords) {
+  struct text text = {NULL, 0, NULL};
+  uint32_t status = VIZHONIKU_NO_DOCUMENT;
+  if (!read_document("from_bytes", given, count, keywords, &text)) return NULL;
+  if (text.size >= RELEASED) {
+    Py_BEGIN_ALLOW_THREADS
+    status = vizhoniku_document_check(text.at, text.size);
+    Py_END_ALLOW_THREADS
+  } else {
+    status = vizhoniku_document_check(text.at, text.size);
+  }
+  if (status == VIZHONIKU_ACCEPTED) return make_stored((PyTypeObject *)type, text.holder);
+  free_text(&text);
+  raise_status(PyType_GetModuleState((PyTypeObject *)type), status);
+  return NULL;
+}
+
+static PyObject *document_from_trusted_bytes(PyObject *type, PyObject *const *given, Py_ssize_t count,
+                                             PyObject *keywords) {
+  struct text text = {NULL, 0, NULL};
+  return read_document("from_trusted_bytes", given, count, keywords, &text)
+             ? make_stored((PyTypeObject *)type, text.holder)
+             : NULL;
 }
 
 static PyObject *key_bytes(PyObject *self, PyObject *none) {
@@ -906,7 +932,7 @@ static PyObject *key_repr(PyObject *self) {
   if (!text) {
     if (what_is(self) != DOCUMENT || !PyErr_ExceptionMatches(PyExc_ValueError)) return NULL;
     PyErr_Clear();
-    return PyUnicode_FromFormat("Document.from_bytes(%R)", ((struct key *)self)->data);
+    return PyUnicode_FromFormat("Document.from_trusted_bytes(%R)", ((struct key *)self)->data);
   }
   PyObject *result = PyUnicode_FromFormat(what_is(self) == DOCUMENT ? "Document(%R)" : "Key(%R)", text);
   Py_DECREF(text);
@@ -1433,7 +1459,11 @@ static PyMethodDef document_methods[] = {
     {"from_bytes", CALL(document_from_bytes) | METH_CLASS,
      HELP("from_bytes($type, data)",
           "The document that bytes(document) was, or the one that bytes(key) is.\n\n"
-          "The bytes aren't checked. Of others the calls find nothing, or something in them, or raise ValueError.")},
+          "Raises ValueError where the bytes aren't a document.")},
+    {"from_trusted_bytes", CALL(document_from_trusted_bytes) | METH_CLASS,
+     HELP("from_trusted_bytes($type, data)",
+          "The same of bytes that aren't checked.\n\n"
+          "Of others than from_bytes takes the calls find nothing, or something in them, or raise ValueError.")},
     {"of", CALL(key_of) | METH_CLASS,
      HELP("of($type, value)",
           "The document of a value: a dict, list, tuple, str, int, float, Decimal, bool, None, a key or a\n"
