@@ -10,24 +10,14 @@ use Rattle.jsonb_spec.specs.Text.Range.{HasFewDigits, IsIntegral}
 use Rattle.jsonb_spec.specs.Tree.{Tree}
 use Rattle.jsonb_value.proofs.Trees.RangeTexts.{document_in_range, text_in_range}
 use Rattle.jsonb_value.proofs.Trees.Ranges.{widened}
-use Rattle.jsonb_c.specs.Interface.{IsKeyOf, IsTextOf}
-use Rattle.jsonb_c.proofs.Parts.{one_tree}
+use Rattle.jsonb_c.specs.Interface.{IsTextOf}
 
 pub document_readable : (mode : Mode) (bytes : List ℕ) (t : Tree) → IsDocument mode bytes t → IsReadable t
 document_readable standard bytes t d = let x = document_in_range standard bytes t d in record { proper = x.1; within = widened IsIntegral IsAnyNumber (λ n p w. tt) t max_depth x.1 x.0 }
 document_readable extended bytes t d = let x = document_in_range extended bytes t d in record { proper = x.1; within = widened HasFewDigits IsAnyNumber (λ n p w. tt) t max_depth x.1 x.0 }
 
--- the text and the key are those of one tree
-pub record OfOneTree (form key : List ℕ) (t : Tree) : Type 0 where
-  pub readable : IsReadable t
-  pub is_text : form ≡ tree_text t
-  pub is_key : key ≡ key_of t
-
-pub of_one_tree : (number : ℕ) (text form key : List ℕ) (x : IsTextOf number text form) → IsKeyOf number text key → OfOneTree form key x.tree
-of_one_tree number text form key x k =
+-- the text is that of a tree that is decoded from its key
+pub text_of_tree : (number : ℕ) (text form : List ℕ) (x : IsTextOf number text form) → IsReadable x.tree × (form ≡ tree_text x.tree)
+text_of_tree number text form x =
     let r = document_readable x.read.mode text x.tree x.read.document in
-    record {
-      readable = r;
-      is_text = some_same form (tree_text x.tree) (sym x.is_text ∙ text_in_range IsAnyNumber x.tree r.within);
-      is_key = k.is_key ∙ ap key_of (one_tree number text k.tree x.tree k.read x.read);
-    }
+    (r, some_same form (tree_text x.tree) (sym x.is_text ∙ text_in_range IsAnyNumber x.tree r.within))

@@ -20,10 +20,10 @@ ghost use Rattle.key_document.specs.Changes.{Answers, AppendsDocument, IsPartAt}
 
 use crate::{
     ACCEPTED, Failure, NO_DOCUMENT, NO_PART, NO_PATH, NOTHING, OUT_OF_MEMORY, Rejection, TOO_DEEP,
-    TOO_SHORT, names_of, put, report, sign, text_and_key_of,
+    TOO_SHORT, names_of, put, report, sign, text_of,
 };
 use key_document::{
-    DocumentError, append_document, append_part, append_range, append_text_of_document,
+    DocumentError, append_document_of_text, append_part, append_range, append_text_of_document,
     compare_documents, is_document, split_document,
 };
 use std::alloc::Global;
@@ -66,9 +66,9 @@ fn document_of_text(alloc: Global, mode: u32, text: &[u8]) -> Result<Vec<u8>, Fa
     ensures document { IfOk result (λ bytes. IsDocumentOfText mode text.now bytes.items) }
     ensures fails { FailsFor mode (IsRejected mode text.now 1) (FormMayAllocate mode text.now) result }
 {
-    let both = text_and_key_of(alloc, mode, text)?;
+    let serialized = text_of(alloc, mode, text)?;
     let mut bytes = Vec::new(alloc);
-    match append_document(&mut bytes, &both.text, &both.key) {
+    match append_document_of_text(&mut bytes, &serialized) {
         Ok(()) => Ok(bytes),
         Err(_) => Err(Failure::OutOfMemory),
     }

@@ -31,3 +31,8 @@ pub mod Trailing
 pub mod MostZeros
 pub mod Fitting
 pub mod Checked
+pub mod Items
+pub mod Digits
+pub mod Tokens
+pub mod FromText
+pub mod ZerosOfText

@@ -9,7 +9,6 @@ use Rattle.key_value.specs.declared.key.KeyError.TheVariants as key_errors
 use Rattle.jsonb_spec.specs.Grammar.{max_depth}
 use Rattle.jsonb_spec.specs.SortKey.{key_of}
 use Rattle.jsonb_spec.specs.Text.Range.{IsWithin}
-use Rattle.jsonb_spec.specs.Text.{tree_text}
 use Rattle.jsonb_spec.specs.Tree.{Tree}
 use Rattle.key_document.specs.Document.{counts_at, document_of, OfDocument}
 use Rattle.key_zeros.specs.Numbers.{Pends}
@@ -113,7 +112,3 @@ of_key_error key_errors.OutOfMemory = OutOfMemory
 abbrev pub of_zeros_error : ZerosError → DocumentError
 of_zeros_error zeros_errors.Invalid = NoDocument
 of_zeros_error zeros_errors.OutOfMemory = OutOfMemory
-
--- Whichever value's serialized form and key these are, this is so of the value.
-abbrev pub OfTextAndKey : List ℕ → List ℕ → (Tree → Type 0) → Type 0
-OfTextAndKey text key Is = (t : Tree) → IsReadable t → text ≡ tree_text t → key ≡ key_of t → Is t

@@ -1,53 +1,41 @@
-//! The zeros of a value's numbers, one after the other: from its text by the bytes of its key, or from these by the
-//! numbers.
+//! The zeros of a value's numbers, one after the other, from those by the bytes of its key.
 
-ghost use Rattle.std.specs.Prelude.{◌≡◌, ◌<◌, ◌+◌, ◌^◌, ◌++◌, ◌∷◌, Bool, List, ℕ, length, replicate};
+ghost use Rattle.std.specs.Prelude.{◌≡◌, ◌++◌, ◌∷◌, List, ℕ, length};
 ghost use Rattle.jsonb_spec.specs.Tree.{Tree};
 ghost use Rattle.key_walk.specs.AtKeys.{OfKey};
 ghost use Rattle.key_walk.specs.Open.{Open, is_object, open_key, IsOpen, IsScalar};
 ghost use Rattle.key_document.specs.Document.{counts_at};
-ghost use Rattle.key_document.specs.Numbering.{AreLeft, Due, PassesNumber, PassesOn, counts_open, numbers_open, to_write, written};
+ghost use Rattle.key_document.specs.Numbering.{Due, PassesOn, counts_open, numbers_open, to_write};
 ghost use Rattle.key_document.specs.Splices.{AppendsZeros};
 ghost use Rattle.key_text.specs.Writes.{Preserves};
 ghost use Rattle.key_zeros.specs.Numbers.{Pends};
 ghost use Rattle.key_zeros.specs.PartsOf.{number_count, numbers_in};
-ghost use Rattle.key_zeros.specs.Scan.{ZerosAhead};
-ghost use Rattle.key_zeros.specs.Zeros.{counts_in, zeros_of};
+ghost use Rattle.key_zeros.specs.Zeros.{counts_in, zeros_in};
 
 use crate::error::DocumentError;
-use crate::zeros::{copy, more_plain, pass};
+use crate::zeros::{copy, pass};
 use key_walk::skip::{MAX_DEPTH, after_end, after_name, after_scalar, kind_at, opening, outermost};
-use key_zeros::entry::append_entry;
-use key_zeros::{next_count, number_count};
-
-/// Where the zeros of the numbers that are left are found.
-#[derive(Clone, Copy)]
-pub(crate) enum Counts<'z> {
-    /// In this text, of which the zeros by the bytes of the key are written.
-    FromText(&'z [u8]),
-    /// In these zeros by the bytes of the key, of which those by the numbers are written.
-    FromZeros(Option<(usize, u8, &'z [u8])>),
-}
+use key_zeros::number_count;
 
 /// What is known behind the first byte of a number's key.
 #[derive(Clone, Copy)]
 struct Passing<'z> {
-    /// How many bytes or numbers without zeros are at the end of what was written.
+    /// How many numbers without zeros are at the end of what was written.
     plain: usize,
     /// How many bytes of the key are behind that byte.
     from: usize,
-    counts: Counts<'z>,
+    /// The zeros that are left by these bytes.
+    next: Option<(usize, u8, &'z [u8])>,
 }
 
-/// Appends the zeros of the value whose key this is, and whose numbers' zeros are these: by the bytes of the key, or by
-/// the numbers.
+/// Appends the zeros of the value whose key this is, by the numbers, from those by the bytes of the key.
 pub(crate) fn append_counts(
     key: &[u8],
-    counts: Counts<'_>,
+    all: Option<(usize, u8, &[u8])>,
     out: &mut Vec<u8>,
 ) -> Result<(), DocumentError>
-    ensures appended { (by_bytes : Bool) → OfKey key.now (λ t. AreLeft by_bytes counts.entry (counts_at t) (counts_in t)
-        → AppendsZeros result out.old out.new (zeros_of 0 (written by_bytes (counts_at t) (counts_in t)))) }
+    ensures appended { OfKey key.now (λ t. Pends (counts_at t) all.entry
+        → AppendsZeros result out.old out.new (zeros_in t)) }
     ensures preserves { Preserves out.old out.new }
 {
     let Some((first, rest)) = key.split_first() else {
@@ -56,7 +44,7 @@ pub(crate) fn append_counts(
     let begun = Passing {
         plain: 0,
         from: key.len(),
-        counts,
+        next: all,
     };
     match opening(*first) {
         Some(object) => append_parts(object, rest, &begun, out),
@@ -74,10 +62,9 @@ fn append_parts(
     begun: &Passing<'_>,
     out: &mut Vec<u8>,
 ) -> Result<(), DocumentError>
-    ensures appended { (by_bytes : Bool) → (o : Open) → is_object o ≡ object → IsOpen o 511 → bytes.now ≡ open_key o
-        → Due by_bytes begun.now (length bytes.now) (counts_open o) (numbers_open o)
-        → AppendsZeros result out.old out.new
-        (to_write by_bytes begun.now (length bytes.now) (counts_open o) (numbers_open o)) }
+    ensures appended { (o : Open) → is_object o ≡ object → IsOpen o 511 → bytes.now ≡ open_key o
+        → Due begun.now (length bytes.now) (counts_open o)
+        → AppendsZeros result out.old out.new (to_write begun.now (numbers_open o)) }
     ensures preserves { Preserves out.old out.new }
 {
     let mut objects = outermost(object);
@@ -127,10 +114,9 @@ fn pass_scalar<'z>(
     passing: &Passing<'z>,
     out: &mut Vec<u8>,
 ) -> Result<Passing<'z>, DocumentError>
-    ensures passed { (by_bytes : Bool) → (t : Tree) → IsScalar t → number_count first ≡ numbers_in t → (bytes numbers : List ℕ)
-        → Due by_bytes passing.now left (counts_at t ++ bytes) (counts_in t ++ numbers)
-        → PassesOn by_bytes (to_write by_bytes passing.now left (counts_at t ++ bytes) (counts_in t ++ numbers))
-        bytes numbers result out.old out.new }
+    ensures passed { (t : Tree) → IsScalar t → number_count first ≡ numbers_in t → (bytes numbers : List ℕ)
+        → Due passing.now left (counts_at t ++ bytes)
+        → PassesOn (to_write passing.now (counts_in t ++ numbers)) bytes numbers result out.old out.new }
     ensures preserves { Preserves out.old out.new }
 {
     if number_count(first) == 0 {
@@ -145,65 +131,13 @@ fn pass_number<'z>(
     passing: &Passing<'z>,
     out: &mut Vec<u8>,
 ) -> Result<Passing<'z>, DocumentError>
-    ensures passed { (by_bytes : Bool) → (count : ℕ) → (bytes numbers : List ℕ)
-        → Due by_bytes passing.now left (count ∷ bytes) (count ∷ numbers)
-        → PassesOn by_bytes (to_write by_bytes passing.now left (count ∷ bytes) (count ∷ numbers))
-        bytes numbers result out.old out.new }
+    ensures passed { (count : ℕ) → (bytes numbers : List ℕ) → Due passing.now left (count ∷ bytes)
+        → PassesOn (to_write passing.now (count ∷ numbers)) bytes numbers result out.old out.new }
     ensures preserves { Preserves out.old out.new }
 {
     let gap = passing.from.saturating_sub(left);
     let from = left.saturating_sub(1);
-    match passing.counts {
-        Counts::FromText(text) => {
-            let (plain, rest) = pass_in_text(text, passing.plain, gap, out)?;
-            Ok(Passing {
-                plain,
-                from,
-                counts: Counts::FromText(rest),
-            })
-        }
-        Counts::FromZeros(next) => {
-            let (plain, rest) = pass_in_zeros(next, passing.plain, gap, out)?;
-            Ok(Passing {
-                plain,
-                from,
-                counts: Counts::FromZeros(rest),
-            })
-        }
-    }
-}
-
-// Appends the zeros of the next number of a text, before which so many bytes come since that of the last one.
-fn pass_in_text<'z>(
-    text: &'z [u8],
-    plain: usize,
-    gap: usize,
-    out: &mut Vec<u8>,
-) -> Result<(usize, &'z [u8]), DocumentError>
-    ensures passed { (count : ℕ) → (numbers : List ℕ) → ZerosAhead (count ∷ numbers) text.now → plain + gap < 2 ^ 63
-        → PassesNumber (λ rest. ZerosAhead numbers rest.now) (plain + gap) count result out.old out.new }
-    ensures preserves { Preserves out.old out.new }
-{
-    let Some((count, rest)) = next_count(text) else {
-        return Err(DocumentError::NoDocument);
-    };
-    let before = more_plain(plain, gap)?;
-    let more = append_entry(before, count, out)?;
-    Ok((more, rest))
-}
-
-// Appends the zeros of the number that comes behind so many bytes.
-fn pass_in_zeros<'z>(
-    next: Option<(usize, u8, &'z [u8])>,
-    plain: usize,
-    gap: usize,
-    out: &mut Vec<u8>,
-) -> Result<(usize, Option<(usize, u8, &'z [u8])>), DocumentError>
-    ensures passed { (count : ℕ) → (bytes : List ℕ) → Pends (replicate gap 0 ++ count ∷ bytes) next.entry
-        → length (replicate gap 0 ++ count ∷ bytes) < 2 ^ 63 → plain + 1 < 2 ^ 63
-        → PassesNumber (Pends bytes) plain count result out.old out.new }
-    ensures preserves { Preserves out.old out.new }
-{
-    let here = pass(next, gap)?;
-    copy(plain, here, 1, out)
+    let here = pass(passing.next, gap)?;
+    let (plain, next) = copy(passing.plain, here, 1, out)?;
+    Ok(Passing { plain, from, next })
 }

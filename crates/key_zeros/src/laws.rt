@@ -5,8 +5,7 @@ ghost use Rattle.key_value.specs.Readable.{IsReadable};
 ghost use Rattle.jsonb_spec.specs.Text.{tree_text};
 ghost use Rattle.jsonb_spec.specs.Tree.{Tree};
 ghost use Rattle.key_text.specs.FewestDigits.{with_fewest_digits};
-ghost use Rattle.key_zeros.specs.Scan.{ZerosAhead};
-ghost use Rattle.key_zeros.specs.Zeros.{counts_in, zeros_in};
+ghost use Rattle.key_zeros.specs.Zeros.{zeros_in};
 
 /// Values that have one text with the fewest digits, and the same zeros, have one text. So nothing of a text is lost
 /// where that one and the zeros are held.
@@ -14,9 +13,4 @@ pub fn zeros_distinguish_texts()
     ensures { (t u : Tree) → IsReadable t → IsReadable u
         → tree_text (with_fewest_digits t) ≡ tree_text (with_fewest_digits u) → zeros_in t ≡ zeros_in u
         → tree_text t ≡ tree_text u }
-{}
-
-/// The zeros of a value are those of the numbers in its text, from left to right, as `next_count` takes them.
-pub fn texts_have_their_zeros()
-    ensures { (t : Tree) → IsReadable t → ZerosAhead (counts_in t) (tree_text t) }
 {}

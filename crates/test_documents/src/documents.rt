@@ -1,10 +1,10 @@
 use crate::rows::ROWS;
 use jsonb_path::read_keys;
 use key_document::{
-    DocumentError, Insertion, append_document, append_merged, append_next_range, append_part,
-    append_text_of_document, append_with_inserted, append_with_item, append_with_member,
-    append_with_part, append_without_names, append_without_nulls, append_without_part,
-    compare_documents, is_document, zeros_from,
+    DocumentError, Insertion, append_document_of_text, append_merged, append_next_range,
+    append_part, append_text_of_document, append_with_inserted, append_with_item,
+    append_with_member, append_with_part, append_without_names, append_without_nulls,
+    append_without_part, compare_documents, is_document, zeros_from,
 };
 use std::cmp::Ordering;
 use std::process::Abort;
@@ -43,20 +43,15 @@ fn order_of(left: &[u8], right: &[u8]) -> &'static str {
     }
 }
 
-// The text is the document's, and the document that of the text and the key.
-fn expect_text(
-    rt: &(impl AllocGlobal + Abort),
-    document: &[u8],
-    key: &[u8],
-    text: &[u8],
-) -> Result<(), Fail> {
+// The text is the document's, and the document that of the text.
+fn expect_text(rt: &(impl AllocGlobal + Abort), document: &[u8], text: &[u8]) -> Result<(), Fail> {
     assert!(rt; is_document(document));
     let mut out = bytes_of(rt, "78")?;
     assert!(rt; append_text_of_document(rt.alloc(), &mut out, document).is_ok());
     let (_, written) = out.split_first().expect(rt, "what was there is gone");
     assert!(rt; *written == *text);
     let mut again = bytes_of(rt, "78")?;
-    assert!(rt; append_document(&mut again, text, key).is_ok());
+    assert!(rt; append_document_of_text(&mut again, text).is_ok());
     let (_, made) = again.split_first().expect(rt, "what was there is gone");
     assert!(rt; *made == *document);
     Ok(())
@@ -97,7 +92,7 @@ fn documents_are_those_of_the_reference(rt: HostRuntime) -> Result<(), Fail> {
             continue;
         }
         if call == "text" {
-            expect_text(&rt, &document, &other, &bytes_of(&rt, answer)?)?;
+            expect_text(&rt, &document, &bytes_of(&rt, answer)?)?;
             continue;
         }
         let names = read_keys(rt.alloc(), path.as_bytes())?.expect(&rt, "no path");
@@ -153,7 +148,7 @@ fn parts_have_their_zeros(rt: HostRuntime) -> Result<(), Fail> {
     Ok(())
 }
 
-// Each of these is no document, or its text isn't that of the key; what was in the buffer is still there.
+// Each of these is no document, or no text; what was in the buffer is still there.
 #[test]
 fn what_is_no_document_has_no_text(rt: HostRuntime) -> Result<(), Fail> {
     // No bytes, a key with bytes behind it, one that ends early, an entry that ends early, and one without zeros.
@@ -167,14 +162,10 @@ fn what_is_no_document_has_no_text(rt: HostRuntime) -> Result<(), Fail> {
         assert!(&rt; matches!(made, Err(DocumentError::NoDocument)), "{word}");
         assert_eq!(&rt; out.as_slice(), b"x".as_slice());
     }
-    for (text, word) in [
-        ("", "a114"),
-        ("1", "d2a114"),
-        ("\"", "a114"),
-        ("[1]", "d2a114a11400"),
-    ] {
+    // A string without an end, a word that is cut short, and a number of 40 digits.
+    for text in ["[\"", "nul", "1234567890123456789012345678901234567890"] {
         let mut out = bytes_of(&rt, "78")?;
-        let made = append_document(&mut out, text.as_bytes(), &bytes_of(&rt, word)?);
+        let made = append_document_of_text(&mut out, text.as_bytes());
         assert!(&rt; matches!(made, Err(DocumentError::NoDocument)), "{text}");
         assert_eq!(&rt; out.as_slice(), b"x".as_slice());
     }
@@ -209,5 +200,26 @@ fn bytes_are_checked(rt: HostRuntime) -> Result<(), Fail> {
     ] {
         assert!(&rt; !is_document(&bytes_of(&rt, word)?), "{word}");
     }
+    Ok(())
+}
+
+// A text of many parts is that of its document, and what was in the buffer is still there.
+#[test]
+fn long_texts_are_those_of_their_documents(rt: HostRuntime) -> Result<(), Fail> {
+    let part =
+        br#"{"":"\u0000\"\\\n","a\u001f":[1.50,-12.0340,0.00,-7,true],"b":{"c":null,"d":[]}},"#;
+    let mut text = Vec::new(rt.alloc());
+    text.push(b'[')?;
+    for _ in 0..200u16 {
+        text.extend_from_slice(part)?;
+    }
+    text.extend_from_slice(b"12345678901234567890.1234500]")?;
+    let mut document = bytes_of(&rt, "78")?;
+    assert!(&rt; append_document_of_text(&mut document, &text).is_ok());
+    let (first, made) = document.split_first().expect(&rt, "what was there is gone");
+    assert_eq!(&rt; *first, b'x');
+    let mut again = Vec::new(rt.alloc());
+    assert!(&rt; append_text_of_document(rt.alloc(), &mut again, made).is_ok());
+    assert!(&rt; *again == *text);
     Ok(())
 }

@@ -1,4 +1,4 @@
-use Rattle.std.proofs.Common.{◌≡◌, ◌≤◌, Bool, [], length}
+use Rattle.std.proofs.Common.{◌≡◌, ◌≤◌, [], length}
 use Rattle.key_walk.specs.Open.{Open, is_object, open_key, IsOpen}
 use Rattle.key_text.specs.Writes.{Preserves}
 use Rattle.key_zeros.proofs.Counting.{Walked}
@@ -8,8 +8,8 @@ use Rattle.key_document.proofs.numbers.append_parts.Given as goal
 
 abbrev pub invariant-parts : goal.invariant-parts
 invariant-parts l = record {
-  todo : (by_bytes : Bool) (o : Open) → is_object o ≡ l.object → IsOpen o 511 → l.bytes ≡ open_key o → Due by_bytes l.begun (length l.bytes) (counts_open o) (numbers_open o)
-      → Walked l.objects l.depth l.rest [] (Todo by_bytes (to_write by_bytes l.begun (length l.bytes) (counts_open o) (numbers_open o)) l.fn.out.items l.out.items l.passing (length l.rest));
+  todo : (o : Open) → is_object o ≡ l.object → IsOpen o 511 → l.bytes ≡ open_key o → Due l.begun (length l.bytes) (counts_open o)
+      → Walked l.objects l.depth l.rest [] (Todo (to_write l.begun (numbers_open o)) l.fn.out.items l.out.items l.passing (length l.rest));
   preserves : Preserves l.fn.out l.out;
   deep : l.depth ≤ 512;
   size : length l.objects ≡ 512;

@@ -1,4 +1,4 @@
-use Rattle.std.proofs.Common.{◌≡◌, ◌<◌, ◌^◌, ◌++◌, false, length, sym, ap, ◌∙◌, arith, eqb-true}
+use Rattle.std.proofs.Common.{◌≡◌, ◌<◌, ◌^◌, ◌++◌, length, sym, ap, ◌∙◌, arith, eqb-true}
 use Rattle.jsonb_spec.specs.Text.{tree_text}
 use Rattle.key_text.specs.FewestDigits.{with_fewest_digits}
 use Rattle.key_zeros.specs.Zeros.{zeros_in}
@@ -27,7 +27,7 @@ returns-in_err-append_counts-clause-errors c =
     only_memory c.from_residual-in_err-append_counts.result c.in_err-append_counts.field-0.0 c.args.document.now c.from_residual-in_err-append_counts.ensures.1 (λ t r d.
     let key = c.split_document.ensures.key t r d in
     let small : length (counts_at t) < 2 ^ 63 = omega (arith, ap length key, one_each t r.proper) in
-    (c.in_err-append_counts.ensures.appended false t r key (c.in_ok-all.ensures.found (counts_at t) small (c.split_document.ensures.zeros t r d))).0)
+    (c.in_err-append_counts.ensures.appended t r key (c.in_ok-all.ensures.found (counts_at t) small (c.split_document.ensures.zeros t r d))).0)
 
 pub returns-in_err-write_text_with_zeros-clause-errors : goal.returns-in_err-write_text_with_zeros-clause-errors
 returns-in_err-write_text_with_zeros-clause-errors c =
@@ -37,7 +37,7 @@ returns-in_err-write_text_with_zeros-clause-errors c =
     let shortest : c.deref.result.now ≡ tree_text (with_fewest_digits t) =
     c.deref.ensures.value ∙ shortest_appended t c.new-shortest.result.items c.write_text_of_key-2.new.buf.items (c.in_ok-write_text_of_key-2.ensures.ok t r key) ∙ ap (λ l. l ++ tree_text (with_fewest_digits t)) c.new-shortest.ensures.items in
     let counts : c.deref-2.result.now ≡ zeros_in t =
-    c.deref-2.ensures.value ∙ c.in_ok-append_counts.ensures.appended false t r key (c.in_ok-all.ensures.found (counts_at t) small (c.split_document.ensures.zeros t r d)) ∙ ap (λ l. l ++ zeros_in t) c.new-counts.ensures.items in
+    c.deref-2.ensures.value ∙ c.in_ok-append_counts.ensures.appended t r key (c.in_ok-all.ensures.found (counts_at t) small (c.split_document.ensures.zeros t r d)) ∙ ap (λ l. l ++ zeros_in t) c.new-counts.ensures.items in
     of_memory c.in_err-write_text_with_zeros.field-0.0 (λ is. c.in_err-write_text_with_zeros.ensures.invalid is t r shortest counts))
 
 pub returns-clause-text : goal.returns-clause-text
@@ -47,5 +47,5 @@ returns-clause-text c = λ t r d.
     let shortest : c.deref.result.now ≡ tree_text (with_fewest_digits t) =
     c.deref.ensures.value ∙ shortest_appended t c.new-shortest.result.items c.write_text_of_key-2.new.buf.items (c.in_ok-write_text_of_key-2.ensures.ok t r key) ∙ ap (λ l. l ++ tree_text (with_fewest_digits t)) c.new-shortest.ensures.items in
     let counts : c.deref-2.result.now ≡ zeros_in t =
-    c.deref-2.ensures.value ∙ c.in_ok-append_counts.ensures.appended false t r key (c.in_ok-all.ensures.found (counts_at t) small (c.split_document.ensures.zeros t r d)) ∙ ap (λ l. l ++ zeros_in t) c.new-counts.ensures.items in
+    c.deref-2.ensures.value ∙ c.in_ok-append_counts.ensures.appended t r key (c.in_ok-all.ensures.found (counts_at t) small (c.split_document.ensures.zeros t r d)) ∙ ap (λ l. l ++ zeros_in t) c.new-counts.ensures.items in
     text_appended t c.args.out.now.items c.write_text_with_zeros.new.buf.items r (c.in_ok-write_text_with_zeros.ensures.ok t r shortest counts)

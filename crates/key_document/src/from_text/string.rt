@@ -1,0 +1,155 @@
+//! The keys of strings and names, from serialized forms.
+
+ghost use Rattle.std.specs.Prelude.{◌≡◌, ◌<◌, ◌≤◌, ◌++◌, ◌∷◌, ◌+◌, ◌*◌, [], List, ℕ, length, IfOk, IfSome, MatchOption, if◌then◌else◌, Bool};
+ghost use Rattle.std.specs.List.{flat_map};
+ghost use Rattle.jsonb_spec.specs.Ascii as ascii;
+ghost use Rattle.jsonb_spec.specs.SortKey.{byte_key, text_key};
+ghost use Rattle.jsonb_spec.specs.SortKey.Kind as kind;
+ghost use Rattle.jsonb_spec.specs.Text.Appending.{Appends};
+ghost use Rattle.jsonb_spec.specs.Text.StringText.{byte_text};
+ghost use Rattle.key_document.specs.FromText.{WritesPart, string_key};
+ghost use Rattle.key_text.specs.Writes.{Preserves};
+
+use super::item::{is_name, read_item};
+use crate::error::DocumentError;
+use jsonb_value::plain::plain_len;
+use jsonb_value::sort_key::kind;
+use std::alloc::AllocError;
+
+/// Appends the key of the string inside of which the bytes begin, or of the name where a colon is behind it. The bytes
+/// behind it are left.
+#[inline(always)]
+pub(crate) fn append_string<'t>(
+    bytes: &'t [u8],
+    out: &mut Vec<u8>,
+) -> Result<&'t [u8], DocumentError>
+    ensures found { (text more : List ℕ) → bytes.now ≡ flat_map byte_text text ++ ascii.quote ∷ more
+        → WritesPart (λ rest. rest.now ≡ more) result out.old out.new (string_key more text) }
+    ensures shorter { IfOk result (λ rest. length rest.now < length bytes.now) }
+    ensures preserves { Preserves out.old out.new }
+{
+    let (run, others) = bytes.split_at(plain_len(bytes));
+    if let Some((last, behind)) = others.split_first() {
+        if *last == b'"' {
+            append_kind(is_name(behind), out)?;
+            out.extend_from_slice(run)?;
+            out.extend_from_slice(&[kind::TERMINATOR, kind::TEXT_END])?;
+            return Ok(behind);
+        }
+    }
+    append_escaped(bytes, out)
+}
+
+// Appends the kind of a string, which a name has none of.
+#[inline(always)]
+fn append_kind(name: bool, out: &mut Vec<u8>) -> Result<(), AllocError>
+    ensures { Appends result out.old out.new (if name then [] else kind.string ∷ []) }
+{
+    if name {
+        return Ok(());
+    }
+    out.extend_from_slice(&[kind::STRING])
+}
+
+// Does so where there are escapes.
+#[cold]
+#[inline(never)]
+fn append_escaped<'t>(bytes: &'t [u8], out: &mut Vec<u8>) -> Result<&'t [u8], DocumentError>
+    ensures found { (text more : List ℕ) → bytes.now ≡ flat_map byte_text text ++ ascii.quote ∷ more
+        → WritesPart (λ rest. rest.now ≡ more) result out.old out.new (string_key more text) }
+    ensures shorter { IfOk result (λ rest. length rest.now < length bytes.now) }
+    ensures preserves { Preserves out.old out.new }
+{
+    let Some((_, behind)) = key_size(bytes) else {
+        return Err(DocumentError::NoDocument);
+    };
+    append_kind(is_name(behind), out)?;
+    append_contents(bytes, out)?;
+    Ok(behind)
+}
+
+/// How many bytes the key of the string has inside of which the bytes begin, or of the name; and the bytes behind it.
+#[inline(always)]
+pub(crate) fn string_size(bytes: &[u8]) -> Option<(usize, &[u8])>
+    ensures found { (text more : List ℕ) → bytes.now ≡ flat_map byte_text text ++ ascii.quote ∷ more
+        → MatchOption result ⊥ (λ r. (r.0 ≡ length (string_key more text)) × (r.1.now ≡ more)) }
+    ensures shorter { IfSome result (λ r. length r.1.now < length bytes.now) }
+{
+    let Some((contents, rest)) = key_size(bytes) else {
+        return None;
+    };
+    if is_name(rest) {
+        return Some((contents + 2, rest));
+    }
+    Some((contents + 3, rest))
+}
+
+// How many bytes the key of the string has inside of which the bytes begin, without kind and end; and the bytes behind
+// the string.
+fn key_size(bytes: &[u8]) -> Option<(usize, &[u8])>
+    ensures found { (text more : List ℕ) → bytes.now ≡ flat_map byte_text text ++ ascii.quote ∷ more
+        → MatchOption result ⊥ (λ r. (r.0 ≡ length (flat_map byte_key text)) × (r.1.now ≡ more)) }
+    ensures shorter { IfSome result (λ r. length r.1.now < length bytes.now) }
+    ensures small { IfSome result (λ r. r.0 + 2 ≤ 2 * length bytes.now) }
+{
+    let mut size: usize = 0;
+    let mut rest = bytes;
+    'items: loop {
+        let (run, others) = rest.split_at(plain_len(rest));
+        size += run.len();
+        let Some((byte, behind)) = others.split_first() else {
+            return None;
+        };
+        if *byte == b'"' {
+            return Some((size, behind));
+        }
+        let Some((byte, behind)) = read_item(others) else {
+            return None;
+        };
+        size += byte_size(byte);
+        rest = behind;
+    }
+}
+
+// How many bytes a byte of a text takes in its key.
+fn byte_size(byte: u8) -> usize
+    ensures exact { result ≡ length (byte_key byte) }
+    ensures few { result ≤ 2 }
+{
+    if byte == 0 { 2 } else { 1 }
+}
+
+// Appends the key of the string inside of which the bytes begin, without its kind.
+fn append_contents(bytes: &[u8], out: &mut Vec<u8>) -> Result<(), DocumentError>
+    ensures found { (text more : List ℕ) → bytes.now ≡ flat_map byte_text text ++ ascii.quote ∷ more
+        → WritesPart (λ _. Unit {0}) result out.old out.new (text_key text) }
+    ensures preserves { Preserves out.old out.new }
+{
+    let mut rest = bytes;
+    'items: loop {
+        let (run, others) = rest.split_at(plain_len(rest));
+        out.extend_from_slice(run)?;
+        let Some((byte, _)) = others.split_first() else {
+            return Err(DocumentError::NoDocument);
+        };
+        if *byte == b'"' {
+            out.extend_from_slice(&[kind::TERMINATOR, kind::TEXT_END])?;
+            return Ok(());
+        }
+        let Some((byte, behind)) = read_item(others) else {
+            return Err(DocumentError::NoDocument);
+        };
+        append_byte(byte, out)?;
+        rest = behind;
+    }
+}
+
+// Appends a byte of a text as it is in a key.
+fn append_byte(byte: u8, out: &mut Vec<u8>) -> Result<(), AllocError>
+    ensures { Appends result out.old out.new (byte_key byte) }
+{
+    if byte == 0 {
+        return out.extend_from_slice(&[0, kind::ESCAPED]);
+    }
+    out.extend_from_slice(&[byte])
+}
