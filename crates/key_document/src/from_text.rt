@@ -46,8 +46,7 @@ pub fn append_document_of_text(out: &mut Vec<u8>, text: &[u8]) -> Result<(), Doc
 {
     let start = out.len();
     // Mostly the document is no longer. Where there is no such space, each append asks for its own.
-    let space = text.len().saturating_add(text.len() / 4);
-    let _reserved = out.try_reserve(space.saturating_add(24));
+    let _reserved = out.try_reserve(text.len().saturating_add(24));
     match append_whole(text, out) {
         Ok(()) => Ok(()),
         Err(error) => {

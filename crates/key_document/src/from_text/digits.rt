@@ -14,6 +14,9 @@ use jsonb_value::number::{Decimal128, Number};
 // With one digit more a number above this has no 128 bits with a sign.
 const MOST: u128 = 17014118346046923173168730371588410572;
 
+// With one digit more a number above this may have no 64 bits.
+const MOST_SHORT: u64 = 1844674407370955160;
+
 /// The digits of a number.
 #[derive(Clone, Copy)]
 pub(crate) struct Digits<'t> {
@@ -30,6 +33,38 @@ pub(crate) struct Digits<'t> {
 /// The digits of the number that the bytes begin with; `None` where their number doesn't fit.
 #[inline(always)]
 pub(crate) fn read_digits(bytes: &[u8]) -> Option<Digits<'_>>
+    ensures read { magnitude_from 0 bytes.now ≤ 2 ^ 127 → MatchOption result ⊥ (AreDigitsOf bytes.now) }
+{
+    let mut magnitude: u64 = 0;
+    let mut scale: usize = 0;
+    let mut zeros: usize = 0;
+    let mut pointed = false;
+    let mut rest = bytes;
+    'bytes: while let Some((byte, others)) = rest.split_first() {
+        if !is_number_byte(*byte) {
+            break;
+        }
+        let Some(more) = with_short_digit(magnitude, *byte) else {
+            return read_long(bytes);
+        };
+        magnitude = more;
+        scale = scale_with(pointed, scale, *byte);
+        zeros = zeros_with(pointed, zeros, *byte);
+        pointed = pointed || *byte == b'.';
+        rest = others;
+    }
+    Some(Digits {
+        magnitude: u128::from(magnitude),
+        scale,
+        zeros,
+        rest,
+    })
+}
+
+// Does so for digits whose number has more than 64 bits.
+#[cold]
+#[inline(never)]
+fn read_long(bytes: &[u8]) -> Option<Digits<'_>>
     ensures read { magnitude_from 0 bytes.now ≤ 2 ^ 127 → MatchOption result ⊥ (AreDigitsOf bytes.now) }
 {
     let mut magnitude: u128 = 0;
@@ -85,6 +120,20 @@ fn with_digit(magnitude: u128, byte: u8) -> Option<u128>
         return None;
     }
     Some(magnitude * 10 + u128::from(byte - b'0'))
+}
+
+// The same of a number of 64 bits, which most are.
+#[inline(always)]
+fn with_short_digit(magnitude: u64, byte: u8) -> Option<u64>
+    ensures { IfSome result (λ more. more ≡ with_digit magnitude byte) }
+{
+    if !is_digit(byte) {
+        return Some(magnitude);
+    }
+    if magnitude > MOST_SHORT {
+        return None;
+    }
+    Some(magnitude * 10 + u64::from(byte - b'0'))
 }
 
 // How many digits are behind a point with one more byte.

@@ -1,6 +1,6 @@
 //! The keys of strings and names, from serialized forms.
 
-ghost use Rattle.std.specs.Prelude.{◌≡◌, ◌<◌, ◌≤◌, ◌++◌, ◌∷◌, ◌+◌, ◌*◌, [], List, ℕ, length, IfOk, IfSome, MatchOption, if◌then◌else◌, Bool};
+ghost use Rattle.std.specs.Prelude.{◌≡◌, ◌<◌, ◌≤◌, ◌++◌, ◌∷◌, ◌+◌, ◌*◌, [], List, ℕ, length, take, IfOk, IfSome, MatchOption, if◌then◌else◌, Bool};
 ghost use Rattle.std.specs.List.{flat_map};
 ghost use Rattle.jsonb_spec.specs.Ascii as ascii;
 ghost use Rattle.jsonb_spec.specs.SortKey.{byte_key, text_key};
@@ -28,16 +28,35 @@ pub(crate) fn append_string<'t>(
     ensures shorter { IfOk result (λ rest. length rest.now < length bytes.now) }
     ensures preserves { Preserves out.old out.new }
 {
-    let (run, others) = bytes.split_at(plain_len(bytes));
+    let size = plain_len(bytes);
+    let (_, others) = bytes.split_at(size);
     if let Some((last, behind)) = others.split_first() {
         if *last == b'"' {
             append_kind(is_name(behind), out)?;
-            out.extend_from_slice(run)?;
+            append_first(bytes, size, out)?;
             out.extend_from_slice(&[kind::TERMINATOR, kind::TEXT_END])?;
             return Ok(behind);
         }
     }
     append_escaped(bytes, out)
+}
+
+// Appends the first bytes. Where they are few, and there is space, sixteen are copied, since a copy of a fixed length
+// takes no call.
+#[inline(always)]
+fn append_first(bytes: &[u8], count: usize, out: &mut Vec<u8>) -> Result<(), AllocError>
+    requires { count ≤ length bytes.now }
+    ensures { Appends result out.old out.new (take count bytes.now) }
+{
+    let len = out.len();
+    if count <= 16 && out.capacity() - len >= 16 {
+        if let Some(chunk) = bytes.first_chunk::<16>() {
+            out.extend_from_slice(chunk)?;
+            out.truncate(len + count);
+            return Ok(());
+        }
+    }
+    out.extend_from_slice(&bytes[..count])
 }
 
 // Appends the kind of a string, which a name has none of.

@@ -1,6 +1,6 @@
 use Rattle.std.proofs.Common.{sym, ◌∙◌}
 use Rattle.key_document.proofs.Digits.{too_large}
-use Rattle.key_document.proofs.from_text.digits.read_digits.Goals as goal
+use Rattle.key_document.proofs.from_text.digits.read_long.Goals as goal
 
 pub returns-in_default-with_digit : goal.returns-in_default-with_digit
 returns-in_default-with_digit c = record {
