@@ -4,8 +4,11 @@ pub mod Spares
 pub mod NumberTexts
 pub mod Pairs
 pub mod Encoding
+pub mod Few
+pub mod Integers
 pub mod KeyNumbers
 pub mod Strings
+pub mod Rows
 pub mod Whole
 pub mod Scalars
 pub mod Walk

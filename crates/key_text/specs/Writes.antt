@@ -1,5 +1,5 @@
 -- What is appended while a key is walked.
-use Rattle.std.specs.Prelude.{◌≡◌, ◌≢◌, ℕ, zero, suc, ◌+◌, ◌-◌, ◌/◌, ◌%◌, ◌<◌, ◌≤◌, Bool, true, false, nat_lt, if◌then◌else◌, List, [], ◌∷◌, ◌++◌, length, take, replicate, slice_range, IfOk, MatchResult, Result, Vec, vec_len, vec_capacity}
+use Rattle.std.specs.Prelude.{◌≡◌, ◌≢◌, ℕ, zero, suc, ◌+◌, ◌-◌, ◌/◌, ◌%◌, ◌<◌, ◌≤◌, Bool, true, false, nat_lt, if◌then◌else◌, List, [], ◌∷◌, ◌++◌, length, take, replicate, slice_range, IfOk, MatchResult, IsTrue, IsFalse, drop, get_or, ◌⊎◌, ◌*◌, codes, ◌^◌, map, Result, Vec, vec_len, vec_capacity}
 use Rattle.std.specs.Borrow.{Bor}
 use Rattle.std.specs.List.{flat_map}
 use Rattle.std.specs.declared.alloc.Global.{Global}
@@ -8,7 +8,8 @@ use Rattle.key_value.specs.declared.key.KeyError.TheVariants.{OutOfMemory}
 use Rattle.key_value.specs.Reading.{IsDigits}
 use Rattle.key_walk.specs.Open.{Open, items, members}
 use Rattle.jsonb_spec.specs.Ascii as ascii
-use Rattle.jsonb_spec.specs.SortKey.{text_key}
+use Rattle.jsonb_spec.specs.SortKey.{text_key, digits_key, invert_if}
+use Rattle.jsonb_spec.specs.SortKey.Kind as kind
 use Rattle.jsonb_spec.specs.Text.Appending.{Extends, comma_before}
 use Rattle.jsonb_spec.specs.Text.StringText.{byte_text, quoted_text}
 use Rattle.jsonb_spec.specs.Text.{tree_text}
@@ -30,6 +31,22 @@ Writes left result old new more text = MatchResult result
 -- The text is appended, and these bytes of a key are left; or memory ran out so.
 abbrev pub AppendsLeaving : Result (Bor (List ℕ)) KeyError → Vec ℕ Global → Vec ℕ Global → List ℕ → List ℕ → Type 0
 AppendsLeaving result old new more text = Writes (λ rest. rest.now) result old new more text
+
+-- The text is appended, or nothing is.
+pub record AppendsOrNot (done : Bool) (old new : Vec ℕ Global) (text : List ℕ) : Type 0 where
+  pub appended : IsTrue done → new.items ≡ old.items ++ text
+  pub unchanged : IsFalse done → new.items ≡ old.items
+  pub preserves : Preserves old new
+
+-- So many bytes of a key were read, behind which these are left, and the text is appended.
+abbrev pub Takes : List ℕ → ℕ → Vec ℕ Global → Vec ℕ Global → List ℕ → List ℕ → Type 0
+Takes bytes count old new more text = (drop count bytes ≡ more) × (new.items ≡ old.items ++ text)
+
+-- So many of the bytes were read, and where it is none, nothing is appended.
+pub record TakesSome (bytes : List ℕ) (count : ℕ) (old new : Vec ℕ Global) : Type 0 where
+  pub none : count ≡ 0 → new.items ≡ old.items
+  pub within : count ≤ length bytes
+  pub preserves : Preserves old new
 
 -- The capacity for these bytes is missing.
 abbrev pub LacksCapacity : Vec ℕ Global → List ℕ → Type 0
@@ -95,6 +112,41 @@ pub record IsEncoded (count magnitude read : ℕ) (row : List ℕ) : Type 0 wher
   pub is_digits : IsDigits count magnitude digits read
   pub not_zero : digits % 10 ≢ 0
   pub encoded : row ≡ last_digits read digits ++ replicate (48 - read) ascii.digit_zero
+
+-- The row has the first pairs of digits of a number, of which the last may end in a zero. All behind the row are zeros.
+pub record HasPairs (count magnitude pairs : ℕ) (row : List ℕ) : Type 0 where
+  pub two : get_or row (2 * pairs - 1) 0 ≢ ascii.digit_zero
+      → IsEncoded count magnitude (2 * pairs) (row ++ replicate 32 ascii.digit_zero)
+  pub one : get_or row (2 * pairs - 1) 0 ≡ ascii.digit_zero
+      → IsEncoded count magnitude (2 * pairs - 1) (row ++ replicate 32 ascii.digit_zero)
+
+-- Whichever number's digits the bytes begin with, it is an integer with so many digits before the point: all of its
+-- digits were read, and those before the point are appended.
+pub record TakesIntegerOf (count magnitude front : ℕ) (bytes : List ℕ) (taken : ℕ) (more old new : List ℕ) : Type 0 where
+  pub read : ℕ
+  pub row : List ℕ
+  pub encoded : IsEncoded count magnitude read row
+  pub whole : read ≤ front
+  pub left : drop taken bytes ≡ more
+  pub appended : new ≡ old ++ take front row
+
+abbrev pub TakesInteger : ℕ → List ℕ → ℕ → List ℕ → List ℕ → Type 0
+TakesInteger front bytes taken old new =
+    0 < taken → (count magnitude : ℕ) → magnitude < 10 ^ count → 0 < magnitude → count ≤ 39 → (more : List ℕ)
+    → bytes ≡ map (invert_if false) (digits_key count magnitude) ++ more
+    → TakesIntegerOf count magnitude front bytes taken more old new
+
+-- The digits of a number below 100 are appended, if it has as many: it has one only where the other is a zero.
+pub record AppendsPair (front pair : ℕ) (old new : List ℕ) : Type 0 where
+  pub two : front ≡ 2
+      → new ≡ old ++ (ascii.digit_zero + pair / 10) ∷ (ascii.digit_zero + pair % 10) ∷ []
+  pub one : front ≡ 1 → (pair % 10 ≡ 0) × (new ≡ old ++ (ascii.digit_zero + pair / 10) ∷ [])
+
+-- The word of which this byte is the key is appended.
+abbrev pub AppendsWord : ℕ → List ℕ → List ℕ → Type 0
+AppendsWord first old new =
+    ((first ≡ kind.null) × (new ≡ old ++ codes "null"))
+    ⊎ (((first ≡ kind.false) × (new ≡ old ++ codes "false")) ⊎ ((first ≡ kind.true) × (new ≡ old ++ codes "true")))
 
 -- The digits that are first in the row, where the first is at this exponent: with zeros behind them, with a point
 -- among them, or behind a point and as many zeros.

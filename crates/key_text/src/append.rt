@@ -1,6 +1,7 @@
 //! Bytes at the end of a buffer.
-ghost use Rattle.std.specs.Prelude.{◌≤◌, length, take};
+ghost use Rattle.std.specs.Prelude.{◌≤◌, ◌∷◌, [], length, take};
 ghost use Rattle.jsonb_spec.specs.Text.Appending.{Appends};
+ghost use Rattle.key_text.specs.Writes.{AppendsOrNot};
 
 use std::alloc::AllocError;
 
@@ -42,4 +43,32 @@ fn append_alone(bytes: &[u8], count: usize, buf: &mut Vec<u8>) -> Result<(), All
     ensures { Appends result buf.old buf.new (take count bytes.now) }
 {
     buf.extend_from_slice(&bytes[..count])
+}
+
+// Appends a byte.
+#[inline(always)]
+pub(crate) fn append_one(byte: u8, buf: &mut Vec<u8>) -> Result<(), AllocError>
+    ensures { Appends result buf.old buf.new (byte ∷ []) }
+{
+    if buf.push(byte).is_err() {
+        return Err(AllocError);
+    }
+    Ok(())
+}
+
+// Appends the first of these bytes where there is space for all of them, and returns whether there is.
+#[inline(always)]
+pub(crate) fn append_within(bytes: &[u8], count: usize, buf: &mut Vec<u8>) -> bool
+    requires { count ≤ length bytes.now }
+    ensures { AppendsOrNot result buf.old buf.new (take count bytes.now) }
+{
+    let len = buf.len();
+    if buf.capacity() - len < bytes.len() {
+        return false;
+    }
+    if buf.extend_from_slice(bytes).is_err() {
+        return false;
+    }
+    buf.truncate(len + count);
+    true
 }

@@ -1,5 +1,5 @@
 //! The text of a number from its key: two digits from each byte.
-ghost use Rattle.std.specs.Prelude.{◌≡◌, ◌+◌, ◌*◌, ◌/◌, ◌%◌, ◌^◌, ◌<◌, ◌≤◌, ◌++◌, ◌∷◌, [], ℕ, List, length, map, replicate, take, IfOk, IfSome, MatchOption};
+ghost use Rattle.std.specs.Prelude.{◌≡◌, ◌+◌, ◌*◌, ◌/◌, ◌%◌, ◌^◌, ◌<◌, ◌≤◌, ◌++◌, ◌∷◌, [], ℕ, List, length, map, false, replicate, take, drop, IsTrue, IsFalse, IfOk, IfSome, MatchOption};
 ghost use Rattle.std.specs.Fmt.{sign_text};
 ghost use Rattle.jsonb_spec.specs.Ascii as ascii;
 ghost use Rattle.jsonb_spec.specs.Proper.{IsProperNumber};
@@ -8,9 +8,9 @@ ghost use Rattle.jsonb_spec.specs.Text.Appending.{Appends};
 ghost use Rattle.jsonb_spec.specs.Text.NumberText.{number_text};
 ghost use Rattle.jsonb_spec.specs.Tree.{Num};
 ghost use Rattle.key_text.specs.FewestDigits.{fewest_digits};
-ghost use Rattle.key_text.specs.Writes.{IsEncoded, Preserves, AppendsLeaving, scaled_text};
+ghost use Rattle.key_text.specs.Writes.{IsEncoded, HasPairs, Preserves, AppendsLeaving, AppendsPair, Takes, TakesInteger, TakesSome, scaled_text};
 
-use crate::append::append_chunk;
+use crate::append::{append_chunk, append_within};
 use jsonb_value::sort_key::kind;
 use key_value::KeyError;
 use key_value::number::{invert_if, read_exponent};
@@ -23,8 +23,135 @@ static PAIRS: [u8; 256] =
     80818283848586878889909192939495969798990000000000000000000000000000000000000000\
     0000000000000000";
 
+// The first byte of the key of a number below 1 and not below 0.1. With each digit before the point it is one more.
+const NO_FRONT: u8 = 0xA0;
+
+// The same byte of the largest numbers.
+const LARGEST: u8 = 0xC7;
+
 // How many digits a number has at most before the point.
 const MAX_FRONT: u32 = 40;
+
+// Appends the integer whose key begins with this byte and these others, and returns how many of the others are read of
+// it. Where that is 0, nothing is appended: it is no integer above 0, or it is left to `append_number`.
+#[inline(always)]
+pub(crate) fn append_integer(first: u8, digits: &[u8], buf: &mut Vec<u8>) -> usize
+    ensures number { 0 < result → (160 < first) × (first < 200) }
+    ensures found { 0 < result → (n : Num) → IsProperNumber n → (more : List ℕ) → first ∷ digits.now ≡ number_key n ++ more
+        → Takes digits.now result buf.old buf.new more (number_text (fewest_digits n)) }
+    ensures takes { TakesSome digits.now result buf.old buf.new }
+{
+    if first <= NO_FRONT || first > LARGEST {
+        return 0;
+    }
+    let front = usize::from(first - NO_FRONT);
+    let Some((byte, _)) = digits.split_first() else {
+        return 0;
+    };
+    if front <= 2 && *byte % 2 == 0 {
+        if append_pair(front, *byte / 2, buf) {
+            return 1;
+        }
+        return 0;
+    }
+    if front <= 16 {
+        if let Some(chunk) = digits.first_chunk::<8>() {
+            return append_few(front, chunk, buf);
+        }
+    }
+    append_many(front, digits, buf)
+}
+
+// Appends an integer of one pair of digits, which has so many of them, if there is space. It has one only where the other
+// is a zero. Returns whether it is appended.
+#[inline(always)]
+fn append_pair(front: usize, pair: u8, buf: &mut Vec<u8>) -> bool
+    requires digits { (0 < front) × (front ≤ 2) × (pair < 128) }
+    ensures appended { IsTrue result → pair < 100 → AppendsPair front pair buf.old.items buf.new.items }
+    ensures unchanged { IsFalse result → buf.new.items ≡ buf.old.items }
+    ensures preserves { Preserves buf.old buf.new }
+{
+    let (tens, ones) = digits_of_pair(pair);
+    if buf.capacity() - buf.len() < 2 {
+        return false;
+    }
+    if front == 2 {
+        buf.push_reserved(tens);
+        buf.push_reserved(ones);
+        return true;
+    }
+    if ones != b'0' {
+        return false;
+    }
+    buf.push_reserved(tens);
+    true
+}
+
+// Appends an integer of so many digits, of which the bytes have those without zeros at the end, if there is space, and
+// returns how many of the bytes are read, or 0.
+#[inline(always)]
+fn append_few(front: usize, bytes: &[u8; 8], buf: &mut Vec<u8>) -> usize
+    requires few { (0 < front) × (front ≤ 16) }
+    ensures found { (tail : List ℕ) → TakesInteger front (bytes.now ++ tail) result buf.old.items buf.new.items }
+    ensures takes { TakesSome bytes.now result buf.old buf.new }
+{
+    let mut row = [b'0'; 16];
+    let pairs = encode_few(bytes, &mut row);
+    if pairs == 0 || front + 1 < 2 * pairs {
+        return 0;
+    }
+    if front + 1 == 2 * pairs && row[front] != b'0' {
+        return 0;
+    }
+    if append_within(&row, front, buf) {
+        return pairs;
+    }
+    0
+}
+
+// Writes the digits to the row, of which the others stay zeros, and returns how many pairs they are, or 0 where they go
+// on behind the bytes.
+#[inline(always)]
+fn encode_few(bytes: &[u8; 8], row: &mut [u8; 16]) -> usize
+    requires { row.old ≡ replicate 16 ascii.digit_zero }
+    ensures found { 0 < result → (count magnitude : ℕ) → magnitude < 10 ^ count → 0 < magnitude → count ≤ 39
+        → (tail more : List ℕ) → bytes.now ++ tail ≡ map (invert_if false) (digits_key count magnitude) ++ more
+        → HasPairs count magnitude result row.new × (drop result bytes.now ++ tail ≡ more) }
+    ensures few { result ≤ 8 }
+{
+    let mut pairs: usize = 0;
+    'pairs: while pairs < 8 {
+        let byte = bytes[pairs];
+        let (tens, ones) = digits_of_pair(byte / 2);
+        row[2 * pairs] = tens;
+        row[2 * pairs + 1] = ones;
+        pairs += 1;
+        if byte % 2 == 0 {
+            return pairs;
+        }
+    }
+    0
+}
+
+// Does so for an integer of any size, in a function of its own, which is called less often.
+#[inline(never)]
+fn append_many(front: usize, bytes: &[u8], buf: &mut Vec<u8>) -> usize
+    requires few { front ≤ 39 }
+    ensures found { TakesInteger front bytes.now result buf.old.items buf.new.items }
+    ensures takes { TakesSome bytes.now result buf.old buf.new }
+{
+    let mut row = [b'0'; 48];
+    let Some((count, rest)) = encode(false, bytes, &mut row) else {
+        return 0;
+    };
+    if front < count {
+        return 0;
+    }
+    if append_within(&row, front, buf) {
+        return bytes.len() - rest.len();
+    }
+    0
+}
 
 // Appends the text of the number whose key the bytes begin with.
 #[inline(never)]
@@ -76,7 +203,7 @@ fn encode<'k>(negative: bool, bytes: &'k [u8], row: &mut [u8; 48]) -> Option<(us
         → bytes.now ≡ map (invert_if negative) (digits_key count magnitude) ++ more
         → MatchOption result ⊥ (λ r. IsEncoded count magnitude r.0 row.new × (r.1.now ≡ more)) }
     ensures few { IfSome result (λ r. r.0 ≤ 40) }
-    ensures shorter { IfSome result (λ r. length r.1.now ≤ length bytes.now) }
+    ensures shorter { IfSome result (λ r. length r.1.now < length bytes.now) }
 {
     let mut rest = bytes;
     let mut count: usize = 0;

@@ -1,6 +1,6 @@
 //! The text of a value from its key.
 
-ghost use Rattle.std.specs.Prelude.{◌≡◌, ◌<◌, ◌≤◌, ◌++◌, ◌∷◌, [], List, ℕ, length, true, IfOk, IfErr, OnErr};
+ghost use Rattle.std.specs.Prelude.{◌≡◌, ◌<◌, ◌≤◌, ◌++◌, ◌∷◌, [], List, ℕ, length, true, IsTrue, IsFalse, IfOk, IfErr, OnErr};
 ghost use Rattle.std.specs.Vec.{vec_capacity};
 ghost use Rattle.key_value.specs.Readable.{IsReadableAt};
 ghost use Rattle.key_walk.specs.AtKeys.{AtKey, AtParts, OfKey};
@@ -11,10 +11,12 @@ ghost use Rattle.jsonb_spec.specs.SortKey.{key_of};
 ghost use Rattle.jsonb_spec.specs.Text.Appending.{Appends, comma_before};
 ghost use Rattle.jsonb_spec.specs.Tree.{Tree};
 ghost use Rattle.key_text.specs.FewestDigits.{AppendsTextOf, AppendsDocumentWithKey};
-ghost use Rattle.key_text.specs.Writes.{Preserves, LacksCapacity, AppendsLeaving, name_text, opening_text, open_text, closing_text, value_text};
+ghost use Rattle.key_text.specs.Writes.{AppendsWord, Preserves, LacksCapacity, AppendsLeaving, name_text, opening_text, open_text, closing_text, value_text};
 
-use crate::number::append_number;
-use crate::string::append_text;
+use crate::append::{append_one, append_within};
+use crate::number::{append_integer, append_number};
+use crate::string::{append_long_name, append_long_string, append_short_name, append_short_string};
+use jsonb_value::plain::plain_len;
 use jsonb_value::sort_key::kind;
 use key_value::KeyError;
 use key_walk::skip::{MAX_DEPTH, after_end, kind_at, opening, outermost};
@@ -77,7 +79,7 @@ fn append_value<'k>(bytes: &'k [u8], buf: &mut Vec<u8>) -> Result<&'k [u8], KeyE
 }
 
 // Appends the text of a value that is no array and no object.
-#[inline(always)]
+#[inline(never)]
 fn append_scalar<'k>(bytes: &'k [u8], buf: &mut Vec<u8>) -> Result<&'k [u8], KeyError>
     ensures found { (depth : ℕ) → (t : Tree) → IsReadableAt depth t → IsScalar t → (more : List ℕ)
         → bytes.now ≡ key_of t ++ more → AppendsLeaving result buf.old buf.new more (value_text t) }
@@ -88,8 +90,7 @@ fn append_scalar<'k>(bytes: &'k [u8], buf: &mut Vec<u8>) -> Result<&'k [u8], Key
         return Err(KeyError::Invalid);
     };
     if *first == kind::STRING {
-        buf.extend_from_slice(b"\"")?;
-        return append_text(false, rest, buf);
+        return append_long_string(plain_len(rest), rest, buf);
     }
     if *first == kind::NULL {
         buf.extend_from_slice(b"null")?;
@@ -123,8 +124,7 @@ fn begin_part<'k>(
         append_comma(is_first, buf)?;
         return Ok(bytes);
     }
-    append_first_quote(is_first, buf)?;
-    append_text(true, bytes, buf)
+    append_long_name(is_first, bytes, buf)
 }
 
 #[inline(always)]
@@ -134,38 +134,21 @@ fn append_comma(is_first: bool, buf: &mut Vec<u8>) -> Result<(), AllocError>
     if is_first {
         return Ok(());
     }
-    buf.extend_from_slice(b",")
-}
-
-// Appends a comma, but for the first name, and the double quote that a name begins with.
-#[inline(always)]
-fn append_first_quote(is_first: bool, buf: &mut Vec<u8>) -> Result<(), AllocError>
-    ensures { Appends result buf.old buf.new (comma_before is_first ++ ascii.quote ∷ []) }
-{
-    if is_first {
-        return buf.extend_from_slice(b"\"");
-    }
-    buf.extend_from_slice(b",\"")
+    append_one(b',', buf)
 }
 
 #[inline(always)]
 fn append_opening(object: bool, buf: &mut Vec<u8>) -> Result<(), AllocError>
     ensures { Appends result buf.old buf.new (opening_text object ∷ []) }
 {
-    if object {
-        return buf.extend_from_slice(b"{");
-    }
-    buf.extend_from_slice(b"[")
+    append_one(if object { b'{' } else { b'[' }, buf)
 }
 
 #[inline(always)]
 fn append_closing(object: bool, buf: &mut Vec<u8>) -> Result<(), AllocError>
     ensures { Appends result buf.old buf.new (closing_text object ∷ []) }
 {
-    if object {
-        return buf.extend_from_slice(b"}");
-    }
-    buf.extend_from_slice(b"]")
+    append_one(if object { b'}' } else { b']' }, buf)
 }
 
 // Appends an object or an array, from the parts that the bytes begin with. Which of the open ones are objects is in
@@ -178,40 +161,85 @@ fn append_parts<'k>(object: bool, bytes: &'k [u8], buf: &mut Vec<u8>) -> Result<
     append_opening(object, buf)?;
     let mut objects = outermost(object);
     let mut depth: usize = 1;
+    let mut inside = object;
     let mut is_first = true;
     let mut rest = bytes;
     'parts: loop {
-        let Some(top) = depth.checked_sub(1) else {
-            return Ok(rest);
-        };
-        let inside = kind_at(&objects, top);
-        if let Some(others) = after_end(inside, rest) {
-            append_closing(inside, buf)?;
-            depth = top;
-            is_first = false;
-            rest = others;
-            continue;
+        let named = append_short_name(inside, is_first, rest, buf);
+        if named == 0 {
+            if let Some(others) = after_end(inside, rest) {
+                append_closing(inside, buf)?;
+                depth -= 1;
+                if depth == 0 {
+                    return Ok(others);
+                }
+                inside = kind_at(&objects, depth - 1);
+                is_first = false;
+                rest = others;
+                continue;
+            }
         }
-        let value = begin_part(inside, is_first, rest, buf)?;
+        let value = if named > 0 {
+            &rest[named..]
+        } else {
+            begin_part(inside, is_first, rest, buf)?
+        };
         let Some((first, others)) = value.split_first() else {
             return Err(KeyError::Invalid);
         };
-        match opening(*first) {
-            Some(inner) => {
-                if depth == MAX_DEPTH {
-                    return Err(KeyError::Invalid);
-                }
-                append_opening(inner, buf)?;
-                objects[depth] = inner;
-                depth += 1;
-                is_first = true;
-                rest = others;
-            }
-            None => {
-                let after = append_scalar(value, buf)?;
-                is_first = false;
-                rest = after;
-            }
+        let digits = append_integer(*first, others, buf);
+        if digits > 0 {
+            is_first = false;
+            rest = &others[digits..];
+            continue;
         }
+        if *first == kind::STRING {
+            let run = plain_len(others);
+            let short = append_short_string(run, others, buf);
+            is_first = false;
+            if short > 0 {
+                rest = &others[short..];
+                continue;
+            }
+            rest = append_long_string(run, others, buf)?;
+            continue;
+        }
+        if *first < kind::OBJECT || *first > kind::ARRAY {
+            is_first = false;
+            if append_word(*first, buf) {
+                rest = others;
+                continue;
+            }
+            rest = append_scalar(value, buf)?;
+            continue;
+        }
+        let Some(inner) = opening(*first) else {
+            return Err(KeyError::Invalid);
+        };
+        if depth == MAX_DEPTH {
+            return Err(KeyError::Invalid);
+        }
+        append_opening(inner, buf)?;
+        objects[depth] = inner;
+        depth += 1;
+        inside = inner;
+        is_first = true;
+        rest = others;
     }
+}
+
+// Appends the word whose key is this byte, if it is one and there is space, and returns whether it is done.
+#[inline(always)]
+fn append_word(first: u8, buf: &mut Vec<u8>) -> bool
+    ensures appended { IsTrue result → AppendsWord first buf.old.items buf.new.items }
+    ensures unchanged { IsFalse result → buf.new.items ≡ buf.old.items }
+    ensures preserves { Preserves buf.old buf.new }
+{
+    let (row, count) = match first {
+        kind::NULL => (*b"null ", 4),
+        kind::FALSE => (*b"false", 5),
+        kind::TRUE => (*b"true ", 4),
+        _ => return false,
+    };
+    append_within(&row, count, buf)
 }

@@ -1,12 +1,15 @@
-use Rattle.std.proofs.Common.{◌∷◌, ◌++◌, [], true, subst, ◌∙◌, arith, append_assoc, length-append}
-use Rattle.std.proofs.lemmas.List.{length-set}
+use Rattle.std.proofs.Common.{◌≡◌, ◌≢◌, inl, inr, ◌+◌, ◌-◌, ◌∷◌, ◌++◌, [], ℕ, List, None, Some, true, false, get_or, set, length, sym, ap, subst, ◌∙◌, arith, append_assoc, length-append}
+use Rattle.std.proofs.lemmas.List.{length-set, get_or-set_same, take_rest}
 use Rattle.key_value.proofs.FirstBytes.{no_key}
-use Rattle.key_walk.proofs.Opens.{too_deep}
+use Rattle.key_walk.specs.Open.{end_key}
+use Rattle.key_walk.proofs.Opens.{opens_key, too_deep}
 use Rattle.key_walk.proofs.Scalars.{scalar_there}
-use Rattle.key_text.specs.Writes.{opening_text}
+use Rattle.jsonb_spec.specs.SortKey.{key_of}
+use Rattle.key_text.specs.Writes.{closing_text, opening_text, value_text, Preserves}
 use Rattle.key_text.proofs.Appending.{out_of_memory, passed_on, preserves_on, retained_by}
-use Rattle.key_text.proofs.Walk.{WritesParts, text_begun, end_there, end_fits, end_written, part_there, name_fits, value_fits, scalar_written, opening_fits, part_begun, all_written}
-use Rattle.key_text.proofs.Scalars.{opened_text}
+use Rattle.key_text.proofs.Walk.{WritesParts, before_part, text_begun, end_there, end_fits, end_written, part_there, name_fits, value_fits, scalar_written, opening_fits, part_begun, all_written}
+use Rattle.key_text.proofs.Scalars.{number_text_of, opened_text, string_text, word_of}
+use Rattle.key_text.proofs.write.append_parts.Goals.{then-first-lt-OBJECT-via-then-first-lt-OBJECT, then-first-lt-OBJECT-via-else-first-lt-OBJECT+then-first-gt-ARRAY, then-named-eq0+in_default, else-named-eq0, then-named-gt0, else-named-gt0+in_ok-value}
 use Rattle.key_text.proofs.write.append_parts.Goals as goal
 
 pub parts-init : goal.parts-init
@@ -14,103 +17,420 @@ parts-init c = record {
   writes = subst (λ s. WritesParts c.args.object c.args.bytes.now c.outermost-objects.result 1 c.args.bytes.now true s c.append_opening.new.buf.items) c.in_ok-append_opening.ensures.ok
       (text_begun c.outermost-objects.result c.args.object c.args.bytes.now c.append_opening.new.buf.items c.outermost-objects.ensures.first);
   preserves = retained_by c.args.buf.now c.append_opening.new.buf c.in_ok-append_opening.ensures;
+  some = omega arith;
   deep = omega arith;
   size = c.outermost-objects.ensures.size;
+  inside = sym c.outermost-objects.ensures.first;
 }
-
-pub returns-in_default-clause-found : goal.returns-in_default-clause-found
-returns-in_default-clause-found c = λ o is h more e.
-    let x = all_written c.parts.objects c.parts.rest.now more c.parts.depth c.parts.is_first o (c.args.buf.now.items ++ opening_text c.args.object ∷ []) c.parts.buf.items (omega (arith, c.in_default.ensures)) (c.parts.invariant.writes o is h more e) in
-    (x.0, x.1 ∙ append_assoc c.args.buf.now.items (opening_text c.args.object ∷ []) _)
 
 pub returns-in_err-append_closing-clause-found : goal.returns-in_err-append_closing-clause-found
 returns-in_err-append_closing-clause-found c = λ o is h more e.
     let start = c.args.buf.now.items ++ opening_text c.args.object ∷ [] in
-    let x = end_there c.parts.objects c.parts.depth c.in-Some.top c.parts.rest.now more c.kind_at-inside.result c.parts.is_first o start c.parts.buf.items (omega (arith, c.in-Some.ensures)) c.kind_at-inside.ensures (c.parts.invariant.writes o is h more e) c.in-Some-after_end.others.now c.in-Some-after_end.ensures.some in
-    let space = end_fits c.parts.objects c.in-Some.top c.parts.rest.now more c.kind_at-inside.result o start c.parts.buf.items x in
+    let same = c.append_short_name-named.ensures.takes.none c.if-named-eq0.true in
+    let x = end_there c.parts.objects c.parts.depth (c.parts.depth - 1) c.parts.rest.now more c.parts.inside c.parts.is_first o start c.parts.buf.items (omega (arith, c.parts.invariant.some)) c.parts.invariant.inside (c.parts.invariant.writes o is h more e) c.in-Some.others.now c.in-Some.ensures.some in
+    let space = end_fits c.parts.objects (c.parts.depth - 1) c.parts.rest.now more c.parts.inside o start c.parts.buf.items x in
     out_of_memory (λ rest. rest.now) c.from_residual-in_err-append_closing.result c.args.buf.now c.append_closing.new.buf more _ c.from_residual-in_err-append_closing.ensures.1
-    (omega (arith, space, length-append c.args.buf.now.items (opening_text c.args.object ∷ []), c.parts.invariant.preserves.capacity, c.in_err-append_closing.ensures.full))
+    (omega (arith, space, ap length same, length-append c.args.buf.now.items (opening_text c.args.object ∷ []), c.parts.invariant.preserves.capacity, c.append_short_name-named.ensures.takes.preserves.capacity, c.in_err-append_closing.ensures.full))
 
-pub parts-preserved-in-Some-after_end : goal.parts-preserved-in-Some-after_end
-parts-preserved-in-Some-after_end c = record {
+pub returns-then-depth-eq0-clause-found : goal.returns-then-depth-eq0-clause-found
+returns-then-depth-eq0-clause-found c = λ o is h more e.
+    let start = c.args.buf.now.items ++ opening_text c.args.object ∷ [] in
+    let same = c.append_short_name-named.ensures.takes.none c.if-named-eq0.true in
+    let x = end_there c.parts.objects c.parts.depth (c.parts.depth - 1) c.parts.rest.now more c.parts.inside c.parts.is_first o start c.parts.buf.items (omega (arith, c.parts.invariant.some)) c.parts.invariant.inside (c.parts.invariant.writes o is h more e) c.in-Some.others.now c.in-Some.ensures.some in
+    let closed = c.in_ok-append_closing.ensures.ok ∙ ap (λ b. b ++ closing_text c.parts.inside ∷ []) same in
+    let y = end_written c.parts.objects (c.parts.depth - 1) c.parts.rest.now more c.parts.inside o start c.parts.buf.items x c.in-Some.others.now c.append_closing.new.buf.items c.in-Some.ensures.found closed in
+    let all = all_written c.parts.objects c.in-Some.others.now more (c.parts.depth - 1) false o start c.append_closing.new.buf.items c.if-depth-eq0.true y in
+    (all.0, all.1 ∙ append_assoc c.args.buf.now.items (opening_text c.args.object ∷ []) _)
+
+pub parts-preserved-in-Some : goal.parts-preserved-in-Some
+parts-preserved-in-Some c = record {
   writes = λ o is h more e.
       let start = c.args.buf.now.items ++ opening_text c.args.object ∷ [] in
-      let x = end_there c.parts.objects c.parts.depth c.in-Some.top c.parts.rest.now more c.kind_at-inside.result c.parts.is_first o start c.parts.buf.items (omega (arith, c.in-Some.ensures)) c.kind_at-inside.ensures (c.parts.invariant.writes o is h more e) c.in-Some-after_end.others.now c.in-Some-after_end.ensures.some in
-      end_written c.parts.objects c.in-Some.top c.parts.rest.now more c.kind_at-inside.result o start c.parts.buf.items x c.in-Some-after_end.others.now c.append_closing.new.buf.items c.in-Some-after_end.ensures.found c.in_ok-append_closing.ensures.ok;
-  preserves = preserves_on c.args.buf.now c.parts.buf c.append_closing.new.buf c.parts.invariant.preserves (retained_by c.parts.buf c.append_closing.new.buf c.in_ok-append_closing.ensures);
-  deep = omega (arith, c.parts.invariant.deep, c.in-Some.ensures);
+      let same = c.append_short_name-named.ensures.takes.none c.if-named-eq0.true in
+      let x = end_there c.parts.objects c.parts.depth (c.parts.depth - 1) c.parts.rest.now more c.parts.inside c.parts.is_first o start c.parts.buf.items (omega (arith, c.parts.invariant.some)) c.parts.invariant.inside (c.parts.invariant.writes o is h more e) c.in-Some.others.now c.in-Some.ensures.some in
+      let closed = c.in_ok-append_closing.ensures.ok ∙ ap (λ b. b ++ closing_text c.parts.inside ∷ []) same in
+      let y = end_written c.parts.objects (c.parts.depth - 1) c.parts.rest.now more c.parts.inside o start c.parts.buf.items x c.in-Some.others.now c.append_closing.new.buf.items c.in-Some.ensures.found closed in
+      y;
+  preserves = preserves_on c.args.buf.now c.parts.buf c.append_closing.new.buf c.parts.invariant.preserves (preserves_on c.parts.buf c.append_short_name-named.new.buf c.append_closing.new.buf c.append_short_name-named.ensures.takes.preserves (retained_by c.append_short_name-named.new.buf c.append_closing.new.buf c.in_ok-append_closing.ensures));
+  some = omega (arith, c.if-depth-eq0.false);
+  deep = omega (arith, c.parts.invariant.deep);
   size = c.parts.invariant.size;
+  inside = c.kind_at-inside.ensures;
 }
 
 pub returns-in_err-value-clause-found : goal.returns-in_err-value-clause-found
 returns-in_err-value-clause-found c = λ o is h more e.
     let start = c.args.buf.now.items ++ opening_text c.args.object ∷ [] in
-    let n = part_there c.parts.objects c.parts.depth c.in-Some.top c.parts.rest.now more c.kind_at-inside.result c.parts.is_first o start c.parts.buf.items (omega (arith, c.in-Some.ensures)) c.kind_at-inside.ensures (c.parts.invariant.writes o is h more e) c.in_default-after_end.ensures.found in
-    let space = name_fits c.parts.objects c.parts.depth c.parts.rest.now more c.kind_at-inside.result c.parts.is_first o start c.parts.buf.items n in
+    let none : (tail : List ℕ) → c.parts.rest.now ≡ end_key c.parts.inside ++ tail → None ≡ Some tail = λ tail at_end. elim c.if-named-eq0.branch [
+      | then-named-eq0+in_default w ↦ w.in_default.ensures.found tail at_end
+      | else-named-eq0 w ↦ absurd (c.append_short_name-named.ensures.no_end (omega (arith, w.if-named-eq0.false)) tail at_end)
+    ] in
+    let n = part_there c.parts.objects c.parts.depth (c.parts.depth - 1) c.parts.rest.now more c.parts.inside c.parts.is_first o start c.parts.buf.items (omega (arith, c.parts.invariant.some)) c.parts.invariant.inside (c.parts.invariant.writes o is h more e) none in
+    let space = name_fits c.parts.objects c.parts.depth c.parts.rest.now more c.parts.inside c.parts.is_first o start c.parts.buf.items n in
+    let same = c.append_short_name-named.ensures.takes.none (omega (arith, c.if-named-gt0.false)) in
     let lacks = c.in_err-value.ensures.found n.next.name _ n.next.occurs in
     passed_on (λ rest. rest.now) c.from_residual-in_err-value.result c.args.buf.now c.begin_part.new.buf more _ c.in_err-value.field-0.0 c.from_residual-in_err-value.ensures.1 lacks.0
-    (omega (arith, space, length-append c.args.buf.now.items (opening_text c.args.object ∷ []), c.parts.invariant.preserves.capacity, lacks.1))
+    (omega (arith, space, ap length same, length-append c.args.buf.now.items (opening_text c.args.object ∷ []), c.parts.invariant.preserves.capacity, c.append_short_name-named.ensures.takes.preserves.capacity, lacks.1))
 
 pub returns-in_default-split_first-clause-found : goal.returns-in_default-split_first-clause-found
 returns-in_default-split_first-clause-found c = λ o is h more e.
     let start = c.args.buf.now.items ++ opening_text c.args.object ∷ [] in
-    let n = part_there c.parts.objects c.parts.depth c.in-Some.top c.parts.rest.now more c.kind_at-inside.result c.parts.is_first o start c.parts.buf.items (omega (arith, c.in-Some.ensures)) c.kind_at-inside.ensures (c.parts.invariant.writes o is h more e) c.in_default-after_end.ensures.found in
-    let named = c.in_ok-value.ensures.found n.next.name _ n.next.occurs in
-    absurd (no_key n.next.left n.next.value n.next.readable c.in_ok-value.value.now _ named.0 c.in_default-split_first.ensures.cases)
+    let none : (tail : List ℕ) → c.parts.rest.now ≡ end_key c.parts.inside ++ tail → None ≡ Some tail = λ tail at_end. elim c.if-named-eq0.branch [
+      | then-named-eq0+in_default w ↦ w.in_default.ensures.found tail at_end
+      | else-named-eq0 w ↦ absurd (c.append_short_name-named.ensures.no_end (omega (arith, w.if-named-eq0.false)) tail at_end)
+    ] in
+    let n = part_there c.parts.objects c.parts.depth (c.parts.depth - 1) c.parts.rest.now more c.parts.inside c.parts.is_first o start c.parts.buf.items (omega (arith, c.parts.invariant.some)) c.parts.invariant.inside (c.parts.invariant.writes o is h more e) none in
+    let due : (c.if-named-gt0.value.now ≡ key_of n.next.value ++ (opens_key (n.next.others ∷ n.next.under) ++ more)) × (c.if-named-gt0.buf.items ≡ c.parts.buf.items ++ before_part c.parts.is_first c.parts.inside n.next.name) = elim c.if-named-gt0.branch [
+      | then-named-gt0 w ↦
+          let f = c.append_short_name-named.ensures.found w.if-named-gt0.true n.next.name _ n.next.occurs in
+          (ap (λ v. v.now) w.value-is ∙ take_rest c.parts.rest.now c.append_short_name-named.result ∙ f.0, ap (λ b. b.items) w.buf-is ∙ f.1)
+      | else-named-gt0+in_ok-value w ↦
+          let f = w.in_ok-value.ensures.found n.next.name _ n.next.occurs in
+          (ap (λ v. v.now) w.value-is ∙ f.0, ap (λ b. b.items) w.buf-is ∙ f.1 ∙ ap (λ b. b ++ before_part c.parts.is_first c.parts.inside n.next.name) (c.append_short_name-named.ensures.takes.none (omega (arith, w.if-named-gt0.false))))
+    ] in
+    absurd (no_key n.next.left n.next.value n.next.readable c.if-named-gt0.value.now _ due.0 c.in_default-split_first.ensures.cases)
+
+pub parts-preserved-then-digits-gt0 : goal.parts-preserved-then-digits-gt0
+parts-preserved-then-digits-gt0 c =
+    let kept : Preserves c.parts.buf c.if-named-gt0.buf = elim c.if-named-gt0.branch [
+      | then-named-gt0 w ↦ subst (λ b. Preserves c.parts.buf b) (sym w.buf-is) c.append_short_name-named.ensures.takes.preserves
+      | else-named-gt0+in_ok-value w ↦ subst (λ b. Preserves c.parts.buf b) (sym w.buf-is) (preserves_on c.parts.buf c.append_short_name-named.new.buf w.begin_part.new.buf c.append_short_name-named.ensures.takes.preserves w.in_ok-value.ensures.preserves)
+    ] in
+    record {
+      writes = λ o is h more e.
+          let start = c.args.buf.now.items ++ opening_text c.args.object ∷ [] in
+          let none : (tail : List ℕ) → c.parts.rest.now ≡ end_key c.parts.inside ++ tail → None ≡ Some tail = λ tail at_end. elim c.if-named-eq0.branch [
+            | then-named-eq0+in_default w ↦ w.in_default.ensures.found tail at_end
+            | else-named-eq0 w ↦ absurd (c.append_short_name-named.ensures.no_end (omega (arith, w.if-named-eq0.false)) tail at_end)
+          ] in
+          let n = part_there c.parts.objects c.parts.depth (c.parts.depth - 1) c.parts.rest.now more c.parts.inside c.parts.is_first o start c.parts.buf.items (omega (arith, c.parts.invariant.some)) c.parts.invariant.inside (c.parts.invariant.writes o is h more e) none in
+          let due : (c.if-named-gt0.value.now ≡ key_of n.next.value ++ (opens_key (n.next.others ∷ n.next.under) ++ more)) × (c.if-named-gt0.buf.items ≡ c.parts.buf.items ++ before_part c.parts.is_first c.parts.inside n.next.name) = elim c.if-named-gt0.branch [
+            | then-named-gt0 w ↦
+                let f = c.append_short_name-named.ensures.found w.if-named-gt0.true n.next.name _ n.next.occurs in
+                (ap (λ v. v.now) w.value-is ∙ take_rest c.parts.rest.now c.append_short_name-named.result ∙ f.0, ap (λ b. b.items) w.buf-is ∙ f.1)
+            | else-named-gt0+in_ok-value w ↦
+                let f = w.in_ok-value.ensures.found n.next.name _ n.next.occurs in
+                (ap (λ v. v.now) w.value-is ∙ f.0, ap (λ b. b.items) w.buf-is ∙ f.1 ∙ ap (λ b. b ++ before_part c.parts.is_first c.parts.inside n.next.name) (c.append_short_name-named.ensures.takes.none (omega (arith, w.if-named-gt0.false))))
+          ] in
+          let number = c.append_integer-digits.ensures.number c.if-digits-gt0.true in
+          let scalar = scalar_there n.next.left n.next.value n.next.readable c.in-Some-split_first.first.now c.in-Some-split_first.others.now c.if-named-gt0.value.now _ c.in-Some-split_first.ensures.cases.0 due.0 (λ z. omega (arith, number.1, z)) (λ z. omega (arith, number.1, z)) in
+          let x = number_text_of n.next.left n.next.value n.next.readable scalar c.in-Some-split_first.first.now c.in-Some-split_first.others.now c.if-named-gt0.value.now _ c.in-Some-split_first.ensures.cases.0 due.0 (λ z. omega (arith, number.1, z)) (λ z. omega (arith, number.1, z)) (λ z. omega (arith, number.0, z)) (λ z. omega (arith, number.0, z)) in
+          let f = c.append_integer-digits.ensures.found c.if-digits-gt0.true x.0 x.1 _ (sym c.in-Some-split_first.ensures.cases.0 ∙ x.2) in
+          scalar_written c.parts.objects c.parts.depth c.parts.rest.now more c.parts.inside c.parts.is_first o start c.parts.buf.items n c.if-named-gt0.buf.items due.1 _ c.append_integer-digits.new.buf.items (take_rest c.in-Some-split_first.others.now c.append_integer-digits.result ∙ f.0) (f.1 ∙ ap (λ t. c.if-named-gt0.buf.items ++ t) (sym x.3));
+      preserves = preserves_on c.args.buf.now c.parts.buf c.append_integer-digits.new.buf c.parts.invariant.preserves (preserves_on c.parts.buf c.if-named-gt0.buf c.append_integer-digits.new.buf kept (c.append_integer-digits.ensures.takes.preserves));
+      some = c.parts.invariant.some;
+      deep = c.parts.invariant.deep;
+      size = c.parts.invariant.size;
+      inside = c.parts.invariant.inside;
+    }
+
+pub parts-preserved-then-short-gt0 : goal.parts-preserved-then-short-gt0
+parts-preserved-then-short-gt0 c =
+    let kept : Preserves c.parts.buf c.if-named-gt0.buf = elim c.if-named-gt0.branch [
+      | then-named-gt0 w ↦ subst (λ b. Preserves c.parts.buf b) (sym w.buf-is) c.append_short_name-named.ensures.takes.preserves
+      | else-named-gt0+in_ok-value w ↦ subst (λ b. Preserves c.parts.buf b) (sym w.buf-is) (preserves_on c.parts.buf c.append_short_name-named.new.buf w.begin_part.new.buf c.append_short_name-named.ensures.takes.preserves w.in_ok-value.ensures.preserves)
+    ] in
+    record {
+      writes = λ o is h more e.
+          let start = c.args.buf.now.items ++ opening_text c.args.object ∷ [] in
+          let none : (tail : List ℕ) → c.parts.rest.now ≡ end_key c.parts.inside ++ tail → None ≡ Some tail = λ tail at_end. elim c.if-named-eq0.branch [
+            | then-named-eq0+in_default w ↦ w.in_default.ensures.found tail at_end
+            | else-named-eq0 w ↦ absurd (c.append_short_name-named.ensures.no_end (omega (arith, w.if-named-eq0.false)) tail at_end)
+          ] in
+          let n = part_there c.parts.objects c.parts.depth (c.parts.depth - 1) c.parts.rest.now more c.parts.inside c.parts.is_first o start c.parts.buf.items (omega (arith, c.parts.invariant.some)) c.parts.invariant.inside (c.parts.invariant.writes o is h more e) none in
+          let due : (c.if-named-gt0.value.now ≡ key_of n.next.value ++ (opens_key (n.next.others ∷ n.next.under) ++ more)) × (c.if-named-gt0.buf.items ≡ c.parts.buf.items ++ before_part c.parts.is_first c.parts.inside n.next.name) = elim c.if-named-gt0.branch [
+            | then-named-gt0 w ↦
+                let f = c.append_short_name-named.ensures.found w.if-named-gt0.true n.next.name _ n.next.occurs in
+                (ap (λ v. v.now) w.value-is ∙ take_rest c.parts.rest.now c.append_short_name-named.result ∙ f.0, ap (λ b. b.items) w.buf-is ∙ f.1)
+            | else-named-gt0+in_ok-value w ↦
+                let f = w.in_ok-value.ensures.found n.next.name _ n.next.occurs in
+                (ap (λ v. v.now) w.value-is ∙ f.0, ap (λ b. b.items) w.buf-is ∙ f.1 ∙ ap (λ b. b ++ before_part c.parts.is_first c.parts.inside n.next.name) (c.append_short_name-named.ensures.takes.none (omega (arith, w.if-named-gt0.false))))
+          ] in
+          let same = c.append_integer-digits.ensures.takes.none (omega (arith, c.if-digits-gt0.false)) in
+          let x = string_text n.next.left n.next.value n.next.readable c.in-Some-split_first.first.now c.in-Some-split_first.others.now c.if-named-gt0.value.now _ c.in-Some-split_first.ensures.cases.0 due.0 c.if-first.true in
+          let f = c.append_short_string-short.ensures.found c.if-short-gt0.true x.0 _ x.1 in
+          scalar_written c.parts.objects c.parts.depth c.parts.rest.now more c.parts.inside c.parts.is_first o start c.parts.buf.items n c.append_integer-digits.new.buf.items (same ∙ due.1) _ c.append_short_string-short.new.buf.items (take_rest c.in-Some-split_first.others.now c.append_short_string-short.result ∙ f.0) (f.1 ∙ ap (λ t. c.append_integer-digits.new.buf.items ++ t) (sym x.2));
+      preserves = preserves_on c.args.buf.now c.parts.buf c.append_short_string-short.new.buf c.parts.invariant.preserves (preserves_on c.parts.buf c.if-named-gt0.buf c.append_short_string-short.new.buf kept (preserves_on c.if-named-gt0.buf c.append_integer-digits.new.buf c.append_short_string-short.new.buf c.append_integer-digits.ensures.takes.preserves (c.append_short_string-short.ensures.takes.preserves)));
+      some = c.parts.invariant.some;
+      deep = c.parts.invariant.deep;
+      size = c.parts.invariant.size;
+      inside = c.parts.invariant.inside;
+    }
+
+pub returns-in_err-rest-clause-found : goal.returns-in_err-rest-clause-found
+returns-in_err-rest-clause-found c = λ o is h more e.
+    let start = c.args.buf.now.items ++ opening_text c.args.object ∷ [] in
+    let none : (tail : List ℕ) → c.parts.rest.now ≡ end_key c.parts.inside ++ tail → None ≡ Some tail = λ tail at_end. elim c.if-named-eq0.branch [
+      | then-named-eq0+in_default w ↦ w.in_default.ensures.found tail at_end
+      | else-named-eq0 w ↦ absurd (c.append_short_name-named.ensures.no_end (omega (arith, w.if-named-eq0.false)) tail at_end)
+    ] in
+    let n = part_there c.parts.objects c.parts.depth (c.parts.depth - 1) c.parts.rest.now more c.parts.inside c.parts.is_first o start c.parts.buf.items (omega (arith, c.parts.invariant.some)) c.parts.invariant.inside (c.parts.invariant.writes o is h more e) none in
+    let due : (c.if-named-gt0.value.now ≡ key_of n.next.value ++ (opens_key (n.next.others ∷ n.next.under) ++ more)) × (c.if-named-gt0.buf.items ≡ c.parts.buf.items ++ before_part c.parts.is_first c.parts.inside n.next.name) = elim c.if-named-gt0.branch [
+      | then-named-gt0 w ↦
+          let f = c.append_short_name-named.ensures.found w.if-named-gt0.true n.next.name _ n.next.occurs in
+          (ap (λ v. v.now) w.value-is ∙ take_rest c.parts.rest.now c.append_short_name-named.result ∙ f.0, ap (λ b. b.items) w.buf-is ∙ f.1)
+      | else-named-gt0+in_ok-value w ↦
+          let f = w.in_ok-value.ensures.found n.next.name _ n.next.occurs in
+          (ap (λ v. v.now) w.value-is ∙ f.0, ap (λ b. b.items) w.buf-is ∙ f.1 ∙ ap (λ b. b ++ before_part c.parts.is_first c.parts.inside n.next.name) (c.append_short_name-named.ensures.takes.none (omega (arith, w.if-named-gt0.false))))
+    ] in
+    let kept : Preserves c.parts.buf c.if-named-gt0.buf = elim c.if-named-gt0.branch [
+      | then-named-gt0 w ↦ subst (λ b. Preserves c.parts.buf b) (sym w.buf-is) c.append_short_name-named.ensures.takes.preserves
+      | else-named-gt0+in_ok-value w ↦ subst (λ b. Preserves c.parts.buf b) (sym w.buf-is) (preserves_on c.parts.buf c.append_short_name-named.new.buf w.begin_part.new.buf c.append_short_name-named.ensures.takes.preserves w.in_ok-value.ensures.preserves)
+    ] in
+    let same = c.append_integer-digits.ensures.takes.none (omega (arith, c.if-digits-gt0.false)) in
+    let none_short = c.append_short_string-short.ensures.takes.none (omega (arith, c.if-short-gt0.false)) ∙ same in
+    let x = string_text n.next.left n.next.value n.next.readable c.in-Some-split_first.first.now c.in-Some-split_first.others.now c.if-named-gt0.value.now _ c.in-Some-split_first.ensures.cases.0 due.0 c.if-first.true in
+    let lacks = c.in_err-rest.ensures.found x.0 _ x.1 in
+    let space = value_fits c.parts.objects c.parts.depth c.parts.rest.now more c.parts.inside c.parts.is_first o start c.parts.buf.items n c.append_short_string-short.new.buf.items (none_short ∙ due.1) in
+    passed_on (λ rest. rest.now) c.from_residual-in_err-rest.result c.args.buf.now c.append_long_string.new.buf more _ c.in_err-rest.field-0.0 c.from_residual-in_err-rest.ensures.1 lacks.0
+    (omega (arith, space, ap length x.2, length-append c.args.buf.now.items (opening_text c.args.object ∷ []), c.parts.invariant.preserves.capacity, kept.capacity, c.append_integer-digits.ensures.takes.preserves.capacity, c.append_short_string-short.ensures.takes.preserves.capacity, lacks.1))
+
+pub parts-preserved-then-first : goal.parts-preserved-then-first
+parts-preserved-then-first c =
+    let kept : Preserves c.parts.buf c.if-named-gt0.buf = elim c.if-named-gt0.branch [
+      | then-named-gt0 w ↦ subst (λ b. Preserves c.parts.buf b) (sym w.buf-is) c.append_short_name-named.ensures.takes.preserves
+      | else-named-gt0+in_ok-value w ↦ subst (λ b. Preserves c.parts.buf b) (sym w.buf-is) (preserves_on c.parts.buf c.append_short_name-named.new.buf w.begin_part.new.buf c.append_short_name-named.ensures.takes.preserves w.in_ok-value.ensures.preserves)
+    ] in
+    record {
+      writes = λ o is h more e.
+          let start = c.args.buf.now.items ++ opening_text c.args.object ∷ [] in
+          let none : (tail : List ℕ) → c.parts.rest.now ≡ end_key c.parts.inside ++ tail → None ≡ Some tail = λ tail at_end. elim c.if-named-eq0.branch [
+            | then-named-eq0+in_default w ↦ w.in_default.ensures.found tail at_end
+            | else-named-eq0 w ↦ absurd (c.append_short_name-named.ensures.no_end (omega (arith, w.if-named-eq0.false)) tail at_end)
+          ] in
+          let n = part_there c.parts.objects c.parts.depth (c.parts.depth - 1) c.parts.rest.now more c.parts.inside c.parts.is_first o start c.parts.buf.items (omega (arith, c.parts.invariant.some)) c.parts.invariant.inside (c.parts.invariant.writes o is h more e) none in
+          let due : (c.if-named-gt0.value.now ≡ key_of n.next.value ++ (opens_key (n.next.others ∷ n.next.under) ++ more)) × (c.if-named-gt0.buf.items ≡ c.parts.buf.items ++ before_part c.parts.is_first c.parts.inside n.next.name) = elim c.if-named-gt0.branch [
+            | then-named-gt0 w ↦
+                let f = c.append_short_name-named.ensures.found w.if-named-gt0.true n.next.name _ n.next.occurs in
+                (ap (λ v. v.now) w.value-is ∙ take_rest c.parts.rest.now c.append_short_name-named.result ∙ f.0, ap (λ b. b.items) w.buf-is ∙ f.1)
+            | else-named-gt0+in_ok-value w ↦
+                let f = w.in_ok-value.ensures.found n.next.name _ n.next.occurs in
+                (ap (λ v. v.now) w.value-is ∙ f.0, ap (λ b. b.items) w.buf-is ∙ f.1 ∙ ap (λ b. b ++ before_part c.parts.is_first c.parts.inside n.next.name) (c.append_short_name-named.ensures.takes.none (omega (arith, w.if-named-gt0.false))))
+          ] in
+          let same = c.append_integer-digits.ensures.takes.none (omega (arith, c.if-digits-gt0.false)) in
+          let none_short = c.append_short_string-short.ensures.takes.none (omega (arith, c.if-short-gt0.false)) ∙ same in
+          let x = string_text n.next.left n.next.value n.next.readable c.in-Some-split_first.first.now c.in-Some-split_first.others.now c.if-named-gt0.value.now _ c.in-Some-split_first.ensures.cases.0 due.0 c.if-first.true in
+          let y = c.in_ok-rest.ensures.found x.0 _ x.1 in
+          scalar_written c.parts.objects c.parts.depth c.parts.rest.now more c.parts.inside c.parts.is_first o start c.parts.buf.items n c.append_short_string-short.new.buf.items (none_short ∙ due.1) c.in_ok-rest.rest.now c.append_long_string.new.buf.items y.0 (y.1 ∙ ap (λ t. c.append_short_string-short.new.buf.items ++ t) (sym x.2));
+      preserves = preserves_on c.args.buf.now c.parts.buf c.append_long_string.new.buf c.parts.invariant.preserves (preserves_on c.parts.buf c.if-named-gt0.buf c.append_long_string.new.buf kept (preserves_on c.if-named-gt0.buf c.append_integer-digits.new.buf c.append_long_string.new.buf c.append_integer-digits.ensures.takes.preserves (preserves_on c.append_integer-digits.new.buf c.append_short_string-short.new.buf c.append_long_string.new.buf c.append_short_string-short.ensures.takes.preserves (c.in_ok-rest.ensures.preserves))));
+      some = c.parts.invariant.some;
+      deep = c.parts.invariant.deep;
+      size = c.parts.invariant.size;
+      inside = c.parts.invariant.inside;
+    }
+
+pub parts-preserved-then-append_word : goal.parts-preserved-then-append_word
+parts-preserved-then-append_word c =
+    let kept : Preserves c.parts.buf c.if-named-gt0.buf = elim c.if-named-gt0.branch [
+      | then-named-gt0 w ↦ subst (λ b. Preserves c.parts.buf b) (sym w.buf-is) c.append_short_name-named.ensures.takes.preserves
+      | else-named-gt0+in_ok-value w ↦ subst (λ b. Preserves c.parts.buf b) (sym w.buf-is) (preserves_on c.parts.buf c.append_short_name-named.new.buf w.begin_part.new.buf c.append_short_name-named.ensures.takes.preserves w.in_ok-value.ensures.preserves)
+    ] in
+    record {
+      writes = λ o is h more e.
+          let start = c.args.buf.now.items ++ opening_text c.args.object ∷ [] in
+          let none : (tail : List ℕ) → c.parts.rest.now ≡ end_key c.parts.inside ++ tail → None ≡ Some tail = λ tail at_end. elim c.if-named-eq0.branch [
+            | then-named-eq0+in_default w ↦ w.in_default.ensures.found tail at_end
+            | else-named-eq0 w ↦ absurd (c.append_short_name-named.ensures.no_end (omega (arith, w.if-named-eq0.false)) tail at_end)
+          ] in
+          let n = part_there c.parts.objects c.parts.depth (c.parts.depth - 1) c.parts.rest.now more c.parts.inside c.parts.is_first o start c.parts.buf.items (omega (arith, c.parts.invariant.some)) c.parts.invariant.inside (c.parts.invariant.writes o is h more e) none in
+          let due : (c.if-named-gt0.value.now ≡ key_of n.next.value ++ (opens_key (n.next.others ∷ n.next.under) ++ more)) × (c.if-named-gt0.buf.items ≡ c.parts.buf.items ++ before_part c.parts.is_first c.parts.inside n.next.name) = elim c.if-named-gt0.branch [
+            | then-named-gt0 w ↦
+                let f = c.append_short_name-named.ensures.found w.if-named-gt0.true n.next.name _ n.next.occurs in
+                (ap (λ v. v.now) w.value-is ∙ take_rest c.parts.rest.now c.append_short_name-named.result ∙ f.0, ap (λ b. b.items) w.buf-is ∙ f.1)
+            | else-named-gt0+in_ok-value w ↦
+                let f = w.in_ok-value.ensures.found n.next.name _ n.next.occurs in
+                (ap (λ v. v.now) w.value-is ∙ f.0, ap (λ b. b.items) w.buf-is ∙ f.1 ∙ ap (λ b. b ++ before_part c.parts.is_first c.parts.inside n.next.name) (c.append_short_name-named.ensures.takes.none (omega (arith, w.if-named-gt0.false))))
+          ] in
+          let same = c.append_integer-digits.ensures.takes.none (omega (arith, c.if-digits-gt0.false)) in
+          let away : (c.in-Some-split_first.first.now ≢ 209) × (c.in-Some-split_first.first.now ≢ 210) = elim c.then-first-lt-OBJECT.branch [
+            | then-first-lt-OBJECT-via-then-first-lt-OBJECT w ↦ (λ z. omega (arith, z, w.if-first-lt-OBJECT.true), λ z. omega (arith, z, w.if-first-lt-OBJECT.true))
+            | then-first-lt-OBJECT-via-else-first-lt-OBJECT+then-first-gt-ARRAY w ↦ (λ z. omega (arith, z, w.if-first-gt-ARRAY.true), λ z. omega (arith, z, w.if-first-gt-ARRAY.true))
+          ] in
+          let scalar = scalar_there n.next.left n.next.value n.next.readable c.in-Some-split_first.first.now c.in-Some-split_first.others.now c.if-named-gt0.value.now _ c.in-Some-split_first.ensures.cases.0 due.0 away.0 away.1 in
+          let word = word_of n.next.left n.next.value n.next.readable scalar c.in-Some-split_first.first.now c.in-Some-split_first.others.now c.if-named-gt0.value.now _ c.in-Some-split_first.ensures.cases.0 due.0 in
+          let x : (c.in-Some-split_first.others.now ≡ opens_key (n.next.others ∷ n.next.under) ++ more) × (c.append_word.new.buf.items ≡ c.append_integer-digits.new.buf.items ++ value_text n.next.value) = elim (c.append_word.ensures.appended c.if-append_word.true) [
+            | inl a ↦ ((word.is_null a.0).0, a.1 ∙ ap (λ t. c.append_integer-digits.new.buf.items ++ t) (sym (word.is_null a.0).1))
+            | inr b ↦ elim b [
+              | inl a ↦ ((word.is_false a.0).0, a.1 ∙ ap (λ t. c.append_integer-digits.new.buf.items ++ t) (sym (word.is_false a.0).1))
+              | inr a ↦ ((word.is_true a.0).0, a.1 ∙ ap (λ t. c.append_integer-digits.new.buf.items ++ t) (sym (word.is_true a.0).1))
+            ]
+          ] in
+          scalar_written c.parts.objects c.parts.depth c.parts.rest.now more c.parts.inside c.parts.is_first o start c.parts.buf.items n c.append_integer-digits.new.buf.items (same ∙ due.1) _ c.append_word.new.buf.items x.0 x.1;
+      preserves = preserves_on c.args.buf.now c.parts.buf c.append_word.new.buf c.parts.invariant.preserves (preserves_on c.parts.buf c.if-named-gt0.buf c.append_word.new.buf kept (preserves_on c.if-named-gt0.buf c.append_integer-digits.new.buf c.append_word.new.buf c.append_integer-digits.ensures.takes.preserves (c.append_word.ensures.preserves)));
+      some = c.parts.invariant.some;
+      deep = c.parts.invariant.deep;
+      size = c.parts.invariant.size;
+      inside = c.parts.invariant.inside;
+    }
+
+pub returns-in_err-rest-2-clause-found : goal.returns-in_err-rest-2-clause-found
+returns-in_err-rest-2-clause-found c = λ o is h more e.
+    let start = c.args.buf.now.items ++ opening_text c.args.object ∷ [] in
+    let none : (tail : List ℕ) → c.parts.rest.now ≡ end_key c.parts.inside ++ tail → None ≡ Some tail = λ tail at_end. elim c.if-named-eq0.branch [
+      | then-named-eq0+in_default w ↦ w.in_default.ensures.found tail at_end
+      | else-named-eq0 w ↦ absurd (c.append_short_name-named.ensures.no_end (omega (arith, w.if-named-eq0.false)) tail at_end)
+    ] in
+    let n = part_there c.parts.objects c.parts.depth (c.parts.depth - 1) c.parts.rest.now more c.parts.inside c.parts.is_first o start c.parts.buf.items (omega (arith, c.parts.invariant.some)) c.parts.invariant.inside (c.parts.invariant.writes o is h more e) none in
+    let due : (c.if-named-gt0.value.now ≡ key_of n.next.value ++ (opens_key (n.next.others ∷ n.next.under) ++ more)) × (c.if-named-gt0.buf.items ≡ c.parts.buf.items ++ before_part c.parts.is_first c.parts.inside n.next.name) = elim c.if-named-gt0.branch [
+      | then-named-gt0 w ↦
+          let f = c.append_short_name-named.ensures.found w.if-named-gt0.true n.next.name _ n.next.occurs in
+          (ap (λ v. v.now) w.value-is ∙ take_rest c.parts.rest.now c.append_short_name-named.result ∙ f.0, ap (λ b. b.items) w.buf-is ∙ f.1)
+      | else-named-gt0+in_ok-value w ↦
+          let f = w.in_ok-value.ensures.found n.next.name _ n.next.occurs in
+          (ap (λ v. v.now) w.value-is ∙ f.0, ap (λ b. b.items) w.buf-is ∙ f.1 ∙ ap (λ b. b ++ before_part c.parts.is_first c.parts.inside n.next.name) (c.append_short_name-named.ensures.takes.none (omega (arith, w.if-named-gt0.false))))
+    ] in
+    let kept : Preserves c.parts.buf c.if-named-gt0.buf = elim c.if-named-gt0.branch [
+      | then-named-gt0 w ↦ subst (λ b. Preserves c.parts.buf b) (sym w.buf-is) c.append_short_name-named.ensures.takes.preserves
+      | else-named-gt0+in_ok-value w ↦ subst (λ b. Preserves c.parts.buf b) (sym w.buf-is) (preserves_on c.parts.buf c.append_short_name-named.new.buf w.begin_part.new.buf c.append_short_name-named.ensures.takes.preserves w.in_ok-value.ensures.preserves)
+    ] in
+    let same = c.append_integer-digits.ensures.takes.none (omega (arith, c.if-digits-gt0.false)) in
+    let away : (c.in-Some-split_first.first.now ≢ 209) × (c.in-Some-split_first.first.now ≢ 210) = elim c.then-first-lt-OBJECT.branch [
+      | then-first-lt-OBJECT-via-then-first-lt-OBJECT w ↦ (λ z. omega (arith, z, w.if-first-lt-OBJECT.true), λ z. omega (arith, z, w.if-first-lt-OBJECT.true))
+      | then-first-lt-OBJECT-via-else-first-lt-OBJECT+then-first-gt-ARRAY w ↦ (λ z. omega (arith, z, w.if-first-gt-ARRAY.true), λ z. omega (arith, z, w.if-first-gt-ARRAY.true))
+    ] in
+    let scalar = scalar_there n.next.left n.next.value n.next.readable c.in-Some-split_first.first.now c.in-Some-split_first.others.now c.if-named-gt0.value.now _ c.in-Some-split_first.ensures.cases.0 due.0 away.0 away.1 in
+    let no_word = c.append_word.ensures.unchanged c.if-append_word.false ∙ same in
+    let lacks = c.in_err-rest-2.ensures.found n.next.left n.next.value n.next.readable scalar _ due.0 in
+    let space = value_fits c.parts.objects c.parts.depth c.parts.rest.now more c.parts.inside c.parts.is_first o start c.parts.buf.items n c.append_word.new.buf.items (no_word ∙ due.1) in
+    passed_on (λ rest. rest.now) c.from_residual-in_err-rest-2.result c.args.buf.now c.append_scalar.new.buf more _ c.in_err-rest-2.field-0.0 c.from_residual-in_err-rest-2.ensures.1 lacks.0
+    (omega (arith, space, length-append c.args.buf.now.items (opening_text c.args.object ∷ []), c.parts.invariant.preserves.capacity, kept.capacity, c.append_integer-digits.ensures.takes.preserves.capacity, c.append_word.ensures.preserves.capacity, lacks.1))
+
+pub returns-in_err-rest-2-clause-preserves : goal.returns-in_err-rest-2-clause-preserves
+returns-in_err-rest-2-clause-preserves c =
+    let kept : Preserves c.parts.buf c.if-named-gt0.buf = elim c.if-named-gt0.branch [
+      | then-named-gt0 w ↦ subst (λ b. Preserves c.parts.buf b) (sym w.buf-is) c.append_short_name-named.ensures.takes.preserves
+      | else-named-gt0+in_ok-value w ↦ subst (λ b. Preserves c.parts.buf b) (sym w.buf-is) (preserves_on c.parts.buf c.append_short_name-named.new.buf w.begin_part.new.buf c.append_short_name-named.ensures.takes.preserves w.in_ok-value.ensures.preserves)
+    ] in
+    preserves_on c.args.buf.now c.parts.buf c.append_scalar.new.buf c.parts.invariant.preserves (preserves_on c.parts.buf c.if-named-gt0.buf c.append_scalar.new.buf kept (preserves_on c.if-named-gt0.buf c.append_integer-digits.new.buf c.append_scalar.new.buf c.append_integer-digits.ensures.takes.preserves (preserves_on c.append_integer-digits.new.buf c.append_word.new.buf c.append_scalar.new.buf c.append_word.ensures.preserves (c.in_err-rest-2.ensures.preserves))))
+
+pub parts-preserved-then-first-lt-OBJECT : goal.parts-preserved-then-first-lt-OBJECT
+parts-preserved-then-first-lt-OBJECT c =
+    let kept : Preserves c.parts.buf c.if-named-gt0.buf = elim c.if-named-gt0.branch [
+      | then-named-gt0 w ↦ subst (λ b. Preserves c.parts.buf b) (sym w.buf-is) c.append_short_name-named.ensures.takes.preserves
+      | else-named-gt0+in_ok-value w ↦ subst (λ b. Preserves c.parts.buf b) (sym w.buf-is) (preserves_on c.parts.buf c.append_short_name-named.new.buf w.begin_part.new.buf c.append_short_name-named.ensures.takes.preserves w.in_ok-value.ensures.preserves)
+    ] in
+    record {
+      writes = λ o is h more e.
+          let start = c.args.buf.now.items ++ opening_text c.args.object ∷ [] in
+          let none : (tail : List ℕ) → c.parts.rest.now ≡ end_key c.parts.inside ++ tail → None ≡ Some tail = λ tail at_end. elim c.if-named-eq0.branch [
+            | then-named-eq0+in_default w ↦ w.in_default.ensures.found tail at_end
+            | else-named-eq0 w ↦ absurd (c.append_short_name-named.ensures.no_end (omega (arith, w.if-named-eq0.false)) tail at_end)
+          ] in
+          let n = part_there c.parts.objects c.parts.depth (c.parts.depth - 1) c.parts.rest.now more c.parts.inside c.parts.is_first o start c.parts.buf.items (omega (arith, c.parts.invariant.some)) c.parts.invariant.inside (c.parts.invariant.writes o is h more e) none in
+          let due : (c.if-named-gt0.value.now ≡ key_of n.next.value ++ (opens_key (n.next.others ∷ n.next.under) ++ more)) × (c.if-named-gt0.buf.items ≡ c.parts.buf.items ++ before_part c.parts.is_first c.parts.inside n.next.name) = elim c.if-named-gt0.branch [
+            | then-named-gt0 w ↦
+                let f = c.append_short_name-named.ensures.found w.if-named-gt0.true n.next.name _ n.next.occurs in
+                (ap (λ v. v.now) w.value-is ∙ take_rest c.parts.rest.now c.append_short_name-named.result ∙ f.0, ap (λ b. b.items) w.buf-is ∙ f.1)
+            | else-named-gt0+in_ok-value w ↦
+                let f = w.in_ok-value.ensures.found n.next.name _ n.next.occurs in
+                (ap (λ v. v.now) w.value-is ∙ f.0, ap (λ b. b.items) w.buf-is ∙ f.1 ∙ ap (λ b. b ++ before_part c.parts.is_first c.parts.inside n.next.name) (c.append_short_name-named.ensures.takes.none (omega (arith, w.if-named-gt0.false))))
+          ] in
+          let same = c.append_integer-digits.ensures.takes.none (omega (arith, c.if-digits-gt0.false)) in
+          let away : (c.in-Some-split_first.first.now ≢ 209) × (c.in-Some-split_first.first.now ≢ 210) = elim c.then-first-lt-OBJECT.branch [
+            | then-first-lt-OBJECT-via-then-first-lt-OBJECT w ↦ (λ z. omega (arith, z, w.if-first-lt-OBJECT.true), λ z. omega (arith, z, w.if-first-lt-OBJECT.true))
+            | then-first-lt-OBJECT-via-else-first-lt-OBJECT+then-first-gt-ARRAY w ↦ (λ z. omega (arith, z, w.if-first-gt-ARRAY.true), λ z. omega (arith, z, w.if-first-gt-ARRAY.true))
+          ] in
+          let scalar = scalar_there n.next.left n.next.value n.next.readable c.in-Some-split_first.first.now c.in-Some-split_first.others.now c.if-named-gt0.value.now _ c.in-Some-split_first.ensures.cases.0 due.0 away.0 away.1 in
+          let no_word = c.append_word.ensures.unchanged c.if-append_word.false ∙ same in
+          let y = c.in_ok-rest-2.ensures.found n.next.left n.next.value n.next.readable scalar _ due.0 in
+          scalar_written c.parts.objects c.parts.depth c.parts.rest.now more c.parts.inside c.parts.is_first o start c.parts.buf.items n c.append_word.new.buf.items (no_word ∙ due.1) c.in_ok-rest-2.rest.now c.append_scalar.new.buf.items y.0 y.1;
+      preserves = preserves_on c.args.buf.now c.parts.buf c.append_scalar.new.buf c.parts.invariant.preserves (preserves_on c.parts.buf c.if-named-gt0.buf c.append_scalar.new.buf kept (preserves_on c.if-named-gt0.buf c.append_integer-digits.new.buf c.append_scalar.new.buf c.append_integer-digits.ensures.takes.preserves (preserves_on c.append_integer-digits.new.buf c.append_word.new.buf c.append_scalar.new.buf c.append_word.ensures.preserves (c.in_ok-rest-2.ensures.preserves))));
+      some = c.parts.invariant.some;
+      deep = c.parts.invariant.deep;
+      size = c.parts.invariant.size;
+      inside = c.parts.invariant.inside;
+    }
 
 pub returns-then-depth-eq-MAX_DEPTH-clause-found : goal.returns-then-depth-eq-MAX_DEPTH-clause-found
 returns-then-depth-eq-MAX_DEPTH-clause-found c = λ o is h more e.
     let start = c.args.buf.now.items ++ opening_text c.args.object ∷ [] in
-    let n = part_there c.parts.objects c.parts.depth c.in-Some.top c.parts.rest.now more c.kind_at-inside.result c.parts.is_first o start c.parts.buf.items (omega (arith, c.in-Some.ensures)) c.kind_at-inside.ensures (c.parts.invariant.writes o is h more e) c.in_default-after_end.ensures.found in
-    let named = c.in_ok-value.ensures.found n.next.name _ n.next.occurs in
-    let x = opened_text n.next.left n.next.value n.next.readable c.in-Some-split_first.first.now c.in-Some-split_first.others.now c.in_ok-value.value.now _ c.in-Some-split_first.ensures.cases.0 named.0 c.in-Some-opening.inner c.in-Some-opening.ensures in
-    absurd (too_deep c.parts.objects c.parts.depth c.parts.rest.now more c.kind_at-inside.result n.next x.inner x.deeper c.if-depth-eq-MAX_DEPTH.true)
+    let none : (tail : List ℕ) → c.parts.rest.now ≡ end_key c.parts.inside ++ tail → None ≡ Some tail = λ tail at_end. elim c.if-named-eq0.branch [
+      | then-named-eq0+in_default w ↦ w.in_default.ensures.found tail at_end
+      | else-named-eq0 w ↦ absurd (c.append_short_name-named.ensures.no_end (omega (arith, w.if-named-eq0.false)) tail at_end)
+    ] in
+    let n = part_there c.parts.objects c.parts.depth (c.parts.depth - 1) c.parts.rest.now more c.parts.inside c.parts.is_first o start c.parts.buf.items (omega (arith, c.parts.invariant.some)) c.parts.invariant.inside (c.parts.invariant.writes o is h more e) none in
+    let due : (c.if-named-gt0.value.now ≡ key_of n.next.value ++ (opens_key (n.next.others ∷ n.next.under) ++ more)) × (c.if-named-gt0.buf.items ≡ c.parts.buf.items ++ before_part c.parts.is_first c.parts.inside n.next.name) = elim c.if-named-gt0.branch [
+      | then-named-gt0 w ↦
+          let f = c.append_short_name-named.ensures.found w.if-named-gt0.true n.next.name _ n.next.occurs in
+          (ap (λ v. v.now) w.value-is ∙ take_rest c.parts.rest.now c.append_short_name-named.result ∙ f.0, ap (λ b. b.items) w.buf-is ∙ f.1)
+      | else-named-gt0+in_ok-value w ↦
+          let f = w.in_ok-value.ensures.found n.next.name _ n.next.occurs in
+          (ap (λ v. v.now) w.value-is ∙ f.0, ap (λ b. b.items) w.buf-is ∙ f.1 ∙ ap (λ b. b ++ before_part c.parts.is_first c.parts.inside n.next.name) (c.append_short_name-named.ensures.takes.none (omega (arith, w.if-named-gt0.false))))
+    ] in
+    let x = opened_text n.next.left n.next.value n.next.readable c.in-Some-split_first.first.now c.in-Some-split_first.others.now c.if-named-gt0.value.now _ c.in-Some-split_first.ensures.cases.0 due.0 c.in-Some-opening.inner c.in-Some-opening.ensures in
+    absurd (too_deep c.parts.objects c.parts.depth c.parts.rest.now more c.parts.inside n.next x.inner x.deeper c.if-depth-eq-MAX_DEPTH.true)
 
-pub returns-in_err-append_opening-in-Some-opening-clause-found : goal.returns-in_err-append_opening-in-Some-opening-clause-found
-returns-in_err-append_opening-in-Some-opening-clause-found c = λ o is h more e.
+pub returns-then-depth-eq-MAX_DEPTH-clause-preserves : goal.returns-then-depth-eq-MAX_DEPTH-clause-preserves
+returns-then-depth-eq-MAX_DEPTH-clause-preserves c =
+    let kept : Preserves c.parts.buf c.if-named-gt0.buf = elim c.if-named-gt0.branch [
+      | then-named-gt0 w ↦ subst (λ b. Preserves c.parts.buf b) (sym w.buf-is) c.append_short_name-named.ensures.takes.preserves
+      | else-named-gt0+in_ok-value w ↦ subst (λ b. Preserves c.parts.buf b) (sym w.buf-is) (preserves_on c.parts.buf c.append_short_name-named.new.buf w.begin_part.new.buf c.append_short_name-named.ensures.takes.preserves w.in_ok-value.ensures.preserves)
+    ] in
+    preserves_on c.args.buf.now c.parts.buf c.append_integer-digits.new.buf c.parts.invariant.preserves (preserves_on c.parts.buf c.if-named-gt0.buf c.append_integer-digits.new.buf kept (c.append_integer-digits.ensures.takes.preserves))
+
+pub returns-in_err-append_opening-2-clause-found : goal.returns-in_err-append_opening-2-clause-found
+returns-in_err-append_opening-2-clause-found c = λ o is h more e.
     let start = c.args.buf.now.items ++ opening_text c.args.object ∷ [] in
-    let n = part_there c.parts.objects c.parts.depth c.in-Some.top c.parts.rest.now more c.kind_at-inside.result c.parts.is_first o start c.parts.buf.items (omega (arith, c.in-Some.ensures)) c.kind_at-inside.ensures (c.parts.invariant.writes o is h more e) c.in_default-after_end.ensures.found in
-    let named = c.in_ok-value.ensures.found n.next.name _ n.next.occurs in
-    let x = opened_text n.next.left n.next.value n.next.readable c.in-Some-split_first.first.now c.in-Some-split_first.others.now c.in_ok-value.value.now _ c.in-Some-split_first.ensures.cases.0 named.0 c.in-Some-opening.inner c.in-Some-opening.ensures in
-    let space = opening_fits c.parts.objects c.parts.depth c.parts.rest.now more c.kind_at-inside.result c.parts.is_first o start c.parts.buf.items n c.begin_part.new.buf.items named.1 x.open_there c.in-Some-opening.inner x.text in
-    out_of_memory (λ rest. rest.now) c.from_residual-in_err-append_opening-in-Some-opening.result c.args.buf.now c.append_opening-in-Some-opening.new.buf more _ c.from_residual-in_err-append_opening-in-Some-opening.ensures.1
-    (omega (arith, space, length-append c.args.buf.now.items (opening_text c.args.object ∷ []), c.parts.invariant.preserves.capacity, c.in_ok-value.ensures.preserves.capacity, c.in_err-append_opening-in-Some-opening.ensures.full))
+    let none : (tail : List ℕ) → c.parts.rest.now ≡ end_key c.parts.inside ++ tail → None ≡ Some tail = λ tail at_end. elim c.if-named-eq0.branch [
+      | then-named-eq0+in_default w ↦ w.in_default.ensures.found tail at_end
+      | else-named-eq0 w ↦ absurd (c.append_short_name-named.ensures.no_end (omega (arith, w.if-named-eq0.false)) tail at_end)
+    ] in
+    let n = part_there c.parts.objects c.parts.depth (c.parts.depth - 1) c.parts.rest.now more c.parts.inside c.parts.is_first o start c.parts.buf.items (omega (arith, c.parts.invariant.some)) c.parts.invariant.inside (c.parts.invariant.writes o is h more e) none in
+    let due : (c.if-named-gt0.value.now ≡ key_of n.next.value ++ (opens_key (n.next.others ∷ n.next.under) ++ more)) × (c.if-named-gt0.buf.items ≡ c.parts.buf.items ++ before_part c.parts.is_first c.parts.inside n.next.name) = elim c.if-named-gt0.branch [
+      | then-named-gt0 w ↦
+          let f = c.append_short_name-named.ensures.found w.if-named-gt0.true n.next.name _ n.next.occurs in
+          (ap (λ v. v.now) w.value-is ∙ take_rest c.parts.rest.now c.append_short_name-named.result ∙ f.0, ap (λ b. b.items) w.buf-is ∙ f.1)
+      | else-named-gt0+in_ok-value w ↦
+          let f = w.in_ok-value.ensures.found n.next.name _ n.next.occurs in
+          (ap (λ v. v.now) w.value-is ∙ f.0, ap (λ b. b.items) w.buf-is ∙ f.1 ∙ ap (λ b. b ++ before_part c.parts.is_first c.parts.inside n.next.name) (c.append_short_name-named.ensures.takes.none (omega (arith, w.if-named-gt0.false))))
+    ] in
+    let kept : Preserves c.parts.buf c.if-named-gt0.buf = elim c.if-named-gt0.branch [
+      | then-named-gt0 w ↦ subst (λ b. Preserves c.parts.buf b) (sym w.buf-is) c.append_short_name-named.ensures.takes.preserves
+      | else-named-gt0+in_ok-value w ↦ subst (λ b. Preserves c.parts.buf b) (sym w.buf-is) (preserves_on c.parts.buf c.append_short_name-named.new.buf w.begin_part.new.buf c.append_short_name-named.ensures.takes.preserves w.in_ok-value.ensures.preserves)
+    ] in
+    let same = c.append_integer-digits.ensures.takes.none (omega (arith, c.if-digits-gt0.false)) in
+    let x = opened_text n.next.left n.next.value n.next.readable c.in-Some-split_first.first.now c.in-Some-split_first.others.now c.if-named-gt0.value.now _ c.in-Some-split_first.ensures.cases.0 due.0 c.in-Some-opening.inner c.in-Some-opening.ensures in
+    let space = opening_fits c.parts.objects c.parts.depth c.parts.rest.now more c.parts.inside c.parts.is_first o start c.parts.buf.items n c.append_integer-digits.new.buf.items (same ∙ due.1) x.open_there c.in-Some-opening.inner x.text in
+    out_of_memory (λ rest. rest.now) c.from_residual-in_err-append_opening-2.result c.args.buf.now c.append_opening-in-parts.new.buf more _ c.from_residual-in_err-append_opening-2.ensures.1
+    (omega (arith, space, length-append c.args.buf.now.items (opening_text c.args.object ∷ []), c.parts.invariant.preserves.capacity, kept.capacity, c.append_integer-digits.ensures.takes.preserves.capacity, c.in_err-append_opening-2.ensures.full))
 
-pub parts-preserved-in-Some-opening : goal.parts-preserved-in-Some-opening
-parts-preserved-in-Some-opening c = record {
-  writes = λ o is h more e.
-      let start = c.args.buf.now.items ++ opening_text c.args.object ∷ [] in
-      let n = part_there c.parts.objects c.parts.depth c.in-Some.top c.parts.rest.now more c.kind_at-inside.result c.parts.is_first o start c.parts.buf.items (omega (arith, c.in-Some.ensures)) c.kind_at-inside.ensures (c.parts.invariant.writes o is h more e) c.in_default-after_end.ensures.found in
-      let named = c.in_ok-value.ensures.found n.next.name _ n.next.occurs in
-      let x = opened_text n.next.left n.next.value n.next.readable c.in-Some-split_first.first.now c.in-Some-split_first.others.now c.in_ok-value.value.now _ c.in-Some-split_first.ensures.cases.0 named.0 c.in-Some-opening.inner c.in-Some-opening.ensures in
-      part_begun c.parts.objects c.parts.depth c.parts.rest.now more c.kind_at-inside.result c.parts.is_first o start c.parts.buf.items n c.begin_part.new.buf.items named.1 x.open_there c.in-Some-opening.inner x.text x.inner x.deeper x.fits x.is
-      (omega (arith, c.parts.invariant.deep, c.parts.invariant.size, c.if-depth-eq-MAX_DEPTH.false)) c.in-Some-split_first.others.now c.append_opening-in-Some-opening.new.buf.items x.occurs c.in_ok-append_opening-in-Some-opening.ensures.ok;
-  preserves = preserves_on c.args.buf.now c.parts.buf c.append_opening-in-Some-opening.new.buf c.parts.invariant.preserves (preserves_on c.parts.buf c.begin_part.new.buf c.append_opening-in-Some-opening.new.buf c.in_ok-value.ensures.preserves (retained_by c.begin_part.new.buf c.append_opening-in-Some-opening.new.buf c.in_ok-append_opening-in-Some-opening.ensures));
-  deep = omega (arith, c.parts.invariant.deep, c.if-depth-eq-MAX_DEPTH.false);
-  size = simp length-set c.parts.invariant.size;
-}
-
-pub returns-in_err-after-in-None-clause-found : goal.returns-in_err-after-in-None-clause-found
-returns-in_err-after-in-None-clause-found c = λ o is h more e.
-    let start = c.args.buf.now.items ++ opening_text c.args.object ∷ [] in
-    let n = part_there c.parts.objects c.parts.depth c.in-Some.top c.parts.rest.now more c.kind_at-inside.result c.parts.is_first o start c.parts.buf.items (omega (arith, c.in-Some.ensures)) c.kind_at-inside.ensures (c.parts.invariant.writes o is h more e) c.in_default-after_end.ensures.found in
-    let named = c.in_ok-value.ensures.found n.next.name _ n.next.occurs in
-    let scalar = scalar_there n.next.left n.next.value n.next.readable c.in-Some-split_first.first.now c.in-Some-split_first.others.now c.in_ok-value.value.now _ c.in-Some-split_first.ensures.cases.0 named.0 c.in-None.ensures.0 c.in-None.ensures.1 in
-    let space = value_fits c.parts.objects c.parts.depth c.parts.rest.now more c.kind_at-inside.result c.parts.is_first o start c.parts.buf.items n c.begin_part.new.buf.items named.1 in
-    let lacks = c.in_err-after-in-None.ensures.found n.next.left n.next.value n.next.readable scalar _ named.0 in
-    passed_on (λ rest. rest.now) c.from_residual-in_err-after-in-None.result c.args.buf.now c.append_scalar.new.buf more _ c.in_err-after-in-None.field-0.0 c.from_residual-in_err-after-in-None.ensures.1 lacks.0
-    (omega (arith, space, length-append c.args.buf.now.items (opening_text c.args.object ∷ []), c.parts.invariant.preserves.capacity, c.in_ok-value.ensures.preserves.capacity, lacks.1))
+pub returns-in_err-append_opening-2-clause-preserves : goal.returns-in_err-append_opening-2-clause-preserves
+returns-in_err-append_opening-2-clause-preserves c =
+    let kept : Preserves c.parts.buf c.if-named-gt0.buf = elim c.if-named-gt0.branch [
+      | then-named-gt0 w ↦ subst (λ b. Preserves c.parts.buf b) (sym w.buf-is) c.append_short_name-named.ensures.takes.preserves
+      | else-named-gt0+in_ok-value w ↦ subst (λ b. Preserves c.parts.buf b) (sym w.buf-is) (preserves_on c.parts.buf c.append_short_name-named.new.buf w.begin_part.new.buf c.append_short_name-named.ensures.takes.preserves w.in_ok-value.ensures.preserves)
+    ] in
+    preserves_on c.args.buf.now c.parts.buf c.append_opening-in-parts.new.buf c.parts.invariant.preserves (preserves_on c.parts.buf c.if-named-gt0.buf c.append_opening-in-parts.new.buf kept (preserves_on c.if-named-gt0.buf c.append_integer-digits.new.buf c.append_opening-in-parts.new.buf c.append_integer-digits.ensures.takes.preserves (retained_by c.append_integer-digits.new.buf c.append_opening-in-parts.new.buf c.in_err-append_opening-2.ensures)))
 
 pub parts-preserved : goal.parts-preserved
-parts-preserved c = record {
-  writes = λ o is h more e.
-      let start = c.args.buf.now.items ++ opening_text c.args.object ∷ [] in
-      let n = part_there c.parts.objects c.parts.depth c.in-Some.top c.parts.rest.now more c.kind_at-inside.result c.parts.is_first o start c.parts.buf.items (omega (arith, c.in-Some.ensures)) c.kind_at-inside.ensures (c.parts.invariant.writes o is h more e) c.in_default-after_end.ensures.found in
-      let named = c.in_ok-value.ensures.found n.next.name _ n.next.occurs in
-      let scalar = scalar_there n.next.left n.next.value n.next.readable c.in-Some-split_first.first.now c.in-Some-split_first.others.now c.in_ok-value.value.now _ c.in-Some-split_first.ensures.cases.0 named.0 c.in-None.ensures.0 c.in-None.ensures.1 in
-      let y = c.in_ok-after-in-None.ensures.found n.next.left n.next.value n.next.readable scalar _ named.0 in
-      scalar_written c.parts.objects c.parts.depth c.parts.rest.now more c.kind_at-inside.result c.parts.is_first o start c.parts.buf.items n c.begin_part.new.buf.items named.1 c.in_ok-after-in-None.after.now c.append_scalar.new.buf.items y.0 y.1;
-  preserves = preserves_on c.args.buf.now c.parts.buf c.append_scalar.new.buf c.parts.invariant.preserves (preserves_on c.parts.buf c.begin_part.new.buf c.append_scalar.new.buf c.in_ok-value.ensures.preserves c.in_ok-after-in-None.ensures.preserves);
-  deep = c.parts.invariant.deep;
-  size = c.parts.invariant.size;
-}
+parts-preserved c =
+    let kept : Preserves c.parts.buf c.if-named-gt0.buf = elim c.if-named-gt0.branch [
+      | then-named-gt0 w ↦ subst (λ b. Preserves c.parts.buf b) (sym w.buf-is) c.append_short_name-named.ensures.takes.preserves
+      | else-named-gt0+in_ok-value w ↦ subst (λ b. Preserves c.parts.buf b) (sym w.buf-is) (preserves_on c.parts.buf c.append_short_name-named.new.buf w.begin_part.new.buf c.append_short_name-named.ensures.takes.preserves w.in_ok-value.ensures.preserves)
+    ] in
+    record {
+      writes = λ o is h more e.
+          let start = c.args.buf.now.items ++ opening_text c.args.object ∷ [] in
+          let none : (tail : List ℕ) → c.parts.rest.now ≡ end_key c.parts.inside ++ tail → None ≡ Some tail = λ tail at_end. elim c.if-named-eq0.branch [
+            | then-named-eq0+in_default w ↦ w.in_default.ensures.found tail at_end
+            | else-named-eq0 w ↦ absurd (c.append_short_name-named.ensures.no_end (omega (arith, w.if-named-eq0.false)) tail at_end)
+          ] in
+          let n = part_there c.parts.objects c.parts.depth (c.parts.depth - 1) c.parts.rest.now more c.parts.inside c.parts.is_first o start c.parts.buf.items (omega (arith, c.parts.invariant.some)) c.parts.invariant.inside (c.parts.invariant.writes o is h more e) none in
+          let due : (c.if-named-gt0.value.now ≡ key_of n.next.value ++ (opens_key (n.next.others ∷ n.next.under) ++ more)) × (c.if-named-gt0.buf.items ≡ c.parts.buf.items ++ before_part c.parts.is_first c.parts.inside n.next.name) = elim c.if-named-gt0.branch [
+            | then-named-gt0 w ↦
+                let f = c.append_short_name-named.ensures.found w.if-named-gt0.true n.next.name _ n.next.occurs in
+                (ap (λ v. v.now) w.value-is ∙ take_rest c.parts.rest.now c.append_short_name-named.result ∙ f.0, ap (λ b. b.items) w.buf-is ∙ f.1)
+            | else-named-gt0+in_ok-value w ↦
+                let f = w.in_ok-value.ensures.found n.next.name _ n.next.occurs in
+                (ap (λ v. v.now) w.value-is ∙ f.0, ap (λ b. b.items) w.buf-is ∙ f.1 ∙ ap (λ b. b ++ before_part c.parts.is_first c.parts.inside n.next.name) (c.append_short_name-named.ensures.takes.none (omega (arith, w.if-named-gt0.false))))
+          ] in
+          let same = c.append_integer-digits.ensures.takes.none (omega (arith, c.if-digits-gt0.false)) in
+          let x = opened_text n.next.left n.next.value n.next.readable c.in-Some-split_first.first.now c.in-Some-split_first.others.now c.if-named-gt0.value.now _ c.in-Some-split_first.ensures.cases.0 due.0 c.in-Some-opening.inner c.in-Some-opening.ensures in
+          part_begun c.parts.objects c.parts.depth c.parts.rest.now more c.parts.inside c.parts.is_first o start c.parts.buf.items n c.append_integer-digits.new.buf.items (same ∙ due.1) x.open_there c.in-Some-opening.inner x.text x.inner x.deeper x.fits x.is
+          (omega (arith, c.parts.invariant.deep, c.parts.invariant.size, c.if-depth-eq-MAX_DEPTH.false)) c.in-Some-split_first.others.now c.append_opening-in-parts.new.buf.items x.occurs c.in_ok-append_opening-2.ensures.ok;
+      preserves = preserves_on c.args.buf.now c.parts.buf c.append_opening-in-parts.new.buf c.parts.invariant.preserves (preserves_on c.parts.buf c.if-named-gt0.buf c.append_opening-in-parts.new.buf kept (preserves_on c.if-named-gt0.buf c.append_integer-digits.new.buf c.append_opening-in-parts.new.buf c.append_integer-digits.ensures.takes.preserves (retained_by c.append_integer-digits.new.buf c.append_opening-in-parts.new.buf c.in_ok-append_opening-2.ensures)));
+      some = omega arith;
+      deep = omega (arith, c.parts.invariant.deep, c.if-depth-eq-MAX_DEPTH.false);
+      size = simp length-set c.parts.invariant.size;
+      inside = sym (ap (λ i. get_or (set c.parts.objects c.parts.depth c.in-Some-opening.inner) i false) {x = c.parts.depth + 1 - 1} (omega arith) ∙ get_or-set_same c.parts.objects c.parts.depth c.in-Some-opening.inner false (omega (arith, c.parts.invariant.deep, c.parts.invariant.size, c.if-depth-eq-MAX_DEPTH.false)));
+    }
