@@ -1,23 +1,98 @@
 -- How many zeros a number may end in, by the digits and the exponent of its key.
-use Rattle.std.proofs.Common.{◌≡◌, ℕ, ◌+◌, ◌-◌, ◌*◌, ◌%◌, ◌^◌, ◌<◌, ◌≤◌, ◌⊎◌, inl, inr, pos, unsigned_abs, List, sym, ap, ◌∙◌, arith}
-use Rattle.std.proofs.Math.Nat.{mul-lt-mul_of_pos_right}
+use Rattle.std.proofs.Common.{◌≡◌, ◌≢◌, ℕ, zero, suc, ◌+◌, ◌-◌, ◌*◌, ◌/◌, ◌%◌, ◌^◌, ◌<◌, ◌≤◌, ◌⊎◌, inl, inr, Bool, true, false, ℤ, pos, negsuc, unsigned_abs, List, ◌∷◌, ◌++◌, map, None, refl, sym, ap, ◌∙◌, arith}
+use Rattle.std.proofs.Math.Nat.{mul-le-mul_right, mul-lt-mul_of_pos_right}
 use Rattle.std.proofs.lemmas.Bool.{cases_lt}
 use Rattle.std.proofs.lemmas.Nat.{pow-add}
-use Rattle.jsonb_spec.specs.SortKey.{digit_count}
+use Rattle.jsonb_spec.specs.Proper.{IsProperNumber}
+use Rattle.jsonb_spec.specs.SortKey.{digit_count, digits_key, invert_if, number_key}
 use Rattle.jsonb_spec.specs.Tree.{Num}
 use Rattle.jsonb_value.proofs.SortKeys.Counts.{power_le}
 use Rattle.jsonb_value.proofs.SortKeys.Digits.{ten}
+use Rattle.jsonb_value.proofs.SortKeys.Kinds.{is_small}
+use Rattle.jsonb_value.proofs.SortKeys.Numbers.{head_of, negative, positive}
+use Rattle.jsonb_value.proofs.Trees.Runs.{heads}
 use Rattle.key_document.specs.Check.{IsStripped, most_zeros}
 use Rattle.key_document.proofs.Trailing.{Fewest, fewest, no_digits}
 use Rattle.key_text.specs.FewestDigits.{spare_zeros}
-use Rattle.key_text.specs.Writes.{IsEncoded}
-use Rattle.key_text.proofs.NumberTexts.{less_back}
 use Rattle.key_text.proofs.Spares.{all_spare, some_spare}
+use Rattle.key_value.specs.Reading.{IsLastPair, IsNoLastPair, exponent_of, read_as}
 use Rattle.key_value.proofs.Exact.{counted}
-use Rattle.key_value.proofs.Numbers.{cancel}
+use Rattle.key_value.proofs.Numbers.{ReadsDigits, cancel, exponent_read, last_none, last_some}
+use Rattle.key_value.proofs.Signs.{IsSigned}
+use Rattle.key_value.proofs.Texts.{none_some, some_pair}
 
-pub stripped : (count magnitude read : ℕ) (row : List ℕ) → IsEncoded count magnitude read row → IsStripped count magnitude read
-stripped count magnitude read row x = record { digits = x.digits; is_digits = x.is_digits; not_zero = x.not_zero }
+-- ---- the digits of a key
+
+-- The number without the zeros that its digits end in.
+module _ (negative : Bool) (bytes : List ℕ) (digits read : ℕ) (rest : List ℕ) (byte : ℕ) (others : List ℕ) (b : ℕ) (so_far : ReadsDigits negative bytes digits read rest) (first : rest ≡ byte ∷ others) (is : b ≡ invert_if negative byte)
+    (C M : ℕ) (below : M < 10 ^ C) (some : 0 < M) (high : M ≤ 2 ^ 127) (few : C ≤ 39) (more : List ℕ) (e : bytes ≡ map (invert_if negative) (digits_key C M) ++ more) (even : b % 2 ≡ 0) where
+  no_last : IsNoLastPair digits (b / 2) → ⊥
+  no_last none = last_none negative bytes digits read rest byte others b so_far first is C M below some high few more e even (b / 2) refl none
+
+  small : b / 2 < 100
+  small = elim (cases_lt (b / 2) 100) [
+    | inl less ↦ less
+    | inr large ↦ absurd (no_last (inr (inl (omega (arith, large)))))
+  ]
+
+  not_none : b / 2 ≢ 0
+  not_none none = no_last (inl none)
+
+  ended : (all last : ℕ) → IsLastPair digits (b / 2) all last → IsStripped C M (read + last)
+  ended all last p = record {
+    digits = all;
+    is_digits = (last_some negative bytes digits read rest byte others b so_far first is C M below some high few more e even (b / 2) all last refl p).0;
+    not_zero = p.not_zero;
+  }
+
+  -- the last digit of the pair is a zero
+  pub one_stripped : b / 2 % 10 ≡ 0 → IsStripped C M (read + 1)
+  one_stripped last = ended (digits * 10 + b / 2 / 10) 1 (record {
+    below = small;
+    taken = inr (refl, last, refl);
+    whole = omega (arith, last);
+    few = omega arith;
+    one = λ z. refl;
+    not_zero = λ z. not_none (omega (arith, z, last, small));
+  })
+
+  pub two_stripped : b / 2 % 10 ≢ 0 → IsStripped C M (read + 2)
+  two_stripped last = ended (digits * 100 + b / 2) 2 (record {
+    below = small;
+    taken = inl (refl, refl);
+    whole = omega arith;
+    few = omega arith;
+    one = λ z. absurd (last z);
+    not_zero = λ z. last (omega (arith, z));
+  })
+
+-- ---- the number of a key
+
+-- with the byte of 0 it is 0
+pub zero_there : (n : Num) → IsProperNumber n → (first : ℕ) (rest bytes more : List ℕ) → bytes ≡ first ∷ rest → first ≡ 128 → bytes ≡ number_key n ++ more → n.whole ≡ pos 0
+zero_there n proper first rest bytes more e is occurs = by_whole n.whole refl
+  where
+    by_whole : (z : ℤ) → n.whole ≡ z → n.whole ≡ pos 0
+    by_whole (pos zero) w = w
+    by_whole (pos (suc a)) w =
+        let x = head_of n a (ap unsigned_abs w) (is_small n proper) in
+        let key = positive n a w ∙ ap (map (invert_if false)) x.is in
+        absurd (omega (arith, is, x.low, heads first x.head rest (map (invert_if false) x.tail ++ more) (sym e ∙ occurs ∙ ap (λ k. k ++ more) key)))
+    by_whole (negsuc a) w =
+        let x = head_of n a (ap unsigned_abs w) (is_small n proper) in
+        let key = negative n a w ∙ ap (map (invert_if true)) x.is in
+        absurd (omega (arith, is, x.low, x.high, heads first (255 - x.head) rest (map (invert_if true) x.tail ++ more) (sym e ∙ occurs ∙ ap (λ k. k ++ more) key)))
+
+module _ (n : Num) (sign : Bool) (bytes more : List ℕ) (s : IsSigned n sign bytes more) where
+  there : exponent_of sign bytes ≡ read_as s.exponent (map (invert_if sign) (digits_key s.count (unsigned_abs n.whole)) ++ more)
+  there = ap (exponent_of sign) s.occurs ∙ exponent_read sign s.exponent (map (invert_if sign) (digits_key s.count (unsigned_abs n.whole)) ++ more) s.low
+
+  -- an exponent is read
+  pub some_exponent : None ≡ exponent_of sign bytes → ⊥
+  some_exponent none = none_some _ (none ∙ there)
+
+  pub is_exponent : (exponent : ℕ) (digits : List ℕ) → read_as exponent digits ≡ exponent_of sign bytes → (exponent ≡ s.exponent) × (digits ≡ map (invert_if sign) (digits_key s.count (unsigned_abs n.whole)) ++ more)
+  is_exponent exponent digits read = some_pair exponent s.exponent digits _ (read ∙ there)
 
 -- 0 may end in as many as there may be digits
 pub zero_most : (n : Num) → n.whole ≡ pos 0 → 38 ≡ most_zeros n
@@ -29,6 +104,12 @@ zero_most n none =
       | inr other ↦ absurd (other (ap (λ k. k % 10) nothing))
     ] in
     omega (arith, f.most, no_scale, ap digit_count nothing, no_digits)
+
+less_back : (a b k : ℕ) → a * k < b * k → a < b
+less_back a b k h = elim (cases_lt a b) [
+  | inl less ↦ less
+  | inr most ↦ absurd (omega (arith, h, mul-le-mul_right k most))
+]
 
 -- The zeros at the end, and how many digits there are without them.
 module _ (n : Num) (C d : ℕ) (below : unsigned_abs n.whole < 10 ^ C) (least : 10 ^ C ≤ unsigned_abs n.whole * 10) (some : 0 < unsigned_abs n.whole) (few : C ≤ 39) (x : IsStripped C (unsigned_abs n.whole) d) where
@@ -66,7 +147,7 @@ module _ (n : Num) (C d : ℕ) (below : unsigned_abs n.whole < 10 ^ C) (least : 
       let sum : C ≡ k + f.spare = omega (arith, few_spare) in
       let Z = 10 ^ f.spare in
       let power : 10 ^ C ≡ 10 ^ k * Z = ap (λ i. 10 ^ i) sum ∙ pow-add 10 k f.spare in
-      let low : f.magnitude < 10 ^ k = less_back f.magnitude (10 ^ k) Z (ten f.spare) (omega (arith, below, power, f.whole)) in
+      let low : f.magnitude < 10 ^ k = less_back f.magnitude (10 ^ k) Z (omega (arith, below, power, f.whole)) in
       let high : 10 ^ k ≤ f.magnitude * 10 = elim (cases_lt (f.magnitude * 10) (10 ^ k)) [
         | inl less ↦ absurd (omega (arith, least, power, ap (λ m. m * 10) f.whole, mul-lt-mul_of_pos_right less (ten f.spare)))
         | inr most ↦ most

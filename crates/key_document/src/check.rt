@@ -43,6 +43,7 @@ pub(crate) struct ZerosDue<'z> {
 pub fn is_document(document: &[u8]) -> bool
     ensures { IsTrue result ↔ IsDocumentInRange document.now }
 {
+    // Of any bytes these are two ranges that are together no longer, so the bytes are split anew by their lengths.
     let (first, second) = split_document(document);
     let (key, behind) = document.split_at(first.len());
     let (zeros, end) = behind.split_at(second.len());
@@ -273,23 +274,23 @@ fn most_zeros(bytes: &[u8]) -> u32
 
 // How many digits the bytes begin with, up to the last one that isn't 0.
 fn digit_count(negative: bool, bytes: &[u8]) -> Option<u32>
-    ensures found { (count magnitude : ℕ) → magnitude < 10 ^ count → 0 < magnitude → count ≤ 39 → (more : List ℕ)
-        → bytes.now ≡ map (invert_if negative) (digits_key count magnitude) ++ more
+    ensures found { (count magnitude : ℕ) → magnitude < 10 ^ count → 0 < magnitude → magnitude ≤ 2 ^ 127 → count ≤ 39
+        → (more : List ℕ) → bytes.now ≡ map (invert_if negative) (digits_key count magnitude) ++ more
         → MatchOption result ⊥ (λ read. IsStripped count magnitude read) }
-    ensures few { IfSome result (λ read. read ≤ 40) }
+    ensures few { IfSome result (λ read. read ≤ 42) }
 {
     let mut rest = bytes;
     let mut count: u32 = 0;
     'pairs: while let Some((byte, others)) = rest.split_first() {
         let byte = invert_if(negative, *byte);
-        if count > 38 {
-            return None;
-        }
         if byte % 2 == 0 {
             if byte / 2 % 10 == 0 {
                 return Some(count + 1);
             }
             return Some(count + 2);
+        }
+        if count > 38 {
+            return None;
         }
         rest = others;
         count += 2;

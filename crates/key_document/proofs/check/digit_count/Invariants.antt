@@ -1,11 +1,11 @@
-use Rattle.std.proofs.Common.{◌≤◌, List, ℕ, length}
-use Rattle.key_text.proofs.Encoding.{Encodes}
+use Rattle.std.proofs.Common.{◌≤◌, ℕ, length}
+use Rattle.key_value.proofs.Numbers.{ReadsDigits}
 use Rattle.key_document.proofs.check.digit_count.Given as goal
 
--- some row has what was read
+-- some digits were read
 abbrev pub invariant-pairs : goal.invariant-pairs
 invariant-pairs l = record {
-  encodes : (row : List ℕ) × Encodes l.negative l.bytes l.count l.rest row;
+  reads : (digits : ℕ) × ReadsDigits l.negative l.bytes digits l.count l.rest;
   within : length l.rest ≤ length l.bytes;
   few : l.count ≤ 40;
 }
