@@ -20,6 +20,7 @@ use Rattle.jsonb_value.proofs.Numbers.Nearest.{signed_parts}
 use Rattle.jsonb_value.proofs.Numbers.Pointed.{pointed_whole, pointed_inside, pointed_before}
 use Rattle.jsonb_value.proofs.SortKeys.Kinds.{is_small}
 use Rattle.jsonb_value.proofs.Trees.Runs.{heads}
+use Rattle.key_text.specs.FewestDigits.{spare_zeros}
 use Rattle.key_zeros.specs.Scan.{is_number_byte, ending_of}
 use Rattle.key_zeros.proofs.Decimals.{text_passed}
 use Rattle.key_zeros.proofs.NumberedTexts as numbered
@@ -254,6 +255,9 @@ module _ (n : Num) (proper : IsProperNumber n) where
         zeros = d.zeros ∙ ap (λ r. r.1.0) ending;
         rest = d.rest ∙ ap (λ r. r.1.1) ending;
       }
+
+  pub ending_read : (more bytes : List ℕ) → EndsNumber more → bytes ≡ number_text n ++ more → (ending_of false 0 bytes).1 ≡ (spare_zeros n.scale (unsigned_abs n.whole), more)
+  ending_read more bytes ends e = ap (λ r. r.1) (ap (ending_of false 0) e ∙ (text_passed n proper more (ends_so more ends)).1)
 
   -- its sign and its digits fit
   pub no_overflow : (more : List ℕ) (first : ℕ) (others bytes : List ℕ) (magnitude : ℕ) → bytes ≡ first ∷ others → bytes ≡ number_text n ++ more → magnitude ≡ unsigned_abs n.whole → (2 ^ 127 < magnitude) ⊎ (((first == 45) ≡ false) × (2 ^ 127 ≤ magnitude)) → ⊥

@@ -22,7 +22,7 @@ ghost use Rattle.key_text.specs.Writes.{Preserves};
 
 use crate::document::end_zeros;
 use crate::error::DocumentError;
-use digits::{is_number_byte, number_of, read_digits};
+use digits::{is_number_byte, number_of, read_digits, read_ending};
 use jsonb_value::parts::append_number_key;
 use jsonb_value::sort_key::kind;
 use key_walk::skip::after_scalar;
@@ -226,13 +226,11 @@ fn count_zeros(bytes: &[u8]) -> Result<(u8, &[u8]), DocumentError>
         → bytes.now ≡ number_text n ++ more
         → MatchResult result (λ r. (r.0 ≡ spare_zeros n.scale (unsigned_abs n.whole)) × (r.1.now ≡ more)) (λ e. ⊥) }
 {
-    let Some(digits) = read_digits(bytes) else {
-        return Err(DocumentError::NoDocument);
-    };
-    if digits.zeros > 255 {
+    let (zeros, rest) = read_ending(bytes);
+    if zeros > 255 {
         return Err(DocumentError::NoDocument);
     }
-    Ok((digits.zeros as u8, digits.rest))
+    Ok((zeros as u8, rest))
 }
 
 // How many bytes the key of a number has that begins at this offset.

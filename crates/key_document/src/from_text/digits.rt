@@ -7,7 +7,7 @@ ghost use Rattle.jsonb_spec.specs.Text.NumberText.{number_text};
 ghost use Rattle.jsonb_spec.specs.Tree.{Num};
 ghost use Rattle.jsonb_value.specs.View.{number_view};
 ghost use Rattle.key_document.specs.FromText.{AreDigitsOf, AreDigitsOfNumber, EndsNumber, is_digit, magnitude_from, scale_with, with_digit};
-ghost use Rattle.key_zeros.specs.Scan.{is_number_byte, zeros_with};
+ghost use Rattle.key_zeros.specs.Scan.{ending_of, is_number_byte, zeros_with};
 
 use jsonb_value::number::{Decimal128, Number};
 
@@ -91,6 +91,26 @@ fn read_long(bytes: &[u8]) -> Option<Digits<'_>>
         zeros,
         rest,
     })
+}
+
+/// How many zeros end the number that the bytes begin with behind its point, and the bytes after it.
+#[inline(always)]
+pub(crate) fn read_ending(bytes: &[u8]) -> (usize, &[u8])
+    ensures zeros { result.0 ≡ (ending_of false 0 bytes.now).1.0 }
+    ensures rest { result.1.now ≡ (ending_of false 0 bytes.now).1.1 }
+{
+    let mut zeros: usize = 0;
+    let mut pointed = false;
+    let mut rest = bytes;
+    'bytes: while let Some((byte, others)) = rest.split_first() {
+        if !is_number_byte(*byte) {
+            break;
+        }
+        zeros = zeros_with(pointed, zeros, *byte);
+        pointed = pointed || *byte == b'.';
+        rest = others;
+    }
+    (zeros, rest)
 }
 
 /// A minus, a point or a digit.

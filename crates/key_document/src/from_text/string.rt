@@ -7,7 +7,7 @@ ghost use Rattle.jsonb_spec.specs.SortKey.{byte_key, text_key};
 ghost use Rattle.jsonb_spec.specs.SortKey.Kind as kind;
 ghost use Rattle.jsonb_spec.specs.Text.Appending.{Appends};
 ghost use Rattle.jsonb_spec.specs.Text.StringText.{byte_text};
-ghost use Rattle.key_document.specs.FromText.{WritesPart, string_key};
+ghost use Rattle.key_document.specs.FromText.{WritesPart, is_name, string_key};
 ghost use Rattle.key_text.specs.Writes.{Preserves};
 
 use super::item::{is_name, read_item};
@@ -94,13 +94,26 @@ pub(crate) fn string_size(bytes: &[u8]) -> Option<(usize, &[u8])>
         → MatchOption result ⊥ (λ r. (r.0 ≡ length (string_key more text)) × (r.1.now ≡ more)) }
     ensures shorter { IfSome result (λ r. length r.1.now < length bytes.now) }
 {
+    let size = plain_len(bytes);
+    let (_, others) = bytes.split_at(size);
+    if let Some((last, behind)) = others.split_first() {
+        if *last == b'"' {
+            return Some((size + frame_size(behind), behind));
+        }
+    }
     let Some((contents, rest)) = key_size(bytes) else {
         return None;
     };
-    if is_name(rest) {
-        return Some((contents + 2, rest));
-    }
-    Some((contents + 3, rest))
+    Some((contents + frame_size(rest), rest))
+}
+
+// How many bytes kind and end take in the key of a string, behind which these bytes come.
+#[inline(always)]
+fn frame_size(behind: &[u8]) -> usize
+    ensures exact { result ≡ length (if is_name behind.now then [] else kind.string ∷ []) + 2 }
+    ensures few { result ≤ 3 }
+{
+    if is_name(behind) { 2 } else { 3 }
 }
 
 // How many bytes the key of the string has inside of which the bytes begin, without kind and end; and the bytes behind
