@@ -120,9 +120,9 @@ pub record HasPairs (count magnitude pairs : ℕ) (row : List ℕ) : Type 0 wher
   pub one : get_or row (2 * pairs - 1) 0 ≡ ascii.digit_zero
       → IsEncoded count magnitude (2 * pairs - 1) (row ++ replicate 32 ascii.digit_zero)
 
--- Whichever number's digits the bytes begin with, it is an integer with so many digits before the point: all of its
--- digits were read, and those before the point are appended.
-pub record TakesIntegerOf (count magnitude front : ℕ) (bytes : List ℕ) (taken : ℕ) (more old new : List ℕ) : Type 0 where
+-- All digits of the number were read, none of which is behind the point, and as many as are before it are appended.
+pub record TakesIntegerOf (count magnitude front : ℕ) (bytes : List ℕ) (taken : ℕ) (more old new : List ℕ)
+    : Type 0 where
   pub read : ℕ
   pub row : List ℕ
   pub encoded : IsEncoded count magnitude read row
@@ -130,6 +130,7 @@ pub record TakesIntegerOf (count magnitude front : ℕ) (bytes : List ℕ) (take
   pub left : drop taken bytes ≡ more
   pub appended : new ≡ old ++ take front row
 
+-- Where some byte was read, this is so of whichever number's digits the bytes begin with.
 abbrev pub TakesInteger : ℕ → List ℕ → ℕ → List ℕ → List ℕ → Type 0
 TakesInteger front bytes taken old new =
     0 < taken → (count magnitude : ℕ) → magnitude < 10 ^ count → 0 < magnitude → count ≤ 39 → (more : List ℕ)

@@ -37,7 +37,8 @@ const MAX_FRONT: u32 = 40;
 #[inline(always)]
 pub(crate) fn append_integer(first: u8, digits: &[u8], buf: &mut Vec<u8>) -> usize
     ensures number { 0 < result → (160 < first) × (first < 200) }
-    ensures found { 0 < result → (n : Num) → IsProperNumber n → (more : List ℕ) → first ∷ digits.now ≡ number_key n ++ more
+    ensures found { 0 < result → (n : Num) → IsProperNumber n → (more : List ℕ)
+        → first ∷ digits.now ≡ number_key n ++ more
         → Takes digits.now result buf.old buf.new more (number_text (fewest_digits n)) }
     ensures takes { TakesSome digits.now result buf.old buf.new }
 {
@@ -62,8 +63,8 @@ pub(crate) fn append_integer(first: u8, digits: &[u8], buf: &mut Vec<u8>) -> usi
     append_many(front, digits, buf)
 }
 
-// Appends an integer of one pair of digits, which has so many of them, if there is space. It has one only where the other
-// is a zero. Returns whether it is appended.
+// Appends an integer of one pair of digits, which has so many of them, if there is space. It has one only where the
+// other is a zero. Returns whether it is appended.
 #[inline(always)]
 fn append_pair(front: usize, pair: u8, buf: &mut Vec<u8>) -> bool
     requires digits { (0 < front) × (front ≤ 2) × (pair < 128) }

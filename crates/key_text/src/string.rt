@@ -14,9 +14,9 @@ use key_value::KeyError;
 use key_value::text::{read_byte, skip_pair};
 use std::alloc::AllocError;
 
-// Appends a member's name with double quotes and a colon, and a comma before it, but for the first name, and returns how
-// many bytes are read of its key. Where that is 0, nothing is appended: an item has no name, an object may end here, or
-// the name is left to `append_long_name`.
+// Appends a member's name with double quotes and a colon, and a comma before it, but for the first name, and returns
+// how many bytes are read of its key. Where that is 0, nothing is appended: an item has no name, an object may end here,
+// or the name is left to `append_long_name`.
 #[inline(always)]
 pub(crate) fn append_short_name(
     object: bool,

@@ -152,7 +152,8 @@ fn append_closing(object: bool, buf: &mut Vec<u8>) -> Result<(), AllocError>
 }
 
 // Appends an object or an array, from the parts that the bytes begin with. Which of the open ones are objects is in
-// an array, outermost first.
+// an array, outermost first. Short names and scalars are tried first, by functions that return a number of bytes, as
+// results with a slice would be in memory.
 fn append_parts<'k>(object: bool, bytes: &'k [u8], buf: &mut Vec<u8>) -> Result<&'k [u8], KeyError>
     ensures found { AtParts object bytes.now (λ o more.
         AppendsLeaving result buf.old buf.new more (opening_text object ∷ open_text true o)) }
