@@ -75,8 +75,9 @@ hexadecimal_value digit = if nat_lt digit ascii.colon then digit % 16 else digit
 -- the byte that the letter behind a backslash means
 abbrev pub escaped_byte : ℕ → ℕ
 escaped_byte letter =
-    if letter == 110 then ascii.line_feed
-    else (if letter == 114 then ascii.carriage_return else (if letter == 116 then ascii.tab else letter))
+    if letter == ascii.lower_n then ascii.line_feed
+    else (if letter == ascii.lower_r then ascii.carriage_return
+    else (if letter == ascii.lower_t then ascii.tab else letter))
 
 -- the byte that four hexadecimal digits mean, of which the last two are looked at, and the bytes behind them
 abbrev pub control_of : List ℕ → Option (ℕ × List ℕ)
@@ -89,7 +90,7 @@ control_of (a ∷ b ∷ c ∷ d ∷ bytes) = Some (16 * (c % 2) + hexadecimal_va
 -- the byte that a backslash and these bytes mean, and the bytes behind that
 abbrev pub escape_of : List ℕ → Option (ℕ × List ℕ)
 escape_of [] = None
-escape_of (letter ∷ bytes) = if letter == 117 then control_of bytes else Some (escaped_byte letter, bytes)
+escape_of (letter ∷ bytes) = if letter == ascii.lower_u then control_of bytes else Some (escaped_byte letter, bytes)
 
 -- the next byte of a string, and the bytes behind it
 abbrev pub item_of : List ℕ → Option (ℕ × List ℕ)
@@ -118,13 +119,15 @@ mark_key first =
     else (if first == ascii.open_bracket then kind.array ∷ []
     else (if first == ascii.close_brace then kind.terminator ∷ kind.terminator ∷ []
     else (if first == ascii.close_bracket then kind.terminator ∷ []
-    else (if first == 110 then kind.null ∷ []
-    else (if first == 116 then kind.true ∷ []
-    else (if first == 102 then kind.false ∷ [] else []))))))
+    else (if first == ascii.lower_n then kind.null ∷ []
+    else (if first == ascii.lower_t then kind.true ∷ []
+    else (if first == ascii.lower_f then kind.false ∷ [] else []))))))
 
 -- how many bytes of it come behind that byte
 abbrev pub mark_behind : ℕ → ℕ
-mark_behind first = if first == 110 then 3 else (if first == 116 then 3 else (if first == 102 then 4 else 0))
+mark_behind first =
+    if first == ascii.lower_n then 3
+    else (if first == ascii.lower_t then 3 else (if first == ascii.lower_f then 4 else 0))
 
 -- ---- what is appended
 

@@ -1,5 +1,6 @@
 -- A text as its parts, from left to right: strings, numbers, and what is neither. Each has a key of its own.
 use Rattle.std.specs.Prelude.{◌≡◌, ◌≢◌, ℕ, ◌+◌, ◌-◌, ◌<◌, ◌≤◌, false, List, [], ◌∷◌, ◌++◌, length, drop, replicate, unsigned_abs}
+use Rattle.jsonb_spec.specs.Ascii as ascii
 use Rattle.jsonb_spec.specs.Proper.{IsProperNumber}
 use Rattle.jsonb_spec.specs.SortKey.{key_of, number_key}
 use Rattle.jsonb_spec.specs.Text.NumberText.{number_text}
@@ -21,7 +22,7 @@ pub data Token : Type 0 where
 abbrev pub tokens_text : List Token → List ℕ
 tokens_text [] = []
 tokens_text (mark_part b tail ∷ ts) = b ∷ (tail ++ tokens_text ts)
-tokens_text (string_part text ∷ ts) = 34 ∷ closed text (tokens_text ts)
+tokens_text (string_part text ∷ ts) = ascii.quote ∷ closed text (tokens_text ts)
 tokens_text (number_part n ∷ ts) = number_text n ++ tokens_text ts
 
 -- the key of the first part
@@ -48,7 +49,7 @@ tokens_counts (t ∷ ts) = token_counts t ts ++ tokens_counts ts
 
 -- a part that is neither a string nor a number
 pub record IsMark (b : ℕ) (tail : List ℕ) : Type 0 where
-  pub no_quote : b ≢ 34
+  pub no_quote : b ≢ ascii.quote
   pub no_number : is_number_byte b ≡ false
   pub long : length tail ≡ mark_behind b
 
@@ -59,8 +60,8 @@ AreTokens (mark_part b tail ∷ ts) = IsMark b tail × AreTokens ts
 AreTokens (string_part text ∷ ts) = AreTokens ts
 AreTokens (number_part n ∷ ts) = IsProperNumber n × EndsNumber (tokens_text ts) × AreTokens ts
 
--- The zeros of the value are those of the parts that so many of the last bytes of its text are. Before their keys others
--- are in its key, so that they begin at this offset where the key begins at `start`.
+-- The zeros of the value are those of the parts that so many of the last bytes of its text are. Before their keys
+-- others are in its key, so that they begin at this offset where the key begins at `start`.
 pub record ZerosFrom (t : Tree) (text : List ℕ) (start : ℕ) (first : FirstZeros) : Type 0 where
   pub tokens : List Token
   pub are : AreTokens tokens

@@ -37,9 +37,9 @@ use string::{append_string, string_size};
 ///
 /// # Errors
 ///
-/// `NoDocument` only where the bytes aren't the serialized form of a value of JSON's kinds with at most 512 nested arrays
-/// and objects, and `OutOfMemory` only where the buffer lacks the capacity for the whole document. After an error the
-/// buffer is as before.
+/// `NoDocument` only where the bytes aren't the serialized form of a value of JSON's kinds with at most 512 nested
+/// arrays and objects, and `OutOfMemory` only where the buffer lacks the capacity for the whole document. After an
+/// error the buffer is as before.
 pub fn append_document_of_text(out: &mut Vec<u8>, text: &[u8]) -> Result<(), DocumentError>
     ensures document { OfText text.now (λ t. AppendsDocument t result out.old out.new) }
     ensures preserves { PreservesOnError result out.old out.new }
@@ -259,8 +259,10 @@ fn pass_number(
     out: &mut Vec<u8>,
 ) -> Result<usize, DocumentError>
     ensures found { plain + size < 2 ^ 63 → 0 < size → MatchResult result
-        (λ more. (more ≡ plain_behind plain count + (size - 1)) × (out.new.items ≡ out.old.items ++ entry_of plain count))
-        (λ e. (e ≡ DocumentError.OutOfMemory) × (vec_capacity out.old < vec_len out.old + length (entry_of plain count))) }
+        (λ more. (more ≡ plain_behind plain count + (size - 1))
+        × (out.new.items ≡ out.old.items ++ entry_of plain count))
+        (λ e. (e ≡ DocumentError.OutOfMemory)
+        × (vec_capacity out.old < vec_len out.old + length (entry_of plain count))) }
     ensures preserves { Preserves out.old out.new }
 {
     let more = append_entry(plain, count, out)?;
