@@ -22,11 +22,12 @@ ghost use Rattle.key_text.specs.Writes.{Preserves};
 
 use crate::document::end_zeros;
 use crate::error::DocumentError;
-use digits::{is_number_byte, number_of, read_digits, read_ending};
+use digits::{number_of, read_digits};
 use jsonb_value::parts::append_number_key;
 use jsonb_value::sort_key::kind;
 use key_walk::skip::after_scalar;
 use key_zeros::entry::append_entry;
+use key_zeros::scan::{ending_of, is_number_byte};
 use std::alloc::AllocError;
 use string::{append_string, string_size};
 
@@ -226,11 +227,11 @@ fn count_zeros(bytes: &[u8]) -> Result<(u8, &[u8]), DocumentError>
         → bytes.now ≡ number_text n ++ more
         → MatchResult result (λ r. (r.0 ≡ spare_zeros n.scale (unsigned_abs n.whole)) × (r.1.now ≡ more)) (λ e. ⊥) }
 {
-    let (zeros, rest) = read_ending(bytes);
-    if zeros > 255 {
+    let ending = ending_of(bytes);
+    if ending.zeros > 255 {
         return Err(DocumentError::NoDocument);
     }
-    Ok((zeros as u8, rest))
+    Ok((ending.zeros as u8, ending.rest))
 }
 
 // How many bytes the key of a number has that begins at this offset.

@@ -7,7 +7,7 @@ pub mod entry;
 pub mod error;
 pub mod laws;
 mod restore;
-mod scan;
+pub mod scan;
 
 pub use count::number_count;
 pub use error::ZerosError;

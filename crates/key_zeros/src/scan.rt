@@ -53,9 +53,9 @@ fn after_string(bytes: &[u8]) -> Option<&[u8]>
     }
 }
 
-// A minus, a point or a digit.
+/// A minus, a point or a digit.
 #[inline(always)]
-fn is_number_byte(byte: u8) -> bool
+pub fn is_number_byte(byte: u8) -> bool
     ensures { result ≡ is_number_byte byte }
 {
     byte == b'-' || byte == b'.' || (byte > b'/' && byte < b':')
@@ -63,17 +63,18 @@ fn is_number_byte(byte: u8) -> bool
 
 /// How a number ends.
 #[derive(Clone, Copy, Drop)]
-pub(crate) struct Ending<'t> {
+pub struct Ending<'t> {
     /// Whether it has a point.
-    pub(crate) pointed: bool,
+    pub pointed: bool,
     /// How many zeros end its digits behind the point.
-    pub(crate) zeros: usize,
+    pub zeros: usize,
     /// The bytes after it.
-    pub(crate) rest: &'t [u8],
+    pub rest: &'t [u8],
 }
 
 /// How the number ends that the bytes begin with.
-pub(crate) fn ending_of(number: &[u8]) -> Ending<'_>
+#[inline(always)]
+pub fn ending_of(number: &[u8]) -> Ending<'_>
     ensures exact { (result.pointed, (result.zeros, result.rest.now)) ≡ ending_of false 0 number.now }
     ensures within { result.zeros + length result.rest.now ≤ length number.now }
 {
@@ -99,9 +100,9 @@ pub(crate) fn ending_of(number: &[u8]) -> Ending<'_>
     }
 }
 
-// How many zeros end the digits behind a point with one more byte.
+/// How many zeros end the digits behind a point with one more byte.
 #[inline(always)]
-fn zeros_with(pointed: bool, zeros: usize, byte: u8) -> usize
+pub fn zeros_with(pointed: bool, zeros: usize, byte: u8) -> usize
     requires { zeros < 2 ^ 63 }
     ensures { result ≡ zeros_with pointed zeros byte }
 {

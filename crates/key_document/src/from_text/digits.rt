@@ -1,15 +1,15 @@
 //! The numbers of serialized forms.
 
-ghost use Rattle.std.specs.Prelude.{◌≡◌, ◌<◌, ◌≤◌, ◌+◌, ◌^◌, ◌++◌, ◌⊎◌, List, ℕ, length, false, IfSome, MatchOption};
+ghost use Rattle.std.specs.Prelude.{◌≡◌, ◌<◌, ◌≤◌, ◌+◌, ◌^◌, ◌++◌, ◌⊎◌, List, ℕ, false, IfSome, MatchOption};
 ghost use Rattle.jsonb_spec.specs.Number.Signed.{signed_by};
 ghost use Rattle.jsonb_spec.specs.Proper.{IsProperNumber};
 ghost use Rattle.jsonb_spec.specs.Text.NumberText.{number_text};
 ghost use Rattle.jsonb_spec.specs.Tree.{Num};
 ghost use Rattle.jsonb_value.specs.View.{number_view};
 ghost use Rattle.key_document.specs.FromText.{AreDigitsOf, AreDigitsOfNumber, EndsNumber, is_digit, magnitude_from, scale_with, with_digit};
-ghost use Rattle.key_zeros.specs.Scan.{ending_of, is_number_byte, zeros_with};
 
 use jsonb_value::number::{Decimal128, Number};
+use key_zeros::scan::{is_number_byte, zeros_with};
 
 // With one digit more a number above this has no 128 bits with a sign.
 const MOST: u128 = 17014118346046923173168730371588410572;
@@ -93,34 +93,6 @@ fn read_long(bytes: &[u8]) -> Option<Digits<'_>>
     })
 }
 
-/// How many zeros end the number that the bytes begin with behind its point, and the bytes after it.
-#[inline(always)]
-pub(crate) fn read_ending(bytes: &[u8]) -> (usize, &[u8])
-    ensures zeros { result.0 ≡ (ending_of false 0 bytes.now).1.0 }
-    ensures rest { result.1.now ≡ (ending_of false 0 bytes.now).1.1 }
-{
-    let mut zeros: usize = 0;
-    let mut pointed = false;
-    let mut rest = bytes;
-    'bytes: while let Some((byte, others)) = rest.split_first() {
-        if !is_number_byte(*byte) {
-            break;
-        }
-        zeros = zeros_with(pointed, zeros, *byte);
-        pointed = pointed || *byte == b'.';
-        rest = others;
-    }
-    (zeros, rest)
-}
-
-/// A minus, a point or a digit.
-#[inline(always)]
-pub(crate) fn is_number_byte(byte: u8) -> bool
-    ensures { result ≡ is_number_byte byte }
-{
-    byte == b'-' || byte == b'.' || (byte > b'/' && byte < b':')
-}
-
 #[inline(always)]
 fn is_digit(byte: u8) -> bool
     ensures { result ≡ is_digit byte }
@@ -166,19 +138,6 @@ fn scale_with(pointed: bool, scale: usize, byte: u8) -> usize
         scale + 1
     } else {
         scale
-    }
-}
-
-// How many zeros end the digits behind a point with one more byte.
-#[inline(always)]
-fn zeros_with(pointed: bool, zeros: usize, byte: u8) -> usize
-    requires { zeros < 2 ^ 63 }
-    ensures { result ≡ zeros_with pointed zeros byte }
-{
-    if pointed && byte == b'0' {
-        zeros + 1
-    } else {
-        0
     }
 }
 
