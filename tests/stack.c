@@ -218,7 +218,7 @@ static const size_t told[FUNCTIONS][2] = {
     [KEY_TEXT] = {2, 0},      [KEY_PART] = {2, 0},     [KEY_COUNT] = {2, 0},       [KEY_CONTAINS] = {25, 0},
     [KEY_SET] = {2, 0},       [KEY_REMOVE] = {2, 0},   [KEY_MERGE] = {2, 0},       [TEXT_WITH_ZEROS] = {2, 0},
     [PLAIN_NUMBERS] = {2, 0}, [MASKED_NUMBERS] = {2, 0}, [ERROR_PATH] = {2, 0},    [REASON] = {22, 0},
-    [DOCUMENT] = {22, 110},   [DOCUMENT_CHECK] = {5, 0}, [DOCUMENT_TEXT] = {2, 0}, [DOCUMENT_PART] = {2, 0},
+    [DOCUMENT] = {22, 110},   [DOCUMENT_CHECK] = {5, 0}, [DOCUMENT_TEXT] = {3, 0}, [DOCUMENT_PART] = {2, 0},
     [DOCUMENT_NEXT] = {2, 0}, [DOCUMENT_SET] = {2, 0}, [DOCUMENT_INSERT] = {2, 0}, [DOCUMENT_REMOVE] = {2, 0},
     [DOCUMENT_MERGE] = {3, 0}, [DOCUMENT_STRIP] = {2, 0},
 };
