@@ -28,10 +28,10 @@ def index_of(step):
 
 def slot_of(tree, step):
     """Where a step leads in an object or an array: the index of the part, or None where there is none, and the index at
-    which an item is put then. None where the step is no index of an array."""
+    which an item is put then. None where the step is no index of an array, and in a scalar."""
     if tree[0] == "object":
         return next((i for i, member in enumerate(tree[1]) if member[1] == step), None), None
-    index = index_of(step)
+    index = index_of(step) if tree[0] == "array" else None
     if index is None:
         return None
     at = index + (len(tree[1]) if index < 0 else 0)
@@ -62,13 +62,10 @@ def with_new(tree, step, at, new):
 
 def changed(tree, path, new, create):
     """The tree with another part at the path, or without it where `new` is REMOVE; None where nothing changes."""
-    if not path or tree[0] not in ("array", "object"):
-        return None
-    step, rest = path[0], path[1:]
-    slot = slot_of(tree, step)
+    slot = slot_of(tree, path[0]) if path else None
     if slot is None:
         return None
-    at, put_at = slot
+    (at, put_at), (step, *rest) = slot, path
     if at is None:
         return None if rest or new is REMOVE or not create else with_new(tree, step, put_at, new)
     if rest:
@@ -82,13 +79,10 @@ def inserted(tree, path, new, after):
     """The tree with a part inserted at the path, as jsonb_insert of PostgreSQL has it: before the item that the path
     leads to, or behind it, or as the member of its last name. PRESENT where that member is there, and None where the
     path leads nowhere."""
-    if not path or tree[0] not in ("array", "object"):
-        return None
-    step, rest = path[0], path[1:]
-    slot = slot_of(tree, step)
+    slot = slot_of(tree, path[0]) if path else None
     if slot is None:
         return None
-    at, put_at = slot
+    (at, put_at), (step, *rest) = slot, path
     if rest:
         inner = None if at is None else inserted(part_in(tree, at), rest, new, after)
         return inner if inner is None or inner is PRESENT else with_part(tree, at, inner)
