@@ -516,6 +516,40 @@ uint32_t vizhoniku_document_without(const unsigned char *document, size_t docume
 uint32_t vizhoniku_document_strip_nulls(const unsigned char *document, size_t document_size, uint32_t in_arrays,
                                         unsigned char *buffer, size_t buffer_size, size_t *size);
 
+/* Tables of members: what a store keeps behind a document, so that a member of the outermost object is found without a
+ * walk over those before it. The value has a table where it is an object with at least 4 members whose key takes 256 to
+ * 65535 bytes. The table is, for each member in the order of the key, the offset in the key at which the member's name
+ * begins; then their number, each in two bytes with the higher one first; and the byte FE, with which no key and no
+ * document ends. So a document with a table behind it is told from one without by its last byte, and the table is no part
+ * of the document: the other calls take the document alone.
+ *
+ * A table is made for its key and is not changed: a changed document has another. What vizhoniku_table_member finds is
+ * promised for a key and its table. Any bytes may be passed, and the ranges are within the key; a table from outside is
+ * checked by vizhoniku_table_check first. No call takes memory but vizhoniku_table. */
+
+/* Writes the table of the key to the start of the buffer.
+ *
+ *  - VIZHONIKU_ACCEPTED: *size bytes were written. The rest of the buffer is as before.
+ *  - VIZHONIKU_TOO_SHORT: *size bytes are needed, and nothing was written. They are at most two thirds of those of the
+ *    key, and 3.
+ *  - VIZHONIKU_NO_PART: the value has no table. *size is 0, and nothing was written.
+ *  - VIZHONIKU_NO_KEY, VIZHONIKU_OUT_OF_MEMORY: *size is 0, and nothing was written. */
+uint32_t vizhoniku_table(const unsigned char *key, size_t key_size, unsigned char *buffer, size_t buffer_size,
+                         size_t *size);
+
+/* Returns how many of the last bytes are a table, and 0 where there is none behind the document. */
+size_t vizhoniku_table_size(const unsigned char *stored, size_t stored_size);
+
+/* Finds the member of an object by its name, as vizhoniku_key_member does, by the table of the key. */
+uint32_t vizhoniku_table_member(const unsigned char *key, size_t key_size, const unsigned char *table,
+                                size_t table_size, const unsigned char *name, size_t name_size, size_t *offset,
+                                size_t *size);
+
+/* Checks whether the bytes are the table of the key. VIZHONIKU_NO_PART: they aren't. The key is one that
+ * vizhoniku_key_check accepts. It takes time linear in the key. */
+uint32_t vizhoniku_table_check(const unsigned char *key, size_t key_size, const unsigned char *table,
+                               size_t table_size);
+
 /* Writes a text of RFC 8259 to the start of the buffer, with each number that has an exponent written out as the decimal
  * of exactly its value, as PostgreSQL's jsonb shows it: 1e-7 is 0.0000001, 1.50e1 is 15.0, and 6.02e23 is
  * 602000000000000000000000. All other bytes are as they were. So VIZHONIKU_EXTENDED takes what was written, where no mode

@@ -319,19 +319,23 @@ wanted_by_path(FunctionCallInfo fcinfo, bool answers_parts)
 static Finding
 find_by_names(FunctionCallInfo fcinfo, const KnownPath *known, Document *document, Range *part)
 {
+	Document	at;
+
 	if (!known->is_names)
 		return UNKNOWN;
 	if (PG_NARGS() > 2 && kind_of(get_key(PG_GETARG_VARLENA_PP(2))) != VIZHONIKU_OBJECT)
 		return UNKNOWN;
 	*document = get_document(PG_GETARG_VARLENA_PP(0));
-	*part = document->key;
+	at = *document;
 	for (int i = 0; i < known->steps; i++)
 	{
-		if (kind_of(*part) != VIZHONIKU_OBJECT)
+		if (kind_of(at.key) != VIZHONIKU_OBJECT)
 			return UNKNOWN;
-		if (!find_member(*part, known->wanted.step[i], part))
+		if (!find_member(&at, known->wanted.step[i], part))
 			return known->is_lax ? NOT_THERE : UNKNOWN;
+		at = document_of_key(*part);
 	}
+	*part = at.key;
 	return FOUND;
 }
 

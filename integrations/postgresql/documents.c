@@ -56,6 +56,25 @@ vjson_value(char *block, size_t size)
 }
 
 struct varlena *
+vjson_value_with_table(char *block, size_t capacity, size_t size)
+{
+	unsigned char *document = (unsigned char *) block + VARHDRSZ;
+	size_t		key_size = vizhoniku_document_key(document, size);
+	size_t		table_size;
+	uint32		status = vizhoniku_table(document, key_size, document + size, capacity - size, &table_size);
+
+	if (status == VIZHONIKU_TOO_SHORT)
+	{
+		block = repalloc_huge(block, VARHDRSZ + size + table_size);
+		document = (unsigned char *) block + VARHDRSZ;
+		status = vizhoniku_table(document, key_size, document + size, table_size, &table_size);
+	}
+	if (status == VIZHONIKU_OUT_OF_MEMORY)
+		vjson_raise_out_of_memory(size);
+	return vjson_value(block, is_found(status) ? size + table_size : size);
+}
+
+struct varlena *
 vjson_of_key(Range key)
 {
 	char	   *block = palloc_extended(VARHDRSZ + key.size, MCXT_ALLOC_HUGE);
@@ -205,7 +224,7 @@ vjson_text_of(const Document *document)
 text *
 vjson_part_text(const Document *whole, Range part)
 {
-	Document	document = {part, part.size};
+	Document	document = document_of_key(part);
 
 	if (may_have_zeros(whole, part))
 		document = get_document(vjson_part(whole, part));

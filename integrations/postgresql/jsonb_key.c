@@ -252,14 +252,18 @@ static struct varlena *
 value_of_writer(Writer *writer)
 {
 	size_t		key_size = writer->at - writer->key;
+	size_t		size;
+	size_t		capacity;
 	char	   *block;
 
 	end_zeros(&writer->zeros);
-	block = palloc_extended(VARHDRSZ + key_size + writer->zeros.size, MCXT_ALLOC_HUGE);
+	size = key_size + writer->zeros.size;
+	capacity = size + SPARE_ROOM;
+	block = palloc_extended(VARHDRSZ + capacity, MCXT_ALLOC_HUGE);
 	memcpy(block + VARHDRSZ, writer->key, key_size);
 	if (writer->zeros.size > 0)
 		memcpy(block + VARHDRSZ + key_size, writer->zeros.bytes, writer->zeros.size);
-	return vjson_value(block, key_size + writer->zeros.size);
+	return vjson_value_with_table(block, capacity, size);
 }
 
 /*

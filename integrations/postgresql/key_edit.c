@@ -87,13 +87,13 @@ write_change(const void *arguments, unsigned char *buffer, size_t capacity, size
 static struct varlena *
 changed(const Change *change)
 {
+	size_t		capacity = change->document.size + change->path.size + change->part.size + SPARE_ROOM;
 	size_t		size;
 	char	   *block;
 
 	CHECK_FOR_INTERRUPTS();
-	block = vjson_written(write_change, change, VARHDRSZ, change->document.size + change->path.size + change->part.size + 16,
-						  &size);
-	return block != NULL ? vjson_value(block, size) : NULL;
+	block = vjson_written(write_change, change, VARHDRSZ, capacity, &size);
+	return block != NULL ? vjson_value_with_table(block, Max(capacity, size), size) : NULL;
 }
 
 /* That, or the datum of the document if nothing changes. */
@@ -363,16 +363,16 @@ index_of_words(const VjsonStep *step, int64 *index)
 }
 
 bool
-vjson_take_step(Range key, const VjsonStep *step, Range *part)
+vjson_take_step(const Document *whole, const VjsonStep *step, Range *part)
 {
 	int64		index;
 
-	switch (kind_of(key))
+	switch (kind_of(whole->key))
 	{
 		case VIZHONIKU_OBJECT:
-			return find_member(key, step->name, part);
+			return find_member(whole, step->name, part);
 		case VIZHONIKU_ARRAY:
-			return index_of_words(step, &index) && find_item(key, index, part);
+			return index_of_words(step, &index) && find_item(whole->key, index, part);
 		default:
 			return false;
 	}
@@ -481,9 +481,10 @@ follow_steps(Range *at, const VjsonStep *steps, int count, StringInfo path, int6
 		else
 		{
 			Range		added = path_of_name(step->name);
+			Document	object = document_of_key(*at);
 
 			appendBinaryStringInfo(path, (const char *) added.at, (int) added.size);
-			if (!find_member(*at, step->name, &next))
+			if (!find_member(&object, step->name, &next))
 				return taken;
 		}
 		*at = next;

@@ -87,7 +87,7 @@ vjson_object_field(PG_FUNCTION_ARGS)
 	Document	document = get_document(PG_GETARG_VARLENA_PP(0));
 	Range		part;
 
-	if (!find_member(document.key, utf8_of(PG_GETARG_TEXT_PP(1)), &part))
+	if (!find_member(&document, utf8_of(PG_GETARG_TEXT_PP(1)), &part))
 		PG_RETURN_NULL();
 	PG_RETURN_POINTER(vjson_part(&document, part));
 }
@@ -99,7 +99,7 @@ vjson_object_field_text(PG_FUNCTION_ARGS)
 	Range		part;
 	text	   *result = NULL;
 
-	if (find_member(document.key, utf8_of(PG_GETARG_TEXT_PP(1)), &part))
+	if (find_member(&document, utf8_of(PG_GETARG_TEXT_PP(1)), &part))
 		result = vjson_part_text(&document, part);
 	if (result == NULL)
 		PG_RETURN_NULL();
@@ -133,8 +133,9 @@ vjson_array_element_text(PG_FUNCTION_ARGS)
 
 /* The part to which the names of an array lead, as subscripts do. False if there is none, or a name is NULL. */
 static bool
-find_by_names(Range key, ArrayType *array, Range *part)
+find_by_names(const Document *whole, ArrayType *array, Range *part)
 {
+	Document	at = *whole;
 	Datum	   *names;
 	bool	   *nulls;
 	int			count;
@@ -147,11 +148,11 @@ find_by_names(Range key, ArrayType *array, Range *part)
 		text	   *words = DatumGetTextPP(names[i]);
 		VjsonStep	step = {text_to_cstring(words), utf8_of(words), false};
 
-		if (!vjson_take_step(key, &step, part))
+		if (!vjson_take_step(&at, &step, part))
 			return false;
-		key = *part;
+		at = document_of_key(*part);
 	}
-	*part = key;
+	*part = at.key;
 	return true;
 }
 
@@ -161,7 +162,7 @@ vjson_extract_path(PG_FUNCTION_ARGS)
 	Document	document = get_document(PG_GETARG_VARLENA_PP(0));
 	Range		part;
 
-	if (!find_by_names(document.key, PG_GETARG_ARRAYTYPE_P(1), &part))
+	if (!find_by_names(&document, PG_GETARG_ARRAYTYPE_P(1), &part))
 		PG_RETURN_NULL();
 	PG_RETURN_POINTER(vjson_part(&document, part));
 }
@@ -173,7 +174,7 @@ vjson_extract_path_text(PG_FUNCTION_ARGS)
 	Range		part;
 	text	   *result = NULL;
 
-	if (find_by_names(document.key, PG_GETARG_ARRAYTYPE_P(1), &part))
+	if (find_by_names(&document, PG_GETARG_ARRAYTYPE_P(1), &part))
 		result = vjson_part_text(&document, part);
 	if (result == NULL)
 		PG_RETURN_NULL();
@@ -241,33 +242,34 @@ name_of_step(Range step)
 
 /* The part to which a step leads. */
 static bool
-take_step(Range key, Range step, Range *part)
+take_step(const Document *whole, Range step, Range *part)
 {
 	int64		index;
 
-	switch (kind_of(key))
+	switch (kind_of(whole->key))
 	{
 		case VIZHONIKU_OBJECT:
-			return find_member(key, name_of_step(step), part);
+			return find_member(whole, name_of_step(step), part);
 		case VIZHONIKU_ARRAY:
-			return index_of_step(step, &index) && find_item(key, index, part);
+			return index_of_step(step, &index) && find_item(whole->key, index, part);
 		default:
 			return false;
 	}
 }
 
 bool
-vjson_find_by_steps(Range key, Range path, Range *part)
+vjson_find_by_steps(const Document *whole, Range path, Range *part)
 {
+	Document	at = *whole;
 	Range		step;
 
 	while (next_step(&path, &step))
 	{
-		if (!take_step(key, step, part))
+		if (!take_step(&at, step, part))
 			return false;
-		key = *part;
+		at = document_of_key(*part);
 	}
-	*part = key;
+	*part = at.key;
 	return true;
 }
 
@@ -278,15 +280,16 @@ vjson_find_by_steps(Range key, Range path, Range *part)
 
 /* Whether a member has the name, or an item or the value itself is that string. */
 static bool
-has_name(Range key, text *words)
+has_name(const Document *whole, text *words)
 {
+	Range		key = whole->key;
 	Range		name = utf8_of(words);
 	uint32		kind = kind_of(key);
 	Range		wanted;
 	Walk		walk;
 
 	if (kind == VIZHONIKU_OBJECT)
-		return find_member(key, name, &walk.value);
+		return find_member(whole, name, &walk.value);
 	if (kind != VIZHONIKU_ARRAY && kind != VIZHONIKU_STRING)
 		return false;
 	wanted = key_of_string(name);
@@ -305,9 +308,9 @@ has_name(Range key, text *words)
 Datum
 vjson_exists(PG_FUNCTION_ARGS)
 {
-	Range		key = get_key(PG_GETARG_VARLENA_PP(0));
+	Document	document = get_document(PG_GETARG_VARLENA_PP(0));
 
-	PG_RETURN_BOOL(has_name(key, PG_GETARG_TEXT_PP(1)));
+	PG_RETURN_BOOL(has_name(&document, PG_GETARG_TEXT_PP(1)));
 }
 
 /* How many of the names are there, each counted once, in one pass over the key. *count is of how many there are. */
@@ -354,21 +357,21 @@ count_names(Range key, const Datum *words, const bool *nulls, int *count)
 static bool
 any_name(FunctionCallInfo fcinfo, bool wanted)
 {
-	Range		key = get_key(PG_GETARG_VARLENA_PP(0));
+	Document	document = get_document(PG_GETARG_VARLENA_PP(0));
 	Datum	   *names;
 	bool	   *nulls;
 	int			count;
 
 	deconstruct_array(PG_GETARG_ARRAYTYPE_P(1), TEXTOID, -1, false, TYPALIGN_INT, &names, &nulls, &count);
-	if (count >= MANY_NAMES && !is_scalar(kind_of(key)))
+	if (count >= MANY_NAMES && !is_scalar(kind_of(document.key)))
 	{
-		int			found = count_names(key, names, nulls, &count);
+		int			found = count_names(document.key, names, nulls, &count);
 
 		return wanted ? found > 0 : found < count;
 	}
 	for (int i = 0; i < count; i++)
 	{
-		if (!nulls[i] && has_name(key, DatumGetTextPP(names[i])) == wanted)
+		if (!nulls[i] && has_name(&document, DatumGetTextPP(names[i])) == wanted)
 			return true;
 	}
 	return false;

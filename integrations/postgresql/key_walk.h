@@ -92,12 +92,18 @@ is_scalar(uint32 kind)
 	return kind != VIZHONIKU_ARRAY && kind != VIZHONIKU_OBJECT;
 }
 
+/* The member of that name, by the table of the members where there is one. */
 static inline bool
-find_member(Range key, Range name, Range *part)
+find_member(const Document *object, Range name, Range *part)
 {
+	Range		key = object->key;
+	Range		table = object->table;
 	size_t		offset;
+	uint32		status = table.size == 0 ?
+		vizhoniku_key_member(key.at, key.size, name.at, name.size, &offset, &part->size) :
+		vizhoniku_table_member(key.at, key.size, table.at, table.size, name.at, name.size, &offset, &part->size);
 
-	if (!is_found(vizhoniku_key_member(key.at, key.size, name.at, name.size, &offset, &part->size)))
+	if (!is_found(status))
 		return false;
 	part->at = key.at + offset;
 	return true;

@@ -126,7 +126,7 @@ vjson_old_document(Range value)
 {
 	Range		rest;
 	Range		key = split_value(value, false, &rest);
-	Document	document = {key, key.size};
+	Document	document = document_of_key(key);
 
 	if (rest.size == 0)
 		return document;

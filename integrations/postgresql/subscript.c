@@ -117,23 +117,23 @@ fetch_part(ExprState *state, ExprEvalStep *op, ExprContext *econtext)
 	SubscriptingRefState *reference = op->d.sbsref.state;
 	Steps	   *steps = reference->workspace;
 	Document	document = document_of_datum(*op->resvalue);
-	Range		part = document.key;
+	Document	at = document;
 
 	(void) state;
 	(void) econtext;
 	for (int i = 0; i < reference->numupper; i++)
 	{
-		Range		next;
+		Range		part;
 
-		if (!vjson_take_step(part, &steps->steps[i], &next))
+		if (!vjson_take_step(&at, &steps->steps[i], &part))
 		{
 			*op->resnull = true;
 			*op->resvalue = (Datum) 0;
 			return;
 		}
-		part = next;
+		at = document_of_key(part);
 	}
-	*op->resvalue = PointerGetDatum(vjson_part(&document, part));
+	*op->resvalue = PointerGetDatum(vjson_part(&document, at.key));
 	*op->resnull = false;
 }
 

@@ -45,9 +45,6 @@
 
 PG_MODULE_MAGIC;
 
-/* Space beyond the size of the text that is read; more is asked for if needed. */
-#define SPARE_ROOM		16
-
 /* What is reported of a text where memory lacks for the words of the library. */
 #define NO_WORDS		"not a document"
 
@@ -75,8 +72,8 @@ PG_MODULE_MAGIC;
 /* How much of a compressed value is looked at first. */
 #define FIRST_SLICE		256
 
-/* What zeros take at most, beside twice as many bytes as the key. */
-#define MOST_OF_ZEROS	10
+/* What zeros and a table take at most, beside three times as many bytes as the key. */
+#define MOST_BEHIND_KEY	13
 
 /* How a text is read. */
 typedef enum
@@ -364,7 +361,7 @@ make_value(uint32 mode, bool has_zeros, const char *text, size_t size, struct va
 
 		if (status == VIZHONIKU_ACCEPTED)
 		{
-			*value = vjson_value(block, written);
+			*value = vjson_value_with_table(block, capacity, written);
 			if (mode != VIZHONIKU_STANDARD && size > LONGEST_CLEAR)
 				check_size_of_text(*value);
 			return status;
@@ -960,7 +957,7 @@ get_part(struct varlena *value, text *words)
 		case VIZHONIKU_ACCEPTED:
 			return vjson_part(&document, part);
 		case VIZHONIKU_NO_PART:
-			if (memchr(path, '-', path_size) == NULL || !vjson_find_by_steps(document.key, steps, &part))
+			if (memchr(path, '-', path_size) == NULL || !vjson_find_by_steps(&document, steps, &part))
 				return NULL;
 			return vjson_part(&document, part);
 		case VIZHONIKU_NO_PATH:
@@ -1048,7 +1045,8 @@ compare_keys(Range left, Range right)
 /*
  * The key of a value, or its front where the value is compressed: as many of its
  * first bytes as are surely of the key, since the zeros take at most twice as
- * many bytes as the key, and ten.
+ * many bytes as the key, and ten, and the table at most as many as the key, and
+ * three.
  */
 static inline struct varlena *
 front_of(Datum datum, Range *front)
@@ -1067,7 +1065,7 @@ front_of(Datum datum, Range *front)
 		return value;
 	}
 	size = VARDATA_COMPRESSED_GET_EXTSIZE(compressed);
-	front->size = Min(front->size, size > MOST_OF_ZEROS ? (size - MOST_OF_ZEROS) / 3 : 0);
+	front->size = Min(front->size, size > MOST_BEHIND_KEY ? (size - MOST_BEHIND_KEY) / 4 : 0);
 	return value;
 }
 

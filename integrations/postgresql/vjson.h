@@ -43,10 +43,14 @@
 
 /*
  * A datum is a document of the library: the sort key of the value and, where
- * decimals end in zeros, these behind it.  A key's first byte is above those of
+ * decimals end in zeros, these behind it; and behind the document, where the
+ * value has one, the table of its members.  A key's first byte is above those of
  * the forms that older versions stored (old_forms.c), which are still read.
  */
 #define OLD_FORMS		3
+
+/* Space beyond what is written at first; more is asked for if needed. */
+#define SPARE_ROOM		16
 
 /* A range of bytes: a key, a name in a key, or a name in UTF-8. */
 typedef struct
@@ -55,11 +59,12 @@ typedef struct
 	size_t		size;
 } Range;
 
-/* A document, which begins with its key. */
+/* A document, which begins with its key, and the table of its members, of size 0 where there is none. */
 typedef struct
 {
 	Range		key;
 	size_t		size;
+	Range		table;
 } Document;
 
 /* Why a text in UTF-8 was rejected: what the library says of it, and that in words. */
@@ -103,7 +108,7 @@ typedef struct
 } VjsonStep;
 
 /* The part of an array or an object to which the step leads. False if there is none. */
-extern bool vjson_take_step(Range key, const VjsonStep *step, Range *part);
+extern bool vjson_take_step(const Document *whole, const VjsonStep *step, Range *part);
 
 /* The entries of a document in a GIN index: hashes of its scalars and of the names that lead to them. */
 extern Datum *vjson_entries(Datum document, int32 *count);
@@ -113,7 +118,7 @@ extern Datum *vjson_name_entries(Datum document, int32 *count);
 extern int32 vjson_name_entry(Range name);
 
 /* The part at a path, in which an index may count from the end. False if there is none. */
-extern bool vjson_find_by_steps(Range key, Range path, Range *part);
+extern bool vjson_find_by_steps(const Document *whole, Range path, Range *part);
 
 /* The document with the part at the steps, as an assignment to subscripts of a jsonb makes it. */
 extern Datum vjson_assign(Datum document, const VjsonStep *steps, int count, Datum part);
@@ -187,6 +192,9 @@ extern char *vjson_written(Writes write, const void *arguments, size_t front, si
 /* The value of a document of so many bytes, which were written to a block behind VARHDRSZ bytes. */
 extern struct varlena *vjson_value(char *block, size_t size);
 
+/* The same in a block with space for more, with the table of the members behind the document, where it has one. */
+extern struct varlena *vjson_value_with_table(char *block, size_t capacity, size_t size);
+
 /* The value of a key without zeros. */
 extern struct varlena *vjson_of_key(Range key);
 
@@ -222,7 +230,10 @@ get_document(struct varlena *value)
 
 	if (unlikely(*bytes.at < OLD_FORMS))
 		return vjson_old_document(bytes);
-	document.key.size = vizhoniku_document_key(bytes.at, bytes.size);
+	document.table.size = vizhoniku_table_size(bytes.at, bytes.size);
+	document.size = bytes.size - document.table.size;
+	document.table.at = bytes.at + document.size;
+	document.key.size = vizhoniku_document_key(bytes.at, document.size);
 	return document;
 }
 
@@ -233,8 +244,17 @@ get_key(struct varlena *value)
 
 	if (unlikely(*bytes.at < OLD_FORMS))
 		return vjson_old_key(bytes, false);
-	bytes.size = vizhoniku_document_key(bytes.at, bytes.size);
+	bytes.size = vizhoniku_document_key(bytes.at, bytes.size - vizhoniku_table_size(bytes.at, bytes.size));
 	return bytes;
+}
+
+/* The document of a key without zeros. */
+static inline Document
+document_of_key(Range key)
+{
+	Document	document = {key, key.size};
+
+	return document;
 }
 
 static inline Document

@@ -39,6 +39,7 @@ pub mod numbers;
 pub mod rejected;
 pub mod scalar;
 pub mod strict;
+pub mod table;
 pub mod text_of_key;
 pub mod zeros;
 
