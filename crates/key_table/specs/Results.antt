@@ -1,0 +1,30 @@
+-- What calls on tables give.
+use Rattle.std.specs.Prelude.{◌≡◌, ℕ, List, ◌++◌, Bool, false, Option, Some, None, Result, Ok, MatchResult, OnErr, ◌≤◌, Vec, vec_capacity, ⊤}
+use Rattle.std.specs.declared.alloc.Global.{Global}
+use Rattle.jsonb_spec.specs.SortKey.{key_of}
+use Rattle.jsonb_spec.specs.Tree.{Tree}
+use Rattle.key_text.specs.Writes.{LacksCapacity}
+use Rattle.key_walk.specs.Found.{IsRange}
+use Rattle.key_walk.specs.declared.find.NoKey.{NoKey}
+use Rattle.key_table.specs.Table.{has_table, table_of}
+use Rattle.key_table.specs.declared.error.TableError.{TableError}
+use Rattle.key_table.specs.declared.error.TableError.TheVariants.{OutOfMemory}
+
+-- The table of the value is appended, and it is reported whether it has one. Else memory ran out, as the capacity for
+-- the table is missing.
+abbrev pub AppendsTable : Tree → Result Bool TableError → Vec ℕ Global → Vec ℕ Global → Type 0
+AppendsTable t result old new = MatchResult result
+    (λ reported. (reported ≡ has_table t) × (new.items ≡ old.items ++ table_of t))
+    (λ e. (e ≡ OutOfMemory) × LacksCapacity old (table_of t))
+
+-- The buffer has its old bytes where no table is reported, and its capacity doesn't shrink.
+pub record PreservesUnlessTable (result : Result Bool TableError) (old new : Vec ℕ Global) : Type 0 where
+  pub none : result ≡ Ok false → new.items ≡ old.items
+  pub err : OnErr result (new.items ≡ old.items)
+  pub capacity : vec_capacity old ≤ vec_capacity new
+
+-- What is found is where the part is in the key, or nothing where there is none.
+abbrev pub FindsRange : List ℕ → Option Tree → Result (Option (ℕ × ℕ)) NoKey → Type 0
+FindsRange key (Some part) (Ok (Some r)) = IsRange key r.0 r.1 (key_of part)
+FindsRange key None (Ok None) = ⊤
+FindsRange key part found = ⊥
