@@ -3,7 +3,7 @@ use Rattle.std.specs.Prelude.{◌≡◌, ℕ, List, ◌++◌, Bool, false, Optio
 use Rattle.std.specs.declared.alloc.Global.{Global}
 use Rattle.jsonb_spec.specs.SortKey.{key_of}
 use Rattle.jsonb_spec.specs.Tree.{Tree}
-use Rattle.key_text.specs.Writes.{LacksCapacity}
+use Rattle.key_table.specs.Temp.{LacksCapacity}
 use Rattle.key_walk.specs.Found.{IsRange}
 use Rattle.key_walk.specs.declared.find.NoKey.{NoKey}
 use Rattle.key_table.specs.Table.{has_table, table_of}

@@ -17,11 +17,7 @@ use std::cmp::Ordering;
 /// # Errors
 ///
 /// `NoKey` only where the bytes are no key, or the other bytes aren't its table.
-pub fn find_by_table(
-    key: &[u8],
-    table: &[u8],
-    name: &[u8],
-) -> Result<Option<(usize, usize)>, NoKey>
+pub fn find_by_table(key: &[u8], table: &[u8], name: &[u8]) -> Result<Option<(usize, usize)>, NoKey>
     ensures found { OfKey key.now (λ t. IsTrue (has_table t) → table.now ≡ table_of t
         → FindsRange key.now (get_by_name name.now t) result) }
     ensures within { IfOk result (λ answer. IfSome answer (λ r. r.0 + r.1 ≤ length key.now)) }
@@ -84,8 +80,7 @@ fn value_range(
 
 // Where the member of this entry ends in a key of this size: where the next one begins, or before the end of the object.
 #[inline(always)]
-fn end_of(key_size: usize, table: &[u8], entry: usize) -> usize
-{
+fn end_of(key_size: usize, table: &[u8], entry: usize) -> usize {
     let next = entry + 1;
     if next < entry_count(table.len()) {
         return two_at(table, 2 * next);
