@@ -1,0 +1,4 @@
+pub mod Temp
+pub mod Walking
+pub mod Writing
+pub mod Having

@@ -1,7 +1,8 @@
 -- What calls on tables give.
-use Rattle.std.specs.Prelude.{◌≡◌, ℕ, List, ◌++◌, Bool, false, Option, Some, None, Result, Ok, MatchResult, OnErr, ◌≤◌, Vec, vec_capacity, ⊤}
+use Rattle.std.specs.Prelude.{◌≡◌, ℕ, List, ◌++◌, Bool, true, Option, Some, None, Result, Ok, MatchResult, ◌≤◌, Vec, vec_capacity, ⊤}
 use Rattle.std.specs.declared.alloc.Global.{Global}
 use Rattle.jsonb_spec.specs.SortKey.{key_of}
+use Rattle.jsonb_spec.specs.Text.Appending.{Extends}
 use Rattle.jsonb_spec.specs.Tree.{Tree}
 use Rattle.key_table.specs.Temp.{LacksCapacity}
 use Rattle.key_walk.specs.Found.{IsRange}
@@ -17,10 +18,10 @@ AppendsTable t result old new = MatchResult result
     (λ reported. (reported ≡ has_table t) × (new.items ≡ old.items ++ table_of t))
     (λ e. (e ≡ OutOfMemory) × LacksCapacity old (table_of t))
 
--- The buffer has its old bytes where no table is reported, and its capacity doesn't shrink.
+-- Nothing that was there is lost, and bytes are appended only where a table is reported.
 pub record PreservesUnlessTable (result : Result Bool TableError) (old new : Vec ℕ Global) : Type 0 where
-  pub none : result ≡ Ok false → new.items ≡ old.items
-  pub err : OnErr result (new.items ≡ old.items)
+  pub retained : Extends old.items new.items
+  pub unless : (result ≡ Ok true → ⊥) → new.items ≡ old.items
   pub capacity : vec_capacity old ≤ vec_capacity new
 
 -- What is found is where the part is in the key, or nothing where there is none.

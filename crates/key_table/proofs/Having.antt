@@ -1,0 +1,45 @@
+-- Which values have a table.
+use Rattle.std.proofs.Common.{◌≡◌, ℕ, ◌+◌, ◌<◌, ◌≤◌, ◌&&◌, Bool, true, false, List, [], ◌∷◌, ◌++◌, length, nat_lt, nat_le, if◌then◌else◌, refl, sym, ap, subst, ◌∙◌, arith, append-nil}
+use Rattle.std.proofs.lemmas.Bool.{le-leb, lt-leb, ltb-true, ltb-false, leb-true, leb-false, lt-ltb, le-ltb}
+use Rattle.std.specs.Int.{is_in_range}
+use Rattle.key_value.specs.Readable.{IsAnyNumber, IsReadable}
+use Rattle.jsonb_spec.specs.Proper.{HaveProperParts}
+use Rattle.jsonb_spec.specs.SortKey.{key_of, members_key}
+use Rattle.jsonb_spec.specs.Text.Range.{HaveWithin}
+use Rattle.jsonb_spec.specs.Tree.{Tree, object, Members}
+use Rattle.key_walk.specs.Found.{members_len}
+use Rattle.key_table.specs.Entries.{IsObjectOf, OfMembers}
+use Rattle.key_table.specs.Table.{has_table, table_of, table_of_members}
+
+pub table_none : (t : Tree) → has_table t ≡ false → table_of t ≡ []
+table_none (object ms) none = ap (λ b. if b then table_of_members ms else []) none
+table_none t none = refl
+
+pub table_some : (ms : Members) → has_table (object ms) ≡ true → table_of (object ms) ≡ table_of_members ms
+table_some ms some = ap (λ b. if b then table_of_members ms else []) some
+
+range_true : (n : ℕ) → 256 ≤ n → n ≤ 65535 → is_in_range 256 65535 n ≡ true
+range_true n least most = ap (λ b. b && nat_le n 65535) (le-leb 256 n least) ∙ le-leb n 65535 most
+
+and_true : (b : Bool) → b && true ≡ b
+and_true true = refl
+and_true false = refl
+
+-- of an object whose key has such a size
+module _ (t : Tree) (bytes : List ℕ) (o : IsObjectOf t bytes) where
+  pub has_enough : has_table t ≡ nat_le 4 (members_len o.ms)
+  has_enough = ap has_table o.is ∙ ap (λ b. nat_le 4 (members_len o.ms) && b) (range_true (length (key_of (object o.ms))) (subst (λ u. 256 ≤ length (key_of u)) o.is o.least) (subst (λ u. length (key_of u) ≤ 65535) o.is o.most)) ∙ and_true (nat_le 4 (members_len o.ms))
+
+  pub table_there : 4 ≤ members_len o.ms → table_of t ≡ table_of_members o.ms
+  table_there enough = ap table_of o.is ∙ table_some o.ms (ap has_table (sym o.is) ∙ has_enough ∙ le-leb 4 (members_len o.ms) enough)
+
+  pub few_there : (few : Bool) → few ≡ nat_lt (members_len o.ms) 4 → few ≡ true → has_table t ≡ false
+  few_there few is true_is = has_enough ∙ lt-leb 4 (members_len o.ms) (ltb-true (members_len o.ms) 4 (sym is ∙ true_is))
+
+  pub enough_there : (few : Bool) → few ≡ nat_lt (members_len o.ms) 4 → few ≡ false → 4 ≤ members_len o.ms
+  enough_there few is false_is = ltb-false (members_len o.ms) 4 (sym is ∙ false_is)
+
+  pub of_members : (Is : Members → Type 0) → IsReadable t → OfMembers bytes Is → Is o.ms
+  of_members Is r is =
+      let p : IsReadable (object o.ms) = subst IsReadable o.is r in
+      is o.ms p.proper.1 p.within o.occurs
