@@ -1,15 +1,17 @@
 -- Which values have a table.
-use Rattle.std.proofs.Common.{◌≡◌, ℕ, ◌+◌, ◌<◌, ◌≤◌, ◌&&◌, Bool, true, false, List, [], ◌∷◌, ◌++◌, length, nat_lt, nat_le, if◌then◌else◌, refl, sym, ap, subst, ◌∙◌, arith, append-nil}
+use Rattle.std.proofs.Common.{◌≡◌, ℕ, ◌+◌, ◌*◌, ◌<◌, ◌≤◌, ◌&&◌, Bool, true, false, List, [], ◌∷◌, ◌++◌, length, nat_lt, nat_le, if◌then◌else◌, refl, sym, ap, subst, ◌∙◌, arith, append-nil, length-append}
 use Rattle.std.proofs.lemmas.Bool.{le-leb, lt-leb, ltb-true, ltb-false, leb-true, leb-false, lt-ltb, le-ltb}
 use Rattle.std.specs.Int.{is_in_range}
+use Rattle.std.specs.List.{flat_map}
 use Rattle.key_value.specs.Readable.{IsAnyNumber, IsReadable}
 use Rattle.jsonb_spec.specs.Proper.{HaveProperParts}
-use Rattle.jsonb_spec.specs.SortKey.{key_of, members_key}
+use Rattle.jsonb_spec.specs.SortKey.{byte_key, key_of, members_key, text_key}
 use Rattle.jsonb_spec.specs.Text.Range.{HaveWithin}
-use Rattle.jsonb_spec.specs.Tree.{Tree, object, Members}
+use Rattle.jsonb_spec.specs.Tree.{Tree, object, Members, no_members, more_members}
 use Rattle.key_walk.specs.Found.{members_len}
+use Rattle.key_walk.proofs.Occurrence.{true_false}
 use Rattle.key_table.specs.Entries.{IsObjectOf, OfMembers}
-use Rattle.key_table.specs.Table.{has_table, table_of, table_of_members}
+use Rattle.key_table.specs.Table.{has_table, in_two, member_offsets, table_mark, table_of, table_of_members}
 
 pub table_none : (t : Tree) → has_table t ≡ false → table_of t ≡ []
 table_none (object ms) none = ap (λ b. if b then table_of_members ms else []) none
@@ -24,6 +26,10 @@ range_true n least most = ap (λ b. b && nat_le n 65535) (le-leb 256 n least) �
 and_true : (b : Bool) → b && true ≡ b
 and_true true = refl
 and_true false = refl
+
+and_right : (a b : Bool) → a && b ≡ true → b ≡ true
+and_right true b both = both
+and_right false b both = absurd (true_false (sym both))
 
 -- of an object whose key has such a size
 module _ (t : Tree) (bytes : List ℕ) (o : IsObjectOf t bytes) where
@@ -43,3 +49,33 @@ module _ (t : Tree) (bytes : List ℕ) (o : IsObjectOf t bytes) where
   of_members Is r is =
       let p : IsReadable (object o.ms) = subst IsReadable o.is r in
       is o.ms p.proper.1 p.within o.occurs
+
+-- ---- the end of a table
+
+two_each : (ms : Members) → 2 * members_len ms + 2 ≤ length (members_key ms)
+two_each no_members = omega arith
+two_each (more_members k t ms) = omega (arith, two_each ms, length-append (text_key k) (key_of t ++ members_key ms), length-append (key_of t) (members_key ms), length-append (flat_map byte_key k) (0 ∷ 1 ∷ []))
+
+entries_long : (offset : ℕ) (ms : Members) → length (flat_map in_two (member_offsets offset ms)) ≡ 2 * members_len ms
+entries_long offset no_members = omega arith
+entries_long offset (more_members k t ms) = omega (arith, entries_long (offset + (length (text_key k) + length (key_of t))) ms)
+
+-- the entries of a table, and how many there are
+pub record TableParts (t : Tree) : Type 0 where
+  pub entries : List ℕ
+  pub count : ℕ
+  pub long : length entries ≡ 2 * count
+  pub small : count < 65536
+  pub is : table_of t ≡ entries ++ (in_two count ++ table_mark ∷ [])
+
+pub table_parts : (t : Tree) → has_table t ≡ true → TableParts t
+table_parts (object ms) has = record {
+  entries = flat_map in_two (member_offsets 1 ms);
+  count = members_len ms;
+  long = entries_long 1 ms;
+  small =
+      let size = leb-true (length (key_of (object ms))) 65535 (and_right (nat_le 256 (length (key_of (object ms)))) (nat_le (length (key_of (object ms))) 65535) (and_right (nat_le 4 (members_len ms)) (is_in_range 256 65535 (length (key_of (object ms)))) has)) in
+      omega (arith, size, two_each ms);
+  is = table_some ms has;
+}
+table_parts t has = absurd (true_false (sym has))

@@ -2,3 +2,4 @@ pub mod Temp
 pub mod Walking
 pub mod Writing
 pub mod Having
+pub mod Splitting

@@ -28,7 +28,13 @@ fn is_table_of(members: &[u8], table: &[u8]) -> bool
     let mut left = members;
     let mut entries = table;
     let mut count: usize = 0;
-    'members: while let Ok(Some((_, others))) = next_part(true, left) {
+    'members: loop {
+        let Ok(next) = next_part(true, left) else {
+            return false;
+        };
+        let Some((_, others)) = next else {
+            return count >= LEAST_MEMBERS && is_end(entries, count as u16);
+        };
         let Some(rest) = after_two(entries, (1 + members.len() - left.len()) as u16) else {
             return false;
         };
@@ -36,7 +42,6 @@ fn is_table_of(members: &[u8], table: &[u8]) -> bool
         left = others;
         count += 1;
     }
-    count >= LEAST_MEMBERS && is_end(entries, count as u16)
 }
 
 // Whether the bytes are the end of a table with so many entries.

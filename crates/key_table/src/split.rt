@@ -16,10 +16,11 @@ pub fn split_table(bytes: &[u8]) -> (&[u8], &[u8])
     ensures none { IsUnmarked bytes.now → (result.0.now ≡ bytes.now) × (result.1.now ≡ []) }
     ensures whole { bytes.now ≡ result.0.now ++ result.1.now }
 {
-    if let Some((last, _)) = bytes.split_last() {
-        if *last == TABLE_MARK {
-            return split_marked(bytes);
-        }
+    let Some((last, _)) = bytes.split_last() else {
+        return (bytes, bytes);
+    };
+    if *last == TABLE_MARK {
+        return split_marked(bytes);
     }
     bytes.split_at(bytes.len())
 }
