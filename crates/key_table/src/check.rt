@@ -48,8 +48,8 @@ fn is_table_of(members: &[u8], table: &[u8]) -> bool
 fn is_end(bytes: &[u8], count: u16) -> bool
     ensures { IsTrue result ↔ (bytes.now ≡ in_two count ++ table_mark ∷ []) }
 {
-    match after_two(bytes, count) {
-        Some([mark]) => *mark == TABLE_MARK,
-        _ => false,
-    }
+    let Some(rest) = after_two(bytes, count) else {
+        return false;
+    };
+    rest.len() == 1 && rest[0] == TABLE_MARK
 }
