@@ -67,9 +67,10 @@ says_no none = (λ is. absurd (false_never is), λ x. absurd (none x))
 -- the end of a table by what is behind the number
 module _ (bytes : List ℕ) (n : ℕ) (r : Option (Bor (List ℕ))) (leaves : (rest : List ℕ) → Leaves r rest ↔ (bytes ≡ in_two n ++ rest)) where
   pub ends_with : (x : Bor (List ℕ)) → r ≡ Some x → 1 ≤ length x.now → length x.now < 2 → IsTrue (nat_eq (slice_index_or x.now 0 0) table_mark) ↔ (bytes ≡ in_two n ++ table_mark ∷ [])
-  ends_with x is least below =
-      (λ yes_there. (leaves (table_mark ∷ [])).0 (ap (option_map (λ rest. rest.now)) is ∙ ap Some (one_byte x.now least below ∙ ap (λ b. b ∷ []) (eqb-true (slice_index_or x.now 0 0) table_mark yes_there))),
-      λ e. ap (λ l. nat_eq (slice_index_or l 0 0) table_mark) (some_same x.now (table_mark ∷ []) (ap (option_map (λ rest. rest.now)) (sym is) ∙ (leaves (table_mark ∷ [])).1 e)))
+  ends_with x is least below = (
+    λ yes_there. (leaves (table_mark ∷ [])).0 (ap (option_map (λ rest. rest.now)) is ∙ ap Some (one_byte x.now least below ∙ ap (λ b. b ∷ []) (eqb-true (slice_index_or x.now 0 0) table_mark yes_there))),
+    λ e. ap (λ l. nat_eq (slice_index_or l 0 0) table_mark) (some_same x.now (table_mark ∷ []) (ap (option_map (λ rest. rest.now)) (sym is) ∙ (leaves (table_mark ∷ [])).1 e)),
+  )
 
   pub no_end_of_size : (x : Bor (List ℕ)) → r ≡ Some x → (length x.now ≡ 1 → ⊥) → bytes ≡ in_two n ++ table_mark ∷ [] → ⊥
   no_end_of_size x is other e = other (ap length (some_same x.now (table_mark ∷ []) (ap (option_map (λ rest. rest.now)) (sym is) ∙ (leaves (table_mark ∷ [])).1 e)))
