@@ -52,11 +52,11 @@ module _ (t : Tree) (bytes : List ℕ) (o : IsObjectOf t bytes) where
 
 -- ---- the end of a table
 
-two_each : (ms : Members) → 2 * members_len ms + 2 ≤ length (members_key ms)
+pub two_each : (ms : Members) → 2 * members_len ms + 2 ≤ length (members_key ms)
 two_each no_members = omega arith
 two_each (more_members k t ms) = omega (arith, two_each ms, length-append (text_key k) (key_of t ++ members_key ms), length-append (key_of t) (members_key ms), length-append (flat_map byte_key k) (0 ∷ 1 ∷ []))
 
-entries_long : (offset : ℕ) (ms : Members) → length (flat_map in_two (member_offsets offset ms)) ≡ 2 * members_len ms
+pub entries_long : (offset : ℕ) (ms : Members) → length (flat_map in_two (member_offsets offset ms)) ≡ 2 * members_len ms
 entries_long offset no_members = omega arith
 entries_long offset (more_members k t ms) = omega (arith, entries_long (offset + (length (text_key k) + length (key_of t))) ms)
 
@@ -68,14 +68,16 @@ pub record TableParts (t : Tree) : Type 0 where
   pub small : count < 65536
   pub is : table_of t ≡ entries ++ (in_two count ++ table_mark ∷ [])
 
+-- the size of an object's key
+pub most_size : (ms : Members) → has_table (object ms) ≡ true → length (key_of (object ms)) ≤ 65535
+most_size ms has = leb-true (length (key_of (object ms))) 65535 (and_right (nat_le 256 (length (key_of (object ms)))) (nat_le (length (key_of (object ms))) 65535) (and_right (nat_le 4 (members_len ms)) (is_in_range 256 65535 (length (key_of (object ms)))) has))
+
 pub table_parts : (t : Tree) → has_table t ≡ true → TableParts t
 table_parts (object ms) has = record {
   entries = flat_map in_two (member_offsets 1 ms);
   count = members_len ms;
   long = entries_long 1 ms;
-  small =
-      let size = leb-true (length (key_of (object ms))) 65535 (and_right (nat_le 256 (length (key_of (object ms)))) (nat_le (length (key_of (object ms))) 65535) (and_right (nat_le 4 (members_len ms)) (is_in_range 256 65535 (length (key_of (object ms)))) has)) in
-      omega (arith, size, two_each ms);
+  small = omega (arith, most_size ms has, two_each ms);
   is = table_some ms has;
 }
 table_parts t has = absurd (true_false (sym has))

@@ -3,3 +3,4 @@ pub mod Walking
 pub mod Writing
 pub mod Having
 pub mod Splitting
+pub mod Searching
