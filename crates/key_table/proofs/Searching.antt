@@ -137,54 +137,40 @@ next_begins (more_members k t ms) first n some = (flat_map in_two (member_offset
 
 -- the entry in the middle
 module _ (key table name : List ℕ) (ms : Members) (r : IsReadable (object ms)) (has : has_table (object ms) ≡ true) (e : key ≡ key_of (object ms)) (is : table ≡ table_of_members ms) (low high middle : ℕ) (h : Halves ms name table low high) (within : middle < (length table - 3) / 2) where
-  pub at : MemberAt ms middle 1
+  at : MemberAt ms middle 1
   at = member_at ms middle 1 r.proper.0 (omega (arith, within, h.count))
 
-  abbrev pub behind_entry : List ℕ
+  abbrev behind_entry : List ℕ
   behind_entry = flat_map in_two (member_offsets (at.offset + (length (text_key at.name) + length (key_of at.value))) at.others) ++ (in_two (members_len ms) ++ table_mark ∷ [])
 
-  pub entry_there : table ≡ at.front ++ (in_two at.offset ++ behind_entry)
+  entry_there : table ≡ at.front ++ (in_two at.offset ++ behind_entry)
   entry_there =
       is ∙ ap (λ l. l ++ (in_two (members_len ms) ++ table_mark ∷ [])) at.entries ∙ append_assoc at.front (in_two at.offset ++ flat_map in_two (member_offsets (at.offset + (length (text_key at.name) + length (key_of at.value))) at.others)) (in_two (members_len ms) ++ table_mark ∷ [])
 
   -- the key before the member
-  abbrev pub key_before : List ℕ
+  abbrev key_before : List ℕ
   key_before = 209 ∷ at.before
 
-  pub member_there : key ≡ key_before ++ (text_key at.name ++ (key_of at.value ++ members_key at.others))
+  member_there : key ≡ key_before ++ (text_key at.name ++ (key_of at.value ++ members_key at.others))
   member_there = e ∙ ap (λ l. 209 ∷ l) at.occurs
 
-  pub offset_there : length key_before ≡ at.offset
+  offset_there : length key_before ≡ at.offset
   offset_there = omega (arith, at.offset_is)
 
   key_size : at.offset + (length (text_key at.name) + length (key_of at.value)) + length (members_key at.others) ≡ length key
   key_size = omega (arith, offset_there, ap length member_there, length-append key_before (text_key at.name ++ (key_of at.value ++ members_key at.others)), length-append (text_key at.name) (key_of at.value ++ members_key at.others), length-append (key_of at.value) (members_key at.others))
 
-  pub small_offset : at.offset + (length (text_key at.name) + length (key_of at.value)) < 2 ^ 16
+  small_offset : at.offset + (length (text_key at.name) + length (key_of at.value)) < 2 ^ 16
   small_offset = omega (arith, key_size, most_size ms has, ap length e)
 
-  pub end_size : 2 ≤ length (members_key at.others)
-  end_size = omega (arith, two_each at.others)
-
-  pub passed_by : bytes_cmp name at.name ≡ Greater → Halves ms name table (middle + 1) high
+  passed_by : bytes_cmp name at.name ≡ Greater → Halves ms name table (middle + 1) high
   passed_by above = record { least = at.skips name (nat_list_cmp_total.antisymm at.name name ∙ ap ordering_reverse above) ∙ ap (find_member (bytes_eq name)) (sym at.next ∙ ap (λ i. drop_members i ms) {x = suc middle} {y = middle + 1} (omega arith)); most = h.most; count = h.count }
 
-  pub cut_off : bytes_cmp name at.name ≡ Less → Halves ms name table low middle
+  cut_off : bytes_cmp name at.name ≡ Less → Halves ms name table low middle
   cut_off below = record { least = h.least; most = ap (find_member (bytes_eq name)) at.here ∙ ap (λ b. if b then Some at.value else find_member (bytes_eq name) at.others) (equal_names name at.name ∙ ap is_eq below) ∙ below_all name at.name at.others below at.below; count = h.count }
 
-  -- the member has the name
-  module _ (same : bytes_cmp name at.name ≡ Equal) where
-    pub found_there : find_member (bytes_eq name) ms ≡ Some at.value
-    found_there = at.there name same
-
-    pub name_there : name ≡ at.name
-    name_there = exact_bytes name at.name same
-
-    pub value_there : key ≡ (key_before ++ text_key at.name) ++ (key_of at.value ++ members_key at.others)
-    value_there = member_there ∙ sym (append_assoc key_before (text_key at.name) (key_of at.value ++ members_key at.others))
-
   -- it ends where the next one begins, or before the end of the object
-  pub end_there : (end : ℕ) → (middle + 1 < (length table - 3) / 2 → (before more : List ℕ) → (number : ℕ) → number < 2 ^ 16 → length before ≡ 2 * middle + 2 → table ≡ before ++ (in_two number ++ more) → end ≡ number)
+  end_there : (end : ℕ) → (middle + 1 < (length table - 3) / 2 → (before more : List ℕ) → (number : ℕ) → number < 2 ^ 16 → length before ≡ 2 * middle + 2 → table ≡ before ++ (in_two number ++ more) → end ≡ number)
       → (middle + 1 ≡ (length table - 3) / 2 → end ≡ length key - 2) → end + length (members_key at.others) ≡ length key
   end_there end next last = go at.others refl
     where
@@ -195,6 +181,48 @@ module _ (key table name : List ℕ) (ms : Members) (r : IsReadable (object ms))
           let n = next_begins at.others number (members_len ms) (omega (arith, ap members_len is_o)) in
           omega (arith, key_size, next (omega (arith, h.count, at.counted, ap members_len is_o)) (at.front ++ in_two at.offset) n.0 number small_offset (omega (arith, at.front_long, length-append at.front (in_two at.offset)))
           (entry_there ∙ ap (λ l. at.front ++ (in_two at.offset ++ l)) n.1 ∙ sym (append_assoc at.front (in_two at.offset) (in_two number ++ n.0))))
+
+-- the entry in the middle, all that is known of it
+pub record EntryHere (key table name : List ℕ) (ms : Members) (low high middle : ℕ) : Type 0 where
+  pub text : List ℕ
+  pub value : Tree
+  pub others : List ℕ
+  pub front : List ℕ
+  pub more : List ℕ
+  pub offset : ℕ
+  pub small : offset < 2 ^ 16
+  pub front_long : length front ≡ 2 * middle
+  pub entry : table ≡ front ++ (in_two offset ++ more)
+  pub before : List ℕ
+  pub before_long : length before ≡ offset
+  pub member : key ≡ before ++ (text_key text ++ (key_of value ++ others))
+  pub above : bytes_cmp name text ≡ Greater → Halves ms name table (middle + 1) high
+  pub below : bytes_cmp name text ≡ Less → Halves ms name table low middle
+  pub same : bytes_cmp name text ≡ Equal → find_member (bytes_eq name) ms ≡ Some value
+  pub ends : (end : ℕ) → (middle + 1 < (length table - 3) / 2 → (before more : List ℕ) → (number : ℕ) → number < 2 ^ 16 → length before ≡ 2 * middle + 2 → table ≡ before ++ (in_two number ++ more) → end ≡ number)
+      → (middle + 1 ≡ (length table - 3) / 2 → end ≡ length key - 2) → end + length others ≡ length key
+
+pub entry_here : (key table name : List ℕ) (ms : Members) → IsReadable (object ms) → has_table (object ms) ≡ true → key ≡ key_of (object ms) → table ≡ table_of_members ms → (low high middle : ℕ) → Halves ms name table low high → middle < (length table - 3) / 2 → EntryHere key table name ms low high middle
+entry_here key table name ms r has e is low high middle h within =
+    let m = at key table name ms r has e is low high middle h within in
+    record {
+      text = m.name;
+      value = m.value;
+      others = members_key m.others;
+      front = m.front;
+      more = behind_entry key table name ms r has e is low high middle h within;
+      offset = m.offset;
+      small = omega (arith, small_offset key table name ms r has e is low high middle h within);
+      front_long = m.front_long;
+      entry = entry_there key table name ms r has e is low high middle h within;
+      before = key_before key table name ms r has e is low high middle h within;
+      before_long = offset_there key table name ms r has e is low high middle h within;
+      member = member_there key table name ms r has e is low high middle h within;
+      above = passed_by key table name ms r has e is low high middle h within;
+      below = cut_off key table name ms r has e is low high middle h within;
+      same = m.there name;
+      ends = end_there key table name ms r has e is low high middle h within;
+    }
 
 -- ---- what is found
 

@@ -1,37 +1,39 @@
-use Rattle.std.proofs.Common.{◌≡◌, ◌+◌, ◌-◌, ◌*◌, ◌/◌, ◌<◌, ◌++◌, List, ℕ, Less, Equal, Greater, Ok, None, Some, length, sym, ap, ◌∙◌, arith}
+use Rattle.std.proofs.Common.{◌≡◌, ◌≢◌, ◌+◌, ◌-◌, ◌*◌, ◌/◌, ◌<◌, ◌++◌, List, ℕ, Less, Equal, Greater, Ok, Err, None, Some, option_map, length, subst, refl, sym, ap, ◌∙◌, arith, append_assoc}
+use Rattle.std.proofs.lemmas.Map.Lookups.{exact_bytes}
+use Rattle.std.specs.Str.{bytes_eq}
 use Rattle.jsonb_spec.specs.Accessors.{find_member}
 use Rattle.jsonb_spec.specs.Order.{bytes_cmp}
-use Rattle.jsonb_spec.specs.SortKey.{key_of, members_key, text_key}
-use Rattle.std.specs.Str.{bytes_eq}
+use Rattle.jsonb_spec.specs.SortKey.{key_of, text_key}
 use Rattle.key_value.proofs.Texts.{none_some, some_same}
-use Rattle.key_table.proofs.Searching.{at, behind_entry, cut_off, end_there, entry_there, finds_none, finds_some, found_there, halves_begun, key_before, member_there, name_there, none_left, of_table, offset_there, passed_by, small_offset, value_there}
+use Rattle.key_table.proofs.Searching.{entry_here, finds_none, finds_some, halves_begun, none_left, of_table, Halves}
 use Rattle.key_table.proofs.search.search.Goals as goal
 
 pub halves-init : goal.halves-init
 halves-init g c = record {
-  searches = λ ms r has e is. ?;
+  searches = λ ms r has e is. subst (Halves ms c.args.name.now c.args.table.now 0) (sym c.entry_count-high.ensures.count) (halves_begun ms c.args.name.now c.args.table.now is);
   order = omega arith;
   within = omega (arith, c.entry_count-high.ensures.count);
-  next = ?;
+  next = λ other. absurd (other refl);
 }
 
 pub returns-in_default : goal.returns-in_default
-returns-in_default g c = ?
+returns-in_default g c = record {
+  finds = record {
+    found = of_table c.args.key.now c.args.table.now c.args.name.now _ (λ ms r has e is.
+        let n = entry_here c.args.key.now c.args.table.now c.args.name.now ms r has e is c.halves.low c.halves.high ((c.halves.low + c.halves.high) / 2) (c.halves.invariant.searches ms r has e is) (omega (arith, c.halves-test.true, c.halves.invariant.within)) in
+        let two = c.two_at.ensures.two n.front n.more n.offset n.small n.front_long n.entry in
+        absurd (none_some _ (c.in_default.ensures n.before _ n.member (n.before_long ∙ sym two))));
+    within = tt;
+  };
+}
 
 pub halves-preserved-in-Less : goal.halves-preserved-in-Less
 halves-preserved-in-Less g c = record {
   searches = λ ms r has e is.
-      let key = c.args.key.now in
-      let table = c.args.table.now in
-      let name = c.args.name.now in
-      let low = c.halves.low in
-      let high = c.halves.high in
-      let middle = (low + high) / 2 in
-      let h = c.halves.invariant.searches ms r has e is in
-      let within : middle < (length table - 3) / 2 = omega (arith, c.halves-test.true, c.halves.invariant.within) in
-      let m = at key table name ms r has e is low high middle h within in
-      let two = c.two_at.ensures.two m.front (behind_entry key table name ms r has e is low high middle h within) m.offset ? m.front_long (entry_there key table name ms r has e is low high middle h within) in
-      ?;
+      let n = entry_here c.args.key.now c.args.table.now c.args.name.now ms r has e is c.halves.low c.halves.high ((c.halves.low + c.halves.high) / 2) (c.halves.invariant.searches ms r has e is) (omega (arith, c.halves-test.true, c.halves.invariant.within)) in
+      let two = c.two_at.ensures.two n.front n.more n.offset n.small n.front_long n.entry in
+      let member = some_same c.in-Some.member.now _ (c.in-Some.ensures n.before _ n.member (n.before_long ∙ sym two)) in
+      n.below (sym (c.compare_wanted.ensures.compares n.text _ member) ∙ c.in-Less.is);
   order = omega (arith, c.halves-test.true);
   within = omega (arith, c.halves-test.true, c.halves.invariant.within);
   next = c.compare_wanted.ensures.next;
@@ -39,14 +41,30 @@ halves-preserved-in-Less g c = record {
 
 pub halves-preserved : goal.halves-preserved
 halves-preserved g c = record {
-  searches = λ ms r has e is. ?;
+  searches = λ ms r has e is.
+      let n = entry_here c.args.key.now c.args.table.now c.args.name.now ms r has e is c.halves.low c.halves.high ((c.halves.low + c.halves.high) / 2) (c.halves.invariant.searches ms r has e is) (omega (arith, c.halves-test.true, c.halves.invariant.within)) in
+      let two = c.two_at.ensures.two n.front n.more n.offset n.small n.front_long n.entry in
+      let member = some_same c.in-Some.member.now _ (c.in-Some.ensures n.before _ n.member (n.before_long ∙ sym two)) in
+      n.above (sym (c.compare_wanted.ensures.compares n.text _ member) ∙ c.in-Greater.is);
   order = omega (arith, c.halves-test.true);
   within = c.halves.invariant.within;
   next = c.compare_wanted.ensures.next;
 }
 
 pub returns-in-Equal : goal.returns-in-Equal
-returns-in-Equal g c = ?
+returns-in-Equal g c = record {
+  finds = record {
+    found = of_table c.args.key.now c.args.table.now c.args.name.now c.range_to.result (λ ms r has e is.
+        let n = entry_here c.args.key.now c.args.table.now c.args.name.now ms r has e is c.halves.low c.halves.high ((c.halves.low + c.halves.high) / 2) (c.halves.invariant.searches ms r has e is) (omega (arith, c.halves-test.true, c.halves.invariant.within)) in
+        let two = c.two_at.ensures.two n.front n.more n.offset n.small n.front_long n.entry in
+        let member = some_same c.in-Some.member.now _ (c.in-Some.ensures n.before _ n.member (n.before_long ∙ sym two)) in
+        let same : bytes_cmp c.args.name.now n.text ≡ Equal = sym (c.compare_wanted.ensures.compares n.text _ member) ∙ c.in-Equal.is in
+        let last = c.after_front.ensures.found c.args.name.now (key_of n.value ++ n.others) c.front_of-front.ensures.front (member ∙ ap (λ k. text_key k ++ (key_of n.value ++ n.others)) (sym (exact_bytes c.args.name.now n.text same))) in
+        finds_some c.args.key.now (find_member (bytes_eq c.args.name.now) ms) n.value c.range_to.result (n.same same)
+        (c.range_to.ensures.found (n.before ++ text_key n.text) (key_of n.value) n.others (n.member ∙ sym (append_assoc n.before (text_key n.text) (key_of n.value ++ n.others))) last (n.ends c.end_of-end.result c.end_of-end.ensures.next c.end_of-end.ensures.last)));
+    within = c.range_to.ensures.within;
+  };
+}
 
 pub returns : goal.returns
 returns g c = record {
