@@ -140,12 +140,16 @@ module _ (key table name : List ℕ) (ms : Members) (r : IsReadable (object ms))
   at : MemberAt ms middle 1
   at = member_at ms middle 1 r.proper.0 (omega (arith, within, h.count))
 
+  -- the offset behind the member
+  abbrev past : ℕ
+  past = at.offset + (length (text_key at.name) + length (key_of at.value))
+
   abbrev behind_entry : List ℕ
-  behind_entry = flat_map in_two (member_offsets (at.offset + (length (text_key at.name) + length (key_of at.value))) at.others) ++ (in_two (members_len ms) ++ table_mark ∷ [])
+  behind_entry = flat_map in_two (member_offsets past at.others) ++ (in_two (members_len ms) ++ table_mark ∷ [])
 
   entry_there : table ≡ at.front ++ (in_two at.offset ++ behind_entry)
   entry_there =
-      is ∙ ap (λ l. l ++ (in_two (members_len ms) ++ table_mark ∷ [])) at.entries ∙ append_assoc at.front (in_two at.offset ++ flat_map in_two (member_offsets (at.offset + (length (text_key at.name) + length (key_of at.value))) at.others)) (in_two (members_len ms) ++ table_mark ∷ [])
+      is ∙ ap (λ l. l ++ (in_two (members_len ms) ++ table_mark ∷ [])) at.entries ∙ append_assoc at.front (in_two at.offset ++ flat_map in_two (member_offsets past at.others)) (in_two (members_len ms) ++ table_mark ∷ [])
 
   -- the key before the member
   abbrev key_before : List ℕ
@@ -157,10 +161,10 @@ module _ (key table name : List ℕ) (ms : Members) (r : IsReadable (object ms))
   offset_there : length key_before ≡ at.offset
   offset_there = omega (arith, at.offset_is)
 
-  key_size : at.offset + (length (text_key at.name) + length (key_of at.value)) + length (members_key at.others) ≡ length key
+  key_size : past + length (members_key at.others) ≡ length key
   key_size = omega (arith, offset_there, ap length member_there, length-append key_before (text_key at.name ++ (key_of at.value ++ members_key at.others)), length-append (text_key at.name) (key_of at.value ++ members_key at.others), length-append (key_of at.value) (members_key at.others))
 
-  small_offset : at.offset + (length (text_key at.name) + length (key_of at.value)) < 2 ^ 16
+  small_offset : past < 2 ^ 16
   small_offset = omega (arith, key_size, most_size ms has, ap length e)
 
   passed_by : bytes_cmp name at.name ≡ Greater → Halves ms name table (middle + 1) high
@@ -177,10 +181,9 @@ module _ (key table name : List ℕ) (ms : Members) (r : IsReadable (object ms))
       go : (o : Members) → at.others ≡ o → end + length (members_key at.others) ≡ length key
       go no_members is_o = omega (arith, last (omega (arith, h.count, at.counted, ap members_len is_o)), key_size, ap (λ o. length (members_key o)) is_o)
       go (more_members k t o) is_o =
-          let number = at.offset + (length (text_key at.name) + length (key_of at.value)) in
-          let n = next_begins at.others number (members_len ms) (omega (arith, ap members_len is_o)) in
-          omega (arith, key_size, next (omega (arith, h.count, at.counted, ap members_len is_o)) (at.front ++ in_two at.offset) n.0 number small_offset (omega (arith, at.front_long, length-append at.front (in_two at.offset)))
-          (entry_there ∙ ap (λ l. at.front ++ (in_two at.offset ++ l)) n.1 ∙ sym (append_assoc at.front (in_two at.offset) (in_two number ++ n.0))))
+          let n = next_begins at.others past (members_len ms) (omega (arith, ap members_len is_o)) in
+          omega (arith, key_size, next (omega (arith, h.count, at.counted, ap members_len is_o)) (at.front ++ in_two at.offset) n.0 past small_offset (omega (arith, at.front_long, length-append at.front (in_two at.offset)))
+          (entry_there ∙ ap (λ l. at.front ++ (in_two at.offset ++ l)) n.1 ∙ sym (append_assoc at.front (in_two at.offset) (in_two past ++ n.0))))
 
 -- the entry in the middle, all that is known of it
 pub record EntryHere (key table name : List ℕ) (ms : Members) (low high middle : ℕ) : Type 0 where

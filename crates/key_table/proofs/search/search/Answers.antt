@@ -22,7 +22,7 @@ returns-in_default g c = record {
     found = of_table c.args.key.now c.args.table.now c.args.name.now _ (λ ms r has e is.
         let n = entry_here c.args.key.now c.args.table.now c.args.name.now ms r has e is c.halves.low c.halves.high ((c.halves.low + c.halves.high) / 2) (c.halves.invariant.searches ms r has e is) (omega (arith, c.halves-test.true, c.halves.invariant.within)) in
         let two = c.two_at.ensures.two n.front n.more n.offset n.small n.front_long n.entry in
-        absurd (none_some _ (c.in_default.ensures n.before _ n.member (n.before_long ∙ sym two))));
+        absurd (none_some (text_key n.text ++ (key_of n.value ++ n.others)) (c.in_default.ensures n.before (text_key n.text ++ (key_of n.value ++ n.others)) n.member (n.before_long ∙ sym two))));
     within = tt;
   };
 }
@@ -32,8 +32,8 @@ halves-preserved-in-Less g c = record {
   searches = λ ms r has e is.
       let n = entry_here c.args.key.now c.args.table.now c.args.name.now ms r has e is c.halves.low c.halves.high ((c.halves.low + c.halves.high) / 2) (c.halves.invariant.searches ms r has e is) (omega (arith, c.halves-test.true, c.halves.invariant.within)) in
       let two = c.two_at.ensures.two n.front n.more n.offset n.small n.front_long n.entry in
-      let member = some_same c.in-Some.member.now _ (c.in-Some.ensures n.before _ n.member (n.before_long ∙ sym two)) in
-      n.below (sym (c.compare_wanted.ensures.compares n.text _ member) ∙ c.in-Less.is);
+      let member = some_same c.in-Some.member.now (text_key n.text ++ (key_of n.value ++ n.others)) (c.in-Some.ensures n.before (text_key n.text ++ (key_of n.value ++ n.others)) n.member (n.before_long ∙ sym two)) in
+      n.below (sym (c.compare_wanted.ensures.compares n.text (key_of n.value ++ n.others) member) ∙ c.in-Less.is);
   order = omega (arith, c.halves-test.true);
   within = omega (arith, c.halves-test.true, c.halves.invariant.within);
   next = c.compare_wanted.ensures.next;
@@ -44,8 +44,8 @@ halves-preserved g c = record {
   searches = λ ms r has e is.
       let n = entry_here c.args.key.now c.args.table.now c.args.name.now ms r has e is c.halves.low c.halves.high ((c.halves.low + c.halves.high) / 2) (c.halves.invariant.searches ms r has e is) (omega (arith, c.halves-test.true, c.halves.invariant.within)) in
       let two = c.two_at.ensures.two n.front n.more n.offset n.small n.front_long n.entry in
-      let member = some_same c.in-Some.member.now _ (c.in-Some.ensures n.before _ n.member (n.before_long ∙ sym two)) in
-      n.above (sym (c.compare_wanted.ensures.compares n.text _ member) ∙ c.in-Greater.is);
+      let member = some_same c.in-Some.member.now (text_key n.text ++ (key_of n.value ++ n.others)) (c.in-Some.ensures n.before (text_key n.text ++ (key_of n.value ++ n.others)) n.member (n.before_long ∙ sym two)) in
+      n.above (sym (c.compare_wanted.ensures.compares n.text (key_of n.value ++ n.others) member) ∙ c.in-Greater.is);
   order = omega (arith, c.halves-test.true);
   within = c.halves.invariant.within;
   next = c.compare_wanted.ensures.next;
@@ -57,8 +57,8 @@ returns-in-Equal g c = record {
     found = of_table c.args.key.now c.args.table.now c.args.name.now c.range_to.result (λ ms r has e is.
         let n = entry_here c.args.key.now c.args.table.now c.args.name.now ms r has e is c.halves.low c.halves.high ((c.halves.low + c.halves.high) / 2) (c.halves.invariant.searches ms r has e is) (omega (arith, c.halves-test.true, c.halves.invariant.within)) in
         let two = c.two_at.ensures.two n.front n.more n.offset n.small n.front_long n.entry in
-        let member = some_same c.in-Some.member.now _ (c.in-Some.ensures n.before _ n.member (n.before_long ∙ sym two)) in
-        let same : bytes_cmp c.args.name.now n.text ≡ Equal = sym (c.compare_wanted.ensures.compares n.text _ member) ∙ c.in-Equal.is in
+        let member = some_same c.in-Some.member.now (text_key n.text ++ (key_of n.value ++ n.others)) (c.in-Some.ensures n.before (text_key n.text ++ (key_of n.value ++ n.others)) n.member (n.before_long ∙ sym two)) in
+        let same : bytes_cmp c.args.name.now n.text ≡ Equal = sym (c.compare_wanted.ensures.compares n.text (key_of n.value ++ n.others) member) ∙ c.in-Equal.is in
         let last = c.after_front.ensures.found c.args.name.now (key_of n.value ++ n.others) c.front_of-front.ensures.front (member ∙ ap (λ k. text_key k ++ (key_of n.value ++ n.others)) (sym (exact_bytes c.args.name.now n.text same))) in
         finds_some c.args.key.now (find_member (bytes_eq c.args.name.now) ms) n.value c.range_to.result (n.same same)
         (c.range_to.ensures.found (n.before ++ text_key n.text) (key_of n.value) n.others (n.member ∙ sym (append_assoc n.before (text_key n.text) (key_of n.value ++ n.others))) last (n.ends c.end_of-end.result c.end_of-end.ensures.next c.end_of-end.ensures.last)));
