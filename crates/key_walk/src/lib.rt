@@ -7,7 +7,7 @@ pub mod checked;
 mod containment;
 mod digits;
 pub mod find;
-mod names;
+pub mod names;
 pub mod part;
 pub mod skip;
 pub mod text;

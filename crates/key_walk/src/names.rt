@@ -13,7 +13,7 @@ use std::cmp::Ordering;
 
 /// The first bytes of the key of a name, at most 8, as a number: most names differ in them.
 #[derive(Clone, Copy)]
-pub(crate) struct Front {
+pub struct Front {
     // The number, of which the first byte is the highest.
     pub(crate) number: u64,
     // How many bits of 64 it doesn't take.
@@ -23,7 +23,7 @@ pub(crate) struct Front {
 }
 
 /// In place of a front that isn't made yet.
-pub(crate) const NO_FRONT: Front = Front {
+pub const NO_FRONT: Front = Front {
     number: 0,
     low: 64,
     size: 0,
@@ -31,7 +31,7 @@ pub(crate) const NO_FRONT: Front = Front {
 
 /// The front of a name.
 #[inline(always)]
-pub(crate) fn front_of(name: &[u8]) -> Front
+pub fn front_of(name: &[u8]) -> Front
     ensures front { IsFront name.now result }
     // Where it has 8 bytes, all but the last one are no zeros.
     ensures plain { result.size ≡ 0 → result.low ≡ 0 → AreNoZeros name.now 7 }
@@ -85,7 +85,7 @@ fn ends_plain(name: &[u8]) -> bool
 /// How the name with this front compares with the one whose key the bytes begin with. For a long name the front of what
 /// is behind its first 8 bytes is made where it is first asked for.
 #[inline(always)]
-pub(crate) fn compare_wanted<const LONG: bool>(
+pub fn compare_wanted<const LONG: bool>(
     front: Front,
     next: &mut Front,
     name: &[u8],
@@ -197,7 +197,7 @@ fn compare_any(name: &[u8], bytes: &[u8]) -> Ordering
 
 /// The bytes behind the key of the name with this front.
 #[inline(always)]
-pub(crate) fn after_front(front: Front, bytes: &[u8]) -> Option<&[u8]>
+pub fn after_front(front: Front, bytes: &[u8]) -> Option<&[u8]>
     ensures found { (name more : List ℕ) → IsFront name front → bytes.now ≡ text_key name ++ more
         → Leaves result more }
     ensures shorter { IfSome result (λ rest. length rest.now < length bytes.now) }

@@ -1,0 +1,4 @@
+pub mod Temp
+pub mod Table
+pub mod Entries
+pub mod Results
