@@ -101,6 +101,12 @@ uint32_t proved_document_without(const unsigned char *document, size_t document_
                                  size_t names_size, unsigned char *buffer, size_t buffer_size, size_t *size);
 uint32_t proved_document_strip_nulls(const unsigned char *document, size_t document_size, uint32_t in_arrays,
                                      unsigned char *buffer, size_t buffer_size, size_t *size);
+uint32_t proved_table(const unsigned char *key, size_t key_size, unsigned char *buffer, size_t buffer_size,
+                      size_t *size);
+size_t proved_table_size(const unsigned char *stored, size_t stored_size);
+uint32_t proved_table_member(const unsigned char *key, size_t key_size, const unsigned char *table, size_t table_size,
+                             const unsigned char *name, size_t name_size, size_t *offset, size_t *size);
+uint32_t proved_table_check(const unsigned char *key, size_t key_size, const unsigned char *table, size_t table_size);
 uint32_t proved_plain_numbers(const unsigned char *text, size_t text_size, unsigned char *buffer, size_t buffer_size,
                               size_t *size, struct vizhoniku_error *error);
 uint32_t proved_is_strict(const unsigned char *text, size_t text_size);
@@ -388,6 +394,27 @@ uint32_t vizhoniku_document_strip_nulls(const unsigned char *document, size_t do
                                         unsigned char *buffer, size_t buffer_size, size_t *size) {
   return proved_document_strip_nulls(bytes_at(document, document_size), document_size, in_arrays,
                                      buffer_at(buffer, buffer_size), buffer_size, size);
+}
+
+uint32_t vizhoniku_table(const unsigned char *key, size_t key_size, unsigned char *buffer, size_t buffer_size,
+                         size_t *size) {
+  return proved_table(bytes_at(key, key_size), key_size, buffer_at(buffer, buffer_size), buffer_size, size);
+}
+
+size_t vizhoniku_table_size(const unsigned char *stored, size_t stored_size) {
+  return proved_table_size(bytes_at(stored, stored_size), stored_size);
+}
+
+uint32_t vizhoniku_table_member(const unsigned char *key, size_t key_size, const unsigned char *table,
+                                size_t table_size, const unsigned char *name, size_t name_size, size_t *offset,
+                                size_t *size) {
+  return proved_table_member(bytes_at(key, key_size), key_size, bytes_at(table, table_size), table_size,
+                             bytes_at(name, name_size), name_size, offset, size);
+}
+
+uint32_t vizhoniku_table_check(const unsigned char *key, size_t key_size, const unsigned char *table,
+                               size_t table_size) {
+  return proved_table_check(bytes_at(key, key_size), key_size, bytes_at(table, table_size), table_size);
 }
 
 uint32_t vizhoniku_plain_numbers(const unsigned char *text, size_t text_size, unsigned char *buffer, size_t buffer_size,

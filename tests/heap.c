@@ -330,6 +330,8 @@ enum key_function {
   KEY_STRING,
   KEY_CONTAINS,
   DOCUMENT_CHECK,
+  TABLE_MEMBER,
+  TABLE_CHECK,
   KEY_ESCAPED_PART,
   KEY_TEXT,
   KEY_SET,
@@ -349,6 +351,7 @@ enum key_function {
   DOCUMENT_MERGE,
   DOCUMENT_WITHOUT,
   DOCUMENT_STRIP,
+  TABLE,
   TEXT_WITH_ZEROS,
   PLAIN_NUMBERS,
   MASKED_NUMBERS,
@@ -364,12 +367,12 @@ enum key_function {
 static const char *const key_functions[] = {
     "vizhoniku_key_check", "vizhoniku_key_count", "vizhoniku_key_next", "vizhoniku_key_member", "vizhoniku_key_item",
     "vizhoniku_key_part", "vizhoniku_key_string", "vizhoniku_key_contains", "vizhoniku_document_check",
-    "vizhoniku_key_part with an escape", "vizhoniku_key_text", "vizhoniku_key_set", "vizhoniku_key_remove",
+    "vizhoniku_table_member", "vizhoniku_table_check", "vizhoniku_key_part with an escape", "vizhoniku_key_text", "vizhoniku_key_set", "vizhoniku_key_remove",
     "vizhoniku_key_put", "vizhoniku_key_push", "vizhoniku_key_merge", "vizhoniku_document_text",
     "vizhoniku_document_part",
     "vizhoniku_document_range", "vizhoniku_document_next", "vizhoniku_document_set", "vizhoniku_document_remove",
     "vizhoniku_document_put", "vizhoniku_document_push", "vizhoniku_document_insert", "vizhoniku_document_merge",
-    "vizhoniku_document_without", "vizhoniku_document_strip_nulls",
+    "vizhoniku_document_without", "vizhoniku_document_strip_nulls", "vizhoniku_table",
     "vizhoniku_text_with_zeros", "vizhoniku_plain_numbers", "vizhoniku_masked_numbers",
     "vizhoniku_key_of_string", "vizhoniku_key_of_integer", "vizhoniku_path_step", "vizhoniku_error_path",
 };
@@ -422,6 +425,12 @@ static uint32_t call_over_key(enum key_function function, const struct text *key
     case KEY_PUSH:
       return vizhoniku_key_push(key->bytes, key->size, null_key, sizeof null_key, buffer, room, size);
     case DOCUMENT_CHECK: return vizhoniku_document_check(key->bytes, key->size);
+    case TABLE_MEMBER:
+      part_size = vizhoniku_table_size(key->bytes, key->size);
+      return vizhoniku_table_member(key->bytes, key->size, key->bytes + key->size - part_size, part_size, NAME, 4,
+                                    &offset, &part_size);
+    case TABLE_CHECK: return vizhoniku_table_check(key->bytes, key->size, key->bytes, key->size);
+    case TABLE: return vizhoniku_table(key->bytes, key->size, buffer, room, size);
     case DOCUMENT_TEXT: return vizhoniku_document_text(key->bytes, key->size, buffer, room, size);
     case DOCUMENT_PART: return vizhoniku_document_part(key->bytes, key->size, PATH, 2, buffer, room, size);
     case DOCUMENT_RANGE: return vizhoniku_document_range(key->bytes, key->size, 0, key->size, buffer, room, size);

@@ -195,8 +195,8 @@ static struct text make(const struct shape *shape) {
 enum function {
   CHECK, TEXT, SORT_KEY, TEXT_AND_KEY, DOCUMENT, PART, COMPARE, MESSAGE, REASON, KEY_CHECK, KEY_TEXT, KEY_PART,
   KEY_COUNT, KEY_CONTAINS, KEY_SET, KEY_REMOVE, KEY_MERGE, DOCUMENT_CHECK, DOCUMENT_TEXT, DOCUMENT_PART,
-  DOCUMENT_NEXT, DOCUMENT_SET, DOCUMENT_REMOVE, DOCUMENT_INSERT, DOCUMENT_MERGE, DOCUMENT_STRIP, TEXT_WITH_ZEROS,
-  PLAIN_NUMBERS, MASKED_NUMBERS, ERROR_PATH, FUNCTIONS
+  DOCUMENT_NEXT, DOCUMENT_SET, DOCUMENT_REMOVE, DOCUMENT_INSERT, DOCUMENT_MERGE, DOCUMENT_STRIP, TABLE,
+  TABLE_CHECK, TEXT_WITH_ZEROS, PLAIN_NUMBERS, MASKED_NUMBERS, ERROR_PATH, FUNCTIONS
 };
 
 static const char *const functions[] = {
@@ -207,7 +207,8 @@ static const char *const functions[] = {
     "vizhoniku_key_count", "vizhoniku_key_contains", "vizhoniku_key_set", "vizhoniku_key_remove", "vizhoniku_key_merge",
     "vizhoniku_document_check", "vizhoniku_document_text", "vizhoniku_document_part",
     "vizhoniku_document_next", "vizhoniku_document_set", "vizhoniku_document_remove", "vizhoniku_document_insert",
-    "vizhoniku_document_merge", "vizhoniku_document_strip_nulls", "vizhoniku_text_with_zeros",
+    "vizhoniku_document_merge", "vizhoniku_document_strip_nulls", "vizhoniku_table", "vizhoniku_table_check",
+    "vizhoniku_text_with_zeros",
     "vizhoniku_plain_numbers", "vizhoniku_masked_numbers", "vizhoniku_error_path",
 };
 
@@ -220,7 +221,7 @@ static const size_t told[FUNCTIONS][2] = {
     [PLAIN_NUMBERS] = {2, 0}, [MASKED_NUMBERS] = {2, 0}, [ERROR_PATH] = {2, 0},    [REASON] = {22, 0},
     [DOCUMENT] = {22, 110},   [DOCUMENT_CHECK] = {5, 0}, [DOCUMENT_TEXT] = {3, 0}, [DOCUMENT_PART] = {2, 0},
     [DOCUMENT_NEXT] = {2, 0}, [DOCUMENT_SET] = {2, 0}, [DOCUMENT_INSERT] = {2, 0}, [DOCUMENT_REMOVE] = {2, 0},
-    [DOCUMENT_MERGE] = {3, 0}, [DOCUMENT_STRIP] = {2, 0},
+    [DOCUMENT_MERGE] = {3, 0}, [DOCUMENT_STRIP] = {2, 0}, [TABLE] = {2, 0},        [TABLE_CHECK] = {2, 0},
 };
 
 struct call {
@@ -322,6 +323,12 @@ static void *run(void *given) {
       break;
     case DOCUMENT_STRIP:
       call->status = vizhoniku_document_strip_nulls(call->key, call->key_size, 1, call->buffer, call->room, &size);
+      break;
+    case TABLE:
+      call->status = vizhoniku_table(call->key, call->key_size, call->buffer, call->room, &size);
+      break;
+    case TABLE_CHECK:
+      call->status = vizhoniku_table_check(call->key, call->key_size, call->key, call->key_size);
       break;
     case TEXT_WITH_ZEROS:
       call->status = vizhoniku_text_with_zeros(bytes, text_size, NULL, 0, call->buffer, call->room, &size);

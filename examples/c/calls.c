@@ -567,6 +567,40 @@ static void walk_documents(void) {
   print_key("null next", status, out, size);
 }
 
+/* The table of {"a":null,"b":null,"c":null,"d":"xx.."}, and members found by it. */
+static void find_by_table(void) {
+  static const unsigned char front[] = {0xD1, 'a', 0, 1, 0xD3, 'b', 0, 1, 0xD3, 'c', 0, 1, 0xD3, 'd', 0, 1, 0xD0};
+  static const char *const names[] = {"", "a", "aa", "b", "c", "d", "dd"};
+  unsigned char key[256], table[40], stored[300];
+  size_t offset, size = 99, part_size;
+  memset(key, 'x', sizeof key);
+  memcpy(key, front, sizeof front);
+  memcpy(key + sizeof key - 4, "\0\1\0", 4);
+  uint32_t status = vizhoniku_table(key, sizeof key, table, sizeof table, &size);
+  print_key("table", status, table, size);
+  memcpy(stored, key, sizeof key);
+  memcpy(stored + sizeof key, table, size);
+  printf("its size: %zu, of a key %zu, null: %zu\n", vizhoniku_table_size(stored, sizeof key + size),
+         vizhoniku_table_size(key, sizeof key), vizhoniku_table_size(NULL, 0));
+  for (size_t i = 0; i < sizeof names / sizeof *names; i++) {
+    status = vizhoniku_table_member(key, sizeof key, table, size, BYTES(names[i]), &offset, &part_size);
+    printf("member %s: %u %zu %zu\n", names[i], (unsigned)status, offset, part_size);
+  }
+  status = vizhoniku_table_member(NULL, 0, NULL, 0, NULL, 0, &offset, &part_size);
+  printf("null member: %u %zu %zu\n", (unsigned)status, offset, part_size);
+  printf("check: %u, cut off: %u, null: %u\n", (unsigned)vizhoniku_table_check(key, sizeof key, table, size),
+         (unsigned)vizhoniku_table_check(key, sizeof key, table, size - 1),
+         (unsigned)vizhoniku_table_check(NULL, 0, NULL, 0));
+  status = vizhoniku_table(key, sizeof key, table, 10, &size);
+  printf("too short: %u size %zu\n", (unsigned)status, size);
+  status = vizhoniku_table(key, sizeof key - 1, table, sizeof table, &size);
+  print_key("a byte less", status, table, size);
+  status = vizhoniku_table(front + 16, 1, table, sizeof table, &size);
+  print_key("a string", status, table, size);
+  status = vizhoniku_table(NULL, 0, NULL, 0, &size);
+  print_key("null table", status, table, size);
+}
+
 /* Which texts have the tokens of RFC 8259 alone. */
 static void look_for_json(void) {
   static const char *const texts[] = {"[1,2.5e3,\"\\u0041\"]", "{\"a\": null}", " 7 ", "", "[1,]", "[,1]", "{a:1}", "'a'",
@@ -719,6 +753,7 @@ int main(void) {
   change_keys();
   change_documents();
   walk_documents();
+  find_by_table();
   look_for_json();
   pass_scalars();
 

@@ -49,13 +49,14 @@ static const char *const texts[] = {
 };
 
 /* Each function of the library that takes memory, by a number below this one. */
-#define FUNCTIONS 33
+#define FUNCTIONS 34
 
 static uint32_t call(int which, uint32_t mode, const unsigned char *text, size_t text_size, size_t capacity) {
   static const unsigned char path[] = {'/', 'c', '/', 'k'};
   static const unsigned char key[] = {0xD2, 0xD0, 'a', '\n', 0, 1, 0xA1, 0x1E, 0xD1, 0, 0, 0};
   static const unsigned char object_key[] = {0xD1, 'c', 0, 1, 0xD1, 'k', 0, 1, 0xD3, 0, 0, 0, 0};
   static const unsigned char document[] = {0xD1, 'c', 0, 1, 0xD2, 0xA1, 0x1E, 0, 0, 0, 5, 1, 2, 0xFF};
+  static unsigned char table_key[300] = {0xD1, 'a', 0, 1, 0xD3, 'b', 0, 1, 0xD3, 'c', 0, 1, 0xD3, 'd', 0, 1, 0xD0};
   static const unsigned char shortest[] = "[1.5,2,4,5]", zeros[] = {0, 1, 1, 3, 0, 1};
   unsigned char buffer[400], key_buffer[400];
   struct vizhoniku_error error;
@@ -113,6 +114,10 @@ static uint32_t call(int which, uint32_t mode, const unsigned char *text, size_t
     case 31:
       return vizhoniku_document_insert(document, sizeof document, path, sizeof path, document, sizeof document, 0,
                                        buffer, capacity, &size);
+    case 32:
+      memset(table_key + 17, 'x', sizeof table_key - 21);
+      memcpy(table_key + sizeof table_key - 4, "\0\1\0", 4);
+      return vizhoniku_table(table_key, sizeof table_key, buffer, capacity, &size);
     default: return vizhoniku_compare(mode, text, text_size, text, text_size, &order, &error);
   }
 }

@@ -207,6 +207,19 @@ vjson_text_of_string(Range key, bool is_name)
 	return cstring_to_text(pg_any_to_server(pnstrdup((char *) bytes, size), (int) size, PG_UTF8));
 }
 
+/* The text of a number; that of an integer without zeros is written here, which takes less time. */
+static text *
+text_of_number(const Document *number)
+{
+	char		digits[MAXINT8LEN + 1];
+	int64		integer;
+
+	if (number->size == number->key.size &&
+		is_found(vizhoniku_key_integer(number->key.at, number->key.size, &integer)))
+		return cstring_to_text_with_len(digits, pg_lltoa(integer, digits));
+	return cstring_to_text(vjson_server_text(number));
+}
+
 text *
 vjson_text_of(const Document *document)
 {
@@ -216,6 +229,8 @@ vjson_text_of(const Document *document)
 			return NULL;
 		case VIZHONIKU_STRING:
 			return vjson_text_of_string(document->key, false);
+		case VIZHONIKU_NUMBER:
+			return text_of_number(document);
 		default:
 			return cstring_to_text(vjson_server_text(document));
 	}

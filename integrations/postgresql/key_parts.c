@@ -401,8 +401,12 @@ vjson_typeof(PG_FUNCTION_ARGS)
 		[VIZHONIKU_NULL] = "null",[VIZHONIKU_BOOLEAN] = "boolean",[VIZHONIKU_NUMBER] = "number",
 		[VIZHONIKU_STRING] = "string",[VIZHONIKU_ARRAY] = "array",[VIZHONIKU_OBJECT] = "object"
 	};
-	Range		front = bytes_of(PG_DETOAST_DATUM_SLICE(PG_GETARG_DATUM(0), 0, KIND_SLICE));
+	struct varlena *value = (struct varlena *) PG_GETARG_POINTER(0);
+	Range		front;
 
+	if (VARATT_IS_COMPRESSED(value) || VARATT_IS_EXTERNAL(value))
+		value = PG_DETOAST_DATUM_SLICE(PG_GETARG_DATUM(0), 0, KIND_SLICE);
+	front = bytes_of(value);
 	if (*front.at < OLD_FORMS)
 		front = vjson_old_key(front, true);
 	PG_RETURN_TEXT_P(cstring_to_text(names[kind_of(front)]));

@@ -10,3 +10,4 @@ pub mod Scalars
 pub mod Document
 pub mod DocumentCursor
 pub mod DocumentInsert
+pub mod Table
