@@ -4,3 +4,5 @@ pub mod Writing
 pub mod Having
 pub mod Splitting
 pub mod Searching
+pub mod Short
+pub mod Endings

@@ -182,8 +182,12 @@ module _ (key table name : List ℕ) (ms : Members) (r : IsReadable (object ms))
       go no_members is_o = omega (arith, last (omega (arith, h.count, at.counted, ap members_len is_o)), key_size, ap (λ o. length (members_key o)) is_o)
       go (more_members k t o) is_o =
           let n = next_begins at.others past (members_len ms) (omega (arith, ap members_len is_o)) in
-          omega (arith, key_size, next (omega (arith, h.count, at.counted, ap members_len is_o)) (at.front ++ in_two at.offset) n.0 past small_offset (omega (arith, at.front_long, length-append at.front (in_two at.offset)))
-          (entry_there ∙ ap (λ l. at.front ++ (in_two at.offset ++ l)) n.1 ∙ sym (append_assoc at.front (in_two at.offset) (in_two past ++ n.0))))
+          omega (
+            arith,
+            key_size,
+            next (omega (arith, h.count, at.counted, ap members_len is_o)) (at.front ++ in_two at.offset) n.0 past small_offset (omega (arith, at.front_long, length-append at.front (in_two at.offset)))
+                (entry_there ∙ ap (λ l. at.front ++ (in_two at.offset ++ l)) n.1 ∙ sym (append_assoc at.front (in_two at.offset) (in_two past ++ n.0))),
+          )
 
 -- the entry in the middle, all that is known of it
 pub record EntryHere (key table name : List ℕ) (ms : Members) (low high middle : ℕ) : Type 0 where
