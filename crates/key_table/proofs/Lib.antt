@@ -1,8 +1,7 @@
-pub mod Temp
 pub mod Walking
 pub mod Writing
 pub mod Having
 pub mod Splitting
 pub mod Searching
 pub mod Short
-pub mod Endings
+pub mod Unmarked
