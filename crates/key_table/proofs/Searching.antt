@@ -17,7 +17,7 @@ use Rattle.key_walk.specs.AtKeys.{OfKey}
 use Rattle.key_walk.specs.Found.{members_len, IsRange}
 use Rattle.key_walk.specs.declared.find.NoKey.{NoKey}
 use Rattle.key_walk.proofs.Occurrence.{below_all, equal_names, true_false}
-use Rattle.key_table.specs.Results.{FindsRange, GivesRange}
+use Rattle.key_table.specs.Results.{ReportsRange, GivesRange}
 use Rattle.key_table.specs.Table.{has_table, in_two, member_offsets, table_mark, table_of, table_of_members}
 use Rattle.key_table.proofs.Having.{entries_long, most_size, table_some, two_each}
 
@@ -182,8 +182,12 @@ module _ (key table name : List ℕ) (ms : Members) (r : IsReadable (object ms))
       go no_members is_o = omega (arith, last (omega (arith, h.count, at.counted, ap members_len is_o)), key_size, ap (λ o. length (members_key o)) is_o)
       go (more_members k t o) is_o =
           let n = next_begins at.others past (members_len ms) (omega (arith, ap members_len is_o)) in
-          omega (arith, key_size, next (omega (arith, h.count, at.counted, ap members_len is_o)) (at.front ++ in_two at.offset) n.0 past small_offset (omega (arith, at.front_long, length-append at.front (in_two at.offset)))
-          (entry_there ∙ ap (λ l. at.front ++ (in_two at.offset ++ l)) n.1 ∙ sym (append_assoc at.front (in_two at.offset) (in_two past ++ n.0))))
+          omega (
+            arith,
+            key_size,
+            next (omega (arith, h.count, at.counted, ap members_len is_o)) (at.front ++ in_two at.offset) n.0 past small_offset (omega (arith, at.front_long, length-append at.front (in_two at.offset)))
+                (entry_there ∙ ap (λ l. at.front ++ (in_two at.offset ++ l)) n.1 ∙ sym (append_assoc at.front (in_two at.offset) (in_two past ++ n.0))),
+          )
 
 -- the entry in the middle, all that is known of it
 pub record EntryHere (key table name : List ℕ) (ms : Members) (low high middle : ℕ) : Type 0 where
@@ -229,13 +233,13 @@ entry_here key table name ms r has e is low high middle h within =
 
 -- ---- what is found
 
-pub finds_some : (key : List ℕ) (p : Option Tree) (u : Tree) (r : Result (Option (ℕ × ℕ)) NoKey) → p ≡ Some u → GivesRange key (key_of u) r → FindsRange key p r
+pub finds_some : (key : List ℕ) (p : Option Tree) (u : Tree) (r : Result (Option (ℕ × ℕ)) NoKey) → p ≡ Some u → GivesRange key (key_of u) r → ReportsRange key p r
 finds_some key None u (Ok (Some x)) is g = absurd (none_some u is)
 finds_some key (Some v) u (Ok (Some x)) is g = subst (λ w. IsRange key x.0 x.1 (key_of w)) (sym (some_same v u is)) g
 finds_some key p u (Ok None) is g = absurd g
 finds_some key p u (Err e) is g = absurd g
 
-pub finds_none : (key : List ℕ) (p : Option Tree) → p ≡ None → FindsRange key p (Ok None)
+pub finds_none : (key : List ℕ) (p : Option Tree) → p ≡ None → ReportsRange key p (Ok None)
 finds_none key None is = tt
 finds_none key (Some u) is = absurd (none_some u (sym is))
 
@@ -243,6 +247,6 @@ finds_none key (Some u) is = absurd (none_some u (sym is))
 pub none_left : (ms : Members) (name table : List ℕ) (low high : ℕ) → Halves ms name table low high → low ≡ high → find_member (bytes_eq name) ms ≡ None
 none_left ms name table low high h over = h.least ∙ ap (λ i. find_member (bytes_eq name) (drop_members i ms)) over ∙ h.most
 
-pub of_table : (key table name : List ℕ) (r : Result (Option (ℕ × ℕ)) NoKey) → OfTable key table (λ ms. FindsRange key (find_member (bytes_eq name) ms) r) → OfKey key (λ t. IsTrue (has_table t) → table ≡ table_of t → FindsRange key (get_by_name name t) r)
+pub of_table : (key table name : List ℕ) (r : Result (Option (ℕ × ℕ)) NoKey) → OfTable key table (λ ms. ReportsRange key (find_member (bytes_eq name) ms) r) → OfKey key (λ t. IsTrue (has_table t) → table ≡ table_of t → ReportsRange key (get_by_name name t) r)
 of_table key table name r f (object ms) readable e has is = f ms readable has e (is ∙ table_some ms has)
 of_table key table name r f t readable e has is = absurd (true_false (sym has))

@@ -7,7 +7,7 @@ use Rattle.key_walk.specs.Found.{members_len}
 use Rattle.key_walk.specs.declared.find.NoKey.{NoKey}
 use Rattle.key_table.specs.Entries.{OfMembers, WritesTable}
 use Rattle.key_table.specs.Table.{in_two, table_mark, table_of_members}
-use Rattle.key_table.specs.Temp.{Preserves}
+use Rattle.key_text.specs.Writes.{Preserves}
 use Rattle.key_table.specs.declared.error.TableError.{TableError}
 use Rattle.key_table.specs.declared.error.TableError.TheVariants.{OutOfMemory}
 use Rattle.key_table.proofs.Walking.{Walked}

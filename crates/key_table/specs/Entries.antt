@@ -8,7 +8,7 @@ use Rattle.jsonb_spec.specs.Proper.{HaveProperParts}
 use Rattle.jsonb_spec.specs.SortKey.{key_of, members_key, text_key}
 use Rattle.jsonb_spec.specs.Text.Range.{HaveWithin}
 use Rattle.jsonb_spec.specs.Tree.{Tree, object, Members, more_members}
-use Rattle.key_table.specs.Temp.{LacksCapacity}
+use Rattle.key_text.specs.Writes.{LacksCapacity}
 use Rattle.key_walk.specs.Found.{members_len}
 use Rattle.key_table.specs.Table.{has_table, in_two, member_offsets, table_mark, table_of_members}
 use Rattle.key_table.specs.declared.error.TableError.{TableError}

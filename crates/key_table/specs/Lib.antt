@@ -1,4 +1,3 @@
-pub mod Temp
 pub mod Table
 pub mod Entries
 pub mod Results

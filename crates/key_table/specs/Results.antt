@@ -5,7 +5,7 @@ use Rattle.jsonb_spec.specs.Accessors.{get_by_name}
 use Rattle.jsonb_spec.specs.SortKey.{key_of}
 use Rattle.jsonb_spec.specs.Text.Appending.{Extends}
 use Rattle.jsonb_spec.specs.Tree.{Tree}
-use Rattle.key_table.specs.Temp.{LacksCapacity}
+use Rattle.key_text.specs.Writes.{LacksCapacity}
 use Rattle.key_walk.specs.AtKeys.{OfKey}
 use Rattle.key_walk.specs.Found.{IsRange}
 use Rattle.key_walk.specs.declared.find.NoKey.{NoKey}
@@ -27,15 +27,15 @@ pub record PreservesUnlessTable (result : Result Bool TableError) (old new : Vec
   pub capacity : vec_capacity old ≤ vec_capacity new
 
 -- What is found is where the part is in the key, or nothing where there is none.
-abbrev pub FindsRange : List ℕ → Option Tree → Result (Option (ℕ × ℕ)) NoKey → Type 0
-FindsRange key (Some part) (Ok (Some r)) = IsRange key r.0 r.1 (key_of part)
-FindsRange key None (Ok None) = ⊤
-FindsRange key part found = ⊥
+abbrev pub ReportsRange : List ℕ → Option Tree → Result (Option (ℕ × ℕ)) NoKey → Type 0
+ReportsRange key (Some part) (Ok (Some r)) = IsRange key r.0 r.1 (key_of part)
+ReportsRange key None (Ok None) = ⊤
+ReportsRange key part found = ⊥
 
 -- Whichever value's key the bytes are, and these its table, the range of the member's value of that name is found, or
 -- nothing where there is none. Of any bytes what is found is within them.
 pub record FindsByTable (key table name : List ℕ) (result : Result (Option (ℕ × ℕ)) NoKey) : Type 0 where
-  pub found : OfKey key (λ t. IsTrue (has_table t) → table ≡ table_of t → FindsRange key (get_by_name name t) result)
+  pub found : OfKey key (λ t. IsTrue (has_table t) → table ≡ table_of t → ReportsRange key (get_by_name name t) result)
   pub within : IfOk result (λ answer. IfSome answer (λ r. r.0 + r.1 ≤ length key))
 
 -- The range of these bytes in the key is found.

@@ -54,6 +54,18 @@ pub(crate) fn two_at(bytes: &[u8], index: usize) -> usize
     usize::from(u16::from_be_bytes([bytes[index], bytes[index + 1]]))
 }
 
+/// The bytes behind so many.
+#[inline(always)]
+pub(crate) fn behind(bytes: &[u8], count: usize) -> Option<&[u8]>
+    ensures { (before rest : List ℕ) → bytes.now ≡ before ++ rest → length before ≡ count → Leaves result rest }
+{
+    if count > bytes.len() {
+        return None;
+    }
+    let (_, rest) = bytes.split_at(count);
+    Some(rest)
+}
+
 /// Appends a number in two bytes.
 ///
 /// # Errors

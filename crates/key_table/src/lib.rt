@@ -5,7 +5,7 @@
 pub mod check;
 mod entry;
 pub mod error;
-// pub mod laws;
+pub mod laws;
 pub mod make;
 pub mod search;
 pub mod split;

@@ -2,7 +2,7 @@
 
 ghost use Rattle.std.specs.Prelude.{◌≡◌, ◌<◌, nat_lt, length};
 ghost use Rattle.key_walk.specs.AtKeys.{OfKey};
-ghost use Rattle.key_table.specs.Temp.{Preserves};
+ghost use Rattle.key_text.specs.Writes.{Preserves};
 ghost use Rattle.jsonb_spec.specs.Tree.{Members, object};
 ghost use Rattle.key_walk.specs.Found.{members_len};
 ghost use Rattle.key_table.specs.Entries.{OfMembers, WritesTable};

@@ -2,16 +2,18 @@
 
 ghost use Rattle.std.specs.Prelude.{◌≡◌, ◌<◌, ◌≤◌, ◌+◌, ◌-◌, ◌*◌, ◌/◌, ◌^◌, ◌++◌, List, ℕ, length, IfOk, IfSome};
 ghost use Rattle.key_walk.specs.AtKeys.{Leaves};
+ghost use Rattle.key_walk.specs.Frames.{AreNoZeros};
+ghost use Rattle.key_walk.specs.Fronts.{IsFront};
 ghost use Rattle.key_table.specs.Results.{FindsByTable, GivesRange};
 ghost use Rattle.key_table.specs.Table.{in_two};
 
-use crate::entry::{entry_count, two_at};
+use crate::entry::{behind, entry_count, two_at};
 use key_walk::find::NoKey;
-use key_walk::names::{NO_FRONT, after_front, compare_wanted, front_of};
+use key_walk::names::{Front, NO_FRONT, after_front, compare_wanted, front_of, front_of_four};
 use std::cmp::Ordering;
 
-// How many bytes a name has at most whose front mostly decides.
-const SHORT: usize = 8;
+// How many bytes a name has at most whose front is its whole key.
+const SHORT: usize = 6;
 
 /// The offset and the size in the key of the value of the member of that name, which is found by halves in the table of
 /// the object; `None` where there is no such member.
@@ -19,33 +21,14 @@ const SHORT: usize = 8;
 /// # Errors
 ///
 /// `NoKey` only where the bytes are no key, or the others aren't its table.
-pub fn find_by_table(key: &[u8], table: &[u8], name: &[u8]) -> Result<Option<(usize, usize)>, NoKey>
-    ensures finds { FindsByTable key.now table.now name.now result }
-{
-    if name.len() <= SHORT {
-        return search::<false>(key, table, name);
-    }
-    search_long(key, table, name)
-}
-
-// The same of a long name.
-#[inline(never)]
-fn search_long(key: &[u8], table: &[u8], name: &[u8]) -> Result<Option<(usize, usize)>, NoKey>
-    ensures finds { FindsByTable key.now table.now name.now result }
-{
-    search::<true>(key, table, name)
-}
-
-// The same of a name that is compared so if it may be long.
-#[inline(always)]
-fn search<const LONG: bool>(
+pub fn find_by_table(
     key: &[u8],
     table: &[u8],
     name: &[u8],
 ) -> Result<Option<(usize, usize)>, NoKey>
     ensures finds { FindsByTable key.now table.now name.now result }
 {
-    let front = front_of(name);
+    let front = some_front_of(name);
     let mut next = NO_FRONT;
     let mut low: usize = 0;
     let mut high = entry_count(table.len());
@@ -54,7 +37,7 @@ fn search<const LONG: bool>(
         let Some(member) = behind(key, two_at(table, 2 * middle)) else {
             return Err(NoKey);
         };
-        match compare_wanted::<LONG>(front, &mut next, name, member) {
+        match compare_wanted::<false>(front, &mut next, name, member) {
             Ordering::Less => high = middle,
             Ordering::Greater => low = middle + 1,
             Ordering::Equal => {
@@ -66,16 +49,18 @@ fn search<const LONG: bool>(
     Ok(None)
 }
 
-// The bytes behind so many.
+// A front of the name: of a long one that of 4 bytes.
 #[inline(always)]
-fn behind(bytes: &[u8], count: usize) -> Option<&[u8]>
-    ensures { (before rest : List ℕ) → bytes.now ≡ before ++ rest → length before ≡ count → Leaves result rest }
+fn some_front_of(name: &[u8]) -> Front
+    ensures front { IsFront name.now result }
+    ensures plain { result.size ≡ 0 → result.low ≡ 0 → AreNoZeros name.now 7 }
 {
-    if count > bytes.len() {
-        return None;
+    if name.len() > SHORT {
+        if let Some(front) = front_of_four(name) {
+            return front;
+        }
     }
-    let (_, rest) = bytes.split_at(count);
-    Some(rest)
+    front_of(name)
 }
 
 // Where the member of this entry ends in a key of this size: where the next one begins, or before the end of the object.

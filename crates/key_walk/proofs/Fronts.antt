@@ -3,11 +3,11 @@ use Rattle.std.proofs.Common.{◌≡◌, ◌≢◌, inl, inr, ℕ, zero, suc, �
 use Rattle.std.proofs.Math.Nat.{pow-suc, one-le-pow, mul_assoc, pow-le-pow_right}
 use Rattle.std.proofs.Math.Seq.{get_or-append_seam, take-length}
 use Rattle.std.proofs.lemmas.Bool.{cases_lt}
-use Rattle.std.proofs.lemmas.List.{get_or-append-add, length-append, take-append-drop}
+use Rattle.std.proofs.lemmas.List.{get_or-append-add, get_or-take, length-append, take-append-drop}
 use Rattle.std.proofs.lemmas.Nat.{pow-add, mul-add-lt, div-mul-add}
 use Rattle.std.specs.Cmp.{ranks, tied_itself}
 use Rattle.std.specs.Cmp.Lexicographic.{slice_cmp, nat_list_cmp_total}
-use Rattle.std.specs.Int.{w64, from_be_bytes}
+use Rattle.std.specs.Int.{w32, w64, from_be_bytes}
 use Rattle.std.specs.Ordering.{ordering_then, MatchOrdering}
 use Rattle.jsonb_spec.specs.Order.{bytes_cmp}
 use Rattle.jsonb_spec.specs.SortKey.{text_key}
@@ -318,6 +318,30 @@ plain_front (suc n) [] h long = absurd (omega arith)
 plain_front (suc n) (zero ∷ name) h long = absurd (h 0 (omega arith) refl)
 plain_front (suc n) (suc b ∷ name) h long =
     ap (take (suc n)) (text_key-other b name) ∙ ap (λ l. suc b ∷ l) (plain_front n name (λ k l. h (suc k) (omega (arith, l))) (omega arith))
+
+four_bytes : (bytes : List ℕ) → 4 ≤ length bytes → from_be_bytes w32 (take 4 bytes) ≡ number_of 4 bytes
+unfolding number_of
+four_bytes [] long = absurd (omega (arith, long))
+four_bytes (a ∷ []) long = absurd (omega (arith, long))
+four_bytes (a ∷ b ∷ []) long = absurd (omega (arith, long))
+four_bytes (a ∷ b ∷ c ∷ []) long = absurd (omega (arith, long))
+four_bytes (a ∷ b ∷ c ∷ d ∷ bytes) long = omega arith
+
+-- the number of 4 bytes of a name, of which none is a zero
+pub four_front : (name chunk : List ℕ) (n : ℕ) → AreNoZeros name 4 → 4 ≤ length name → chunk ≡ take 4 name → n ≡ from_be_bytes w32 chunk → (4 ≤ length (text_key name)) × (n ≡ number_of 4 (text_key name))
+four_front name chunk n plain long is same =
+    let enough : 4 ≤ length (text_key name) = omega (arith, long, key_longer name) in
+    (enough, same ∙ ap (from_be_bytes w32) (is ∙ sym (plain_front 4 name plain long)) ∙ four_bytes (text_key name) enough)
+
+pub four_plain : (name chunk : List ℕ) → 4 ≤ length name → chunk ≡ take 4 name → get_or chunk 0 0 ≢ 0 → get_or chunk 1 0 ≢ 0 → get_or chunk 2 0 ≢ 0 → get_or chunk 3 0 ≢ 0 → AreNoZeros name 4
+four_plain name chunk long is p q r s = λ k l. subst (λ n. n ≢ 0) (ap (λ bytes. get_or bytes k 0) is ∙ get_or-take 4 name k 0 l) (each k l)
+  where
+    each : (k : ℕ) → k < 4 → get_or chunk k 0 ≢ 0
+    each zero l = p
+    each (suc zero) l = q
+    each (suc (suc zero)) l = r
+    each (suc (suc (suc zero))) l = s
+    each (suc (suc (suc (suc k)))) l = absurd (omega (arith, l))
 
 -- what is left of a text and of its key behind bytes that a name begins with too
 pub record Alike (n : ℕ) (name bytes text more : List ℕ) : Type 0 where

@@ -61,6 +61,23 @@ pub fn front_of(name: &[u8]) -> Front
     }
 }
 
+/// The front of a name by its first 4 bytes alone, which takes less time to make; `None` where it has fewer, or a zero
+/// among them.
+#[inline(always)]
+pub fn front_of_four(name: &[u8]) -> Option<Front>
+    ensures { IfSome result (λ front. IsFront name.now front × (front.low ≡ 32)) }
+{
+    let chunk = name.first_chunk::<4>()?;
+    if chunk[0] == 0 || chunk[1] == 0 || chunk[2] == 0 || chunk[3] == 0 {
+        return None;
+    }
+    Some(Front {
+        number: u64::from(u32::from_be_bytes(*chunk)),
+        low: 32,
+        size: 0,
+    })
+}
+
 // A front that isn't the whole key.
 #[inline(always)]
 fn first_bytes(number: u64, count: u32) -> Front

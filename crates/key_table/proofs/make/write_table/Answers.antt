@@ -5,7 +5,7 @@ use Rattle.key_walk.specs.Found.{members_len, IsNext}
 use Rattle.key_walk.specs.Open.{members}
 use Rattle.key_walk.proofs.Occurrence.{true_false}
 use Rattle.key_table.specs.Table.{in_two, table_mark, table_of_members}
-use Rattle.key_table.proofs.Temp.{preserves_on, retained, retained_by}
+use Rattle.key_text.proofs.Appending.{preserves_on, retained, retained_by}
 use Rattle.key_table.proofs.Walking.{Walked, all_walked, begun, first_walked, next_shorter, no_fault, stepped, table_left}
 use Rattle.key_table.proofs.Writing.{Completes, completes_on, lacks_left, runs_out}
 use Rattle.key_table.proofs.make.write_table.Goals as goal

@@ -1,10 +1,10 @@
 use Rattle.std.proofs.Common.{◌-◌, ◌/◌, ◌≤◌, length}
 use Rattle.key_walk.specs.Fronts.{IsNext}
 use Rattle.key_table.proofs.Searching.{Searching}
-use Rattle.key_table.proofs.search.search.Given as goal
+use Rattle.key_table.proofs.search.find_by_table.Given as goal
 
 abbrev pub invariant-halves : goal.invariant-halves
-invariant-halves g l = record {
+invariant-halves l = record {
   searches : Searching l.key l.table l.name l.low l.high;
   order : l.low ≤ l.high;
   within : l.high ≤ (length l.table - 3) / 2;
@@ -12,4 +12,4 @@ invariant-halves g l = record {
 }
 
 abbrev pub decreases-halves : goal.decreases-halves
-decreases-halves g l = l.high - l.low
+decreases-halves l = l.high - l.low
