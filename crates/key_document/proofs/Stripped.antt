@@ -11,7 +11,7 @@ use Rattle.jsonb_value.proofs.SortKeys.Kinds.{is_small, number_begins}
 use Rattle.jsonb_value.proofs.Trees.Runs.{heads}
 use Rattle.key_walk.specs.Open.{Open, items, members, is_object, open_key, end_key, name_key, opening_byte, IsScalar}
 use Rattle.key_walk.specs.Parts.{opened_tree}
-use Rattle.key_walk.proofs.Opens.{opens_key}
+use Rattle.key_walk.specs.Steps.{opens_key}
 use Rattle.key_document.specs.Document.{counts_at, counts_at_items, counts_at_members}
 use Rattle.key_document.specs.LeftOut.{is_null, items_without_nulls, members_without_nulls, without_nulls}
 use Rattle.key_document.specs.Numbering.{counts_open}

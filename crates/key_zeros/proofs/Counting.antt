@@ -6,7 +6,8 @@ use Rattle.std.proofs.lemmas.List.{get_or-set_same}
 use Rattle.key_value.specs.Readable.{IsReadableAt}
 use Rattle.key_walk.specs.Open.{Open, items, members, is_object, open_key, IsOpen, end_key, name_key, opening_byte, IsScalar}
 use Rattle.key_walk.specs.Parts.{opened_tree}
-use Rattle.key_walk.proofs.Opens.{opens_key, AreOpen, Stacks, no_end, stack_retained}
+use Rattle.key_walk.proofs.Opens.{no_end, stack_retained}
+use Rattle.key_walk.specs.Steps.{opens_key, AreOpen, Stacks}
 use Rattle.key_walk.proofs.Scalars.{array_open, object_open}
 use Rattle.key_value.proofs.FirstBytes.{no_key}
 use Rattle.jsonb_spec.specs.SortKey.{key_of, items_key, members_key, text_key}

@@ -3,7 +3,7 @@ use Rattle.std.proofs.lemmas.List.{length-set}
 use Rattle.key_value.proofs.Texts.{none_some, some_same}
 use Rattle.jsonb_spec.specs.SortKey.{key_of}
 use Rattle.key_walk.specs.Open.{is_object, end_key, name_key, open_key}
-use Rattle.key_walk.proofs.Opens.{opens_key}
+use Rattle.key_walk.specs.Steps.{opens_key}
 use Rattle.key_walk.proofs.Scalars.{scalar_there}
 use Rattle.key_zeros.proofs.Counting.{walk_begun, all_walked, end_there, end_passed, part_there, part_passed, part_entered, opening_there, scalar_numbers, value_some, behind_long}
 use Rattle.key_document.specs.Check.{most_at, most_open}

@@ -4,7 +4,7 @@ use Rattle.key_value.proofs.Texts.{none_some, some_same}
 use Rattle.jsonb_spec.specs.SortKey.{key_of}
 use Rattle.key_walk.specs.Open.{is_object, end_key, name_key, open_key, opening_byte}
 use Rattle.key_walk.specs.Parts.{opened_tree}
-use Rattle.key_walk.proofs.Opens.{opens_key}
+use Rattle.key_walk.specs.Steps.{opens_key}
 use Rattle.key_walk.proofs.Scalars.{scalar_there}
 use Rattle.key_text.proofs.Appending.{preserves_on, retained}
 use Rattle.key_zeros.proofs.Counting.{walk_begun, all_walked, end_there, end_passed, part_there, part_passed, part_entered, opening_there, value_some}
