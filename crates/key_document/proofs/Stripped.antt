@@ -22,7 +22,7 @@ use Rattle.key_document.proofs.Beside.{push_counts, push_key}
 use Rattle.key_document.proofs.Counts.{one_each}
 use Rattle.key_document.proofs.Numbering.{bytes_left, opened_bytes, over_bytes, part_bytes}
 use Rattle.key_document.proofs.Retained.{PassedNext, retains_begun}
-use Rattle.key_zeros.proofs.Counting.{IsOver, IsPart}
+use Rattle.key_walk.specs.Steps.{IsOver, IsPart}
 
 -- ---- what stays
 

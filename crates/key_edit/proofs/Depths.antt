@@ -1,14 +1,11 @@
 -- How deep the parts of an array or an object are, while its key is walked.
-use Rattle.std.proofs.Common.{◌≡◌, ℕ, zero, suc, ◌+◌, ◌<◌, ◌≤◌, ◌↔◌, ◌⊎◌, inl, inr, Bool, true, false, List, [], ◌∷◌, ◌++◌, Some, None, Result, Ok, Err, MatchResult, MatchBool, get_or, set, length, refl, sym, ap, subst, ◌∙◌, arith, append_assoc, append-nil}
+use Rattle.std.proofs.Common.{◌≡◌, ℕ, zero, suc, ◌+◌, ◌<◌, ◌≤◌, ◌↔◌, ◌⊎◌, inl, inr, Bool, true, false, List, [], ◌∷◌, Result, Ok, Err, MatchResult, MatchBool, length, refl, sym, subst, arith}
 use Rattle.std.specs.Bool.{⊤}
-use Rattle.std.proofs.lemmas.List.{get_or-set_same}
 use Rattle.key_value.specs.Readable.{IsAnyNumber, IsReadableAt}
-use Rattle.key_value.proofs.Texts.{none_some, some_same}
 use Rattle.key_walk.specs.declared.find.NoKey.{NoKey}
-use Rattle.key_walk.specs.Open.{Open, items, members, is_object, open_key, IsOpen, end_key, name_key, IsScalar}
+use Rattle.key_walk.specs.Open.{Open, items, members, IsScalar}
 use Rattle.key_walk.specs.Parts.{opened_tree}
 use Rattle.key_walk.specs.Steps.{IsOver, IsPart}
-use Rattle.jsonb_spec.specs.SortKey.{key_of}
 use Rattle.jsonb_spec.specs.Text.Range.{IsWithin}
 use Rattle.jsonb_spec.specs.Tree.{Tree, null, boolean, string, number, array, object, no_trees, more_trees, no_members, more_members}
 use Rattle.key_edit.specs.Spots.{OpenWithin}
@@ -59,13 +56,15 @@ over_fits (members (more_members k t ms)) depth_left h = absurd h
 
 part_fits : (o : Open) (name : List ℕ) (value : Tree) (others : Open) (depth_left : ℕ) → IsPart o name value others → (IsWithin IsAnyNumber value depth_left × OpenWithin others depth_left) ↔ OpenWithin o depth_left
 part_fits (items no_trees) name value others depth_left p = absurd p
-part_fits (items (more_trees t ts)) name value others depth_left p =
-    (λ h. (subst (λ v. IsWithin IsAnyNumber v depth_left) p.1 h.0, subst (λ x. OpenWithin x depth_left) p.2 h.1),
-    λ h. (subst (λ v. IsWithin IsAnyNumber v depth_left) (sym p.1) h.0, subst (λ x. OpenWithin x depth_left) (sym p.2) h.1))
+part_fits (items (more_trees t ts)) name value others depth_left p = (
+  λ h. (subst (λ v. IsWithin IsAnyNumber v depth_left) p.1 h.0, subst (λ x. OpenWithin x depth_left) p.2 h.1),
+  λ h. (subst (λ v. IsWithin IsAnyNumber v depth_left) (sym p.1) h.0, subst (λ x. OpenWithin x depth_left) (sym p.2) h.1),
+)
 part_fits (members no_members) name value others depth_left p = absurd p
-part_fits (members (more_members k t ms)) name value others depth_left p =
-    (λ h. (subst (λ v. IsWithin IsAnyNumber v depth_left) p.1 h.0, subst (λ x. OpenWithin x depth_left) p.2 h.1),
-    λ h. (subst (λ v. IsWithin IsAnyNumber v depth_left) (sym p.1) h.0, subst (λ x. OpenWithin x depth_left) (sym p.2) h.1))
+part_fits (members (more_members k t ms)) name value others depth_left p = (
+  λ h. (subst (λ v. IsWithin IsAnyNumber v depth_left) p.1 h.0, subst (λ x. OpenWithin x depth_left) p.2 h.1),
+  λ h. (subst (λ v. IsWithin IsAnyNumber v depth_left) (sym p.1) h.0, subst (λ x. OpenWithin x depth_left) (sym p.2) h.1),
+)
 
 module _ (whole : Open) (inner : ℕ) (o : Open) (under : List Open) (f : FitsLeft whole inner (o ∷ under)) where
   -- behind an end

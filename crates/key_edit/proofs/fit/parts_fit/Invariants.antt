@@ -1,4 +1,4 @@
-use Rattle.std.proofs.Common.{◌≡◌, ◌≤◌, ◌+◌, ◌++◌, List, ℕ, length}
+use Rattle.std.proofs.Common.{◌≡◌, ◌++◌, List, ℕ, length}
 use Rattle.key_walk.specs.Open.{Open, is_object, open_key, IsOpen}
 use Rattle.key_walk.proofs.Stepping.{Walking}
 use Rattle.key_edit.proofs.Depths.{FitsLeft}
