@@ -1,19 +1,13 @@
 -- How many numbers a value has, by the first byte of its key.
-use Rattle.std.proofs.Common.{◌≡◌, ℕ, zero, suc, ◌+◌, ◌<◌, ◌≤◌, ◌⊎◌, inl, inr, Bool, true, false, ◌&&◌, if◌then◌else◌, List, [], ◌∷◌, ◌++◌, Some, None, get_or, set, length, refl, sym, ap, subst, ◌∙◌, arith, append_assoc, append-nil, length-append}
-use Rattle.std.specs.Bool.{⊤, nat_lt}
+use Rattle.std.proofs.Common.{◌≡◌, ℕ, ◌+◌, ◌<◌, ◌≤◌, ◌⊎◌, inl, inr, Bool, true, false, ◌&&◌, if◌then◌else◌, List, ◌∷◌, ◌++◌, length, refl, sym, ap, ◌∙◌, arith, length-append}
+use Rattle.std.specs.Bool.{nat_lt}
 use Rattle.std.proofs.lemmas.Bool.{cond-false, lt-ltb, le-ltb}
-use Rattle.std.proofs.lemmas.List.{get_or-set_same}
 use Rattle.key_value.specs.Readable.{IsReadableAt}
-use Rattle.key_walk.specs.Open.{Open, items, members, is_object, open_key, IsOpen, end_key, name_key, opening_byte, IsScalar}
-use Rattle.key_walk.specs.Parts.{opened_tree}
-use Rattle.key_walk.proofs.Opens.{no_end, stack_retained}
-use Rattle.key_walk.specs.Steps.{opens_key, AreOpen, Stacks}
-use Rattle.key_walk.proofs.Scalars.{array_open, object_open}
-use Rattle.key_value.proofs.FirstBytes.{no_key}
-use Rattle.jsonb_spec.specs.SortKey.{key_of, items_key, members_key, text_key}
+use Rattle.key_walk.specs.Open.{IsScalar}
+use Rattle.jsonb_spec.specs.SortKey.{key_of, text_key}
 use Rattle.jsonb_value.proofs.SortKeys.Kinds.{is_small, number_begins}
-use Rattle.jsonb_value.proofs.Trees.Runs.{heads, tails}
-use Rattle.jsonb_spec.specs.Tree.{Tree, null, boolean, string, number, array, object, no_trees, more_trees, no_members, more_members}
+use Rattle.jsonb_value.proofs.Trees.Runs.{heads}
+use Rattle.jsonb_spec.specs.Tree.{Tree, null, boolean, string, number, array, object}
 use Rattle.key_zeros.specs.PartsOf.{numbers_in, number_count}
 
 -- one for the first byte of a number
