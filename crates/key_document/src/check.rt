@@ -184,7 +184,10 @@ fn parts_fit(object: bool, bytes: &[u8], begun: &ZerosDue<'_>) -> bool
     let mut steps = Steps::over(object, bytes);
     let mut due = *begun;
     'steps: while due.at > 0 {
-        let Ok(Some(step)) = steps.next() else {
+        let Ok(passed) = steps.next() else {
+            return false;
+        };
+        let Some(step) = passed else {
             return false;
         };
         if let Step::Scalar(scalar) = step {
