@@ -14,7 +14,7 @@ use Rattle.key_walk.specs.Open.{Open, items, members, is_object, open_key, end_k
 use Rattle.key_walk.specs.Parts.{opened_tree}
 use Rattle.key_zeros.specs.PartsOf.{numbers_in}
 use Rattle.key_zeros.specs.Zeros.{in_sevens, zeros_of}
-use Rattle.key_zeros.proofs.Counting.{IsOver, IsPart}
+use Rattle.key_walk.specs.Steps.{IsOver, IsPart}
 use Rattle.key_zeros.proofs.Splitting.{entry_first, plain_first}
 use Rattle.key_zeros.proofs.Taking.{counts_long, one_pending, pending_occurs}
 

@@ -21,7 +21,7 @@ use Rattle.key_text.specs.FewestDigits.{spare_zeros}
 use Rattle.key_zeros.specs.Numbers.{Pends}
 use Rattle.key_zeros.specs.PartsOf.{numbers_in}
 use Rattle.key_zeros.specs.Zeros.{counts_in, counts_in_items, counts_in_members, entry_of, plain_behind, zeros_of}
-use Rattle.key_zeros.proofs.Counting.{IsOver, IsPart}
+use Rattle.key_walk.specs.Steps.{IsOver, IsPart}
 
 -- ---- bytes without zeros are passed
 

@@ -1,5 +1,5 @@
 -- What stays of arrays and objects that are open where nulls are left out.
-use Rattle.std.proofs.Common.{◌≡◌, ℕ, zero, suc, ◌==◌, Bool, true, false, ◌&&◌, ◌||◌, if◌then◌else◌, List, [], ◌∷◌, ◌++◌, length, replicate, refl, sym, ap, ap₂, subst, ◌∙◌, arith, append-nil, append_assoc, length-append}
+use Rattle.std.proofs.Common.{◌≡◌, ℕ, zero, suc, ◌==◌, Bool, true, false, ◌&&◌, ◌||◌, if◌then◌else◌, List, [], ◌∷◌, ◌++◌, length, replicate, None, Ok, refl, sym, ap, ap₂, subst, ◌∙◌, arith, append-nil, append_assoc, length-append}
 use Rattle.std.proofs.lemmas.Bool.{ne_eqb}
 use Rattle.std.proofs.lemmas.List.{length-replicate}
 use Rattle.key_value.specs.Readable.{IsAnyNumber, IsReadableAt}
@@ -11,7 +11,9 @@ use Rattle.jsonb_value.proofs.SortKeys.Kinds.{is_small, number_begins}
 use Rattle.jsonb_value.proofs.Trees.Runs.{heads}
 use Rattle.key_walk.specs.Open.{Open, items, members, is_object, open_key, end_key, name_key, opening_byte, IsScalar}
 use Rattle.key_walk.specs.Parts.{opened_tree}
-use Rattle.key_walk.proofs.Opens.{opens_key}
+use Rattle.key_walk.specs.Steps.{IsAmid, StepsOver, opens_key}
+use Rattle.key_walk.specs.declared.steps.Steps.{Steps}
+use Rattle.key_walk.proofs.Stepping.{Walking}
 use Rattle.key_document.specs.Document.{counts_at, counts_at_items, counts_at_members}
 use Rattle.key_document.specs.LeftOut.{is_null, items_without_nulls, members_without_nulls, without_nulls}
 use Rattle.key_document.specs.Numbering.{counts_open}
@@ -22,7 +24,7 @@ use Rattle.key_document.proofs.Beside.{push_counts, push_key}
 use Rattle.key_document.proofs.Counts.{one_each}
 use Rattle.key_document.proofs.Numbering.{bytes_left, opened_bytes, over_bytes, part_bytes}
 use Rattle.key_document.proofs.Retained.{PassedNext, retains_begun}
-use Rattle.key_zeros.proofs.Counting.{IsOver, IsPart}
+use Rattle.key_walk.specs.Steps.{IsOver, IsPart}
 
 -- ---- what stays
 
@@ -252,3 +254,11 @@ mutual
   bare_members_within b (more_members k t ms) depth w =
       let rest = bare_members_within b ms depth w.1 in
       picked (λ us. HaveWithin IsAnyNumber us depth) (is_null t) (members_without_nulls b ms) (more_members k (without_nulls b t) (members_without_nulls b ms)) rest (bare_within b t depth w.0, rest)
+
+-- at the end of the walk nothing is left
+pub ended : (Holds : List Open → Type 0) (old new : Steps) → (w : Walking Holds [] old) → StepsOver w.opens [] old (Ok None) new → old.rest.now ≡ []
+ended Holds old new w law = go w.opens w.amid law
+  where
+    go : (os : List Open) → IsAmid os [] old → StepsOver os [] old (Ok None) new → old.rest.now ≡ []
+    go [] a s = a.occurs
+    go (o ∷ under) a s = absurd s

@@ -15,7 +15,8 @@ use crate::document::{ZEROS_MARK, split_document};
 use jsonb_value::sort_key::kind;
 use key_value::number::{invert_if, read_exponent};
 use key_walk::is_sort_key;
-use key_walk::skip::{MAX_DEPTH, after_end, after_name, after_scalar, kind_at, opening, outermost};
+use key_walk::skip::opening;
+use key_walk::steps::{Step, Steps};
 use key_zeros::entry::next_entry;
 use key_zeros::number_count;
 
@@ -180,50 +181,23 @@ fn parts_fit(object: bool, bytes: &[u8], begun: &ZerosDue<'_>) -> bool
     ensures { (o : Open) → is_object o ≡ object → IsOpen o 511 → bytes.now ≡ open_key o → IsCounted begun.now
         → IsTrue result ↔ Fits begun.now (most_open o) }
 {
-    let mut objects = outermost(object);
-    let mut depth: usize = 1;
+    let mut steps = Steps::over(object, bytes);
     let mut due = *begun;
-    let mut rest = bytes;
-    'parts: loop {
-        if due.at == 0 {
-            return true;
-        }
-        let Some(top) = depth.checked_sub(1) else {
+    'steps: while due.at > 0 {
+        let Ok(passed) = steps.next() else {
             return false;
         };
-        let inside = kind_at(&objects, top);
-        if let Some(others) = after_end(inside, rest) {
-            depth = top;
-            rest = others;
-            continue;
-        }
-        let Some(value) = after_name(inside, rest) else {
+        let Some(step) = passed else {
             return false;
         };
-        let Some((first, others)) = value.split_first() else {
-            return false;
-        };
-        match opening(*first) {
-            Some(inner) => {
-                if depth == MAX_DEPTH {
-                    return false;
-                }
-                objects[depth] = inner;
-                depth += 1;
-                rest = others;
-            }
-            None => {
-                let Some(after) = after_scalar(value) else {
-                    return false;
-                };
-                let Some(next) = pass_scalar(*first, value, &due) else {
-                    return false;
-                };
-                due = next;
-                rest = after;
-            }
+        if let Step::Scalar(scalar) = step {
+            let Some(next) = pass_scalar(scalar.first, scalar.value, &due) else {
+                return false;
+            };
+            due = next;
         }
     }
+    true
 }
 
 // Passes a value that is no array and no object, from whose key on the bytes are, and whose first byte is passed too.

@@ -18,7 +18,8 @@ use crate::error::DocumentError;
 use crate::retain::{Output, Retaining, pass_bytes, write_rest};
 use crate::zeros::all_left;
 use jsonb_value::sort_key::kind;
-use key_walk::skip::{MAX_DEPTH, after_end, after_name, after_scalar, kind_at, opening, outermost};
+use key_walk::skip::opening;
+use key_walk::steps::{Step, Steps};
 
 /// Appends the document of the value without its members that are null, at all depths, and without the items that are
 /// null where `in_arrays` is true. A null that is the whole value stays, and so does an object or an array of which
@@ -126,45 +127,15 @@ fn write_parts(
         → WritesAll begun.now.output (without_nulls in_arrays (opened_tree o)) result out.old out.new }
     ensures preserves { Preserves out.old out.new }
 {
-    let mut objects = outermost(object);
-    let mut depth: usize = 1;
+    let mut steps = Steps::over(object, bytes);
     let mut retaining = *begun;
-    let mut rest = bytes;
-    'parts: loop {
-        let Some(top) = depth.checked_sub(1) else {
-            return write_rest(&retaining, out);
-        };
-        let inside = kind_at(&objects, top);
-        if let Some(others) = after_end(inside, rest) {
-            depth = top;
-            rest = others;
-            continue;
-        }
-        let Some(value) = after_name(inside, rest) else {
-            return Err(DocumentError::NoDocument);
-        };
-        let Some((first, others)) = value.split_first() else {
-            return Err(DocumentError::NoDocument);
-        };
-        match opening(*first) {
-            Some(inner) => {
-                if depth == MAX_DEPTH {
-                    return Err(DocumentError::NoDocument);
-                }
-                objects[depth] = inner;
-                depth += 1;
-                rest = others;
-            }
-            None => {
-                let Some(after) = after_scalar(value) else {
-                    return Err(DocumentError::NoDocument);
-                };
-                let goes = is_left_out(*first, inside, in_arrays);
-                retaining = pass_bytes(&retaining, goes, rest, after, out)?;
-                rest = after;
-            }
+    'steps: while let Some(step) = steps.next()? {
+        if let Step::Scalar(scalar) = step {
+            let goes = is_left_out(scalar.first, scalar.is_member, in_arrays);
+            retaining = pass_bytes(&retaining, goes, scalar.part, scalar.after, out)?;
         }
     }
+    write_rest(&retaining, out)
 }
 
 // Whether a part goes whose key begins with this byte.

@@ -14,7 +14,8 @@ ghost use Rattle.key_zeros.specs.Zeros.{counts_in, zeros_in};
 
 use crate::error::DocumentError;
 use crate::zeros::{copy, pass};
-use key_walk::skip::{MAX_DEPTH, after_end, after_name, after_scalar, kind_at, opening, outermost};
+use key_walk::skip::opening;
+use key_walk::steps::{Step, Steps};
 use key_zeros::number_count;
 
 /// What is known behind the first byte of a number's key.
@@ -67,44 +68,14 @@ fn append_parts(
         → AppendsZeros result out.old out.new (to_write begun.now (numbers_open o)) }
     ensures preserves { Preserves out.old out.new }
 {
-    let mut objects = outermost(object);
-    let mut depth: usize = 1;
+    let mut steps = Steps::over(object, bytes);
     let mut passing = *begun;
-    let mut rest = bytes;
-    'parts: loop {
-        let Some(top) = depth.checked_sub(1) else {
-            return Ok(());
-        };
-        let inside = kind_at(&objects, top);
-        if let Some(others) = after_end(inside, rest) {
-            depth = top;
-            rest = others;
-            continue;
-        }
-        let Some(value) = after_name(inside, rest) else {
-            return Err(DocumentError::NoDocument);
-        };
-        let Some((first, others)) = value.split_first() else {
-            return Err(DocumentError::NoDocument);
-        };
-        match opening(*first) {
-            Some(inner) => {
-                if depth == MAX_DEPTH {
-                    return Err(DocumentError::NoDocument);
-                }
-                objects[depth] = inner;
-                depth += 1;
-                rest = others;
-            }
-            None => {
-                let Some(after) = after_scalar(value) else {
-                    return Err(DocumentError::NoDocument);
-                };
-                passing = pass_scalar(*first, value.len(), &passing, out)?;
-                rest = after;
-            }
+    'steps: while let Some(step) = steps.next()? {
+        if let Step::Scalar(scalar) = step {
+            passing = pass_scalar(scalar.first, scalar.value.len(), &passing, out)?;
         }
     }
+    Ok(())
 }
 
 // Passes a value that is no array and no object, whose key begins with this byte, from where on so many bytes are left.

@@ -2,7 +2,8 @@
 use Rattle.std.proofs.Common.{◌≡◌, ℕ, zero, suc, ◌+◌, ◌<◌, ◌≤◌, ◌⊎◌, inl, inr, Bool, true, false, List, [], ◌∷◌, ◌++◌, Some, None, get_or, set, length, refl, sym, ap, subst, ◌∙◌, arith, append_assoc, append-nil}
 use Rattle.key_walk.specs.Open.{Open, items, members, is_object, open_key, IsOpen, end_key}
 use Rattle.std.proofs.lemmas.List.{get_or-set_same}
-use Rattle.key_walk.proofs.Opens.{opens_key, AreOpen, Stacks, Next, no_end, stack_retained}
+use Rattle.key_walk.proofs.Opens.{Next, no_end, stack_retained}
+use Rattle.key_walk.specs.Steps.{opens_key, AreOpen, Stacks}
 use Rattle.jsonb_spec.specs.SortKey.{key_of, items_key, members_key, text_key}
 use Rattle.jsonb_spec.specs.Text.Appending.{comma_before}
 use Rattle.jsonb_spec.specs.Tree.{no_trees, more_trees, no_members, more_members}

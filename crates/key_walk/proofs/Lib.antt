@@ -3,6 +3,7 @@ pub mod AfterDigits
 pub mod Scalars
 pub mod ByFirstByte
 pub mod Opens
+pub mod Stepping
 pub mod Finds
 pub mod Occurrence
 pub mod PlainPaths

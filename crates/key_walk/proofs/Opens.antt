@@ -1,30 +1,13 @@
 -- Arrays and objects that are open while a key is walked, and what is left of their keys.
 use Rattle.std.proofs.Common.{◌≡◌, ◌≢◌, ℕ, zero, suc, ◌+◌, ◌<◌, ◌≤◌, ◌⊎◌, inl, inr, Bool, true, false, List, [], ◌∷◌, ◌++◌, Some, None, get_or, set, length, refl, sym, ap, subst, ◌∙◌, arith, append_assoc, append-nil}
-use Rattle.std.specs.Bool.{⊤}
 use Rattle.std.proofs.lemmas.List.{get_or-set_same, get_or-set_other}
 use Rattle.key_value.specs.Readable.{IsReadableAt}
 use Rattle.key_value.proofs.Items.{no_zero}
 use Rattle.key_value.proofs.Members.{no_pair}
 use Rattle.key_walk.specs.Open.{Open, items, members, is_object, open_key, IsOpen, end_key, name_key}
+use Rattle.key_walk.specs.Steps.{AreOpen, Stacks, opens_key}
 use Rattle.jsonb_spec.specs.SortKey.{key_of}
 use Rattle.jsonb_spec.specs.Tree.{Tree, no_trees, more_trees, no_members, more_members}
-
--- what is left of those that are open, the innermost first
-abbrev pub opens_key : List Open → List ℕ
-opens_key [] = []
-opens_key (o ∷ os) = open_key o ++ opens_key os
-
--- each is well-formed, with as many levels left
-abbrev pub AreOpen : List Open → ℕ → Type 0
-AreOpen [] left = ⊤
-AreOpen (o ∷ os) left = IsOpen o left × AreOpen os (suc left)
-
--- which of them are objects is in a list, the outermost first
-abbrev pub Stacks : List Open → List Bool → ℕ → Type 0
-Stacks [] objects zero = ⊤
-Stacks [] objects (suc depth) = ⊥
-Stacks (o ∷ os) objects zero = ⊥
-Stacks (o ∷ os) objects (suc depth) = (get_or objects depth false ≡ is_object o) × Stacks os objects depth
 
 pub record OpenLeft (objects : List Bool) (depth : ℕ) (rest more : List ℕ) : Type 0 where
   pub opens : List Open

@@ -10,6 +10,7 @@ pub mod find;
 pub mod names;
 pub mod part;
 pub mod skip;
+pub mod steps;
 pub mod text;
 pub mod walk;
 

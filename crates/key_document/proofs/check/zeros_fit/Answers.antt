@@ -3,7 +3,8 @@ use Rattle.jsonb_spec.specs.SortKey.{key_of}
 use Rattle.key_value.proofs.FirstBytes.{no_key}
 use Rattle.key_walk.specs.Open.{open_key}
 use Rattle.key_walk.proofs.Scalars.{opened_at_top, scalar_there}
-use Rattle.key_zeros.proofs.Counting.{opening_there, scalar_numbers}
+use Rattle.key_zeros.proofs.Counting.{scalar_numbers}
+use Rattle.key_walk.proofs.Stepping.{opening_there}
 use Rattle.key_document.specs.Check.{Fits, most_at, most_open}
 use Rattle.key_document.proofs.Checked.{refused}
 use Rattle.key_document.proofs.Fitting.{most_each, none_left, none_passed, opened_most}

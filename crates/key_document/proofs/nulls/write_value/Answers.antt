@@ -3,7 +3,7 @@ use Rattle.key_value.proofs.FirstBytes.{no_key}
 use Rattle.jsonb_spec.specs.SortKey.{key_of}
 use Rattle.key_walk.specs.Open.{open_key}
 use Rattle.key_walk.proofs.Scalars.{opened_at_top, scalar_there}
-use Rattle.key_zeros.proofs.Counting.{opening_there}
+use Rattle.key_walk.proofs.Stepping.{opening_there}
 use Rattle.key_document.specs.Document.{counts_at}
 use Rattle.key_document.specs.LeftOut.{without_nulls}
 use Rattle.key_document.specs.Retaining.{AreAhead, WritesAll}

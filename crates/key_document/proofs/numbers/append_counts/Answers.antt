@@ -8,7 +8,8 @@ use Rattle.key_document.proofs.Joining.{lacks_zeros}
 use Rattle.key_document.proofs.Numbering.{alone_due, parts_due, parts_numbers, scalar_alone}
 use Rattle.key_document.proofs.numbers.append_counts.Goals as goal
 use Rattle.key_zeros.specs.Zeros.{counts_in, zeros_in, zeros_of}
-use Rattle.key_zeros.proofs.Counting.{opening_there, scalar_numbers}
+use Rattle.key_zeros.proofs.Counting.{scalar_numbers}
+use Rattle.key_walk.proofs.Stepping.{opening_there}
 
 pub returns-in_default-clause-appended : goal.returns-in_default-clause-appended
 returns-in_default-clause-appended c = λ t r e a. absurd (no_key 512 t r c.args.key.now [] (e ∙ sym (append-nil (key_of t))) c.in_default.ensures.cases)

@@ -1,110 +1,75 @@
-use Rattle.std.proofs.Common.{◌≡◌, ◌+◌, Bool, [], ◌∷◌, ◌++◌, length, sym, ap, ◌∙◌, arith, append-nil, length-append}
-use Rattle.std.proofs.lemmas.List.{length-set}
-use Rattle.key_value.proofs.Texts.{none_some, some_same}
+use Rattle.std.proofs.Common.{◌≡◌, ◌+◌, ◌++◌, ◌∷◌, [], List, ℕ, Ok, Some, length, refl, sym, ap, subst, ◌∙◌, arith, append-nil, length-append}
 use Rattle.jsonb_spec.specs.SortKey.{key_of}
-use Rattle.key_walk.specs.Open.{is_object, end_key, name_key, open_key}
-use Rattle.key_walk.proofs.Opens.{opens_key}
-use Rattle.key_walk.proofs.Scalars.{scalar_there}
+use Rattle.key_walk.specs.Open.{Open, end_key, is_object, name_key, open_key, opening_byte}
+use Rattle.key_walk.specs.Steps.{IsAmid, StepsOver}
+use Rattle.key_walk.specs.declared.steps.Step.TheVariants as step
+use Rattle.key_walk.proofs.Stepping.{all_passed, edge_passed, no_error, value_passed}
 use Rattle.key_text.proofs.Appending.{preserves_on, retained}
-use Rattle.key_zeros.proofs.Counting.{walk_begun, all_walked, end_there, end_passed, part_there, part_passed, part_entered, opening_there, scalar_numbers, value_some, behind_long}
+use Rattle.key_zeros.proofs.Counting.{behind_long, scalar_numbers}
 use Rattle.key_document.specs.Numbering.{numbers_open, to_write}
 use Rattle.key_document.proofs.Joining.{lacks_zeros}
 use Rattle.key_document.proofs.Numbering.{Todo, all_done, at_value, end_done, numbers_left, opening_done, todo_begun, value_done, value_fits}
 use Rattle.key_document.proofs.numbers.append_parts.Goals as goal
 
-pub parts-init : goal.parts-init
-parts-init c = record {
-  todo = λ o is h e d. walk_begun (Todo (to_write c.args.begun.now (numbers_open o)) c.args.out.now.items c.args.out.now.items c.args.begun.now (length c.args.bytes.now)) c.outermost-objects.result c.args.object c.args.bytes.now [] o c.outermost-objects.ensures.first is h (e ∙ sym (append-nil (open_key o)))
-      (todo_begun c.args.begun.now (length c.args.bytes.now) o c.args.out.now.items d);
+pub steps-init : goal.steps-init
+steps-init c = record {
+  todo = λ o is h e d. record {
+    opens = o ∷ [];
+    amid = c.over-steps.ensures.begun o is h [] (e ∙ sym (append-nil (open_key o)));
+    holds = subst (λ rest. Todo (to_write c.args.begun.now (numbers_open o)) c.args.out.now.items c.args.out.now.items c.args.begun.now (length rest) (o ∷ [])) (sym c.over-steps.ensures.rest)
+        (todo_begun c.args.begun.now (length c.args.bytes.now) o c.args.out.now.items d);
+  };
   preserves = retained c.args.out.now;
-  deep = omega arith;
-  size = c.outermost-objects.ensures.size;
 }
 
-pub returns-in_default-clause-appended : goal.returns-in_default-clause-appended
-returns-in_default-clause-appended c = λ o is h e d.
-    let x = all_walked c.parts.objects c.parts.rest.now [] c.parts.depth (Todo (to_write c.args.begun.now (numbers_open o)) c.args.out.now.items c.parts.out.items c.parts.passing (length c.parts.rest.now)) (omega (arith, c.in_default.ensures)) (c.parts.invariant.todo o is h e d) in
-    all_done (to_write c.args.begun.now (numbers_open o)) c.args.out.now.items c.parts.out.items c.parts.passing (length c.parts.rest.now) x.1
+pub returns-in_err-step-clause-appended : goal.returns-in_err-step-clause-appended
+returns-in_err-step-clause-appended c = λ o is h e d.
+    absurd (no_error _ [] c.steps.steps c.next.new.self (c.steps.invariant.todo o is h e d) c.in_err-step.field-0.0 c.in_err-step.ensures.steps)
 
-pub parts-preserved-in-Some-after_end : goal.parts-preserved-in-Some-after_end
-parts-preserved-in-Some-after_end c = record {
+pub steps-preserved : goal.steps-preserved
+steps-preserved c = record {
   todo = λ o is h e d.
-      let x = end_there c.parts.objects c.parts.depth c.in-Some.top c.parts.rest.now [] c.kind_at-inside.result (Todo (to_write c.args.begun.now (numbers_open o)) c.args.out.now.items c.parts.out.items c.parts.passing (length c.parts.rest.now)) (omega (arith, c.in-Some.ensures)) c.kind_at-inside.ensures (c.parts.invariant.todo o is h e d) c.in-Some-after_end.others.now c.in-Some-after_end.ensures.some in
-      end_passed c.parts.objects c.in-Some.top c.parts.rest.now [] c.in-Some-after_end.others.now c.kind_at-inside.result (Todo (to_write c.args.begun.now (numbers_open o)) c.args.out.now.items c.parts.out.items c.parts.passing (length c.parts.rest.now)) (Todo (to_write c.args.begun.now (numbers_open o)) c.args.out.now.items c.parts.out.items c.parts.passing (length c.in-Some-after_end.others.now)) x c.in-Some-after_end.ensures.found
-      (end_done (to_write c.args.begun.now (numbers_open o)) c.args.out.now.items c.parts.out.items c.parts.passing (length c.parts.rest.now) (length c.in-Some-after_end.others.now) x.over x.under x.is_over
-      (behind_long c.parts.rest.now (end_key (is_object x.over)) c.in-Some-after_end.others.now (c.in-Some-after_end.ensures.some ∙ ap (λ k. end_key k ++ c.in-Some-after_end.others.now) (sym x.is))) x.holds);
-  preserves = c.parts.invariant.preserves;
-  deep = omega (arith, c.parts.invariant.deep, c.in-Some.ensures);
-  size = c.parts.invariant.size;
+      edge_passed (Todo (to_write c.args.begun.now (numbers_open o)) c.args.out.now.items c.steps.out.items c.steps.passing (length c.steps.steps.rest.now)) [] c.steps.steps c.next.new.self (c.steps.invariant.todo o is h e d)
+      (Todo (to_write c.args.begun.now (numbers_open o)) c.args.out.now.items c.steps.out.items c.steps.passing (length c.next.new.self.rest.now))
+      (subst (λ r. (opens : List Open) (behind : List ℕ) → IsAmid opens behind c.steps.steps → StepsOver opens behind c.steps.steps (Ok r) c.next.new.self) (c.in-Some.is ∙ ap Some c.in_default-step.is) c.in_ok-step.ensures.steps)
+      (λ p under x t. end_done (to_write c.args.begun.now (numbers_open o)) c.args.out.now.items c.steps.out.items c.steps.passing (length c.steps.steps.rest.now) (length c.next.new.self.rest.now) p under x.is_over (behind_long c.steps.steps.rest.now (end_key (is_object p)) c.next.new.self.rest.now x.passed) t)
+      (λ p under x t. opening_done (to_write c.args.begun.now (numbers_open o)) c.args.out.now.items c.steps.out.items c.steps.passing (length c.steps.steps.rest.now) (length c.next.new.self.rest.now) p x.name x.value x.others x.inside under x.is_part x.whole
+      (behind_long c.steps.steps.rest.now (name_key (is_object p) x.name) (opening_byte (is_object x.inside) ∷ c.next.new.self.rest.now) x.passed) t);
+  preserves = c.steps.invariant.preserves;
 }
 
-pub returns-in_default-after_name-clause-appended : goal.returns-in_default-after_name-clause-appended
-returns-in_default-after_name-clause-appended c = λ o is h e d.
-    let n = part_there c.parts.objects c.parts.depth c.in-Some.top c.parts.rest.now [] c.kind_at-inside.result (Todo (to_write c.args.begun.now (numbers_open o)) c.args.out.now.items c.parts.out.items c.parts.passing (length c.parts.rest.now)) (omega (arith, c.in-Some.ensures)) c.kind_at-inside.ensures (c.parts.invariant.todo o is h e d) c.in_default-after_end.ensures.found in
-    absurd (none_some _ (c.in_default-after_name.ensures.found n.name _ n.occurs))
-
-pub returns-in_default-split_first-clause-appended : goal.returns-in_default-split_first-clause-appended
-returns-in_default-split_first-clause-appended c = λ o is h e d.
-    let n = part_there c.parts.objects c.parts.depth c.in-Some.top c.parts.rest.now [] c.kind_at-inside.result (Todo (to_write c.args.begun.now (numbers_open o)) c.args.out.now.items c.parts.out.items c.parts.passing (length c.parts.rest.now)) (omega (arith, c.in-Some.ensures)) c.kind_at-inside.ensures (c.parts.invariant.todo o is h e d) c.in_default-after_end.ensures.found in
-    let value = some_same c.in-Some-after_name.value.now _ (c.in-Some-after_name.ensures.found n.name _ n.occurs) in
-    absurd (value_some n.left n.value n.readable c.in-Some-after_name.value.now _ value c.in_default-split_first.ensures.cases)
-
-pub returns-then-depth-eq-MAX_DEPTH-clause-appended : goal.returns-then-depth-eq-MAX_DEPTH-clause-appended
-returns-then-depth-eq-MAX_DEPTH-clause-appended c = λ o is h e d.
-    let n = part_there c.parts.objects c.parts.depth c.in-Some.top c.parts.rest.now [] c.kind_at-inside.result (Todo (to_write c.args.begun.now (numbers_open o)) c.args.out.now.items c.parts.out.items c.parts.passing (length c.parts.rest.now)) (omega (arith, c.in-Some.ensures)) c.kind_at-inside.ensures (c.parts.invariant.todo o is h e d) c.in_default-after_end.ensures.found in
-    let value = some_same c.in-Some-after_name.value.now _ (c.in-Some-after_name.ensures.found n.name _ n.occurs) in
-    let x = opening_there n.left n.value n.readable c.in-Some-split_first.first.now c.in-Some-split_first.others.now c.in-Some-after_name.value.now _ c.in-Some-split_first.ensures.cases.0 value c.in-Some-opening.inner c.in-Some-opening.ensures in
-    absurd (omega (arith, n.levels, x.deeper, c.if-depth-eq-MAX_DEPTH.true))
-
-pub parts-preserved-in-Some-opening : goal.parts-preserved-in-Some-opening
-parts-preserved-in-Some-opening c = record {
+pub steps-preserved-in-Scalar : goal.steps-preserved-in-Scalar
+steps-preserved-in-Scalar c = record {
   todo = λ o is h e d.
-      let n = part_there c.parts.objects c.parts.depth c.in-Some.top c.parts.rest.now [] c.kind_at-inside.result (Todo (to_write c.args.begun.now (numbers_open o)) c.args.out.now.items c.parts.out.items c.parts.passing (length c.parts.rest.now)) (omega (arith, c.in-Some.ensures)) c.kind_at-inside.ensures (c.parts.invariant.todo o is h e d) c.in_default-after_end.ensures.found in
-      let value = some_same c.in-Some-after_name.value.now _ (c.in-Some-after_name.ensures.found n.name _ n.occurs) in
-      let named : length c.parts.rest.now ≡ length (name_key (is_object n.innermost) n.name) + length c.in-Some-after_name.value.now = omega (arith, ap length n.occurs, ap length value, length-append (name_key c.kind_at-inside.result n.name) (key_of n.value ++ (opens_key (n.others ∷ n.under) ++ [])), ap (λ (x : Bool). length (name_key x n.name)) n.is) in
-      let x = opening_there n.left n.value n.readable c.in-Some-split_first.first.now c.in-Some-split_first.others.now c.in-Some-after_name.value.now _ c.in-Some-split_first.ensures.cases.0 value c.in-Some-opening.inner c.in-Some-opening.ensures in
-      part_entered c.parts.objects c.parts.depth c.parts.rest.now [] c.kind_at-inside.result c.in-Some-opening.inner (Todo (to_write c.args.begun.now (numbers_open o)) c.args.out.now.items c.parts.out.items c.parts.passing (length c.parts.rest.now)) (Todo (to_write c.args.begun.now (numbers_open o)) c.args.out.now.items c.parts.out.items c.parts.passing (length c.in-Some-split_first.others.now)) n c.in-Some-split_first.others.now x (omega (arith, c.parts.invariant.deep, c.parts.invariant.size, c.if-depth-eq-MAX_DEPTH.false))
-      (opening_done (to_write c.args.begun.now (numbers_open o)) c.args.out.now.items c.parts.out.items c.parts.passing (length c.parts.rest.now) (length c.in-Some-split_first.others.now) n.innermost n.name n.value n.others x.inside n.under n.is_part x.whole (omega (arith, named, ap length c.in-Some-split_first.ensures.cases.0)) n.holds);
-  preserves = c.parts.invariant.preserves;
-  deep = omega (arith, c.parts.invariant.deep, c.if-depth-eq-MAX_DEPTH.false);
-  size = simp length-set c.parts.invariant.size;
+      let whole = to_write c.args.begun.now (numbers_open o) in
+      let v = value_passed (Todo whole c.args.out.now.items c.steps.out.items c.steps.passing (length c.steps.steps.rest.now)) [] c.steps.steps c.next.new.self (c.steps.invariant.todo o is h e d) c.in-Scalar.scalar (subst (λ r. (opens : List Open) (behind : List ℕ) → IsAmid opens behind c.steps.steps → StepsOver opens behind c.steps.steps (Ok r) c.next.new.self) (c.in-Some.is ∙ ap Some c.in-Scalar.is) c.in_ok-step.ensures.steps) in
+      let left = length c.in-Scalar.scalar.value.now in
+      let t = at_value whole c.args.out.now.items c.steps.out.items c.steps.passing (length c.steps.steps.rest.now) left v.o v.x.name v.x.value v.x.others v.under v.x.is_part (behind_long c.steps.steps.rest.now (name_key (is_object v.o) v.x.name) c.in-Scalar.scalar.value.now (sym v.x.from ∙ v.x.named)) v.holds in
+      let count = scalar_numbers v.x.left v.x.value v.x.readable v.x.is_scalar c.in-Scalar.scalar.first v.x.tail c.in-Scalar.scalar.value.now c.in-Scalar.scalar.after.now v.x.begins v.x.occurs in
+      record {
+        opens = v.x.others ∷ v.under;
+        amid = v.x.amid;
+        holds = value_done whole c.args.out.now.items c.steps.out.items c.steps.passing left v.x.value (v.x.others ∷ v.under) t c.in_ok-passing.passing c.pass_scalar.new.out.items (length c.next.new.self.rest.now) v.x.readable.proper
+            (behind_long c.in-Scalar.scalar.value.now (key_of v.x.value) c.next.new.self.rest.now (v.x.occurs ∙ ap (λ r. key_of v.x.value ++ r) (sym v.x.behind)))
+            (c.in_ok-passing.ensures.passed v.x.value v.x.is_scalar count _ (numbers_left (v.x.others ∷ v.under)) t.due);
+      };
+  preserves = preserves_on c.args.out.now c.steps.out c.pass_scalar.new.out c.steps.invariant.preserves c.in_ok-passing.ensures.preserves;
 }
 
-pub returns-in_default-after_scalar-clause-appended : goal.returns-in_default-after_scalar-clause-appended
-returns-in_default-after_scalar-clause-appended c = λ o is h e d.
-    let n = part_there c.parts.objects c.parts.depth c.in-Some.top c.parts.rest.now [] c.kind_at-inside.result (Todo (to_write c.args.begun.now (numbers_open o)) c.args.out.now.items c.parts.out.items c.parts.passing (length c.parts.rest.now)) (omega (arith, c.in-Some.ensures)) c.kind_at-inside.ensures (c.parts.invariant.todo o is h e d) c.in_default-after_end.ensures.found in
-    let value = some_same c.in-Some-after_name.value.now _ (c.in-Some-after_name.ensures.found n.name _ n.occurs) in
-    let scalar = scalar_there n.left n.value n.readable c.in-Some-split_first.first.now c.in-Some-split_first.others.now c.in-Some-after_name.value.now _ c.in-Some-split_first.ensures.cases.0 value c.in-None.ensures.0 c.in-None.ensures.1 in
-    absurd (none_some _ (c.in_default-after_scalar.ensures.found n.left n.value n.readable scalar _ value))
+pub returns-in_err-passing-clause-appended : goal.returns-in_err-passing-clause-appended
+returns-in_err-passing-clause-appended c = λ o is h e d.
+    let whole = to_write c.args.begun.now (numbers_open o) in
+    let v = value_passed (Todo whole c.args.out.now.items c.steps.out.items c.steps.passing (length c.steps.steps.rest.now)) [] c.steps.steps c.next.new.self (c.steps.invariant.todo o is h e d) c.in-Scalar.scalar (subst (λ r. (opens : List Open) (behind : List ℕ) → IsAmid opens behind c.steps.steps → StepsOver opens behind c.steps.steps (Ok r) c.next.new.self) (c.in-Some.is ∙ ap Some c.in-Scalar.is) c.in_ok-step.ensures.steps) in
+    let left = length c.in-Scalar.scalar.value.now in
+    let t = at_value whole c.args.out.now.items c.steps.out.items c.steps.passing (length c.steps.steps.rest.now) left v.o v.x.name v.x.value v.x.others v.under v.x.is_part (behind_long c.steps.steps.rest.now (name_key (is_object v.o) v.x.name) c.in-Scalar.scalar.value.now (sym v.x.from ∙ v.x.named)) v.holds in
+    let count = scalar_numbers v.x.left v.x.value v.x.readable v.x.is_scalar c.in-Scalar.scalar.first v.x.tail c.in-Scalar.scalar.value.now c.in-Scalar.scalar.after.now v.x.begins v.x.occurs in
+    let y = c.in_err-passing.ensures.passed v.x.value v.x.is_scalar count _ (numbers_left (v.x.others ∷ v.under)) t.due in
+    let space = value_fits whole c.args.out.now.items c.steps.out.items c.steps.passing left v.x.value (v.x.others ∷ v.under) t in
+    lacks_zeros c.from_residual-in_err-passing.result c.in_err-passing.field-0.0 c.args.out.now c.pass_scalar.new.out whole whole c.from_residual-in_err-passing.ensures.1 y.0
+    (omega (arith, y.1, space, c.steps.invariant.preserves.capacity, c.args.out.now.ok.0, c.steps.out.ok.0)) (omega arith)
 
-pub returns-in_err-passing-in-None-clause-appended : goal.returns-in_err-passing-in-None-clause-appended
-returns-in_err-passing-in-None-clause-appended c = λ o is h e d.
-    let n = part_there c.parts.objects c.parts.depth c.in-Some.top c.parts.rest.now [] c.kind_at-inside.result (Todo (to_write c.args.begun.now (numbers_open o)) c.args.out.now.items c.parts.out.items c.parts.passing (length c.parts.rest.now)) (omega (arith, c.in-Some.ensures)) c.kind_at-inside.ensures (c.parts.invariant.todo o is h e d) c.in_default-after_end.ensures.found in
-    let value = some_same c.in-Some-after_name.value.now _ (c.in-Some-after_name.ensures.found n.name _ n.occurs) in
-    let named : length c.parts.rest.now ≡ length (name_key (is_object n.innermost) n.name) + length c.in-Some-after_name.value.now = omega (arith, ap length n.occurs, ap length value, length-append (name_key c.kind_at-inside.result n.name) (key_of n.value ++ (opens_key (n.others ∷ n.under) ++ [])), ap (λ (x : Bool). length (name_key x n.name)) n.is) in
-    let scalar = scalar_there n.left n.value n.readable c.in-Some-split_first.first.now c.in-Some-split_first.others.now c.in-Some-after_name.value.now _ c.in-Some-split_first.ensures.cases.0 value c.in-None.ensures.0 c.in-None.ensures.1 in
-    let count = scalar_numbers n.left n.value n.readable scalar c.in-Some-split_first.first.now c.in-Some-split_first.others.now c.in-Some-after_name.value.now _ c.in-Some-split_first.ensures.cases.0 value in
-    let t = at_value (to_write c.args.begun.now (numbers_open o)) c.args.out.now.items c.parts.out.items c.parts.passing (length c.parts.rest.now) (length c.in-Some-after_name.value.now) n.innermost n.name n.value n.others n.under n.is_part named n.holds in
-    let y = c.in_err-passing-in-None.ensures.passed n.value scalar count _ (numbers_left (n.others ∷ n.under)) t.due in
-    let space = value_fits (to_write c.args.begun.now (numbers_open o)) c.args.out.now.items c.parts.out.items c.parts.passing (length c.in-Some-after_name.value.now) n.value (n.others ∷ n.under) t in
-    lacks_zeros c.from_residual.result c.in_err-passing-in-None.field-0.0 c.args.out.now c.pass_scalar.new.out (to_write c.args.begun.now (numbers_open o)) (to_write c.args.begun.now (numbers_open o)) c.from_residual.ensures.1 y.0
-    (omega (arith, y.1, space, c.parts.invariant.preserves.capacity, c.args.out.now.ok.0, c.parts.out.ok.0)) (omega arith)
-
-pub parts-preserved : goal.parts-preserved
-parts-preserved c = record {
-  todo = λ o is h e d.
-      let n = part_there c.parts.objects c.parts.depth c.in-Some.top c.parts.rest.now [] c.kind_at-inside.result (Todo (to_write c.args.begun.now (numbers_open o)) c.args.out.now.items c.parts.out.items c.parts.passing (length c.parts.rest.now)) (omega (arith, c.in-Some.ensures)) c.kind_at-inside.ensures (c.parts.invariant.todo o is h e d) c.in_default-after_end.ensures.found in
-      let value = some_same c.in-Some-after_name.value.now _ (c.in-Some-after_name.ensures.found n.name _ n.occurs) in
-      let named : length c.parts.rest.now ≡ length (name_key (is_object n.innermost) n.name) + length c.in-Some-after_name.value.now = omega (arith, ap length n.occurs, ap length value, length-append (name_key c.kind_at-inside.result n.name) (key_of n.value ++ (opens_key (n.others ∷ n.under) ++ [])), ap (λ (x : Bool). length (name_key x n.name)) n.is) in
-      let scalar = scalar_there n.left n.value n.readable c.in-Some-split_first.first.now c.in-Some-split_first.others.now c.in-Some-after_name.value.now _ c.in-Some-split_first.ensures.cases.0 value c.in-None.ensures.0 c.in-None.ensures.1 in
-      let count = scalar_numbers n.left n.value n.readable scalar c.in-Some-split_first.first.now c.in-Some-split_first.others.now c.in-Some-after_name.value.now _ c.in-Some-split_first.ensures.cases.0 value in
-      let t = at_value (to_write c.args.begun.now (numbers_open o)) c.args.out.now.items c.parts.out.items c.parts.passing (length c.parts.rest.now) (length c.in-Some-after_name.value.now) n.innermost n.name n.value n.others n.under n.is_part named n.holds in
-      let after = some_same c.in-Some-after_scalar.after.now _ (c.in-Some-after_scalar.ensures.found n.left n.value n.readable scalar _ value) in
-      part_passed c.parts.objects c.parts.depth c.parts.rest.now [] c.in-Some-after_scalar.after.now c.kind_at-inside.result (Todo (to_write c.args.begun.now (numbers_open o)) c.args.out.now.items c.parts.out.items c.parts.passing (length c.parts.rest.now)) (Todo (to_write c.args.begun.now (numbers_open o)) c.args.out.now.items c.pass_scalar.new.out.items c.in_ok-passing-in-None.passing (length c.in-Some-after_scalar.after.now)) n after
-      (value_done (to_write c.args.begun.now (numbers_open o)) c.args.out.now.items c.parts.out.items c.parts.passing (length c.in-Some-after_name.value.now) n.value (n.others ∷ n.under) t c.in_ok-passing-in-None.passing c.pass_scalar.new.out.items (length c.in-Some-after_scalar.after.now) n.readable.proper
-      (behind_long c.in-Some-after_name.value.now (key_of n.value) c.in-Some-after_scalar.after.now (value ∙ ap (λ l. key_of n.value ++ l) (sym after)))
-      (c.in_ok-passing-in-None.ensures.passed n.value scalar count _ (numbers_left (n.others ∷ n.under)) t.due));
-  preserves = preserves_on c.args.out.now c.parts.out c.pass_scalar.new.out c.parts.invariant.preserves c.in_ok-passing-in-None.ensures.preserves;
-  deep = c.parts.invariant.deep;
-  size = c.parts.invariant.size;
-}
+pub returns-clause-appended : goal.returns-clause-appended
+returns-clause-appended c = λ o is h e d.
+    all_done (to_write c.args.begun.now (numbers_open o)) c.args.out.now.items c.steps.out.items c.steps.passing (length c.steps.steps.rest.now)
+    (all_passed _ [] c.steps.steps c.next.new.self (c.steps.invariant.todo o is h e d)
+    (subst (λ r. (opens : List Open) (behind : List ℕ) → IsAmid opens behind c.steps.steps → StepsOver opens behind c.steps.steps (Ok r) c.next.new.self) c.in_default.is c.in_ok-step.ensures.steps))

@@ -2,7 +2,8 @@ use Rattle.std.proofs.Common.{◌≡◌, ◌≢◌, inl, inr, ◌+◌, ◌-◌, 
 use Rattle.std.proofs.lemmas.List.{length-set, get_or-set_same, take_rest}
 use Rattle.key_value.proofs.FirstBytes.{no_key}
 use Rattle.key_walk.specs.Open.{end_key}
-use Rattle.key_walk.proofs.Opens.{opens_key, too_deep}
+use Rattle.key_walk.proofs.Opens.{too_deep}
+use Rattle.key_walk.specs.Steps.{opens_key}
 use Rattle.key_walk.proofs.Scalars.{scalar_there}
 use Rattle.jsonb_spec.specs.SortKey.{key_of}
 use Rattle.key_text.specs.Writes.{closing_text, opening_text, value_text, Preserves}
