@@ -96,8 +96,8 @@ impl<'a> KeySink<'a> {
     ghost use Rattle.std.specs.Prelude.{slice_range};
     ghost use Rattle.text_write.specs.KeySink.{Writes, base_of};
 
-    // Writes a decimal that is there in the text.
-    #[inline(always)]
+    // Writes a decimal that is there in the text, in a function of its own, which is called less often than others.
+    #[inline(never)]
     pub(crate) fn decimal(&mut self, from: usize, to: usize) -> Result<(), AllocError>
         ensures bytes { OnOk result ((n : Num) → to ≤ length self.old.members.text.now → IsShortDecimal n
             → slice_range self.old.members.text.now from to ≡ number_text n → Writes (number_key n) self.old self.new) }
