@@ -1,5 +1,5 @@
-"""Texts in tables: strings with an escape at each place, integers of each length, objects out of order, texts with one
-byte beyond ASCII, documents with each byte replaced by each byte, and large ones."""
+"""Texts in tables: strings with an escape at each place, integers of each length, decimals with the point at each place,
+objects out of order, texts with one byte beyond ASCII, documents with each byte replaced by each byte, and large ones."""
 
 import itertools
 
@@ -22,6 +22,21 @@ DOCUMENTS = [b"{b:'x', a:+007}", b"[1/*a*/,//b\n2] //c", b'"\\uD834\\u{DD1E}\\n\
 # The digits of integers: as many as each mode has and more, so that eight pairs at once are passed, with zeros at the
 # end and without.
 DIGITS = range(1, 42)
+
+# The digits of decimals, with the point at each place: few, around those of a vector of 16 bytes and the 18 that a
+# number of 64 bits has, and around the 38 that one of 128 has.
+DECIMAL_DIGITS = (*range(1, 7), *range(15, 21), *range(37, 40))
+
+# Decimals with a sign, zeros and a point at the places where the rules change, and what is nearly one.
+POINTED = [
+    b"0.0", b"00.5", b"0.50", b"1.0", b"1.50", b"0.05", b"0.050", b"0.00", b"00.0", b"10.010", b".5", b"1.", b".", b"0.",
+    b".0", b"1.5e1", b"1.5E", b"1.5e-1", b"1..5", b"1.5.2", b"1.5x", b"0x1.8", b"1.f", b"1.5_", b"1.5+",
+]
+
+# What is behind a decimal: nothing, what ends an item or a value, whitespace, a comment, and what is wrong there.
+BEHIND = (
+    b"", b",", b"]", b"}", b" ", b"\t", b"\r\n", b"\\n", b"\\x0C", b"/**/", b"//", b":", b"x", b"e", b"-", b'"', b"\x00",
+)
 
 # How many members objects have: up to nine they are sorted without memory, the order of up to 63 is kept for the next
 # object, and from 256 on they are sorted by the first bytes of their keys.
@@ -70,6 +85,23 @@ def integers():
                 for sign, behind in itertools.product((b"", b"-"), (b"", b" " * 40)):
                     yield b"[" + sign + digits + b"," + sign + digits + b"]" + behind
                     yield b'{"b":' + sign + digits + b',"a":' + sign + digits + b"}" + behind
+
+
+def decimals():
+    """Decimals of each length with the point at each place, as an item and as a member, near the end of the text and far
+    from it; and such ones, and what is nearly one, with each of BEHIND after them."""
+    for count in DECIMAL_DIGITS:
+        mixed = (b"9081726354" * 4)[:count]
+        ones = {mixed, b"0" + mixed[1:], mixed[:-1] + b"0", b"0" * (count - 1) + b"7", b"0" * count}
+        for point, digits, sign, behind in itertools.product(range(count + 1), sorted(ones), (b"", b"-"), (b"", b" " * 40)):
+            number = sign + digits[:point] + b"." + digits[point:]
+            yield b"[" + number + b"," + number + b"]" + behind
+            yield b'{"b":' + number + b',"a":' + number + b"}" + behind
+    for sign, number, behind in itertools.product((b"", b"-", b"+"), POINTED, BEHIND):
+        yield sign + number + behind
+        yield b"[" + sign + number + behind
+        yield b"[" + sign + number + behind + b",2]"
+        yield b"{a:" + sign + number + behind + b',"b":"' + b"x" * 20 + b'"}'
 
 
 def escapes_in_turn():
@@ -130,8 +162,8 @@ def large():
 
 
 def texts():
-    return itertools.chain(strings(), integers(), escapes_in_turn(), beyond_ascii(), objects(), *map(replaced, DOCUMENTS),
-                           large())
+    return itertools.chain(strings(), integers(), decimals(), escapes_in_turn(), beyond_ascii(), objects(),
+                           *map(replaced, DOCUMENTS), large())
 
 
 def other_lines():

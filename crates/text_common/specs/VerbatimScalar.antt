@@ -1,5 +1,5 @@
 -- Scalars that are put in from where they are in a text.
-use Rattle.std.specs.Prelude.{◌≡◌, ℕ, ◌≤◌, List, length, slice_range}
+use Rattle.std.specs.Prelude.{◌≡◌, ℕ, ◌<◌, ◌≤◌, ◌^◌, List, length, slice_range, unsigned_abs}
 use Rattle.jsonb_spec.specs.Grammar.StandardNumber.{IsStandardNumber}
 use Rattle.jsonb_spec.specs.Source.{Source, number_source, string_source}
 use Rattle.jsonb_spec.specs.Text.{in_quotes}
@@ -21,6 +21,20 @@ pub record IsIntegerAt (text : List ℕ) (from to : ℕ) (s : Source) : Type 0 w
   pub whole : value.whole ≡ integer.whole
   pub same : slice_range text from to ≡ source_text s
 
+-- a number with digits behind a point, at most 18 in all
+pub record IsShortDecimal (n : Num) : Type 0 where
+  pub point : 0 < n.scale
+  pub few : n.scale < 18
+  pub small : unsigned_abs n.whole < 10 ^ 18
+
+-- There is the text of such a number.
+pub record IsDecimalAt (text : List ℕ) (from to : ℕ) (s : Source) : Type 0 where
+  pub value : Num
+  pub is : s ≡ number_source value
+  pub inside : to ≤ length text
+  pub short : IsShortDecimal value
+  pub same : slice_range text from to ≡ source_text s
+
 -- There is a string in double quotes, whose escapes are of one letter.
 pub record IsShortAt (text : List ℕ) (from to : ℕ) (s : Source) : Type 0 where
   pub mark : Mark
@@ -34,5 +48,6 @@ pub record IsShortAt (text : List ℕ) (from to : ℕ) (s : Source) : Type 0 whe
 -- the scalar of this kind that is there
 abbrev pub IsVerbatimAt : Verbatim → List ℕ → ℕ → ℕ → Source → Type 0
 IsVerbatimAt verbatim.Integer text from to s = IsIntegerAt text from to s
+IsVerbatimAt verbatim.Decimal text from to s = IsDecimalAt text from to s
 IsVerbatimAt verbatim.Same text from to s = IsShortAt text from to s × (slice_range text from to ≡ source_text s)
 IsVerbatimAt verbatim.Short text from to s = IsShortAt text from to s

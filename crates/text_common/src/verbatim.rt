@@ -7,6 +7,8 @@ ghost use Rattle.jsonb_spec.specs.Grammar.StringBody.{standard_escape};
 pub enum Verbatim {
     /// An integer of a standard text, which is serialized as it is.
     Integer,
+    /// A decimal of an extended text, which is serialized as it is.
+    Decimal,
     /// A string in double quotes whose escapes are of one letter, which is serialized as it is.
     Same,
     /// Any string in double quotes whose escapes are of one letter.

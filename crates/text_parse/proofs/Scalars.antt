@@ -3,7 +3,7 @@ pub mod Built
 pub mod Contents
 pub mod Elements
 pub mod FirstBytes
-pub mod VerbatimIntegers
+pub mod VerbatimNumbers
 pub mod ShortStrings
 pub mod Encodings
 pub mod Starts

@@ -1,11 +1,13 @@
 -- The remaining input of a parser, and what a call of it leaves; `Answer` of `text_scan` again.
-use Rattle.std.specs.Prelude.{◌≡◌, ◌≢◌, ℕ, ◌+◌, ◌-◌, ◌<◌, ◌≤◌, Bool, true, List, ◌∷◌, ◌++◌, length, drop, take, slice_index, Contains, Option, IfNone, IfSome, MatchBool, Result, Err, Ok}
+use Rattle.std.specs.Prelude.{◌≡◌, ◌≢◌, ℕ, ◌+◌, ◌-◌, ◌<◌, ◌≤◌, Bool, true, List, ◌∷◌, ◌++◌, length, drop, take, slice_index, Contains, Option, IfNone, IfSome, MatchBool, MatchOption, Result, Err, Ok}
 use Rattle.jsonb_spec.specs.Ascii as ascii
 use Rattle.jsonb_spec.specs.Mode.{Mode}
 use Rattle.jsonb_spec.specs.Tree.{Mark, Num, number}
 use Rattle.jsonb_spec.specs.Tree.Mark.{plain}
 use Rattle.jsonb_spec.specs.Source.{Source, number_source}
-use Rattle.text_common.specs.VerbatimScalar.{IsIntegerAt}
+use Rattle.text_common.specs.VerbatimScalar.{IsVerbatimAt}
+use Rattle.text_common.specs.declared.verbatim.Verbatim.{Verbatim}
+use Rattle.text_common.specs.declared.verbatim.Verbatim.TheVariants.{Integer}
 use Rattle.jsonb_value.specs.declared.error.Error.{Error}
 use Rattle.jsonb_value.specs.declared.error.Error.TheVariants.{OutOfMemory}
 use Rattle.text_parse.specs.declared.parser.Parser.{Parser}
@@ -162,17 +164,28 @@ pub record PassesContents (quote : ℕ) (old new : Parser) (body : List ℕ) : T
   pub within : length body < length (rest_of old)
   pub rest : rest_of new ≡ drop (length body + 1) (rest_of old)
 
--- An integer of a standard text is passed that is written by the same bytes again.
-pub record PassesInteger (old new : Parser) : Type 0 where
+-- A number of this kind is passed that is written by the same bytes again.
+pub record PassesNumber (verbatim : Verbatim) (old new : Parser) : Type 0 where
   pub value : Num
   pub parses : parse_at scalar_at old ≡ Ok (number value, rest_of new)
-  pub holds : IsIntegerAt old.buf.now old.offset new.offset (number_source value)
+  pub holds : IsVerbatimAt verbatim old.buf.now old.offset new.offset (number_source value)
 
--- Such an integer is passed, where that is asked and one is found; else the parser stays.
+-- An integer is passed that is written by the same bytes again, where that is asked and one is found; else the parser
+-- stays.
 pub record PreservesInteger (is_asked result : Bool) (old new : Parser) : Type 0 where
   -- an integer was passed, or the parser stays
-  pub passes : MatchBool result (PassesInteger old new) (new ≡ old)
+  pub passes : MatchBool result (PassesNumber Integer old new) (new ≡ old)
   -- it was asked for
   pub asked : MatchBool result (is_asked ≡ true) (Unit {0})
+  -- the parser has gone on in its input
+  pub advances : Advances old new
+
+-- A number is passed that is written by the same bytes again, where that is asked and one is found; else the parser
+-- stays.
+pub record PreservesNumber (is_asked : Bool) (result : Option Verbatim) (old new : Parser) : Type 0 where
+  -- a number of this kind was passed, or the parser stays
+  pub passes : MatchOption result (new ≡ old) (λ verbatim. PassesNumber verbatim old new)
+  -- it was asked for
+  pub asked : IfSome result (λ verbatim. is_asked ≡ true)
   -- the parser has gone on in its input
   pub advances : Advances old new

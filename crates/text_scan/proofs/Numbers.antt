@@ -15,6 +15,7 @@ pub mod HexadecimalMeaning
 pub mod HexadecimalTexts
 pub mod HexadecimalValues
 pub mod Verbatim
+pub mod VerbatimDecimals
 pub mod Runs
 pub mod Scan
 pub mod ScanStates

@@ -7,3 +7,4 @@ pub mod ScannedNumber
 pub mod ShortInteger
 pub mod Encoded
 pub mod StringError
+pub mod VerbatimNumber

@@ -9,6 +9,7 @@ pub mod key;
 pub mod number;
 pub mod string;
 mod vector;
+pub mod verbatim;
 pub mod whitespace;
 
 /// The grammar of a text.

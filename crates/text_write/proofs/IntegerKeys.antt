@@ -187,18 +187,25 @@ cut_ends ds len leads cut = ends_in_some (take len ds) (λ z.
       | inr l ↦ leads (ap (λ n. get_or ds n 0) {x = 0} {y = len - 1} (omega (arith, l, cut.some)) ∙ there)
     ])
 
-pub number_bytes : (negative : Bool) (ds : List ℕ) (len : ℕ) → AllDigits 10 ds → length ds < 32 → get_or ds 0 0 ≢ 48 → IsCut ds len
-    → map (invert_if negative) (magnitude_key 0 (digits_value 10 ds)) ≡ invert_if negative (160 + length ds) ∷ map (invert_if negative) (digit_bytes (take len ds))
-number_bytes negative ds len all few leads cut =
+-- digits of which so many are behind a point
+pub scaled_bytes : (negative : Bool) (scale : ℕ) (ds : List ℕ) (len : ℕ) → AllDigits 10 ds → length ds < 32 → scale ≤ 30 → get_or ds 0 0 ≢ 48 → IsCut ds len
+    → map (invert_if negative) (magnitude_key scale (digits_value 10 ds)) ≡ invert_if negative (160 + length ds - scale) ∷ map (invert_if negative) (digit_bytes (take len ds))
+scaled_bytes negative scale ds len all few near leads cut =
     let whole = take-append-drop len ds in
     let count = counted ds (record { digits = all; some = omega (arith, cut.some, cut.within); few = few; leads = leads }) in
     let long = length-take-le len ds cut.within in
     let zeros : AreZeros (drop len ds) = λ k l. get_or-drop len ds k 0 ∙ cut.zeros (len + k) (omega arith) (omega (arith, l, length-drop len ds)) in
     let written = digits_written (take len ds) (drop len ds) (digits-take len ds all) (omega (arith, long, cut.some)) (cut_ends ds len leads cut) zeros in
-    magnitude_split negative 0 (digits_value 10 ds) (length ds) (length ds + 255) (sym count) (omega arith)
+    magnitude_split negative scale (digits_value 10 ds) (length ds) (length ds + 255 - scale) (sym count) refl
     ∙ ap₂ (λ offset digits. map (invert_if negative) offset ++ map (invert_if negative) digits)
-    (far (length ds + 255) (omega arith) ∙ ap (λ n. n ∷ []) {x = length ds + 255 - 95} {y = 160 + length ds} (omega arith))
+    (far (length ds + 255 - scale) (omega (arith, near)) ∙ ap (λ n. n ∷ []) {x = length ds + 255 - scale - 95} {y = 160 + length ds - scale} (omega (arith, near)))
     (sym (ap (λ xs. digits_key (length xs) (digits_value 10 xs)) whole) ∙ written)
+
+pub number_bytes : (negative : Bool) (ds : List ℕ) (len : ℕ) → AllDigits 10 ds → length ds < 32 → get_or ds 0 0 ≢ 48 → IsCut ds len
+    → map (invert_if negative) (magnitude_key 0 (digits_value 10 ds)) ≡ invert_if negative (160 + length ds) ∷ map (invert_if negative) (digit_bytes (take len ds))
+number_bytes negative ds len all few leads cut =
+    scaled_bytes negative 0 ds len all few (omega arith) leads cut
+    ∙ ap (λ n. invert_if negative n ∷ map (invert_if negative) (digit_bytes (take len ds))) {x = 160 + length ds - 0} {y = 160 + length ds} (omega arith)
 
 -- ---- eight pairs at once
 
@@ -340,7 +347,7 @@ integer_of bytes len start negative n some is from (true, whole, joined, is_whol
       sign = λ z. ap (λ (m : Num). is_negative m.whole) value.1 ∙ signed.1 z ∙ sym there;
     })
 
-leading_value : (d : ℕ) (ds : List ℕ) → AllDigits 10 (d ∷ ds) → d ≢ 48 → 10 ^ length ds ≤ digits_value 10 (d ∷ ds)
+pub leading_value : (d : ℕ) (ds : List ℕ) → AllDigits 10 (d ∷ ds) → d ≢ 48 → 10 ^ length ds ≤ digits_value 10 (d ∷ ds)
 leading_value d ds all leads =
     let some = some_digit d all.0 leads in
     let split : digit_value d ≡ (digit_value d - 1) + 1 = omega (arith, some) in
@@ -373,16 +380,24 @@ some_key negative (d ∷ ds) n h leads =
 
 -- ---- what is appended
 
+pub scaled_appended : (negative : Bool) (scale : ℕ) (digits before mid after : List ℕ) (count len offset : ℕ) → 0 < count → count < 32 → scale ≤ 30 → count ≤ length digits
+    → get_or digits 0 0 ≢ 48 → IsCut (take count digits) len → mid ≡ before ++ offset ∷ [] → offset ≡ invert_if negative (160 + count - scale)
+    → after ≡ mid ++ map (invert_if negative) (digit_bytes (take len digits)) → AllDigits 10 (take count digits)
+    → after ≡ before ++ map (invert_if negative) (magnitude_key scale (digits_value 10 (take count digits)))
+scaled_appended negative scale digits before mid after count len offset some few near inside leads cut m p a all =
+    let long = length-take-le count digits inside in
+    let bytes = scaled_bytes negative scale (take count digits) len all (omega (arith, long)) near (λ z. leads (sym (get_or-take count digits 0 0 some) ∙ z)) cut in
+    a ∙ ap₂ (λ xs ds. xs ++ map (invert_if negative) (digit_bytes ds)) m (sym (take-take len count digits (omega (arith, cut.within, long))))
+    ∙ append_assoc before (offset ∷ []) (map (invert_if negative) (digit_bytes (take len (take count digits))))
+    ∙ ap (λ xs. before ++ xs) (ap (λ b. b ∷ map (invert_if negative) (digit_bytes (take len (take count digits)))) (p ∙ ap (λ k. invert_if negative (160 + k - scale)) (sym long)) ∙ sym bytes)
+
 pub appended : (negative : Bool) (digits before mid after : List ℕ) (count len offset : ℕ) → 0 < count → count < 32 → count ≤ length digits
     → get_or digits 0 0 ≢ 48 → IsCut (take count digits) len → mid ≡ before ++ offset ∷ [] → offset ≡ invert_if negative (160 + count)
     → after ≡ mid ++ map (invert_if negative) (digit_bytes (take len digits)) → AllDigits 10 (take count digits)
     → after ≡ before ++ map (invert_if negative) (magnitude_key 0 (digits_value 10 (take count digits)))
 appended negative digits before mid after count len offset some few inside leads cut m p a all =
-    let long = length-take-le count digits inside in
-    let bytes = number_bytes negative (take count digits) len all (omega (arith, long)) (λ z. leads (sym (get_or-take count digits 0 0 some) ∙ z)) cut in
-    a ∙ ap₂ (λ xs ds. xs ++ map (invert_if negative) (digit_bytes ds)) m (sym (take-take len count digits (omega (arith, cut.within, long))))
-    ∙ append_assoc before (offset ∷ []) (map (invert_if negative) (digit_bytes (take len (take count digits))))
-    ∙ ap (λ xs. before ++ xs) (ap (λ b. b ∷ map (invert_if negative) (digit_bytes (take len (take count digits)))) (p ∙ ap (λ k. invert_if negative (160 + k)) (sym long)) ∙ sym bytes)
+    scaled_appended negative 0 digits before mid after count len offset some few (omega arith) inside leads cut m
+    (p ∙ ap (invert_if negative) {x = 160 + count} {y = 160 + count - 0} (omega arith)) a all
 
 -- so many bytes behind a sign
 abbrev pub behind_sign : List ℕ → ℕ → ℕ → List ℕ
@@ -430,7 +445,7 @@ few_bytes negative (d ∷ e ∷ ds) (suc (suc (suc count))) offset byte second s
 -- ---- in a sink
 
 -- the form of a number is no part of its key
-same_key : (m n : Num) → m.scale ≡ n.scale → m.whole ≡ n.whole → number_key m ≡ number_key n
+pub same_key : (m n : Num) → m.scale ≡ n.scale → m.whole ≡ n.whole → number_key m ≡ number_key n
 unfolding number_key
 same_key m n scale whole =
     ap₂ (λ s w. if unsigned_abs w == 0 then 128 ∷ [] else map (invert_if (is_negative w)) (magnitude_key s (unsigned_abs w))) scale whole

@@ -155,6 +155,7 @@ alone part.Written s sees (key ∷ keys) = absurd sees
 pub verbatim_alone : (kind : Verbatim) (text : List ℕ) (from to : ℕ) (s : Source) → IsVerbatimAt kind text from to s → (rest : List (List ℕ)) → part_inside s rest ≡ None
 verbatim_alone kind text from to s at [] = refl
 verbatim_alone verbatim.Integer text from to s at (key ∷ keys) = ap (λ v. part_inside v (key ∷ keys)) at.is
+verbatim_alone verbatim.Decimal text from to s at (key ∷ keys) = ap (λ v. part_inside v (key ∷ keys)) at.is
 verbatim_alone verbatim.Same text from to s at (key ∷ keys) = ap (λ v. part_inside v (key ∷ keys)) at.0.is
 verbatim_alone verbatim.Short text from to s at (key ∷ keys) = ap (λ v. part_inside v (key ∷ keys)) at.is
 

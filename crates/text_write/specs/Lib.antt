@@ -1,6 +1,7 @@
 pub mod Bytes
 pub mod CheckSink
 pub mod Contents
+pub mod DecimalKey
 pub mod Escaped
 pub mod IntegerKey
 pub mod KeySink

@@ -54,7 +54,7 @@ fn more_bytes(digits: &[u8; 16]) -> [u8; 8]
 
 // A byte of a key, turned round where the number is negative.
 #[inline(always)]
-fn invert_if(negative: bool, byte: u8) -> u8
+pub(crate) fn invert_if(negative: bool, byte: u8) -> u8
     ensures { result ≡ invert_if negative byte }
 {
     if negative { 255 - byte } else { byte }
@@ -82,7 +82,7 @@ fn inverted_if(negative: bool, row: [u8; 8]) -> [u8; 8]
 
 // How many of the digits are left without the zeros at their end. The first is held.
 #[inline(always)]
-fn significant_len(digits: &[u8]) -> usize
+pub(crate) fn significant_len(digits: &[u8]) -> usize
     requires { 0 < length digits.now }
     ensures within { result ≤ length digits.now }
     ensures some { 0 < result }
@@ -154,7 +154,7 @@ fn append_long(negative: bool, digits: &[u8], out: &mut Vec<u8>) -> Result<(), A
 
 // Appends the bytes of the first digits.
 #[inline(always)]
-fn append_pairs(
+pub(crate) fn append_pairs(
     negative: bool,
     digits: &[u8],
     len: usize,

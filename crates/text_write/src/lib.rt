@@ -3,6 +3,7 @@
 
 pub mod check;
 pub mod contents;
+mod decimal_key;
 mod escaped;
 mod escaped_key;
 mod integer_key;

@@ -26,6 +26,7 @@ impl<'a> TextSink<'a> {
     {
         match verbatim {
             Verbatim::Integer => self.preserve_range(from, to),
+            Verbatim::Decimal => self.preserve_range(from, to),
             Verbatim::Same => self.preserve_range(from, to),
             Verbatim::Short => self.short_string(from, to),
         }
@@ -50,6 +51,7 @@ impl<'a> KeySink<'a> {
     {
         match verbatim {
             Verbatim::Integer => self.integer(from, to),
+            Verbatim::Decimal => self.decimal(from, to),
             Verbatim::Same => self.short_string(from, to),
             Verbatim::Short => self.short_string(from, to),
         }

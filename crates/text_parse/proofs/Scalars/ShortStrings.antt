@@ -154,10 +154,12 @@ abbrev pub same_or_short : Verbatim → Bool → Type 0
 same_or_short verbatim.Same is_same = is_same ≡ true
 same_or_short verbatim.Short is_same = Unit {0}
 same_or_short verbatim.Integer is_same = ⊥
+same_or_short verbatim.Decimal is_same = ⊥
 
 verbatim_as : (kind : Verbatim) (is_same : Bool) (text : List ℕ) (from to : ℕ) (mark : Mark) (body meaning : List ℕ) → same_or_short kind is_same → to ≤ length text → slice_range text from to ≡ in_quotes body
     → IsShort body meaning → (is_same ≡ true → flat_map byte_text meaning ≡ body) → IsVerbatimAt kind text from to (string_source mark meaning)
 verbatim_as verbatim.Integer is_same text from to mark body meaning reported inside holds short same = absurd reported
+verbatim_as verbatim.Decimal is_same text from to mark body meaning reported inside holds short same = absurd reported
 verbatim_as verbatim.Same is_same text from to mark body meaning reported inside holds short same = (
   record { mark = mark; body = body; meaning = meaning; is = refl; inside = inside; holds = holds; short = short },
   holds ∙ ap in_quotes (sym (same reported)),

@@ -1,47 +1,35 @@
 //! The numbers of extended texts: decimals, hexadecimals, `nan` and `infinity`.
-ghost use Rattle.std.specs.Prelude.{◌≡◌, ◌+◌, ◌-◌, ◌<◌, true, Err, MatchBool, Some, None};
+ghost use Rattle.std.specs.Prelude.{◌≡◌, ◌+◌, ◌-◌, ◌<◌, Err, Some, None};
 ghost use Rattle.jsonb_spec.specs.Mode.{extended};
 ghost use Rattle.jsonb_value.specs.View.{number_view};
 ghost use Rattle.text_scan.specs.Answer.{mode_of};
-ghost use Rattle.text_parse.specs.Parser.{PreservesInteger, ParsesAtOffset, rest_of};
-ghost use Rattle.text_scan.specs.Parsing.Whitespace.{is_break};
+ghost use Rattle.text_parse.specs.Parser.{PreservesNumber, ParsesAtOffset, rest_of};
 ghost use Rattle.text_scan.specs.Parsing.ExtendedNumber.{extended_number_at};
 
 use super::Parser;
 use jsonb_value::error::{Error, ParseErrorCode, Result};
 use jsonb_value::number::Number;
+use text_common::verbatim::Verbatim;
 use text_scan::parser::extended_number::{scan_number, short_number};
-use text_scan::parser::integer::verbatim_integer;
-use text_scan::parser::number::byte_at;
-
-// Whether a byte is whitespace, or what is behind an element or a member. No number goes on with it.
-#[inline(always)]
-fn is_separator(byte: u8) -> bool
-    ensures { MatchBool result (is_break byte ≡ true) (Unit {0}) }
-{
-    matches!(byte, b',' | b']' | b'}' | b' ' | b'\n' | b'\r' | b'\t')
-}
+use text_scan::parser::verbatim::verbatim_number;
 
 impl Parser<'_> {
-    // Passes an integer of an extended text that is written by the same bytes again, if that is asked and one comes
+    // Passes a number of an extended text that is written by the same bytes again, if that is asked and one comes
     // next, with a separator behind it.
     #[inline(always)]
-    pub(super) fn verbatim_extended_integer(&mut self, is_asked: bool) -> bool
+    pub(super) fn verbatim_number(&mut self, is_asked: bool) -> Option<Verbatim>
         requires mode { mode_of self.old.mode ≡ extended }
-        ensures { PreservesInteger is_asked result self.old self.new }
+        ensures { PreservesNumber is_asked result self.old self.new }
     {
         if !is_asked {
-            return false;
+            return None;
         }
-        let bytes = self.rest();
-        let Some(end) = verbatim_integer(bytes) else {
-            return false;
-        };
-        if !is_separator(byte_at(bytes, end)) {
-            return false;
+        let read = verbatim_number(self.rest())?;
+        self.offset += read.end;
+        if read.has_point {
+            return Some(Verbatim::Decimal);
         }
-        self.offset += end;
-        true
+        Some(Verbatim::Integer)
     }
 
     // Parses the longest number text, and gives its number.

@@ -30,8 +30,8 @@ pub struct Failed;
 pub struct Wants {
     /// Strings and keys that are written without an escape, as `Text::Plain`.
     pub plain: bool,
-    /// Integers whose serialized form is their own text, and strings whose escapes are of one letter, as
-    /// `Scalar::Kept`.
+    /// Numbers whose serialized form is their own text, and strings whose escapes are of one letter, as
+    /// `Scalar::Verbatim`.
     pub verbatim: bool,
 }
 

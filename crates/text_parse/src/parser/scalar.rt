@@ -210,14 +210,9 @@ impl<'a> Parser<'a> {
             (S.after container.new) }
     {
         let from = self.offset;
-        if self.verbatim_extended_integer(V::wants().verbatim) {
-            return self.put::<V, S>(
-                sink,
-                container,
-                slot,
-                V::scalar(Scalar::Verbatim(Verbatim::Integer)),
-                from,
-            );
+        if let Some(verbatim) = self.verbatim_number(V::wants().verbatim) {
+            let number = V::scalar(Scalar::Verbatim(verbatim));
+            return self.put::<V, S>(sink, container, slot, number, from);
         }
         if self.may_begin_word() {
             return self.put_word::<V, S>(sink, container, slot, text);

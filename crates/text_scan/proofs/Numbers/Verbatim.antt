@@ -21,7 +21,7 @@ first_digit ds some =
     (cases_Bool (is_ascii_digit (slice_index ds 0)))
 
 -- digits of which the first is no 0
-above_zero : (ds : List ℕ) → IsInRange 48 57 (slice_index ds 0) → slice_index ds 0 ≢ 48 → 0 < digits_value 10 ds
+pub above_zero : (ds : List ℕ) → IsInRange 48 57 (slice_index ds 0) → slice_index ds 0 ≢ 48 → 0 < digits_value 10 ds
 above_zero [] range other = absurd (omega (arith, range.0))
 above_zero (d ∷ ds) range other =
     let one : digits_value 10 (take 1 (d ∷ ds)) ≡ 0 + digit_value d = refl in

@@ -46,7 +46,7 @@ fn digits_by_bytes(bytes: &[u8]) -> usize
 
 // How many digits the bytes begin with, or 19 where they are more.
 #[inline(always)]
-fn digits_len(bytes: &[u8]) -> usize
+pub(super) fn digits_len(bytes: &[u8]) -> usize
     ensures few { result ≤ 19 }
     ensures within { result ≤ length bytes.now }
     ensures digits { digits_length bytes.now ≡ result + digits_length (drop result bytes.now) }
@@ -63,7 +63,7 @@ fn digits_len(bytes: &[u8]) -> usize
 
 // Whether an integer of so many bytes, with its sign, may have this first digit.
 #[inline(always)]
-fn may_begin(digit: u8, len: usize) -> bool
+pub(super) fn may_begin(digit: u8, len: usize) -> bool
     ensures { MatchBool result ((digit ≡ ascii.digit_zero → ⊥) ⊎ (len ≤ 1)) (Unit {0}) }
 {
     if digit != b'0' {

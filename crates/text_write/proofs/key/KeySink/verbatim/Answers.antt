@@ -4,6 +4,7 @@ use Rattle.jsonb_spec.specs.Source.{Source}
 use Rattle.text_write.specs.KeySink.{Writes}
 use Rattle.text_write.specs.Members.{source_key}
 use Rattle.text_common.specs.VerbatimScalar.{IsVerbatimAt}
+use Rattle.text_write.proofs.DecimalKeys.{decimal_written}
 use Rattle.text_write.proofs.IntegerKeys.{integer_written}
 use Rattle.text_write.proofs.Sinks.{on_ok}
 use Rattle.text_write.proofs.key.KeySink.verbatim.Goals as goal
@@ -13,6 +14,12 @@ returns-in-Integer-clause-bytes c =
     let r = c.args.self.now in
     subst (λ k. OnOk c.integer.result ((s : Source) → IsVerbatimAt k r.members.text.now c.args.from c.args.to s → Writes (source_key s) r c.integer.new.self)) (sym c.in-Integer.is)
     (on_ok c.integer.result c.integer.ensures.bytes (λ wrote s at. integer_written s c.args.from c.args.to at wrote))
+
+pub returns-in-Decimal-clause-bytes : goal.returns-in-Decimal-clause-bytes
+returns-in-Decimal-clause-bytes c =
+    let r = c.args.self.now in
+    subst (λ k. OnOk c.decimal.result ((s : Source) → IsVerbatimAt k r.members.text.now c.args.from c.args.to s → Writes (source_key s) r c.decimal.new.self)) (sym c.in-Decimal.is)
+    (on_ok c.decimal.result c.decimal.ensures.bytes (λ wrote s at. decimal_written s c.args.from c.args.to at wrote))
 
 pub returns-in-Same-clause-bytes : goal.returns-in-Same-clause-bytes
 returns-in-Same-clause-bytes c =

@@ -13,6 +13,13 @@ returns-in-Integer-clause-bytes c =
     subst (λ k. OnOk c.preserve_range.result ((s : Source) → IsVerbatimAt k r.written.text.now c.args.from c.args.to s → Writes (source_text s) r c.preserve_range.new.self)) (sym c.in-Integer.is)
     (on_ok c.preserve_range.result c.preserve_range.ensures.bytes (λ w s at. subst (λ bytes. Writes bytes r c.preserve_range.new.self) at.same w))
 
+pub returns-in-Decimal-clause-bytes : goal.returns-in-Decimal-clause-bytes
+returns-in-Decimal-clause-bytes c =
+    let r = c.args.self.now in
+    let sink = c.preserve_range-in-Decimal.new.self in
+    subst (λ k. OnOk c.preserve_range-in-Decimal.result ((s : Source) → IsVerbatimAt k r.written.text.now c.args.from c.args.to s → Writes (source_text s) r sink)) (sym c.in-Decimal.is)
+    (on_ok c.preserve_range-in-Decimal.result c.preserve_range-in-Decimal.ensures.bytes (λ w s at. subst (λ bytes. Writes bytes r sink) at.same w))
+
 pub returns-in-Same-clause-bytes : goal.returns-in-Same-clause-bytes
 returns-in-Same-clause-bytes c =
     let r = c.args.self.now in
