@@ -1,10 +1,9 @@
--- The lesser bytes of two vectors: a zero of either is among them.
-use Rattle.std.proofs.Common.{◌≡◌, ◌≢◌, ℕ, ◌<◌, ◌≤◌, inl, inr, true, false, Bool, cond, ltb, List, map, take, length, get_or, Fits, w8, refl, sym, ap, subst, ◌∙◌, arith}
-use Rattle.std.proofs.Math.Seq.{take-length}
+-- The lesser lanes of two vectors of bytes: a zero of either is among them.
+use Rattle.std.proofs.Common.{◌≡◌, ◌≢◌, ℕ, ◌+◌, ◌-◌, ◌<◌, ◌≤◌, inl, inr, true, false, Bool, cond, ltb, zero, suc, [], ◌∷◌, Fits, w8, List, map, length, get_or, refl, sym, ap, subst, ◌∙◌, arith}
 use Rattle.std.proofs.lemmas.Bool.{cases_lt, le-ltb, lt-ltb}
 use Rattle.std.proofs.lemmas.List.{get_or-map, length-map}
-use Rattle.std.proofs.lemmas.Simd.{get_or-chunk, get_or-sel_l, get_or-zip2, length-chunk, length-sel_l, length-zip2}
-use Rattle.std.specs.Simd.Lanes.{chunk, sel_l, top, zip2}
+use Rattle.std.proofs.lemmas.Simd.{get_or-chunk, get_or-sel_l, get_or-zip2, length-zip2}
+use Rattle.std.specs.Simd.Lanes.{chunk, sel_l, top, zip2, Each1}
 use Rattle.key_walk.specs.Frames.{AreNoZeros}
 
 -- the lesser of two is no zero
@@ -24,62 +23,46 @@ pub top_of : (t : Bool) → top 7 (cond t 255 0) ≡ t
 top_of true = refl
 top_of false = refl
 
--- each lane of `lt` says by its top bit whether the first byte is below the second
-module _ (lt : ℕ → ℕ → ℕ) (is_lt : (a b : ℕ) → top 7 (lt a b) ≡ ltb a b) (bytes others : List ℕ) (n : ℕ) (space : n ≤ length bytes) (capacity_too : n ≤ length others) where
+-- each lane of `lt` says by its top bit whether the first one is below the second
+module _ (lt : ℕ → ℕ → ℕ) (is_lt : (a b : ℕ) → top 7 (lt a b) ≡ ltb a b) (xs ys : List ℕ) (n : ℕ) (long_xs : length xs ≡ n) (long_ys : length ys ≡ n) where
   abbrev ms : List Bool
-  ms = map (top 7) (zip2 lt (chunk 0 n bytes) (chunk 0 n others))
+  ms = map (top 7) (zip2 lt xs ys)
 
-  abbrev pub least : List ℕ
-  least = sel_l ms (chunk 0 n bytes) (chunk 0 n others)
+  abbrev pub lesser_lanes : List ℕ
+  lesser_lanes = sel_l ms xs ys
 
-  long_xs : length (chunk 0 n bytes) ≡ n
-  long_xs = length-chunk 0 n bytes (omega (arith, space))
-
-  long_ys : length (chunk 0 n others) ≡ n
-  long_ys = length-chunk 0 n others (omega (arith, capacity_too))
-
-  long_zs : length (zip2 lt (chunk 0 n bytes) (chunk 0 n others)) ≡ n
-  long_zs = length-zip2 lt (chunk 0 n bytes) (chunk 0 n others) (long_xs ∙ sym long_ys) ∙ long_xs
+  long_zs : length (zip2 lt xs ys) ≡ n
+  long_zs = length-zip2 lt xs ys (long_xs ∙ sym long_ys) ∙ long_xs
 
   long_ms : length ms ≡ n
-  long_ms = length-map (zip2 lt (chunk 0 n bytes) (chunk 0 n others)) (top 7) ∙ long_zs
+  long_ms = length-map (zip2 lt xs ys) (top 7) ∙ long_zs
 
-  pub long_least : length least ≡ n
-  long_least = length-sel_l ms (chunk 0 n bytes) (chunk 0 n others) (long_ms ∙ sym long_xs) (long_ms ∙ sym long_ys) ∙ long_ms
-
-  pub whole_chunk : chunk 0 n least ≡ least
-  whole_chunk = ap (λ i. take i least) (sym long_least) ∙ take-length least
-
-  first : (k : ℕ) → k < n → get_or (chunk 0 n bytes) k 0 ≡ get_or bytes k 0
-  first k l = get_or-chunk 0 n bytes k 0 l ∙ ap (λ i. get_or bytes i 0) (omega arith)
-
-  second : (k : ℕ) → k < n → get_or (chunk 0 n others) k 0 ≡ get_or others k 0
-  second k l = get_or-chunk 0 n others k 0 l ∙ ap (λ i. get_or others i 0) (omega arith)
-
-  marked : (k : ℕ) → k < n → get_or ms k false ≡ ltb (get_or bytes k 0) (get_or others k 0)
+  marked : (k : ℕ) → k < n → get_or ms k false ≡ ltb (get_or xs k 0) (get_or ys k 0)
   marked k l =
-      get_or-map (top 7) (zip2 lt (chunk 0 n bytes) (chunk 0 n others)) k 0 false (omega (arith, l, long_zs))
-      ∙ ap (top 7) (get_or-zip2 lt (chunk 0 n bytes) (chunk 0 n others) k 0 0 0 (omega (arith, l, long_xs)) (omega (arith, l, long_ys)))
-      ∙ is_lt (get_or (chunk 0 n bytes) k 0) (get_or (chunk 0 n others) k 0)
-      ∙ ap (λ a. ltb a (get_or (chunk 0 n others) k 0)) (first k l)
-      ∙ ap (λ b. ltb (get_or bytes k 0) b) (second k l)
+      get_or-map (top 7) (zip2 lt xs ys) k 0 false (omega (arith, l, long_zs))
+      ∙ ap (top 7) (get_or-zip2 lt xs ys k 0 0 0 (omega (arith, l, long_xs)) (omega (arith, l, long_ys)))
+      ∙ is_lt (get_or xs k 0) (get_or ys k 0)
 
-  pub least_at : (k : ℕ) → k < n → get_or least k 0 ≡ cond (ltb (get_or bytes k 0) (get_or others k 0)) (get_or bytes k 0) (get_or others k 0)
-  least_at k l =
-      get_or-sel_l ms (chunk 0 n bytes) (chunk 0 n others) k 0 (omega (arith, l, long_ms)) (omega (arith, l, long_xs)) (omega (arith, l, long_ys))
-      ∙ ap (λ t. cond t (get_or (chunk 0 n bytes) k 0) (get_or (chunk 0 n others) k 0)) (marked k l)
-      ∙ ap (λ a. cond (ltb (get_or bytes k 0) (get_or others k 0)) a (get_or (chunk 0 n others) k 0)) (first k l)
-      ∙ ap (λ b. cond (ltb (get_or bytes k 0) (get_or others k 0)) (get_or bytes k 0) b) (second k l)
+  lesser_at : (k : ℕ) → k < n → get_or lesser_lanes k 0 ≡ cond (ltb (get_or xs k 0) (get_or ys k 0)) (get_or xs k 0) (get_or ys k 0)
+  lesser_at k l =
+      get_or-sel_l ms xs ys k 0 (omega (arith, l, long_ms)) (omega (arith, l, long_xs)) (omega (arith, l, long_ys))
+      ∙ ap (λ t. cond t (get_or xs k 0) (get_or ys k 0)) (marked k l)
 
-  pub least_fits : ((k : ℕ) → Fits w8 (get_or bytes k 0)) → ((k : ℕ) → Fits w8 (get_or others k 0)) → (k : ℕ) → k < n → Fits w8 (get_or least k 0)
-  least_fits fit fit_too k l = subst (Fits w8) (sym (least_at k l)) (by (ltb (get_or bytes k 0) (get_or others k 0)))
-    where
-      by : (t : Bool) → Fits w8 (cond t (get_or bytes k 0) (get_or others k 0))
-      by true = fit k
-      by false = fit_too k
-
-  pub none_in_both : AreNoZeros least n → AreNoZeros bytes n × AreNoZeros others n
+  pub none_in_both : AreNoZeros lesser_lanes n → AreNoZeros xs n × AreNoZeros ys n
   none_in_both none = (
-    λ k l. (both_none (get_or bytes k 0) (get_or others k 0) (subst (λ b. b ≢ 0) (least_at k l) (none k l))).0,
-    λ k l. (both_none (get_or bytes k 0) (get_or others k 0) (subst (λ b. b ≢ 0) (least_at k l) (none k l))).1,
+    λ k l. (both_none (get_or xs k 0) (get_or ys k 0) (subst (λ b. b ≢ 0) (lesser_at k l) (none k l))).0,
+    λ k l. (both_none (get_or xs k 0) (get_or ys k 0) (subst (λ b. b ≢ 0) (lesser_at k l) (none k l))).1,
   )
+
+-- none of the bytes behind the first ones is a zero, of which a vector is made
+pub none_behind : (bytes : List ℕ) (i n : ℕ) → AreNoZeros bytes i → AreNoZeros (chunk i n bytes) n → AreNoZeros bytes (i + n)
+none_behind bytes i n front none k l = elim (cases_lt k i) [
+  | inl low ↦ front k low
+  | inr high ↦ subst (λ b. b ≢ 0) (get_or-chunk i n bytes (k - i) 0 (omega (arith, l, high)) ∙ ap (λ j. get_or bytes j 0) (omega (arith, high))) (none (k - i) (omega (arith, l, high)))
+]
+
+-- a lane, or the 0 behind the last one, is a byte
+pub lane_fits : (lanes : List ℕ) → Each1 (Fits w8) lanes → (k : ℕ) → Fits w8 (get_or lanes k 0)
+lane_fits [] h k = record { fits = omega arith }
+lane_fits (x ∷ lanes) h zero = h.0
+lane_fits (x ∷ lanes) h (suc k) = lane_fits lanes h.1 k

@@ -70,7 +70,7 @@ fn long_run_before_zero(bytes: &[u8]) -> usize
 {
     let mut len = 0;
     'wide: while bytes.len() - len >= 128 {
-        if !have_no_zero(&bytes[len..], &bytes[len + 64..]) {
+        if !have_no_zero(&bytes[len..]) {
             break;
         }
         len += 128;
@@ -94,14 +94,43 @@ fn run_by_vectors_before_zero(bytes: &[u8]) -> usize
     len + run_by_bytes_before_zero(&bytes[len..])
 }
 
-// Whether there is no zero among the first 64 bytes of both: it would be the lesser one of two.
+// Whether there is no zero among the first 128 bytes.
 #[inline(always)]
-fn have_no_zero(bytes: &[u8], others: &[u8]) -> bool
-    requires { (64 ≤ length bytes.now) × (64 ≤ length others.now) }
-    ensures { IsTrue result → AreNoZeros bytes.now 64 × AreNoZeros others.now 64 }
+fn have_no_zero(bytes: &[u8]) -> bool
+    requires { 128 ≤ length bytes.now }
+    ensures { IsTrue result → AreNoZeros bytes.now 128 }
 {
-    let least = u8x64::from_slice(bytes).simd_min(u8x64::from_slice(others));
-    least.simd_eq(u8x64::splat(0)).to_bitmask() == 0
+    are_no_zeros(lesser(least_of_four(bytes), least_of_four(&bytes[64..])))
+}
+
+// Whether no lane is a zero.
+#[inline(always)]
+fn are_no_zeros(lanes: u8x16) -> bool
+    ensures { IsTrue result → AreNoZeros lanes 16 }
+{
+    lanes.simd_eq(u8x16::splat(0)).to_bitmask() == 0
+}
+
+// The least of four vectors of 16 bytes, lane by lane: a zero of any is among them.
+#[inline(always)]
+fn least_of_four(bytes: &[u8]) -> u8x16
+    requires { 64 ≤ length bytes.now }
+    ensures { AreNoZeros result 16 → AreNoZeros bytes.now 64 }
+{
+    let first = lesser(u8x16::from_slice(bytes), u8x16::from_slice(&bytes[16..]));
+    let second = lesser(
+        u8x16::from_slice(&bytes[32..]),
+        u8x16::from_slice(&bytes[48..]),
+    );
+    lesser(first, second)
+}
+
+// The lesser lanes of two vectors: a zero of either is among them.
+#[inline(always)]
+fn lesser(first: u8x16, second: u8x16) -> u8x16
+    ensures { AreNoZeros result 16 → AreNoZeros first 16 × AreNoZeros second 16 }
+{
+    first.simd_min(second)
 }
 
 // How many bytes are before the first zero, if they are UTF-8.

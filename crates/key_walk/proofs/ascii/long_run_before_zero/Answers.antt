@@ -1,6 +1,5 @@
-use Rattle.std.proofs.Common.{rules, ◌+◌, arith, drop, refl, subst}
+use Rattle.std.proofs.Common.{rules, arith, drop, refl}
 use Rattle.std.proofs.lemmas.List.{take_rest}
-use Rattle.key_walk.specs.Frames.{AreNoZeros}
 use Rattle.key_walk.proofs.PlainBytes.{no_zeros_on}
 use Rattle.key_walk.proofs.ascii.long_run_before_zero.Goals as goal
 
@@ -8,8 +7,7 @@ pub wide-preserved : goal.wide-preserved
 wide-preserved c =
     let bytes = c.args.bytes.now in
     let none = c.have_no_zero.ensures c.if-not-have_no_zero.false in
-    let first = no_zeros_on bytes (drop c.wide.len bytes) c.wide.len 64 refl c.wide.invariant.1 (rw (take_rest bytes c.wide.len) at none.0) in
-    (omega arith, subst (AreNoZeros bytes) (omega arith) (no_zeros_on bytes (drop (c.wide.len + 64) bytes) (c.wide.len + 64) 64 refl first (rw (take_rest bytes (c.wide.len + 64)) at none.1)))
+    (omega arith, no_zeros_on bytes (drop c.wide.len bytes) c.wide.len 128 refl c.wide.invariant.1 (rw (take_rest bytes c.wide.len) at none))
 
 pub returns : goal.returns
 returns c =
