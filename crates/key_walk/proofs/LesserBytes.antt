@@ -1,5 +1,5 @@
 -- The lesser lanes of two vectors of bytes: a zero of either is among them.
-use Rattle.std.proofs.Common.{◌≡◌, ◌≢◌, ℕ, ◌+◌, ◌-◌, ◌<◌, ◌≤◌, inl, inr, true, false, Bool, cond, ltb, zero, suc, [], ◌∷◌, Fits, w8, List, map, length, get_or, refl, sym, ap, subst, ◌∙◌, arith}
+use Rattle.std.proofs.Common.{◌≡◌, ◌≢◌, ℕ, ◌+◌, ◌-◌, ◌<◌, inl, inr, true, false, Bool, cond, ltb, zero, suc, [], ◌∷◌, Fits, w8, List, map, length, get_or, refl, sym, ap, subst, ◌∙◌, arith}
 use Rattle.std.proofs.lemmas.Bool.{cases_lt, le-ltb, lt-ltb}
 use Rattle.std.proofs.lemmas.List.{get_or-map, length-map}
 use Rattle.std.proofs.lemmas.Simd.{get_or-chunk, get_or-sel_l, get_or-zip2, length-zip2}

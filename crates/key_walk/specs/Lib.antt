@@ -6,4 +6,5 @@ pub mod Fronts
 pub mod KeyView
 pub mod Open
 pub mod Parts
+pub mod Passing
 pub mod SideBySide

@@ -9,6 +9,7 @@ mod digits;
 pub mod find;
 mod names;
 pub mod part;
+pub mod pass;
 pub mod skip;
 pub mod text;
 pub mod walk;
