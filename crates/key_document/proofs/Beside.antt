@@ -1,26 +1,27 @@
 -- Members and items that an object names, left out one after the other.
-use Rattle.std.proofs.Common.{◌≡◌, ℕ, Bool, true, false, ◌||◌, if◌then◌else◌, Less, List, [], ◌++◌, Option, Some, None, length, replicate, refl, sym, ap, subst, ◌∙◌, arith, append_assoc, length-append}
-use Rattle.std.proofs.lemmas.List.{length-replicate}
+use Rattle.std.proofs.Common.{◌≡◌, ℕ, zero, suc, ◌<◌, ◌≤◌, ◌∷◌, inl, inr, MatchBool, Bool, true, false, ◌||◌, if◌then◌else◌, Less, List, [], ◌++◌, Option, Some, None, length, refl, sym, ap, subst, ◌∙◌, arith, length-append}
 use Rattle.std.specs.Ordering.{is_eq}
 use Rattle.std.specs.Str.{bytes_eq}
 use Rattle.key_value.specs.Readable.{IsAnyNumber}
 use Rattle.jsonb_spec.specs.Containment.{any_item}
 use Rattle.jsonb_spec.specs.Keys.{IsBelowKeys}
 use Rattle.jsonb_spec.specs.Order.{bytes_cmp}
-use Rattle.jsonb_spec.specs.Proper.{HaveProperParts, IsProper}
+use Rattle.jsonb_spec.specs.Proper.{HaveProperParts}
 use Rattle.jsonb_spec.specs.SortKey.{items_key, key_of, members_key, text_key}
 use Rattle.jsonb_spec.specs.Text.Range.{IsWithin, AreWithin, HaveWithin}
 use Rattle.jsonb_spec.specs.Tree.{Tree, null, boolean, string, number, array, object, Trees, no_trees, more_trees, Members, no_members, more_members}
 use Rattle.std.proofs.lemmas.Slice.Eq.{bytes_eq-Decides}
 use Rattle.key_walk.proofs.Holding.{above_is_other, turned_back}
 use Rattle.key_walk.proofs.Occurrence.{equal_names}
-use Rattle.key_edit.specs.Merging.{HasNoOther, IsFrom, StepsOn}
-use Rattle.key_edit.specs.declared.merge.Side.{Side}
-use Rattle.key_edit.specs.declared.merge.Side.TheVariants.{Left, Right, Both}
+use Rattle.jsonb_value.proofs.SortKeys.Texts.{text_key-other}
+use Rattle.key_walk.specs.Passing.{joined_members}
+use Rattle.key_edit.specs.Merging.{AreFirst, AreReplaced, IsLast, keys_of_members}
+use Rattle.key_edit.specs.declared.merge.Step.{Step}
+use Rattle.key_edit.proofs.Merged.{joined_key}
 use Rattle.key_document.specs.Document.{counts_at, counts_at_items, counts_at_members}
 use Rattle.key_document.specs.LeftOut.{any_named, beside_names, has_name, is_named, items_beside, members_beside}
-use Rattle.key_document.specs.Retaining.{is_on_both, unless}
-use Rattle.key_document.proofs.Counts.{one_each}
+use Rattle.key_document.specs.Retaining.{unless}
+use Rattle.key_document.proofs.MembersJoined.{counts_each, counts_of_members, first_proper, joined_counts}
 use Rattle.key_document.proofs.Retained.{PassedNext}
 
 -- ---- names
@@ -54,27 +55,13 @@ none_any : (ms : Members) → any_named no_members ms ≡ false
 none_any no_members = refl
 none_any (more_members k t ms) = none_any ms
 
-pub rest_stays : (side : Side) (ms ns : Members) → HasNoOther side ms ns → (members_beside ns ms ≡ ms) × (any_named ns ms ≡ false)
-rest_stays Left ms ns none = (ap (λ n. members_beside n ms) none ∙ none_named ms, ap (λ n. any_named n ms) none ∙ none_any ms)
-rest_stays Right ms ns none = (ap (members_beside ns) none ∙ sym none, ap (any_named ns) none)
-rest_stays Both ms ns none = absurd none
+pub rest_stays : (ms ns : Members) (step : Step) → IsLast ms ns step → (members_beside ns ms ≡ ms) × (any_named ns ms ≡ false)
+rest_stays ms ns step l = elim l [
+  | inl r ↦ (ap (members_beside ns) r.0 ∙ sym r.0, ap (any_named ns) r.0)
+  | inr r ↦ (ap (λ n. members_beside n ms) r.0 ∙ none_named ms, ap (λ n. any_named n ms) r.0 ∙ none_any ms)
+]
 
 -- ---- a step through the members of an object
-
-abbrev member_key : List ℕ → Tree → List ℕ
-member_key k t = text_key k ++ key_of t
-
-abbrev member_counts : List ℕ → Tree → List ℕ
-member_counts k t = replicate (length (text_key k)) 0 ++ counts_at t
-
-member_each : (k : List ℕ) (t : Tree) → IsProper t → length (member_counts k t) ≡ length (member_key k t)
-member_each k t p = omega (arith, length-append (text_key k) (key_of t), length-append (replicate (length (text_key k)) 0) (counts_at t), length-replicate {A = ℕ} (length (text_key k)) 0, one_each t p)
-
-key_split : (k : List ℕ) (t : Tree) (ms : Members) → members_key (more_members k t ms) ≡ member_key k t ++ members_key ms
-key_split k t ms = sym (append_assoc (text_key k) (key_of t) (members_key ms))
-
-counts_split : (k : List ℕ) (t : Tree) (ms : Members) → counts_at_members (more_members k t ms) ≡ member_counts k t ++ counts_at_members ms
-counts_split k t ms = sym (append_assoc (replicate (length (text_key k)) 0) (counts_at t) (counts_at_members ms))
 
 abbrev pub MemberPassed : Bool → Members → Members → Members → Members → Type 0
 MemberPassed gone ms ns members others =
@@ -82,51 +69,92 @@ MemberPassed gone ms ns members others =
     (members_key (members_beside others members)) (counts_at_members (members_beside others members))
     × (any_named ns ms ≡ (gone || any_named others members))
 
-step_by : (side : Side) (ms ns : Members) (k : List ℕ) (v : Tree) (members others : Members) → IsFrom side ms ns k v members others → IsBelowKeys k members → IsBelowKeys k others → HaveProperParts ms → MemberPassed (is_on_both side) ms ns members others
-step_by Left ms ns k v members others f b c p =
-    let other = not_named k others c in
-    let stays = (λ i. members_beside (f.1 i) (f.0 i)) ∙ ap (λ x. if x then members_beside others members else more_members k v (members_beside others members)) other in (
+-- those that come before all names stay
+run_stays : (run ms ns : Members) → AreFirst run ns → members_beside ns (joined_members run ms) ≡ joined_members run (members_beside ns ms)
+run_stays no_members ms ns h = refl
+run_stays (more_members k t run) ms ns h =
+    ap (λ b. if b then members_beside ns (joined_members run ms) else more_members k t (members_beside ns (joined_members run ms))) (not_named k ns h.0) ∙ ap (more_members k t) (run_stays run ms ns h.1)
+
+run_any : (run ms ns : Members) → AreFirst run ns → any_named ns (joined_members run ms) ≡ any_named ns ms
+run_any no_members ms ns h = refl
+run_any (more_members k t run) ms ns h = ap (λ b. b || any_named ns (joined_members run ms)) (not_named k ns h.0) ∙ run_any run ms ns h.1
+
+pub run_passed : (run ms ns : Members) → AreFirst run ns → HaveProperParts (joined_members run ms) → MemberPassed false (joined_members run ms) ns ms ns
+run_passed run ms ns h p = (
+  record {
+    one = keys_of_members run;
+    one_counts = counts_of_members run;
+    each = counts_each run (first_proper run ms p);
+    key_is = joined_key run ms;
+    counts_are = joined_counts run ms;
+    later_is = ap members_key (run_stays run ms ns h) ∙ joined_key run (members_beside ns ms);
+    later_counts_are = ap counts_at_members (run_stays run ms ns h) ∙ joined_counts run (members_beside ns ms);
+  },
+  run_any run ms ns h,
+)
+
+-- names that come before all members aren't looked for
+part_passed : (part ns ms : Members) → AreFirst part ms → members_beside (joined_members part ns) ms ≡ members_beside ns ms
+part_passed no_members ns ms h = refl
+part_passed (more_members l u part) ns ms h = rest_passed l u (joined_members part ns) ms h.0 ∙ part_passed part ns ms h.1
+
+part_any : (part ns ms : Members) → AreFirst part ms → any_named (joined_members part ns) ms ≡ any_named ns ms
+part_any no_members ns ms h = refl
+part_any (more_members l u part) ns ms h = any_passed l u (joined_members part ns) ms h.0 ∙ part_any part ns ms h.1
+
+some_key : (k : List ℕ) → 0 < length (text_key k)
+some_key [] = omega arith
+some_key (zero ∷ k) = omega arith
+some_key (suc b ∷ k) = omega (arith, ap length (text_key-other b k))
+
+-- none is replaced, and the part is passed
+none_replaced : (ms part ns : Members) → AreFirst part ms → MemberPassed false ms (joined_members part ns) ms ns
+none_replaced ms part ns h = (
+  record {
+    one = [];
+    one_counts = [];
+    each = refl;
+    key_is = refl;
+    counts_are = refl;
+    later_is = ap members_key (part_passed part ns ms h);
+    later_counts_are = ap counts_at_members (part_passed part ns ms h);
+  },
+  part_any part ns ms h,
+)
+
+-- one is replaced, which has the first name of the part
+one_replaced : (k : List ℕ) (u : Tree) (ms : Members) (l : List ℕ) (v : Tree) (part ns : Members) → k ≡ l → AreFirst (more_members l v part) ms → HaveProperParts (more_members k u ms) → MemberPassed true (more_members k u ms) (joined_members (more_members l v part) ns) ms ns
+one_replaced k u ms l v part ns same h p =
+    let all = joined_members (more_members l v part) ns in
+    let named : has_name k all ≡ true = ap (λ x. has_name x all) same ∙ ap (λ x. x || has_name l (joined_members part ns)) (same_name l) in
+    let goes = ap (λ b. if b then members_beside all ms else more_members k u (members_beside all ms)) named ∙ part_passed (more_members l v part) ns ms h in (
       record {
-        one = member_key k v;
-        one_counts = member_counts k v;
-        each = member_each k v (subst HaveProperParts f.0 p).1;
-        key_is = ap members_key f.0 ∙ key_split k v members;
-        counts_are = ap counts_at_members f.0 ∙ counts_split k v members;
-        later_is = ap members_key stays ∙ key_split k v (members_beside others members);
-        later_counts_are = ap counts_at_members stays ∙ counts_split k v (members_beside others members);
-      },
-      (λ i. any_named (f.1 i) (f.0 i)) ∙ ap (λ x. x || any_named others members) other,
-    )
-step_by Right ms ns k v members others f b c p =
-    let stays = (λ i. members_beside (f.1 i) (f.0 i)) ∙ rest_passed k v others members b in (
-      record {
-        one = [];
-        one_counts = [];
-        each = refl;
-        key_is = ap members_key f.0;
-        counts_are = ap counts_at_members f.0;
-        later_is = ap members_key stays;
-        later_counts_are = ap counts_at_members stays;
-      },
-      (λ i. any_named (f.1 i) (f.0 i)) ∙ any_passed k v others members b,
-    )
-step_by Both ms ns k v members others f b c p =
-    let named : has_name k (more_members k v others) ≡ true = ap (λ x. x || has_name k others) (same_name k) in
-    let goes = (λ i. members_beside (f.2 i) (f.1 i)) ∙ ap (λ x. if x then members_beside (more_members k v others) members else more_members k f.0 (members_beside (more_members k v others) members)) named ∙ rest_passed k v others members b in (
-      record {
-        one = member_key k f.0;
-        one_counts = member_counts k f.0;
-        each = member_each k f.0 (subst HaveProperParts f.1 p).1;
-        key_is = ap members_key f.1 ∙ key_split k f.0 members;
-        counts_are = ap counts_at_members f.1 ∙ counts_split k f.0 members;
+        one = keys_of_members (more_members k u no_members);
+        one_counts = counts_of_members (more_members k u no_members);
+        each = counts_each (more_members k u no_members) (p.0, p.1, tt);
+        key_is = joined_key (more_members k u no_members) ms;
+        counts_are = joined_counts (more_members k u no_members) ms;
         later_is = ap members_key goes;
         later_counts_are = ap counts_at_members goes;
       },
-      (λ i. any_named (f.2 i) (f.1 i)) ∙ ap (λ x. x || any_named (more_members k v others) members) named,
+      ap (λ b. b || any_named all ms) named,
     )
 
-pub member_passed : (side : Side) (ms ns : Members) (part left right : List ℕ) (s : StepsOn ms ns side part left right) → HaveProperParts ms → MemberPassed (is_on_both side) ms ns s.members s.others
-member_passed side ms ns part left right s p = step_by side ms ns s.key s.value s.members s.others s.from s.below s.below_others p
+longer : (k : List ℕ) (u : Tree) (ms : Members) → length (members_key ms) < length (members_key (more_members k u ms))
+longer k u ms = omega (arith, some_key k, length-append (text_key k) (key_of u ++ members_key ms), length-append (key_of u) (members_key ms))
+
+pub replaced_passed : (gone : Bool) (replaced ms part ns : Members) → AreReplaced replaced part → AreFirst part ms → HaveProperParts (joined_members replaced ms)
+    → MatchBool gone (length (members_key ms) < length (members_key (joined_members replaced ms))) (length (members_key (joined_members replaced ms)) ≤ length (members_key ms))
+    → MemberPassed gone (joined_members replaced ms) (joined_members part ns) ms ns
+replaced_passed true no_members ms part ns r h p m = absurd (omega (arith, m))
+replaced_passed false no_members ms part ns r h p m = none_replaced ms part ns h
+replaced_passed gone (more_members k u rest) ms no_members ns r h p m = absurd r
+replaced_passed true (more_members k u no_members) ms (more_members l v part) ns r h p m = one_replaced k u ms l v part ns r.0 h p
+replaced_passed false (more_members k u no_members) ms (more_members l v part) ns r h p m = absurd (omega (arith, m, longer k u ms))
+replaced_passed gone (more_members k u (more_members j w rest)) ms (more_members l v part) ns r h p m = absurd (some_members r.1)
+  where
+    some_members : more_members j w rest ≡ no_members → ⊥
+    some_members e = cc
 
 -- ---- a step through the items of an array
 

@@ -16,6 +16,7 @@ pub mod Reaching
 pub mod Slots
 pub mod ItemsJoined
 pub mod MembersJoined
+pub mod StepsCopied
 pub mod NoZeros
 pub mod Numbering
 pub mod Texts

@@ -15,19 +15,21 @@ use Rattle.std.proofs.lemmas.Slice.Eq.{bytes_eq-Decides}
 use Rattle.key_walk.proofs.Finds.{readable_inside}
 use Rattle.key_walk.proofs.Framed.{names_compare}
 use Rattle.key_walk.proofs.Occurrence.{equal_names}
-use Rattle.key_edit.specs.Merging.{HasNoOther, IsLast, IsStep, StepsOn}
-use Rattle.key_edit.specs.Edit.{merged_members}
+use Rattle.key_edit.specs.Merging.{IsStep, StepsOn}
 use Rattle.key_edit.specs.declared.merge.Step.{Step}
+use Rattle.key_edit.proofs.Merged.{behind_first, joined_key, last_step, next_step}
+use Rattle.key_walk.specs.Passing.{joined_members}
+use Rattle.jsonb_spec.specs.Proper.{HaveProperParts}
 use Rattle.key_document.specs.Document.{counts_at, counts_at_items, counts_at_members}
 use Rattle.key_document.specs.LeftOut.{any_named, has_name, is_named, items_beside, members_beside}
-use Rattle.key_document.specs.Retaining.{Finishes, IsBegun, Retains, WritesAnswer, is_on_both, output_of, unless}
+use Rattle.key_document.specs.Retaining.{Finishes, IsBegun, Retains, WritesAnswer, output_of, unless}
 use Rattle.key_document.specs.declared.error.DocumentError.{DocumentError}
 use Rattle.key_document.specs.declared.error.DocumentError.TheVariants.{OutOfMemory}
 use Rattle.key_document.specs.declared.retain.Output.{Output}
 use Rattle.key_document.specs.declared.retain.Retaining.{Retaining}
-use Rattle.key_document.proofs.Beside.{MemberPassed, member_passed, push_counts, push_key, rest_stays}
+use Rattle.key_document.proofs.Beside.{MemberPassed, replaced_passed, run_passed, push_counts, push_key, rest_stays}
 use Rattle.key_document.proofs.Counts.{members_each, one_each}
-use Rattle.key_document.proofs.Retained.{answer_finished, answer_lacking, next_ready, retains_begun}
+use Rattle.key_document.proofs.Retained.{answer_finished, answer_lacking, next_ready, retains_begun, stays_next}
 
 -- ---- whether anything goes
 
@@ -75,19 +77,48 @@ members_begun ms ns begun left right old h i e f b = record {
   any_is = ap (λ found. found || any_named ns ms) (sym b.nothing);
 }
 
+readable_behind : (run ms : Members) → HaveReadable (joined_members run ms) → HaveReadable ms
+readable_behind no_members ms h = h
+readable_behind (more_members k t run) ms h = readable_behind run ms (behind_first k t (joined_members run ms) h)
+
 module _ (first : Output) (ms ns : Members) (retaining : Retaining) (left right old now : List ℕ) (step : Step) (l : MembersLeft first ms ns retaining left right old now) (s : IsStep l.members l.others step) where
-  abbrev StepOf : Bool → Type 0
-  StepOf over = MatchBool over (IsLast step.side l.members l.others × (step.part.now ≡ members_key (merged_members l.members l.others)) × HasNoOther step.side l.members l.others) (StepsOn l.members l.others step.side step.part.now step.members.now step.others.now)
+  module _ (goes_on : step.over ≡ false) (gone : Bool) (rest : List ℕ) (rest_is : (more : List ℕ) → left ≡ step.run.now ++ more → rest ≡ more) (is_gone : MatchBool gone (length step.members.now < length rest) (length rest ≤ length step.members.now)) where
+    pub on : StepsOn l.members l.others step
+    on = next_step l.members l.others step goes_on s
 
-  module _ (goes_on : step.over ≡ false) (gone : Bool) (is_gone : gone ≡ is_on_both step.side) where
-    pub on : StepsOn l.members l.others step.side step.part.now step.members.now step.others.now
-    on = subst StepOf goes_on s
+    -- those behind the run
+    abbrev behind : Members
+    behind = joined_members on.replaced on.members
 
-    pub passed : MemberPassed gone l.members l.others on.members on.others
-    passed = subst (λ b. MemberPassed b l.members l.others on.members on.others) (sym is_gone) (member_passed step.side l.members l.others step.part.now step.members.now step.others.now on l.readable.proper)
+    behind_readable : HaveReadable behind
+    behind_readable = readable_behind on.run behind (subst HaveReadable on.left_is l.readable)
 
-    pub here_is : left ≡ passed.0.one ++ step.members.now
-    here_is = l.left_is ∙ passed.0.key_is ∙ ap (λ b. passed.0.one ++ b) (sym on.left_is)
+    rest_key : rest ≡ members_key behind
+    rest_key = rest_is (members_key behind) (l.left_is ∙ ap members_key on.left_is ∙ joined_key on.run behind ∙ ap (λ b. b ++ members_key behind) (sym on.run_is))
+
+    run_is_passed : MemberPassed false l.members l.others behind l.others
+    run_is_passed = subst (λ m. MemberPassed false m l.others behind l.others) (sym on.left_is) (run_passed on.run behind l.others on.run_first (subst HaveProperParts on.left_is l.readable.proper))
+
+    run_here : left ≡ run_is_passed.0.one ++ rest
+    run_here = l.left_is ∙ run_is_passed.0.key_is ∙ ap (λ b. run_is_passed.0.one ++ b) (sym rest_key)
+
+    behind_retains : Retains first (key_of (what_stays ms ns)) (counts_at (what_stays ms ns)) rest (counts_at_members behind) (members_key (members_beside l.others behind)) (counts_at_members (members_beside l.others behind)) retaining old now
+    behind_retains =
+        stays_next first (key_of (what_stays ms ns)) (counts_at (what_stays ms ns)) old left (counts_at_members l.members) (members_key (members_beside l.others l.members)) (counts_at_members (members_beside l.others l.members))
+        rest (counts_at_members behind) (members_key (members_beside l.others behind)) (counts_at_members (members_beside l.others behind)) retaining now
+        (record { one = run_is_passed.0.one; one_counts = run_is_passed.0.one_counts; each = run_is_passed.0.each; key_is = run_here; counts_are = run_is_passed.0.counts_are; later_is = run_is_passed.0.later_is; later_counts_are = run_is_passed.0.later_counts_are }) l.retains
+
+    behind_any : any_named ns ms ≡ (retaining.found || any_named l.others behind)
+    behind_any = l.any_is ∙ ap (λ b. retaining.found || b) run_is_passed.1
+
+    pub passed : MemberPassed gone behind l.others on.members on.others
+    passed = subst (λ n. MemberPassed gone behind n on.members on.others) (sym on.right_is)
+        (replaced_passed gone on.replaced on.members on.part on.others on.are_replaced on.part_first behind_readable.proper
+        (subst (λ b. MatchBool gone (length b < length (members_key behind)) (length (members_key behind) ≤ length b)) on.members_are
+        (subst (λ b. MatchBool gone (length step.members.now < length b) (length b ≤ length step.members.now)) rest_key is_gone)))
+
+    pub here_is : rest ≡ passed.0.one ++ step.members.now
+    here_is = rest_key ∙ passed.0.key_is ∙ ap (λ b. passed.0.one ++ b) (sym on.members_are)
 
     pub part_each : length passed.0.one_counts ≡ length passed.0.one
     part_each = passed.0.each
@@ -98,15 +129,15 @@ module _ (first : Output) (ms ns : Members) (retaining : Retaining) (left right 
         → WritesAnswer first (if any_named ns ms then Some (what_stays ms ns) else None) r before new
     goes_wrong r error before mid new is h most x =
         answer_lacking first (what_stays ms ns) (any_named ns ms) r error before mid new
-        (any_here (any_named ns ms) retaining.found gone (any_named on.others on.members) (l.any_is ∙ ap (λ b. retaining.found || b) passed.1) x.0) h x.1 most
+        (any_here (any_named ns ms) retaining.found gone (any_named on.others on.members) (behind_any ∙ ap (λ b. retaining.found || b) passed.1) x.0) h x.1 most
         (omega (arith, x.2, ap length is))
 
-    pub ready : Retains first (key_of (what_stays ms ns)) (counts_at (what_stays ms ns)) left (passed.0.one_counts ++ counts_at_members on.members) (unless gone passed.0.one (members_key (members_beside on.others on.members)))
+    pub ready : Retains first (key_of (what_stays ms ns)) (counts_at (what_stays ms ns)) rest (passed.0.one_counts ++ counts_at_members on.members) (unless gone passed.0.one (members_key (members_beside on.others on.members)))
         (unless gone passed.0.one_counts (counts_at_members (members_beside on.others on.members))) retaining old now
     ready =
-        next_ready first (key_of (what_stays ms ns)) (counts_at (what_stays ms ns)) old gone left (counts_at_members l.members) (members_key (members_beside l.others l.members)) (counts_at_members (members_beside l.others l.members))
+        next_ready first (key_of (what_stays ms ns)) (counts_at (what_stays ms ns)) old gone rest (counts_at_members behind) (members_key (members_beside l.others behind)) (counts_at_members (members_beside l.others behind))
         step.members.now (counts_at_members on.members) (members_key (members_beside on.others on.members)) (counts_at_members (members_beside on.others on.members)) retaining now
-        (record { one = passed.0.one; one_counts = passed.0.one_counts; each = passed.0.each; key_is = here_is; counts_are = passed.0.counts_are; later_is = passed.0.later_is; later_counts_are = passed.0.later_counts_are }) l.retains
+        (record { one = passed.0.one; one_counts = passed.0.one_counts; each = passed.0.each; key_is = here_is; counts_are = passed.0.counts_are; later_is = passed.0.later_is; later_counts_are = passed.0.later_counts_are }) behind_retains
 
     pub next_left : (next : Retaining) (new : List ℕ)
         → Retains first (key_of (what_stays ms ns)) (counts_at (what_stays ms ns)) step.members.now (counts_at_members on.members) (members_key (members_beside on.others on.members)) (counts_at_members (members_beside on.others on.members)) next old new
@@ -117,15 +148,15 @@ module _ (first : Output) (ms ns : Members) (retaining : Retaining) (left right 
       others = on.others;
       readable = on.readable;
       others_readable = on.others_readable;
-      left_is = on.left_is;
-      right_is = on.right_is;
+      left_is = on.members_are;
+      right_is = on.others_are;
       retains = x.0;
-      any_is = any_so_far (any_named ns ms) retaining.found gone (any_named on.others on.members) (l.any_is ∙ ap (λ b. retaining.found || b) passed.1) ∙ ap (λ b. b || any_named on.others on.members) (sym x.1);
+      any_is = any_so_far (any_named ns ms) retaining.found gone (any_named on.others on.members) (behind_any ∙ ap (λ b. retaining.found || b) passed.1) ∙ ap (λ b. b || any_named on.others on.members) (sym x.1);
     }
 
   module _ (over : step.over ≡ true) where
     last : (members_beside l.others l.members ≡ l.members) × (any_named l.others l.members ≡ false)
-    last = rest_stays step.side l.members l.others (subst StepOf over s).2
+    last = rest_stays l.members l.others step (last_step l.members l.others step over s)
 
     pub last_each : length (counts_at_members l.members) ≡ length left
     last_each = members_each l.members l.readable.proper ∙ sym (ap length l.left_is)

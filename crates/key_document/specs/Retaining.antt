@@ -10,8 +10,6 @@ use Rattle.key_document.specs.declared.error.DocumentError.TheVariants.{OutOfMem
 use Rattle.key_document.specs.declared.retain.Output.{Output}
 use Rattle.key_document.specs.declared.retain.Output.TheVariants.{Bytes, Zeros}
 use Rattle.key_document.specs.declared.retain.Retaining.{Retaining}
-use Rattle.key_edit.specs.declared.merge.Side.{Side}
-use Rattle.key_edit.specs.declared.merge.Side.TheVariants.{Left, Right, Both}
 use Rattle.key_zeros.specs.Numbers.{Pends}
 use Rattle.key_zeros.specs.Zeros.{zeros_of}
 
@@ -83,12 +81,6 @@ pub record IsBegun (byte : ℕ) (retaining : Retaining) (behind counts : List �
   pub nothing : retaining.found ≡ false
   pub pending_is : retaining.pending.now ≡ byte ∷ behind
   pub are_ahead : AreAhead retaining.output (0 ∷ counts)
-
--- whether a step of a merge is of a member that both sides have
-abbrev pub is_on_both : Side → Bool
-is_on_both Left = false
-is_on_both Right = false
-is_on_both Both = true
 
 -- What is written of the value is appended. Else memory ran out, as the capacity for all of it is missing.
 abbrev pub WritesAll : {X : Type 0} → Output → Tree → Result X DocumentError → Vec ℕ Global → Vec ℕ Global → Type 0

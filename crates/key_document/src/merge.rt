@@ -1,13 +1,13 @@
 //! Two documents merged.
 
-ghost use Rattle.std.specs.Prelude.{◌≡◌, ◌<◌, ◌+◌, ◌^◌, ℕ, List, MatchResult, length};
+ghost use Rattle.std.specs.Prelude.{◌≡◌, ◌<◌, ◌≤◌, ◌+◌, ◌-◌, ◌^◌, ℕ, List, MatchResult, length};
 ghost use Rattle.jsonb_spec.specs.SortKey.{key_of, members_key};
 ghost use Rattle.jsonb_spec.specs.Tree.{Members, array, object};
 ghost use Rattle.key_walk.specs.AtKeys.{OfKey};
 ghost use Rattle.key_walk.specs.Checked.{HaveReadable};
 ghost use Rattle.key_document.specs.Changes.{AppendsBoth, PreservesOnError};
 ghost use Rattle.key_document.specs.Document.{behind_key, counts_at_members, zeros_at};
-ghost use Rattle.key_document.specs.Merging.{CopiesStep, HasEnough, ItemsLeft, OfBoth, item_edge};
+ghost use Rattle.key_document.specs.Merging.{CopiesStep, ItemsLeft, OfBoth, item_edge};
 ghost use Rattle.key_document.specs.Splices.{AppendsZeros};
 ghost use Rattle.key_edit.specs.Edit.{as_items, joined_items, merge, merged_members};
 ghost use Rattle.key_text.specs.Writes.{Preserves};
@@ -16,7 +16,7 @@ ghost use Rattle.key_zeros.specs.Numbers.{Pends};
 use crate::document::{end_zeros, split_document};
 use crate::error::DocumentError;
 use crate::zeros::{all_left, copy, pass};
-use key_edit::merge::{Side, Step, both_members, merge_step};
+use key_edit::merge::{Step, both_members, merge_step};
 use key_walk::walk::items_of;
 
 /// Appends the document of both values in one, as `append_merged` of the crate `key_edit` does with keys. Each
@@ -164,14 +164,22 @@ fn join_members(
         let Ok(step) = merge_step(members, others) else {
             return Err(DocumentError::NoDocument);
         };
-        let passed = members.len().saturating_sub(step.members.len());
-        merging = copy_step(&merging, &step, passed, out)?;
+        let replaced = replaced_by(&step, members);
+        merging = copy_step(&merging, &step, replaced, out)?;
         if step.over {
             return Ok(());
         }
         members = step.members;
         others = step.others;
     }
+}
+
+// How many bytes of these members on the left side are replaced by the step.
+fn replaced_by(step: &Step, members: &[u8]) -> usize
+    ensures { result ≡ length members.now - length step.now.run.now - length step.now.members.now }
+{
+    let behind = members.len().saturating_sub(step.run.len());
+    behind.saturating_sub(step.members.len())
 }
 
 /// Two objects that are merged: how many bytes without zeros are at the end of what was appended, and what is left of
@@ -183,45 +191,27 @@ struct Merging<'z> {
     theirs: Option<(usize, u8, &'z [u8])>,
 }
 
-// Appends the zeros of the bytes of a step. On the left side so many bytes are passed.
+// Appends the zeros of the bytes of a step. On the left side so many bytes are replaced.
 fn copy_step<'z>(
     merging: &Merging<'z>,
     step: &Step,
-    passed: usize,
+    replaced: usize,
     out: &mut Vec<u8>,
 ) -> Result<Merging<'z>, DocumentError>
     ensures copied { (xs ys : List ℕ) → Pends xs merging.now.ours → Pends ys merging.now.theirs
-        → HasEnough step.now.side (length step.now.part.now) passed xs ys → length xs < 2 ^ 63 → length ys < 2 ^ 63
-        → merging.now.plain + length step.now.part.now < 2 ^ 63
-        → CopiesStep step.now.side (length step.now.part.now) passed merging.now.plain xs ys result out.old out.new }
+        → length step.now.run.now + replaced ≤ length xs → length step.now.part.now ≤ length ys
+        → length xs < 2 ^ 63 → length ys < 2 ^ 63
+        → merging.now.plain + length step.now.run.now + length step.now.part.now < 2 ^ 63
+        → CopiesStep (length step.now.run.now) replaced (length step.now.part.now) merging.now.plain xs ys result
+        out.old out.new }
     ensures preserves { Preserves out.old out.new }
 {
-    let size = step.part.len();
-    match step.side {
-        Side::Left => {
-            let (plain, ours) = copy(merging.plain, merging.ours, size, out)?;
-            Ok(Merging {
-                plain,
-                ours,
-                theirs: merging.theirs,
-            })
-        }
-        Side::Right => {
-            let (plain, theirs) = copy(merging.plain, merging.theirs, size, out)?;
-            Ok(Merging {
-                plain,
-                ours: merging.ours,
-                theirs,
-            })
-        }
-        Side::Both => {
-            let ours = pass(merging.ours, passed)?;
-            let (plain, theirs) = copy(merging.plain, merging.theirs, size, out)?;
-            Ok(Merging {
-                plain,
-                ours,
-                theirs,
-            })
-        }
-    }
+    let (mid, rest) = copy(merging.plain, merging.ours, step.run.len(), out)?;
+    let ours = pass(rest, replaced)?;
+    let (plain, theirs) = copy(mid, merging.theirs, step.part.len(), out)?;
+    Ok(Merging {
+        plain,
+        ours,
+        theirs,
+    })
 }

@@ -1,6 +1,6 @@
 //! Members that an object names, and items that are one of its names, left out.
 
-ghost use Rattle.std.specs.Prelude.{◌≡◌, List, ℕ, length, Some};
+ghost use Rattle.std.specs.Prelude.{◌≡◌, ◌<◌, ◌≤◌, ◌++◌, List, ℕ, length, MatchBool, Some};
 ghost use Rattle.key_value.specs.Readable.{IsReadable};
 ghost use Rattle.jsonb_spec.specs.SortKey.{items_key, key_of, members_key, text_key};
 ghost use Rattle.jsonb_spec.specs.SortKey.Kind as kind;
@@ -10,7 +10,7 @@ ghost use Rattle.key_walk.specs.Checked.{AreReadable, HaveReadable};
 ghost use Rattle.key_document.specs.Changes.{Answers, AnswersOfBoth, PreservesOnError};
 ghost use Rattle.key_document.specs.Document.{behind_key, counts_at, counts_at_items, counts_at_members, zeros_at};
 ghost use Rattle.key_document.specs.LeftOut.{beside_names, has_name, is_named, without_names};
-ghost use Rattle.key_document.specs.Retaining.{AreAhead, Finishes, IsBegun, Retains, WritesAnswer, is_on_both};
+ghost use Rattle.key_document.specs.Retaining.{AreAhead, Finishes, IsBegun, Retains, WritesAnswer};
 ghost use Rattle.key_document.specs.Splices.{AppendsZeros};
 ghost use Rattle.key_document.specs.declared.retain.Output.{Output};
 ghost use Rattle.key_text.specs.Writes.{Preserves};
@@ -20,7 +20,7 @@ use crate::error::DocumentError;
 use crate::retain::{Output, Retaining, pass_bytes, write_rest};
 use crate::zeros::all_left;
 use jsonb_value::sort_key::kind;
-use key_edit::merge::{Side, merge_step};
+use key_edit::merge::{Step, merge_step};
 use key_walk::walk::{items_of, members_of, next_item, next_member};
 
 /// Appends the document of the value without what an object names, of which the document or the key is passed, and
@@ -146,7 +146,9 @@ fn write_members(
         if step.over {
             return finish(&retaining, out);
         }
-        retaining = pass_bytes(&retaining, is_both(step.side), members, step.members, out)?;
+        let rest = behind_run(&step, members);
+        let goes = is_longer(rest, step.members);
+        retaining = pass_bytes(&retaining, goes, rest, step.members, out)?;
         members = step.members;
         others = step.others;
     }
@@ -188,15 +190,22 @@ fn finish(retaining: &Retaining<'_, '_>, out: &mut Vec<u8>) -> Result<bool, Docu
     Ok(true)
 }
 
-// Whether a member is on both sides.
-fn is_both(side: Side) -> bool
-    ensures { result ≡ is_on_both side }
+// What is behind the first bytes of a step.
+fn behind_run<'k>(step: &Step, members: &'k [u8]) -> &'k [u8]
+    ensures { (rest : List ℕ) → members.now ≡ step.now.run.now ++ rest → result.now ≡ rest }
 {
-    match side {
-        Side::Both => true,
-        Side::Left => false,
-        Side::Right => false,
+    if step.run.len() > members.len() {
+        return members;
     }
+    let (_, rest) = members.split_at(step.run.len());
+    rest
+}
+
+// Whether these are more bytes than the others.
+fn is_longer(bytes: &[u8], others: &[u8]) -> bool
+    ensures { MatchBool result (length others.now < length bytes.now) (length bytes.now ≤ length others.now) }
+{
+    bytes.len() > others.len()
 }
 
 // Whether the item is a string that is one of the names.

@@ -1,24 +1,26 @@
 -- Members merged one after the other.
-use Rattle.std.proofs.Common.{◌≡◌, ℕ, ◌+◌, ◌≤◌, Bool, true, false, List, [], ◌∷◌, ◌++◌, Ordering, Less, Equal, Greater, MatchBool, Result, Ok, Err, length, refl, sym, ap, subst, ◌∙◌, arith, append_assoc, length-append}
+use Rattle.std.proofs.Common.{◌≡◌, ℕ, ◌+◌, ◌<◌, ◌≤◌, inl, inr, Bool, true, false, List, [], ◌∷◌, ◌++◌, Ordering, Less, Equal, Greater, MatchBool, MatchOption, Bor, Some, None, Result, Ok, Err, is_err, Vec, vec_len, Global, length, refl, sym, ap, subst, ◌∙◌, arith, append-nil, append_assoc, length-append}
+use Rattle.std.specs.Cmp.{tied_itself}
 use Rattle.std.specs.Cmp.Lexicographic.{nat_list_cmp_total}
-use Rattle.std.specs.FinMap.{nat_cmp-IsAntisymmetric, slice_cmp-IsAntisymmetric}
-use Rattle.std.specs.Ordering.{match_ordering, ordering_reverse}
+use Rattle.std.specs.Ordering.{match_ordering}
+use Rattle.std.specs.Vec.{vec_capacity}
+use Rattle.std.specs.declared.alloc.AllocError.{AllocError}
 use Rattle.key_value.specs.Readable.{IsAnyNumber, IsReadable}
 use Rattle.key_walk.specs.Checked.{HaveReadable}
-use Rattle.key_walk.specs.declared.find.NoKey.{NoKey}
+use Rattle.key_walk.specs.Passing.{AreBelow, IsFirst, PassesBelow, joined_members}
+use Rattle.key_walk.specs.declared.pass.Passed.{Passed}
 use Rattle.key_walk.specs.Open.{end_key}
 use Rattle.key_walk.proofs.Finds.{readable_inside}
-use Rattle.key_walk.proofs.Opens.{no_end}
+use Rattle.key_walk.proofs.Passing.{below_others, ended}
 use Rattle.jsonb_spec.specs.Keys.{IsBelowKeys, KeysAscend}
 use Rattle.jsonb_spec.specs.Order.{bytes_cmp}
 use Rattle.jsonb_spec.specs.SortKey.{key_of, members_key, text_key}
+use Rattle.jsonb_spec.specs.Text.Appending.{Appends}
 use Rattle.jsonb_spec.specs.Text.Range.{IsWithin, HaveWithin}
 use Rattle.jsonb_spec.specs.Tree.{Tree, Members, no_members, more_members, put}
 use Rattle.jsonb_value.proofs.Values.Members.{turned}
 use Rattle.key_edit.specs.Edit.{merged_members}
-use Rattle.key_edit.specs.Merging.{HasNoOther, IsLast, IsStep, StepsOn}
-use Rattle.key_edit.specs.declared.merge.Side.{Side}
-use Rattle.key_edit.specs.declared.merge.Side.TheVariants.{Left, Right, Both}
+use Rattle.key_edit.specs.Merging.{AreFirst, ComeFirst, IsLast, IsStep, StepsOn, keys_of_members}
 use Rattle.key_edit.specs.declared.merge.Step.{Step}
 
 -- ---- members, merged
@@ -35,10 +37,6 @@ pub into_none : (ns : Members) → KeysAscend ns → merged_members no_members n
 into_none no_members h = refl
 into_none (more_members l u ns) h = stays_first l u ns no_members h.0 ∙ ap (more_members l u) (into_none ns h.1)
 
-below_others : (k l : List ℕ) (ns : Members) → bytes_cmp k l ≡ Less → IsBelowKeys l ns → IsBelowKeys k ns
-below_others k l no_members h b = tt
-below_others k l (more_members m u ns) h b = (nat_list_cmp_total.trans k l m h b.0, below_others k l ns h b.1)
-
 picked_within : (o : Ordering) (a b c : Members) (depth : ℕ) → HaveWithin IsAnyNumber a depth → HaveWithin IsAnyNumber b depth → HaveWithin IsAnyNumber c depth → HaveWithin IsAnyNumber (match_ordering o a b c) depth
 picked_within Less a b c depth h i j = h
 picked_within Equal a b c depth h i j = i
@@ -52,131 +50,180 @@ pub merged_within : (ms ns : Members) (depth : ℕ) → HaveWithin IsAnyNumber m
 merged_within ms no_members depth h i = h
 merged_within ms (more_members k t ns) depth h i = merged_within (put k t ms) ns depth (put_within k t ms depth i.0 h) i.1
 
+-- ---- members after members
+
+pub joined_key : (ms ns : Members) → members_key (joined_members ms ns) ≡ keys_of_members ms ++ members_key ns
+joined_key no_members ns = refl
+joined_key (more_members k t ms) ns =
+    ap (λ l. text_key k ++ (key_of t ++ l)) (joined_key ms ns) ∙ ap (λ l. text_key k ++ l) (sym (append_assoc (key_of t) (keys_of_members ms) (members_key ns)))
+    ∙ sym (append_assoc (text_key k) (key_of t ++ keys_of_members ms) (members_key ns))
+
+-- those on the left side that come before all on the right one
+run_first : (run ms ns : Members) → AreFirst run ns → merged_members (joined_members run ms) ns ≡ joined_members run (merged_members ms ns)
+run_first no_members ms ns h = refl
+run_first (more_members k t run) ms ns h = stays_first k t ns (joined_members run ms) h.0 ∙ ap (more_members k t) (run_first run ms ns h.1)
+
+put_first : (k : List ℕ) (t : Tree) (ms : Members) → IsBelowKeys k ms → put k t ms ≡ more_members k t ms
+put_first k t no_members h = refl
+put_first k t (more_members l u ms) h = ap (λ o. match_ordering o (more_members k t (more_members l u ms)) (more_members l t ms) (more_members l u (put k t ms))) h.0
+
+-- those on the right side that come before all on the left one
+part_first : (part ms ns : Members) → AreFirst part ms → KeysAscend (joined_members part ns) → merged_members ms (joined_members part ns) ≡ joined_members part (merged_members ms ns)
+part_first no_members ms ns h a = refl
+part_first (more_members k t part) ms ns h a =
+    ap (λ m. merged_members m (joined_members part ns)) (put_first k t ms h.0) ∙ stays_first k t (joined_members part ns) ms a.0 ∙ ap (more_members k t) (part_first part ms ns h.1 a.1)
+
+-- the one on the right side is instead of the one on the left
+same_first : (k : List ℕ) (t u : Tree) (ms ns : Members) → IsBelowKeys k ns → merged_members (more_members k t ms) (more_members k u ns) ≡ more_members k u (merged_members ms ns)
+same_first k t u ms ns h =
+    ap (λ m. merged_members m ns) (ap (λ o. match_ordering o (more_members k u (more_members k t ms)) (more_members k u ms) (more_members k t (put k u ms))) (tied_itself nat_list_cmp_total k))
+    ∙ stays_first k u ns ms h
+
+-- those below the first one come before all
+all_first : (run : Members) (name : List ℕ) (t : Tree) (others : Members) → AreBelow run name → IsBelowKeys name others → AreFirst run (more_members name t others)
+all_first no_members name t others h b = tt
+all_first (more_members k u run) name t others h b = ((h.0, below_others k name others h.0 b), all_first run name t others h.1 b)
+
+pub behind_first : (k : List ℕ) (t : Tree) (ms : Members) → HaveReadable (more_members k t ms) → HaveReadable ms
+behind_first k t ms h = record { ascend = h.ascend.1; proper = h.proper.2; within = h.within.1 }
+
+pub first_readable : (k : List ℕ) (t : Tree) (ms : Members) → HaveReadable (more_members k t ms) → IsReadable t
+first_readable k t ms h = readable_inside t (record { proper = h.proper.1; within = h.within.0 })
+
 -- ---- one step
 
--- the first member
-pub record MemberFirst (ms : Members) (left : List ℕ) : Type 0 where
-  pub key : List ℕ
-  pub value : Tree
-  pub others : Members
-  pub is : ms ≡ more_members key value others
-  pub readable : IsReadable value
-  pub below : IsBelowKeys key others
-  pub others_readable : HaveReadable others
-  pub occurs : left ≡ text_key key ++ (key_of value ++ members_key others)
-
-pub member_first : (ms : Members) (left : List ℕ) → HaveReadable ms → left ≡ members_key ms → (ms ≡ no_members → ⊥) → MemberFirst ms left
-member_first no_members left h e some = absurd (some refl)
-member_first (more_members k t ms) left h e some = record {
-  key = k;
-  value = t;
-  others = ms;
-  is = refl;
-  readable = readable_inside t (record { proper = h.proper.1; within = h.within.0 });
-  below = h.ascend.0;
-  others_readable = record { ascend = h.ascend.1; proper = h.proper.2; within = h.within.1 };
-  occurs = e;
-}
-
-abbrev StepOf : (ms ns : Members) (step : Step) → Side → Bool → Type 0
-StepOf ms ns step side over = MatchBool over (IsLast side ms ns × (step.part.now ≡ members_key (merged_members ms ns)) × HasNoOther side ms ns) (StepsOn ms ns side step.part.now step.members.now step.others.now)
-
-last_of : (ms ns : Members) (step : Step) (side : Side) → step.over ≡ true → step.side ≡ side → IsLast side ms ns → step.part.now ≡ members_key (merged_members ms ns) → HasNoOther side ms ns → IsStep ms ns step
-last_of ms ns step side over is l part none = subst (StepOf ms ns step step.side) (sym over) (subst (λ s. StepOf ms ns step s true) (sym is) (l, part, none))
-
-pub left_over : (ms ns : Members) (step : Step) (right : List ℕ) → HaveReadable ns → right ≡ members_key ns → ms ≡ no_members → (step.over ≡ true) × (step.part.now ≡ right) × (step.side ≡ Right) → IsStep ms ns step
-left_over ms ns step right h e none s =
-    let all : merged_members ms ns ≡ ns = ap (λ m. merged_members m ns) none ∙ into_none ns h.ascend in
-    last_of ms ns step Right s.0 s.2 all (s.1 ∙ e ∙ ap members_key (sym all)) none
-
-pub right_over : (ms ns : Members) (step : Step) (left : List ℕ) → left ≡ members_key ms → ns ≡ no_members → (step.over ≡ true) × (step.part.now ≡ left) × (step.side ≡ Left) → IsStep ms ns step
-right_over ms ns step left e none s =
-    let all : merged_members ms ns ≡ ms = ap (λ n. merged_members ms n) none in
-    last_of ms ns step Left s.0 s.2 all (s.1 ∙ e ∙ ap members_key (sym all)) none
-
-pub less_step : (ms ns : Members) (left right part rest : List ℕ) → HaveReadable ns → right ≡ members_key ns → (a : MemberFirst ms left) (b : MemberFirst ns right) → bytes_cmp a.key b.key ≡ Less → part ≡ text_key a.key ++ key_of a.value → rest ≡ members_key a.others → StepsOn ms ns Left part rest right
-less_step ms ns left right part rest h e a b less first others = record {
-  members = a.others;
-  others = ns;
-  readable = a.others_readable;
-  others_readable = h;
-  left_is = others;
-  right_is = e;
-  key = a.key;
-  value = a.value;
-  part_is = first;
-  from = (a.is, refl);
-  below = a.below;
-  below_others = subst (IsBelowKeys a.key) (sym b.is) (less, below_others a.key b.key b.others less b.below);
-  merged_is =
-      let below : IsBelowKeys a.key ns = subst (IsBelowKeys a.key) (sym b.is) (less, below_others a.key b.key b.others less b.below) in
-      ap (λ m. merged_members m ns) a.is ∙ stays_first a.key a.value ns a.others below;
-}
-
-pub greater_step : (ms ns : Members) (left right part rest : List ℕ) → HaveReadable ms → left ≡ members_key ms → (a : MemberFirst ms left) (b : MemberFirst ns right) → bytes_cmp a.key b.key ≡ Greater → part ≡ text_key b.key ++ key_of b.value → rest ≡ members_key b.others → StepsOn ms ns Right part left rest
-greater_step ms ns left right part rest h e a b greater first others = record {
-  members = ms;
-  others = b.others;
-  readable = h;
-  others_readable = b.others_readable;
-  left_is = e;
-  right_is = others;
-  key = b.key;
-  value = b.value;
-  part_is = first;
-  from = (refl, b.is);
-  below =
-      let less : bytes_cmp b.key a.key ≡ Less = nat_list_cmp_total.antisymm b.key a.key ∙ ap ordering_reverse greater in
-      subst (IsBelowKeys b.key) (sym a.is) (less, below_others b.key a.key a.others less a.below);
-  below_others = b.below;
-  merged_is =
-      let less : bytes_cmp b.key a.key ≡ Less = nat_list_cmp_total.antisymm b.key a.key ∙ ap ordering_reverse greater in
-      let located : put b.key b.value ms ≡ more_members b.key b.value ms = ap (put b.key b.value) a.is ∙ ap (λ o. match_ordering o (more_members b.key b.value (more_members a.key a.value a.others)) (more_members a.key b.value a.others) (more_members a.key a.value (put b.key b.value a.others))) less ∙ ap (more_members b.key b.value) (sym a.is) in
-      ap (λ n. merged_members ms n) b.is ∙ ap (λ m. merged_members m b.others) located ∙ stays_first b.key b.value b.others ms b.below;
-}
-
-pub equal_step : (ms ns : Members) (left right part rest members : List ℕ) → (a : MemberFirst ms left) (b : MemberFirst ns right) → bytes_cmp a.key b.key ≡ Equal → part ≡ text_key b.key ++ key_of b.value → rest ≡ members_key b.others → members ≡ members_key a.others → StepsOn ms ns Both part members rest
-equal_step ms ns left right part rest members a b equal first others more =
-    let same : a.key ≡ b.key = slice_cmp-IsAntisymmetric nat_cmp-IsAntisymmetric a.key b.key equal in
-    record {
-      members = a.others;
-      others = b.others;
-      readable = a.others_readable;
-      others_readable = b.others_readable;
-      left_is = more;
-      right_is = others;
-      key = b.key;
-      value = b.value;
-      part_is = first;
-      from = (a.value, a.is ∙ ap (λ k. more_members k a.value a.others) same, b.is);
-      below = subst (λ k. IsBelowKeys k a.others) same a.below;
-      below_others = b.below;
-      merged_is =
-          let turned_equal : bytes_cmp b.key a.key ≡ Equal = nat_list_cmp_total.antisymm b.key a.key ∙ ap ordering_reverse equal in
-          let located : put b.key b.value ms ≡ more_members a.key b.value a.others = ap (put b.key b.value) a.is ∙ ap (λ o. match_ordering o (more_members b.key b.value (more_members a.key a.value a.others)) (more_members a.key b.value a.others) (more_members a.key a.value (put b.key b.value a.others))) turned_equal in
-          let below : IsBelowKeys a.key b.others = subst (λ k. IsBelowKeys k b.others) (sym same) b.below in
-          ap (λ n. merged_members ms n) b.is ∙ ap (λ m. merged_members m b.others) located ∙ stays_first a.key b.value b.others a.others below
-          ∙ ap (λ k. more_members k b.value (merged_members a.others b.others)) same;
-    }
+-- there is a first member
+pub first_of : (ns : Members) → (ns ≡ no_members → ⊥) → (name : List ℕ) × (t : Tree) × (others : Members) × (ns ≡ more_members name t others)
+first_of no_members some = absurd (some refl)
+first_of (more_members k t ns) some = (k, t, ns, refl)
 
 pub ended_none : (ms : Members) (bytes rest : List ℕ) → HaveReadable ms → bytes ≡ members_key ms → bytes ≡ end_key true ++ rest → ms ≡ no_members
-ended_none no_members bytes rest h e over = refl
-ended_none (more_members k t ms) bytes rest h e over = absurd (no_end true k t 511 (record { proper = h.proper.1; within = h.within.0 }) bytes rest (members_key ms) over e)
+ended_none ms bytes rest h e over = ended ms bytes rest h e over
 
-pub first_bytes : (ms : Members) (left rest : List ℕ) (a : MemberFirst ms left) → rest ≡ members_key a.others → left ≡ (text_key a.key ++ key_of a.value) ++ rest
-first_bytes ms left rest a e = a.occurs ∙ ap (λ m. text_key a.key ++ (key_of a.value ++ m)) (sym e) ∙ sym (append_assoc (text_key a.key) (key_of a.value) rest)
+pub all_left : (ms ns : Members) (members : List ℕ) → HaveReadable ms → members ≡ members_key ms → ComeFirst ms ns members
+all_left ms ns members h e = record { first = no_members; left = ms; is = refl; are_first = tt; readable = h; rest_is = e }
 
-pub no_order : (e : NoKey) (o : Ordering) → ◌≡◌ {A = Result Ordering NoKey} (Err e) (Ok o) → ⊥
-no_order e o x = cc
+pub passed_first : (ms ns : Members) (passed : Passed) → HaveReadable ns → (name : List ℕ) (t : Tree) (others : Members) → ns ≡ more_members name t others → PassesBelow ms name passed → ComeFirst ms ns passed.rest.now
+passed_first ms ns passed h name t others is p = record {
+  first = p.below;
+  left = p.others;
+  is = p.is;
+  are_first = subst (AreFirst p.below) (sym is) (all_first p.below name t others p.are_below (subst HaveReadable is h).ascend.0);
+  readable = p.readable;
+  rest_is = p.rest_is;
+}
 
-pub one_order : (o p : Ordering) → ◌≡◌ {A = Result Ordering NoKey} (Ok o) (Ok p) → p ≡ o
-one_order o p x = cc
+module _ (ms ns : Members) (name : List ℕ) (t : Tree) (others : Members) (h : HaveReadable ns) (is : ns ≡ more_members name t others) where
+  ns_readable : HaveReadable (more_members name t others)
+  ns_readable = subst HaveReadable is h
+
+  pub others_readable : HaveReadable others
+  others_readable = behind_first name t others ns_readable
+
+  run_is_first : (below : Members) → AreBelow below name → AreFirst below ns
+  run_is_first below b = subst (AreFirst below) (sym is) (all_first below name t others b ns_readable.ascend.0)
+
+  run_before : (below left : Members) → ms ≡ joined_members below left → AreBelow below name → merged_members ms ns ≡ joined_members below (merged_members left ns)
+  run_before below left e b =
+      ap (λ m. merged_members m ns) e ∙ run_first below left ns (run_is_first below b)
+
+  -- the name is on the right side alone
+  pub steps_above : (step : Step) (passed : Passed) (rest : List ℕ) (p : PassesBelow ms name passed) → IsBelowKeys name p.others → (c : ComeFirst others p.others rest)
+      → step.run.now ≡ keys_of_members p.below → step.part.now ≡ text_key name ++ (key_of t ++ keys_of_members c.first) → step.members.now ≡ passed.rest.now → step.others.now ≡ rest → StepsOn ms ns step
+  steps_above step passed rest p above c run part members left = record {
+    run = p.below;
+    replaced = no_members;
+    part = more_members name t c.first;
+    members = p.others;
+    others = c.left;
+    left_is = p.is;
+    right_is = is ∙ ap (more_members name t) c.is;
+    run_first = run_is_first p.below p.are_below;
+    part_first = (above, c.are_first);
+    are_replaced = tt;
+    merged_is =
+        let ascend : KeysAscend (joined_members (more_members name t c.first) c.left) = subst (λ m. KeysAscend (more_members name t m)) c.is ns_readable.ascend in
+        run_before p.below p.others p.is p.are_below
+        ∙ ap (joined_members p.below) (ap (merged_members p.others) (is ∙ ap (more_members name t) c.is) ∙ part_first (more_members name t c.first) p.others c.left (above, c.are_first) ascend);
+    run_is = run;
+    part_is = part;
+    members_are = members ∙ p.rest_is;
+    others_are = left ∙ c.rest_is;
+    readable = p.readable;
+    others_readable = c.readable;
+  }
+
+  -- both sides have the name
+  pub steps_same : (step : Step) (passed : Passed) (p : PassesBelow ms name passed) (u : Tree) (left : Members) → p.others ≡ more_members name u left
+      → step.run.now ≡ keys_of_members p.below → step.part.now ≡ text_key name ++ (key_of t ++ []) → step.members.now ≡ members_key left → step.others.now ≡ members_key others → StepsOn ms ns step
+  steps_same step passed p u left same run part members rest = record {
+    run = p.below;
+    replaced = more_members name u no_members;
+    part = more_members name t no_members;
+    members = left;
+    others = others;
+    left_is = p.is ∙ ap (joined_members p.below) same;
+    right_is = is;
+    run_first = run_is_first p.below p.are_below;
+    part_first = ((subst HaveReadable same p.readable).ascend.0, tt);
+    are_replaced = (refl, refl);
+    merged_is = run_before p.below p.others p.is p.are_below
+        ∙ ap (joined_members p.below) ((λ i. merged_members (same i) (is i)) ∙ same_first name u t left others ns_readable.ascend.0);
+    run_is = run;
+    part_is = part;
+    members_are = members;
+    others_are = rest;
+    readable = behind_first name u left (subst HaveReadable same p.readable);
+    others_readable = others_readable;
+  }
+
+  -- the bytes of the first member on the right side
+  pub first_bytes : (right rest : List ℕ) → right ≡ members_key ns → rest ≡ members_key others → right ≡ (text_key name ++ (key_of t ++ [])) ++ rest
+  first_bytes right rest e r =
+      e ∙ ap members_key is ∙ ap (λ l. text_key name ++ (l ++ members_key others)) (sym (append-nil (key_of t))) ∙ sym (append_assoc (text_key name) (key_of t ++ []) (members_key others)) ∙ ap (λ l. (text_key name ++ (key_of t ++ [])) ++ l) (sym r)
+
+  -- and of those that come then
+  pub part_bytes : (right rest : List ℕ) → right ≡ members_key ns → (c : (first : Members) × (left : Members) × (others ≡ joined_members first left) × (rest ≡ members_key left)) → right ≡ (text_key name ++ (key_of t ++ keys_of_members c.0)) ++ rest
+  part_bytes right rest e c =
+      e ∙ ap members_key (is ∙ ap (more_members name t) c.2) ∙ joined_key (more_members name t c.0) c.1 ∙ ap (λ l. (text_key name ++ (key_of t ++ keys_of_members c.0)) ++ l) (sym c.3)
+
+pub run_bytes : (ms : Members) (left rest : List ℕ) (below others : Members) → left ≡ members_key ms → ms ≡ joined_members below others → rest ≡ members_key others → left ≡ keys_of_members below ++ rest
+run_bytes ms left rest below others e is r = e ∙ ap members_key is ∙ joined_key below others ∙ ap (λ l. keys_of_members below ++ l) (sym r)
+
+-- where nothing has the name on the left side, it is below what is left there
+pub is_above : (ms : Members) (name : List ℕ) (passed : Passed) (p : PassesBelow ms name passed) → passed.same ≡ None → IsBelowKeys name p.others
+is_above ms name passed p none = subst (λ o. MatchOption o (IsBelowKeys name p.others) (IsFirst name p.others)) none p.same
+
+pub is_same : (ms : Members) (name : List ℕ) (passed : Passed) (replaced : Bor (List ℕ)) (p : PassesBelow ms name passed) → passed.same ≡ Some replaced → IsFirst name p.others replaced
+is_same ms name passed replaced p some = subst (λ o. MatchOption o (IsBelowKeys name p.others) (IsFirst name p.others)) some p.same
+
+-- ---- the last step, and the others
+
+pub is_last : (ms ns : Members) (step : Step) → step.over ≡ true → IsLast ms ns step → IsStep ms ns step
+is_last ms ns step over l = subst (λ b. MatchBool b (IsLast ms ns step) (StepsOn ms ns step)) (sym over) l
+
+pub is_next : (ms ns : Members) (step : Step) → (step.over ≡ false) × StepsOn ms ns step → IsStep ms ns step
+is_next ms ns step s = subst (λ b. MatchBool b (IsLast ms ns step) (StepsOn ms ns step)) (sym s.0) s.1
+
+pub last_step : (ms ns : Members) (step : Step) → step.over ≡ true → IsStep ms ns step → IsLast ms ns step
+last_step ms ns step over s = subst (λ b. MatchBool b (IsLast ms ns step) (StepsOn ms ns step)) over s
+
+pub next_step : (ms ns : Members) (step : Step) → step.over ≡ false → IsStep ms ns step → StepsOn ms ns step
+next_step ms ns step on s = subst (λ b. MatchBool b (IsLast ms ns step) (StepsOn ms ns step)) on s
+
+-- the last bytes are those of all members
+pub last_key : (ms ns : Members) (step : Step) → HaveReadable ns → IsLast ms ns step → step.run.now ++ step.part.now ≡ members_key (merged_members ms ns)
+last_key ms ns step h l = elim l [
+  | inl r ↦ (λ i. r.1 i ++ r.2 i) ∙ ap members_key (sym (into_none ns h.ascend)) ∙ ap (λ m. members_key (merged_members m ns)) (sym r.0)
+  | inr r ↦ (λ i. r.1 i ++ r.2 i) ∙ append-nil (members_key ms) ∙ ap (λ n. members_key (merged_members ms n)) (sym r.0)
+]
 
 -- the bytes of a step come first
-step_key : (ms ns : Members) (side : Side) (part left right : List ℕ) (s : StepsOn ms ns side part left right) → members_key (merged_members ms ns) ≡ part ++ members_key (merged_members s.members s.others)
-step_key ms ns side part left right s =
-    ap members_key s.merged_is ∙ sym (append_assoc (text_key s.key) (key_of s.value) (members_key (merged_members s.members s.others)))
-    ∙ ap (λ l. l ++ members_key (merged_members s.members s.others)) (sym s.part_is)
+pub step_key : (ms ns : Members) (step : Step) (s : StepsOn ms ns step) → members_key (merged_members ms ns) ≡ (step.run.now ++ step.part.now) ++ members_key (merged_members s.members s.others)
+step_key ms ns step s =
+    let rest = members_key (merged_members s.members s.others) in
+    ap members_key s.merged_is ∙ joined_key s.run (joined_members s.part (merged_members s.members s.others)) ∙ ap (λ l. keys_of_members s.run ++ l) (joined_key s.part (merged_members s.members s.others))
+    ∙ sym (append_assoc (keys_of_members s.run) (keys_of_members s.part) rest) ∙ (λ i. (sym s.run_is i ++ sym s.part_is i) ++ rest)
 
 -- ---- the walk
 
@@ -198,31 +245,45 @@ WalksBoth all_left all_right old out left right = (ms ns : Members) → HaveRead
 pub merge_begun : (left right old out : List ℕ) → out ≡ old ++ 0xD1 ∷ [] → WalksBoth left right old out left right
 merge_begun left right old out e = λ ms ns h i l r. record { members = ms; others = ns; readable = h; others_readable = i; left_is = l; right_is = r; front = []; appended = e; key_is = refl }
 
-pub merge_goes_on : (ms ns : Members) (old out left right next : List ℕ) (step : Step) (l : MergeLeft ms ns old out left right) → step.over ≡ false → IsStep l.members l.others step → next ≡ out ++ step.part.now → MergeLeft ms ns old next step.members.now step.others.now
-merge_goes_on ms ns old out left right next step l on s e = go (subst (StepOf l.members l.others step step.side) on s)
-  where
-    go : StepsOn l.members l.others step.side step.part.now step.members.now step.others.now → MergeLeft ms ns old next step.members.now step.others.now
-    go s = record {
+pub merge_goes_on : (ms ns : Members) (old out left right next : List ℕ) (step : Step) (l : MergeLeft ms ns old out left right) → step.over ≡ false → IsStep l.members l.others step → next ≡ out ++ (step.run.now ++ step.part.now) → MergeLeft ms ns old next step.members.now step.others.now
+merge_goes_on ms ns old out left right next step l on is e =
+    let s = next_step l.members l.others step on is in
+    let bytes = step.run.now ++ step.part.now in
+    record {
       members = s.members;
       others = s.others;
       readable = s.readable;
       others_readable = s.others_readable;
-      left_is = s.left_is;
-      right_is = s.right_is;
-      front = l.front ++ step.part.now;
-      appended = e ∙ ap (λ o. o ++ step.part.now) l.appended ∙ append_assoc old (0xD1 ∷ l.front) step.part.now;
-      key_is = l.key_is ∙ ap (λ k. l.front ++ k) (step_key l.members l.others step.side step.part.now step.members.now step.others.now s) ∙ sym (append_assoc l.front step.part.now (members_key (merged_members s.members s.others)));
+      left_is = s.members_are;
+      right_is = s.others_are;
+      front = l.front ++ bytes;
+      appended = e ∙ ap (λ o. o ++ bytes) l.appended ∙ append_assoc old (0xD1 ∷ l.front) bytes;
+      key_is = l.key_is ∙ ap (λ k. l.front ++ k) (step_key l.members l.others step s) ∙ sym (append_assoc l.front bytes (members_key (merged_members s.members s.others)));
     }
 
-pub merge_ended : (ms ns : Members) (old out left right next : List ℕ) (step : Step) (l : MergeLeft ms ns old out left right) → step.over ≡ true → IsStep l.members l.others step → next ≡ out ++ step.part.now → next ≡ old ++ 0xD1 ∷ members_key (merged_members ms ns)
+pub merge_ended : (ms ns : Members) (old out left right next : List ℕ) (step : Step) (l : MergeLeft ms ns old out left right) → step.over ≡ true → IsStep l.members l.others step → next ≡ out ++ (step.run.now ++ step.part.now) → next ≡ old ++ 0xD1 ∷ members_key (merged_members ms ns)
 merge_ended ms ns old out left right next step l over s e =
-    let last : step.part.now ≡ members_key (merged_members l.members l.others) = (subst (StepOf l.members l.others step step.side) over s).1 in
-    e ∙ ap (λ o. o ++ step.part.now) l.appended ∙ append_assoc old (0xD1 ∷ l.front) step.part.now ∙ ap (λ k. old ++ 0xD1 ∷ k) (ap (λ k. l.front ++ k) last ∙ sym l.key_is)
+    let bytes = step.run.now ++ step.part.now in
+    let last = last_key l.members l.others step l.others_readable (last_step l.members l.others step over s) in
+    e ∙ ap (λ o. o ++ bytes) l.appended ∙ append_assoc old (0xD1 ∷ l.front) bytes ∙ ap (λ k. old ++ 0xD1 ∷ k) (ap (λ k. l.front ++ k) last ∙ sym l.key_is)
 
 -- what comes next is a part of the whole
-pub merge_longer : (ms ns : Members) (old out left right : List ℕ) (step : Step) (l : MergeLeft ms ns old out left right) → IsStep l.members l.others step → length out + length step.part.now ≤ length old + length (0xD1 ∷ members_key (merged_members ms ns))
+pub merge_longer : (ms ns : Members) (old out left right : List ℕ) (step : Step) (l : MergeLeft ms ns old out left right) → IsStep l.members l.others step → length out + length (step.run.now ++ step.part.now) ≤ length old + length (0xD1 ∷ members_key (merged_members ms ns))
 merge_longer ms ns old out left right step l s = go step.over s
   where
-    go : (over : Bool) → StepOf l.members l.others step step.side over → length out + length step.part.now ≤ length old + length (0xD1 ∷ members_key (merged_members ms ns))
-    go true last = omega (arith, ap length l.appended, length-append old (0xD1 ∷ l.front), ap length l.key_is, length-append l.front (members_key (merged_members l.members l.others)), ap length last.1)
-    go false on = omega (arith, ap length l.appended, length-append old (0xD1 ∷ l.front), ap length l.key_is, length-append l.front (members_key (merged_members l.members l.others)), ap length (step_key l.members l.others step.side step.part.now step.members.now step.others.now on), length-append step.part.now (members_key (merged_members on.members on.others)))
+    go : (over : Bool) → MatchBool over (IsLast l.members l.others step) (StepsOn l.members l.others step) → length out + length (step.run.now ++ step.part.now) ≤ length old + length (0xD1 ∷ members_key (merged_members ms ns))
+    go true last = omega (arith, ap length l.appended, length-append old (0xD1 ∷ l.front), ap length l.key_is, length-append l.front (members_key (merged_members l.members l.others)), ap length (last_key l.members l.others step l.others_readable last))
+    go false on = omega (arith, ap length l.appended, length-append old (0xD1 ∷ l.front), ap length l.key_is, length-append l.front (members_key (merged_members l.members l.others)), ap length (step_key l.members l.others step on), length-append (step.run.now ++ step.part.now) (members_key (merged_members on.members on.others)))
+
+-- ---- what is appended
+
+false_true : false ≡ true → ⊥
+false_true e = cc
+
+pub both_appended : (r : Result (Unit {0}) AllocError) (old new : Vec ℕ Global) (bytes : List ℕ) → is_err r ≡ false → Appends r old new bytes → new.items ≡ old.items ++ bytes
+both_appended (Ok x) old new bytes e a = a.ok
+both_appended (Err x) old new bytes e a = absurd (false_true (sym e))
+
+pub both_lacking : (r : Result (Unit {0}) AllocError) (old new : Vec ℕ Global) (bytes : List ℕ) → is_err r ≡ true → Appends r old new bytes → vec_capacity old < vec_len old + length bytes
+both_lacking (Ok x) old new bytes e a = absurd (false_true e)
+both_lacking (Err x) old new bytes e a = a.full

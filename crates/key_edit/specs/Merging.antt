@@ -1,12 +1,11 @@
 -- One step of a merge of members, and the keys of items.
-use Rattle.std.specs.Prelude.{◌≡◌, List, [], ℕ, ◌++◌, MatchBool}
+use Rattle.std.specs.Prelude.{◌≡◌, ◌⊎◌, List, [], ℕ, ⊤, ◌++◌, MatchBool}
 use Rattle.key_walk.specs.Checked.{HaveReadable}
+use Rattle.key_walk.specs.Passing.{joined_members}
 use Rattle.jsonb_spec.specs.Keys.{IsBelowKeys}
 use Rattle.jsonb_spec.specs.SortKey.{key_of, members_key, text_key}
-use Rattle.jsonb_spec.specs.Tree.{Tree, Trees, no_trees, more_trees, Members, no_members, more_members}
+use Rattle.jsonb_spec.specs.Tree.{Trees, no_trees, more_trees, Members, no_members, more_members}
 use Rattle.key_edit.specs.Edit.{merged_members}
-use Rattle.key_edit.specs.declared.merge.Side.{Side}
-use Rattle.key_edit.specs.declared.merge.Side.TheVariants.{Left, Right, Both}
 use Rattle.key_edit.specs.declared.merge.Step.{Step}
 
 -- the keys of the items, without the end of an array
@@ -14,44 +13,59 @@ abbrev pub keys_of_items : Trees → List ℕ
 keys_of_items no_trees = []
 keys_of_items (more_trees t ts) = key_of t ++ keys_of_items ts
 
--- The first member comes from this side, and these members are left on both.
-abbrev pub IsFrom : Side → Members → Members → List ℕ → Tree → Members → Members → Type 0
-IsFrom Left ms ns key value members others = (ms ≡ more_members key value members) × (ns ≡ others)
-IsFrom Right ms ns key value members others = (ms ≡ members) × (ns ≡ more_members key value others)
-IsFrom Both ms ns key value members others =
-    (replaced : Tree) × (ms ≡ more_members key replaced members) × (ns ≡ more_members key value others)
+-- the names and the keys of the members, without the end of an object
+abbrev pub keys_of_members : Members → List ℕ
+keys_of_members no_members = []
+keys_of_members (more_members name t ms) = text_key name ++ (key_of t ++ keys_of_members ms)
 
--- The bytes are those of the first member, which comes from this side, and whose name is below those that are left on
--- both; and then those of the members that are left, merged.
-pub record StepsOn (ms ns : Members) (side : Side) (part left right : List ℕ) : Type 0 where
+-- each of the first ones has a name that is below all names of the others
+abbrev pub AreFirst : Members → Members → Type 0
+AreFirst no_members ns = ⊤
+AreFirst (more_members name t ms) ns = IsBelowKeys name ns × AreFirst ms ns
+
+-- there is none, or one that has the name of the first of the others
+abbrev pub AreReplaced : Members → Members → Type 0
+AreReplaced no_members ns = ⊤
+AreReplaced (more_members name t ms) no_members = ⊥
+AreReplaced (more_members name t ms) (more_members other u ns) = (name ≡ other) × (ms ≡ no_members)
+
+-- Some of the members come before all of the others, and those behind them are left.
+pub record ComeFirst (ms ns : Members) (rest : List ℕ) : Type 0 where
+  pub first : Members
+  pub left : Members
+  pub is : ms ≡ joined_members first left
+  pub are_first : AreFirst first ns
+  pub readable : HaveReadable left
+  pub rest_is : rest ≡ members_key left
+
+-- The members of both begin with these: a run of those on the left side that come before all on the right, and a part of
+-- those on the right that come before what is left on the left; a member with the first name of the part is replaced.
+-- What is left on both sides is merged behind them.
+pub record StepsOn (ms ns : Members) (step : Step) : Type 0 where
+  pub run : Members
+  pub replaced : Members
+  pub part : Members
   pub members : Members
   pub others : Members
+  pub left_is : ms ≡ joined_members run (joined_members replaced members)
+  pub right_is : ns ≡ joined_members part others
+  pub run_first : AreFirst run ns
+  pub part_first : AreFirst part members
+  pub are_replaced : AreReplaced replaced part
+  pub merged_is : merged_members ms ns ≡ joined_members run (joined_members part (merged_members members others))
+  pub run_is : step.run.now ≡ keys_of_members run
+  pub part_is : step.part.now ≡ keys_of_members part
+  pub members_are : step.members.now ≡ members_key members
+  pub others_are : step.others.now ≡ members_key others
   pub readable : HaveReadable members
   pub others_readable : HaveReadable others
-  pub left_is : left ≡ members_key members
-  pub right_is : right ≡ members_key others
-  pub key : List ℕ
-  pub value : Tree
-  pub part_is : part ≡ text_key key ++ key_of value
-  pub from : IsFrom side ms ns key value members others
-  pub below : IsBelowKeys key members
-  pub below_others : IsBelowKeys key others
-  pub merged_is : merged_members ms ns ≡ more_members key value (merged_members members others)
 
--- All members are those of this side.
-abbrev pub IsLast : Side → Members → Members → Type 0
-IsLast Left ms ns = merged_members ms ns ≡ ms
-IsLast Right ms ns = merged_members ms ns ≡ ns
-IsLast Both ms ns = ⊥
+-- One side has no member, and the bytes are those of all members on the other one.
+abbrev pub IsLast : Members → Members → Step → Type 0
+IsLast ms ns step =
+    ((ms ≡ no_members) × (step.run.now ≡ []) × (step.part.now ≡ members_key ns))
+    ⊎ ((ns ≡ no_members) × (step.run.now ≡ members_key ms) × (step.part.now ≡ []))
 
--- The other side has no member.
-abbrev pub HasNoOther : Side → Members → Members → Type 0
-HasNoOther Left ms ns = ns ≡ no_members
-HasNoOther Right ms ns = ms ≡ no_members
-HasNoOther Both ms ns = ⊥
-
--- The bytes are those of all members, where the other side has none; or they come first.
+-- The bytes are the last ones, or they come first.
 abbrev pub IsStep : Members → Members → Step → Type 0
-IsStep ms ns step = MatchBool step.over
-    (IsLast step.side ms ns × (step.part.now ≡ members_key (merged_members ms ns)) × HasNoOther step.side ms ns)
-    (StepsOn ms ns step.side step.part.now step.members.now step.others.now)
+IsStep ms ns step = MatchBool step.over (IsLast ms ns step) (StepsOn ms ns step)

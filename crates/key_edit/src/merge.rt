@@ -9,19 +9,19 @@ ghost use Rattle.jsonb_spec.specs.SortKey.{key_of, members_key, text_key};
 ghost use Rattle.jsonb_spec.specs.SortKey.Kind as kind;
 ghost use Rattle.jsonb_spec.specs.Text.Appending.{Extends};
 ghost use Rattle.jsonb_spec.specs.Text.Range.{IsWithin, AreWithin};
-ghost use Rattle.jsonb_spec.specs.Tree.{Tree, Members, array, no_members, object};
+ghost use Rattle.jsonb_spec.specs.Tree.{Tree, Members, array, more_members, no_members, object};
 ghost use Rattle.key_edit.specs.Edit.{as_items, joined_items, merge, AppendsBoth, AppendsMembersOfBoth, FitsInside, PreservesOnError};
 ghost use Rattle.key_walk.specs.AtKeys.{OfKey};
-ghost use Rattle.key_edit.specs.Merging.{keys_of_items, IsStep};
+ghost use Rattle.key_edit.specs.Merging.{keys_of_items, ComeFirst, IsStep};
 
 use crate::error::EditError;
 use crate::fit::fits;
-use crate::splice::{append, splice};
+use crate::splice::{append, append_both, splice};
 use jsonb_value::sort_key::kind;
 use key_walk::find::NoKey;
-use key_walk::skip::{after_end, after_key, after_text};
+use key_walk::pass::pass_below;
+use key_walk::skip::{after_end, after_key};
 use key_walk::walk::{front, items_of, members_of};
-use std::cmp::Ordering;
 
 /// Appends the key of both values in one. Two objects are one with the members of both, where those of the right one
 /// win. Else two arrays are one with the items of the left one and then those of the right one, for which a value that
@@ -91,7 +91,7 @@ fn append_members(out: &mut Vec<u8>, left: &[u8], right: &[u8]) -> Result<(), Ed
         let Ok(step) = merge_step(members, others) else {
             return Err(EditError::NoKey);
         };
-        if append(out, step.part).is_err() {
+        if append_both(out, step.run, step.part).is_err() {
             return Err(EditError::OutOfMemory);
         }
         if step.over {
@@ -102,26 +102,19 @@ fn append_members(out: &mut Vec<u8>, left: &[u8], right: &[u8]) -> Result<(), Ed
     }
 }
 
-/// Where the bytes of a step come from: from the left side, from the right one, or from the right one instead of
-/// the left one's first member.
-#[derive(Clone, Copy)]
-pub enum Side {
-    Left,
-    Right,
-    Both,
-}
-
-/// One step of a merge: the bytes that come next, and what is left on both sides; or the bytes are the last ones.
+/// One step of a merge: the bytes of members on the left side that come first, those of members on the right side that
+/// come then, and what is left on both sides; or the bytes are the last ones.
 #[derive(Clone, Copy)]
 pub struct Step<'k> {
-    pub side: Side,
+    pub run: &'k [u8],
     pub part: &'k [u8],
     pub members: &'k [u8],
     pub others: &'k [u8],
     pub over: bool,
 }
 
-/// The first of the members on both sides, of which that on the right wins.
+/// The members on the left side up to the first one on the right, which wins where both have it, and those behind it on
+/// the right that come before what is left.
 pub fn merge_step<'k>(left: &'k [u8], right: &'k [u8]) -> Result<Step<'k>, NoKey>
     ensures step { (ms ns : Members) → HaveReadable ms → HaveReadable ns → left.now ≡ members_key ms
         → right.now ≡ members_key ns → MatchResult result (IsStep ms ns) (λ e. ⊥) }
@@ -129,57 +122,94 @@ pub fn merge_step<'k>(left: &'k [u8], right: &'k [u8]) -> Result<Step<'k>, NoKey
         → length step.members.now + length step.others.now < length left.now + length right.now) }
 {
     if is_end(left) {
-        return Ok(last_step(Side::Right, right));
+        return Ok(last_step(&[], right));
     }
     if is_end(right) {
-        return Ok(last_step(Side::Left, left));
+        return Ok(last_step(left, &[]));
     }
-    match order_of_names(left, right)? {
-        Ordering::Less => {
-            let rest = after_member(left)?;
-            Ok(Step {
-                side: Side::Left,
-                part: front(left, rest),
-                members: rest,
-                others: right,
-                over: false,
-            })
-        }
-        Ordering::Equal => {
-            let members = after_member(left)?;
-            let rest = after_member(right)?;
-            Ok(Step {
-                side: Side::Both,
-                part: front(right, rest),
-                members,
-                others: rest,
-                over: false,
-            })
-        }
-        Ordering::Greater => {
-            let rest = after_member(right)?;
-            Ok(Step {
-                side: Side::Right,
-                part: front(right, rest),
-                members: left,
-                others: rest,
-                over: false,
-            })
-        }
-    }
+    next_step(left, right)
 }
 
 // The bytes are the last ones.
-fn last_step(side: Side, part: &[u8]) -> Step<'_>
-    ensures { (result.over ≡ true) × (result.part.now ≡ part.now) × (result.side ≡ side) }
+fn last_step<'k>(run: &'k [u8], part: &'k [u8]) -> Step<'k>
+    ensures { (result.over ≡ true) × (result.run.now ≡ run.now) × (result.part.now ≡ part.now) }
 {
     Step {
-        side,
+        run,
         part,
-        members: part,
+        members: run,
         others: part,
         over: true,
     }
+}
+
+// The step where both sides have members.
+fn next_step<'k>(left: &'k [u8], right: &'k [u8]) -> Result<Step<'k>, NoKey>
+    ensures step { (ms ns : Members) → HaveReadable ms → HaveReadable ns → left.now ≡ members_key ms
+        → (name : List ℕ) → (t : Tree) → (others : Members) → ns ≡ more_members name t others
+        → right.now ≡ members_key ns → MatchResult result (IsStep ms ns) (λ e. ⊥) }
+    ensures shorter { IfOk result (λ step.
+        length step.members.now + length step.others.now < length left.now + length right.now) }
+{
+    let (passed, value) = pass_below(left, right)?;
+    let Some(first) = after_key(value) else {
+        return Err(NoKey);
+    };
+    let Some(replaced) = passed.same else {
+        let others = pass_more(first, passed.rest)?;
+        return Ok(step_to(left, passed.rest, passed.rest, right, others));
+    };
+    let Some(members) = after_key(replaced) else {
+        return Err(NoKey);
+    };
+    Ok(step_to(left, passed.rest, members, right, first))
+}
+
+// The step up to what is left on the left side, of which some may be replaced, and on the right side.
+#[inline(always)]
+fn step_to<'k>(
+    left: &'k [u8],
+    rest: &'k [u8],
+    members: &'k [u8],
+    right: &'k [u8],
+    others: &'k [u8],
+) -> Step<'k>
+    ensures run { (before : List ℕ) → left.now ≡ before ++ rest.now → result.run.now ≡ before }
+    ensures part { (before : List ℕ) → right.now ≡ before ++ others.now → result.part.now ≡ before }
+    ensures left { (result.members.now ≡ members.now) × (result.others.now ≡ others.now) × (result.over ≡ false) }
+{
+    Step {
+        run: front(left, rest),
+        part: front(right, others),
+        members,
+        others,
+        over: false,
+    }
+}
+
+// Passes the members that come before the first one on the other side, where there is one.
+fn pass_more<'k>(members: &'k [u8], other: &'k [u8]) -> Result<&'k [u8], NoKey>
+    ensures passed { (ms ns : Members) → HaveReadable ms → HaveReadable ns → members.now ≡ members_key ms
+        → other.now ≡ members_key ns → MatchResult result (λ rest. ComeFirst ms ns rest.now) (λ e. ⊥) }
+    ensures within { IfOk result (λ rest. length rest.now ≤ length members.now) }
+{
+    if !may_come_first(members, other) || is_end(other) {
+        return Ok(members);
+    }
+    let (passed, _) = pass_below(members, other)?;
+    Ok(passed.rest)
+}
+
+// Whether the first member may come before the first one on the other side: at least where the first bytes say so.
+#[inline(always)]
+fn may_come_first(members: &[u8], other: &[u8]) -> bool {
+    let Some(first) = members.first_chunk::<8>() else {
+        return false;
+    };
+    let Some(second) = other.first_chunk::<8>() else {
+        return false;
+    };
+    u64::from_be_bytes(*first) < u64::from_be_bytes(*second)
 }
 
 // Whether an object ends here.
@@ -191,35 +221,6 @@ fn is_end(members: &[u8]) -> bool
         Some(_) => true,
         None => false,
     }
-}
-
-// How the first names on both sides compare.
-fn order_of_names(left: &[u8], right: &[u8]) -> Result<Ordering, NoKey>
-    ensures { (k l more others : List ℕ) → left.now ≡ text_key k ++ more → right.now ≡ text_key l ++ others
-        → result ≡ Ok (bytes_cmp k l) }
-{
-    let Some(value) = after_text(left) else {
-        return Err(NoKey);
-    };
-    let Some(other) = after_text(right) else {
-        return Err(NoKey);
-    };
-    Ok(front(left, value).cmp(front(right, other)))
-}
-
-// The bytes after the first member.
-fn after_member(members: &[u8]) -> Result<&[u8], NoKey>
-    ensures found { (name more : List ℕ) → (t : Tree) → IsReadable t → members.now ≡ text_key name ++ (key_of t ++ more)
-        → MatchResult result (λ rest. rest.now ≡ more) (λ e. ⊥) }
-    ensures shorter { IfOk result (λ rest. length rest.now < length members.now) }
-{
-    let Some(value) = after_text(members) else {
-        return Err(NoKey);
-    };
-    let Some(rest) = after_key(value) else {
-        return Err(NoKey);
-    };
-    Ok(rest)
 }
 
 // Appends the key of an array with the items of both.

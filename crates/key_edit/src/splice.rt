@@ -14,6 +14,20 @@ pub(crate) fn append(out: &mut Vec<u8>, bytes: &[u8]) -> Result<(), AllocError>
     out.extend_from_slice(bytes)
 }
 
+/// Appends both, one after the other, of which either may be empty.
+#[inline(always)]
+pub(crate) fn append_both(out: &mut Vec<u8>, first: &[u8], second: &[u8]) -> Result<(), AllocError>
+    ensures appends { Appends result out.old out.new (first.now ++ second.now) }
+{
+    if !first.is_empty() {
+        out.extend_from_slice(first)?;
+    }
+    if second.is_empty() {
+        return Ok(());
+    }
+    out.extend_from_slice(second)
+}
+
 /// Appends the four, one after the other.
 pub fn splice(
     out: &mut Vec<u8>,

@@ -118,12 +118,12 @@ split (suc c) d (suc n) e (byte ∷ bytes) =
     omega (arith, split c d n sum bytes, ap (λ p. byte * p) power, mul_assoc byte (256 ^ c) (256 ^ d))
 
 -- only the first n are looked at
-within : (n c : ℕ) (bytes : List ℕ) → n ≤ c → number_of n (take c bytes) ≡ number_of n bytes
+pub only_first : (n c : ℕ) (bytes : List ℕ) → n ≤ c → number_of n (take c bytes) ≡ number_of n bytes
 unfolding number_of
-within zero c bytes h = refl
-within (suc n) zero bytes h = absurd (omega arith)
-within (suc n) (suc c) [] h = refl
-within (suc n) (suc c) (byte ∷ bytes) h = ap (λ m. byte * 256 ^ n + m) (within n c bytes (omega arith))
+only_first zero c bytes h = refl
+only_first (suc n) zero bytes h = absurd (omega arith)
+only_first (suc n) (suc c) [] h = refl
+only_first (suc n) (suc c) (byte ∷ bytes) h = ap (λ m. byte * 256 ^ n + m) (only_first n c bytes (omega arith))
 
 power : (d : ℕ) → d < 8 → 2 ^ (8 * d) ≡ 256 ^ d
 power zero p = refl
@@ -142,7 +142,7 @@ word_front bytes chunk word low count h first is bits some =
     let d : ℕ = 8 - count in
     let at : low ≡ 8 * d = omega (arith, bits, some) in
     let all : word ≡ number_of count bytes * 256 ^ d + number_of d (drop count bytes)
-    = is ∙ from_bytes chunk ∙ ap (number_of 8) first ∙ within 8 8 bytes (omega arith) ∙ split count d 8 (omega (arith, bits)) bytes in
+    = is ∙ from_bytes chunk ∙ ap (number_of 8) first ∙ only_first 8 8 bytes (omega arith) ∙ split count d 8 (omega (arith, bits)) bytes in
     ap (λ n. word / 2 ^ n) at ∙ ap (λ p. word / p) (power d (omega (arith, some, bits))) ∙ ap (λ w. w / 256 ^ d) all
     ∙ div-mul-add (number_of count bytes) (256 ^ d) (number_of d (drop count bytes)) (below_power d (drop count bytes) (drop_bytes count bytes h))
 

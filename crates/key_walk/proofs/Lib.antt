@@ -26,3 +26,5 @@ pub mod Beside
 pub mod Turns
 pub mod LesserBytes
 pub mod Fronts
+pub mod KeyFronts
+pub mod Passing

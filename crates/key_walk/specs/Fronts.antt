@@ -10,15 +10,19 @@ number_of zero bytes = 0
 number_of (suc count) [] = 0
 number_of (suc count) (byte ∷ bytes) = byte * 256 ^ count + number_of count bytes
 
--- The front is that of the name: the number of so many first bytes of its key, and either these are the whole key, or
--- no size of it is held.
-pub record IsFront (name : List ℕ) (front : Front) : Type 0 where
+-- The front is that of the key: the number of so many first bytes of it, and either these are the whole key, or no size
+-- of it is held.
+pub record IsKeyFront (key : List ℕ) (front : Front) : Type 0 where
   pub count : ℕ
   pub some : 0 < count
   pub bits : front.low + 8 * count ≡ 64
-  pub within : count ≤ length (text_key name)
-  pub is : front.number ≡ number_of count (text_key name)
-  pub whole : 0 < front.size → (front.size ≡ count) × (count ≡ length (text_key name))
+  pub within : count ≤ length key
+  pub is : front.number ≡ number_of count key
+  pub whole : 0 < front.size → (front.size ≡ count) × (count ≡ length key)
+
+-- The front is that of the key of the name.
+abbrev pub IsFront : List ℕ → Front → Type 0
+IsFront name front = IsKeyFront (text_key name) front
 
 -- The front is that of the name, or isn't made yet.
 abbrev pub IsMade : List ℕ → Front → Type 0

@@ -7,4 +7,5 @@ pub mod KeyView
 pub mod Open
 pub mod Parts
 pub mod Steps
+pub mod Passing
 pub mod SideBySide

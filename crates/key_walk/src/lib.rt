@@ -9,6 +9,7 @@ mod digits;
 pub mod find;
 pub mod names;
 pub mod part;
+pub mod pass;
 pub mod skip;
 pub mod steps;
 pub mod text;

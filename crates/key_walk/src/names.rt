@@ -1,10 +1,10 @@
 //! A name that is looked for among the members of an object: how it compares with a name in a key.
 
-ghost use Rattle.std.specs.Prelude.{◌≡◌, ◌≢◌, ◌<◌, ◌≤◌, ◌+◌, ◌*◌, ◌++◌, List, ℕ, length, drop, get_or, IfSome, IsTrue};
+ghost use Rattle.std.specs.Prelude.{◌≡◌, ◌≢◌, ◌<◌, ◌≤◌, ◌+◌, ◌*◌, ◌++◌, List, ℕ, length, drop, take, get_or, IfSome, IsTrue};
 ghost use Rattle.std.specs.declared.cmp.Ordering.TheVariants.{Equal};
 ghost use Rattle.jsonb_spec.specs.SortKey.{text_key};
 ghost use Rattle.key_walk.specs.AtKeys.{ComparesName, Leaves, NoMembersEnd};
-ghost use Rattle.key_walk.specs.Fronts.{BeginAlike, IsFront, IsMade, IsNext};
+ghost use Rattle.key_walk.specs.Fronts.{BeginAlike, IsFront, IsKeyFront, IsMade, IsNext};
 ghost use Rattle.key_walk.specs.Frames.{AreNoZeros};
 
 use crate::find::compare_name;
@@ -260,4 +260,70 @@ fn any_name_size(bytes: &[u8]) -> usize
         Some(rest) => bytes.len() - rest.len(),
         None => 0,
     }
+}
+
+/// The front of a name whose key is so many of the bytes.
+#[inline(always)]
+pub(crate) fn key_front(bytes: &[u8], size: usize) -> Front
+    requires { (0 < size) × (size ≤ length bytes.now) }
+    ensures front { IsKeyFront (take size bytes.now) result }
+{
+    let Some(chunk) = bytes.first_chunk::<8>() else {
+        return first_byte(bytes);
+    };
+    let number = u64::from_be_bytes(*chunk);
+    if size > 8 {
+        return first_bytes(number, 8);
+    }
+    let low = 64 - 8 * size as u32;
+    Front {
+        number: number >> low,
+        low,
+        size: size as u32,
+    }
+}
+
+// The first byte alone as a front, where few bytes are left.
+#[inline(always)]
+fn first_byte(bytes: &[u8]) -> Front
+    requires { 0 < length bytes.now }
+    ensures front { (size : ℕ) → 0 < size → IsKeyFront (take size bytes.now) result }
+{
+    first_bytes(u64::from(bytes[0]), 1)
+}
+
+/// How the name with this key, which has this front, compares with the one whose key the bytes begin with.
+#[inline(always)]
+pub(crate) fn compare_key(front: Front, key: &[u8], bytes: &[u8]) -> Ordering
+    requires { IsKeyFront key.now front }
+    ensures compares { (name : List ℕ) → key.now ≡ text_key name → ComparesName name bytes.now result }
+    ensures not_over { (name : List ℕ) → key.now ≡ text_key name → result ≡ Equal → NoMembersEnd bytes.now }
+{
+    let Some(chunk) = bytes.first_chunk::<8>() else {
+        return compare_keys(key, bytes);
+    };
+    let number = u64::from_be_bytes(*chunk) >> front.low;
+    if number > front.number {
+        return Ordering::Less;
+    }
+    if number < front.number {
+        return Ordering::Greater;
+    }
+    if front.size > 0 {
+        return Ordering::Equal;
+    }
+    compare_keys(key, bytes)
+}
+
+// The same where the first bytes may be the same.
+#[inline(never)]
+fn compare_keys(key: &[u8], bytes: &[u8]) -> Ordering
+    ensures compares { (name : List ℕ) → key.now ≡ text_key name → ComparesName name bytes.now result }
+    ensures not_over { (name : List ℕ) → key.now ≡ text_key name → result ≡ Equal → NoMembersEnd bytes.now }
+{
+    if bytes.len() < key.len() {
+        return key.cmp(bytes);
+    }
+    let (first, _) = bytes.split_at(key.len());
+    key.cmp(first)
 }

@@ -223,6 +223,7 @@ fn after_even(bytes: &[u8]) -> Option<&[u8]>
 }
 
 /// The bytes after the end of an object or an array, if it ends here.
+#[inline(always)]
 pub fn after_end(object: bool, bytes: &[u8]) -> Option<&[u8]>
     ensures some { IfSome result (λ rest. bytes.now ≡ end_key object ++ rest.now) }
     ensures found { (more : List ℕ) → bytes.now ≡ end_key object ++ more → Leaves result more }
@@ -250,6 +251,7 @@ pub(crate) fn is_over(object: bool, bytes: &[u8]) -> bool
 }
 
 /// The bytes after a member's name, which an item has none of.
+#[inline(always)]
 pub fn after_name(object: bool, bytes: &[u8]) -> Option<&[u8]>
     ensures found { (name more : List ℕ) → bytes.now ≡ name_key object name ++ more → Leaves result more }
     ensures within { IfSome result (λ rest. length rest.now ≤ length bytes.now) }

@@ -46,8 +46,8 @@ pub returns-in_err-merging-clause-joined : goal.returns-in_err-merging-clause-jo
 returns-in_err-merging-clause-joined c = λ ms ns h i e f z w a b fit.
     let l = c.members.invariant.joining ms ns h i e f z w a b fit in
     let s = c.in-Ok.ensures.step l.members l.others l.readable l.others_readable l.left_is l.right_is in
-    let n = next ms ns c.args.out.now.items c.members.out.items c.members.merging.plain c.members.merging.ours c.members.merging.theirs c.members.members.now c.members.others.now c.in-Ok.step c.saturating_sub-passed.result l s c.saturating_sub-passed.ensures fit in
-    let x = c.in_err-merging.ensures.copied (counts_at_members l.members) (counts_at_members l.others) l.ours_pend l.theirs_pend n.enough n.xs_short n.ys_short n.fit in
+    let n = next ms ns c.args.out.now.items c.members.out.items c.members.merging.plain c.members.merging.ours c.members.merging.theirs c.members.members.now c.members.others.now c.in-Ok.step c.replaced_by-replaced.result l s c.replaced_by-replaced.ensures fit in
+    let x = c.in_err-merging.ensures.copied (counts_at_members l.members) (counts_at_members l.others) l.ours_pend l.theirs_pend n.enough n.part_enough n.xs_short n.ys_short n.fit in
     lacks_zeros c.from_residual-in_err-merging.result c.in_err-merging.field-0.0 c.args.out.now c.copy_step.new.out (zeros_of 1 (counts_at_members (merged_members ms ns))) (zeros_of 1 (counts_at_members (merged_members ms ns))) c.from_residual-in_err-merging.ensures.1 x.0
     (omega (arith, x.1, n.depth_left, c.members.invariant.preserves.capacity, c.args.out.now.ok.0, c.members.out.ok.0)) (omega arith)
 
@@ -55,17 +55,17 @@ pub returns-then-step-clause-joined : goal.returns-then-step-clause-joined
 returns-then-step-clause-joined c = λ ms ns h i e f z w a b fit.
     let l = c.members.invariant.joining ms ns h i e f z w a b fit in
     let s = c.in-Ok.ensures.step l.members l.others l.readable l.others_readable l.left_is l.right_is in
-    let n = next ms ns c.args.out.now.items c.members.out.items c.members.merging.plain c.members.merging.ours c.members.merging.theirs c.members.members.now c.members.others.now c.in-Ok.step c.saturating_sub-passed.result l s c.saturating_sub-passed.ensures fit in
-    let x = c.in_ok-merging.ensures.copied (counts_at_members l.members) (counts_at_members l.others) l.ours_pend l.theirs_pend n.enough n.xs_short n.ys_short n.fit in
-    ended ms ns c.args.out.now.items c.members.out.items c.members.merging.plain c.members.merging.ours c.members.merging.theirs c.members.members.now c.members.others.now c.in-Ok.step c.saturating_sub-passed.result l s c.saturating_sub-passed.ensures c.if-step.true c.copy_step.new.out.items x.0
+    let n = next ms ns c.args.out.now.items c.members.out.items c.members.merging.plain c.members.merging.ours c.members.merging.theirs c.members.members.now c.members.others.now c.in-Ok.step c.replaced_by-replaced.result l s c.replaced_by-replaced.ensures fit in
+    let x = c.in_ok-merging.ensures.copied (counts_at_members l.members) (counts_at_members l.others) l.ours_pend l.theirs_pend n.enough n.part_enough n.xs_short n.ys_short n.fit in
+    ended ms ns c.args.out.now.items c.members.out.items c.members.merging.plain c.members.merging.ours c.members.merging.theirs c.members.members.now c.members.others.now c.in-Ok.step c.replaced_by-replaced.result l s c.replaced_by-replaced.ensures c.if-step.true c.copy_step.new.out.items x.0
 
 pub members-preserved : goal.members-preserved
 members-preserved c = record {
   joining = λ ms ns h i e f z w a b fit.
       let l = c.members.invariant.joining ms ns h i e f z w a b fit in
       let s = c.in-Ok.ensures.step l.members l.others l.readable l.others_readable l.left_is l.right_is in
-      let n = next ms ns c.args.out.now.items c.members.out.items c.members.merging.plain c.members.merging.ours c.members.merging.theirs c.members.members.now c.members.others.now c.in-Ok.step c.saturating_sub-passed.result l s c.saturating_sub-passed.ensures fit in
-      let x = c.in_ok-merging.ensures.copied (counts_at_members l.members) (counts_at_members l.others) l.ours_pend l.theirs_pend n.enough n.xs_short n.ys_short n.fit in
-      goes_on ms ns c.args.out.now.items c.members.out.items c.members.merging.plain c.members.merging.ours c.members.merging.theirs c.members.members.now c.members.others.now c.in-Ok.step c.saturating_sub-passed.result l s c.saturating_sub-passed.ensures c.if-step.false c.copy_step.new.out.items c.in_ok-merging.merging.plain c.in_ok-merging.merging.ours c.in_ok-merging.merging.theirs x.0 x.1 x.2 x.3;
+      let n = next ms ns c.args.out.now.items c.members.out.items c.members.merging.plain c.members.merging.ours c.members.merging.theirs c.members.members.now c.members.others.now c.in-Ok.step c.replaced_by-replaced.result l s c.replaced_by-replaced.ensures fit in
+      let x = c.in_ok-merging.ensures.copied (counts_at_members l.members) (counts_at_members l.others) l.ours_pend l.theirs_pend n.enough n.part_enough n.xs_short n.ys_short n.fit in
+      goes_on ms ns c.args.out.now.items c.members.out.items c.members.merging.plain c.members.merging.ours c.members.merging.theirs c.members.members.now c.members.others.now c.in-Ok.step c.replaced_by-replaced.result l s c.replaced_by-replaced.ensures c.if-step.false c.copy_step.new.out.items c.in_ok-merging.merging.plain c.in_ok-merging.merging.ours c.in_ok-merging.merging.theirs x.0 x.1 x.2 x.3;
   preserves = preserves_on c.args.out.now c.members.out c.copy_step.new.out c.members.invariant.preserves c.in_ok-merging.ensures.preserves;
 }

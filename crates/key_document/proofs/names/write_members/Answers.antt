@@ -34,13 +34,13 @@ returns-in_err-retaining-clause-written c = λ ms ns h i e f b.
     let v = object (members_beside ns ms) in
     let l = c.members.invariant.left ms ns h i e f b in
     let s = c.in-Ok.ensures.step l.members l.others l.readable l.others_readable l.left_is l.right_is in
-    let o = on first ms ns c.members.retaining c.members.members.now c.members.others.now old c.members.out.items c.in-Ok.step l s c.if-step.false c.is_both.result c.is_both.ensures in
-    let p = passed first ms ns c.members.retaining c.members.members.now c.members.others.now old c.members.out.items c.in-Ok.step l s c.if-step.false c.is_both.result c.is_both.ensures in
+    let o = on first ms ns c.members.retaining c.members.members.now c.members.others.now old c.members.out.items c.in-Ok.step l s c.if-step.false c.is_longer-goes.result c.behind_run-rest.result.now c.behind_run-rest.ensures c.is_longer-goes.ensures in
+    let p = passed first ms ns c.members.retaining c.members.members.now c.members.others.now old c.members.out.items c.in-Ok.step l s c.if-step.false c.is_longer-goes.result c.behind_run-rest.result.now c.behind_run-rest.ensures c.is_longer-goes.ensures in
     let y = c.in_err-retaining.ensures.passed first (key_of v) (counts_at v) p.0.one p.0.one_counts (counts_at_members o.members) (members_key (members_beside o.others o.members)) (counts_at_members (members_beside o.others o.members)) old
-    (here_is first ms ns c.members.retaining c.members.members.now c.members.others.now old c.members.out.items c.in-Ok.step l s c.if-step.false c.is_both.result c.is_both.ensures)
-    (part_each first ms ns c.members.retaining c.members.members.now c.members.others.now old c.members.out.items c.in-Ok.step l s c.if-step.false c.is_both.result c.is_both.ensures)
-    (ready first ms ns c.members.retaining c.members.members.now c.members.others.now old c.members.out.items c.in-Ok.step l s c.if-step.false c.is_both.result c.is_both.ensures) in
-    goes_wrong first ms ns c.members.retaining c.members.members.now c.members.others.now old c.members.out.items c.in-Ok.step l s c.if-step.false c.is_both.result c.is_both.ensures
+    (here_is first ms ns c.members.retaining c.members.members.now c.members.others.now old c.members.out.items c.in-Ok.step l s c.if-step.false c.is_longer-goes.result c.behind_run-rest.result.now c.behind_run-rest.ensures c.is_longer-goes.ensures)
+    (part_each first ms ns c.members.retaining c.members.members.now c.members.others.now old c.members.out.items c.in-Ok.step l s c.if-step.false c.is_longer-goes.result c.behind_run-rest.result.now c.behind_run-rest.ensures c.is_longer-goes.ensures)
+    (ready first ms ns c.members.retaining c.members.members.now c.members.others.now old c.members.out.items c.in-Ok.step l s c.if-step.false c.is_longer-goes.result c.behind_run-rest.result.now c.behind_run-rest.ensures c.is_longer-goes.ensures) in
+    goes_wrong first ms ns c.members.retaining c.members.members.now c.members.others.now old c.members.out.items c.in-Ok.step l s c.if-step.false c.is_longer-goes.result c.behind_run-rest.result.now c.behind_run-rest.ensures c.is_longer-goes.ensures
     c.from_residual.result c.in_err-retaining.field-0.0 c.args.out.now c.members.out c.pass_bytes.new.out refl c.from_residual.ensures.1 c.members.invariant.preserves.capacity y
 
 pub members-preserved : goal.members-preserved
@@ -51,12 +51,12 @@ members-preserved c = record {
       let v = object (members_beside ns ms) in
       let l = c.members.invariant.left ms ns h i e f b in
       let s = c.in-Ok.ensures.step l.members l.others l.readable l.others_readable l.left_is l.right_is in
-      let o = on first ms ns c.members.retaining c.members.members.now c.members.others.now old c.members.out.items c.in-Ok.step l s c.if-step.false c.is_both.result c.is_both.ensures in
-      let p = passed first ms ns c.members.retaining c.members.members.now c.members.others.now old c.members.out.items c.in-Ok.step l s c.if-step.false c.is_both.result c.is_both.ensures in
+      let o = on first ms ns c.members.retaining c.members.members.now c.members.others.now old c.members.out.items c.in-Ok.step l s c.if-step.false c.is_longer-goes.result c.behind_run-rest.result.now c.behind_run-rest.ensures c.is_longer-goes.ensures in
+      let p = passed first ms ns c.members.retaining c.members.members.now c.members.others.now old c.members.out.items c.in-Ok.step l s c.if-step.false c.is_longer-goes.result c.behind_run-rest.result.now c.behind_run-rest.ensures c.is_longer-goes.ensures in
       let y = c.in_ok-retaining.ensures.passed first (key_of v) (counts_at v) p.0.one p.0.one_counts (counts_at_members o.members) (members_key (members_beside o.others o.members)) (counts_at_members (members_beside o.others o.members)) old
-      (here_is first ms ns c.members.retaining c.members.members.now c.members.others.now old c.members.out.items c.in-Ok.step l s c.if-step.false c.is_both.result c.is_both.ensures)
-      (part_each first ms ns c.members.retaining c.members.members.now c.members.others.now old c.members.out.items c.in-Ok.step l s c.if-step.false c.is_both.result c.is_both.ensures)
-      (ready first ms ns c.members.retaining c.members.members.now c.members.others.now old c.members.out.items c.in-Ok.step l s c.if-step.false c.is_both.result c.is_both.ensures) in
-      next_left first ms ns c.members.retaining c.members.members.now c.members.others.now old c.members.out.items c.in-Ok.step l s c.if-step.false c.is_both.result c.is_both.ensures c.in_ok-retaining.retaining c.pass_bytes.new.out.items y;
+      (here_is first ms ns c.members.retaining c.members.members.now c.members.others.now old c.members.out.items c.in-Ok.step l s c.if-step.false c.is_longer-goes.result c.behind_run-rest.result.now c.behind_run-rest.ensures c.is_longer-goes.ensures)
+      (part_each first ms ns c.members.retaining c.members.members.now c.members.others.now old c.members.out.items c.in-Ok.step l s c.if-step.false c.is_longer-goes.result c.behind_run-rest.result.now c.behind_run-rest.ensures c.is_longer-goes.ensures)
+      (ready first ms ns c.members.retaining c.members.members.now c.members.others.now old c.members.out.items c.in-Ok.step l s c.if-step.false c.is_longer-goes.result c.behind_run-rest.result.now c.behind_run-rest.ensures c.is_longer-goes.ensures) in
+      next_left first ms ns c.members.retaining c.members.members.now c.members.others.now old c.members.out.items c.in-Ok.step l s c.if-step.false c.is_longer-goes.result c.behind_run-rest.result.now c.behind_run-rest.ensures c.is_longer-goes.ensures c.in_ok-retaining.retaining c.pass_bytes.new.out.items y;
   preserves = preserves_on c.args.out.now c.members.out c.pass_bytes.new.out c.members.invariant.preserves c.in_ok-retaining.ensures.preserves;
 }
