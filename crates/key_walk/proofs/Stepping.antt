@@ -9,7 +9,7 @@ use Rattle.key_walk.specs.Open.{Open, items, members, is_object, open_key, openi
 use Rattle.key_walk.specs.Parts.{opened_tree}
 use Rattle.key_walk.specs.Steps.{AreOpen, IsAmid, IsOver, IsPart, IsWithin, PassesEnd, PassesOpening, PassesScalar, Stacks, StepsOver, opens_key}
 use Rattle.key_walk.specs.declared.find.NoKey.{NoKey}
-use Rattle.key_walk.specs.declared.steps.Passed.{Passed}
+use Rattle.key_walk.specs.declared.steps.ScalarPart.{ScalarPart}
 use Rattle.key_walk.specs.declared.steps.Step.{Step}
 use Rattle.key_walk.specs.declared.steps.Step.TheVariants as step
 use Rattle.key_walk.specs.declared.steps.Steps.{Steps}
@@ -225,7 +225,7 @@ module _ (more : List ℕ) (old : Steps) (top : ℕ) (below : top + 1 ≡ old.de
         scalar_at o under n kind = scalar_there n.left n.value n.readable first parts value (opens_key (n.others ∷ under) ++ more) begins (value_there value found o under n kind) no_object no_array
 
         pub scalar_passed : (after : List ℕ) → ((depth : ℕ) (t : Tree) → IsReadableAt depth t → IsScalar t → (behind : List ℕ) → value ≡ key_of t ++ behind → Some after ≡ Some behind)
-            → (p : Passed) → p.is_member ≡ object → p.first ≡ first → p.part.now ≡ old.rest.now → p.value.now ≡ value → p.after.now ≡ after
+            → (p : ScalarPart) → p.is_member ≡ object → p.first ≡ first → p.part.now ≡ old.rest.now → p.value.now ≡ value → p.after.now ≡ after
             → (new : Steps) → new.objects ≡ old.objects → new.depth ≡ old.depth → new.rest.now ≡ after → StepsOver opens more old (Ok (Some (step.Scalar p))) new
         scalar_passed after left p member at_first part of behind new same at rest = go opens w
           where
@@ -280,7 +280,7 @@ pub record Walking (Holds : List Open → Type 0) (more : List ℕ) (steps : Ste
   pub holds : Holds opens
 
 -- A value was passed.
-pub record PassingScalar (Holds : List Open → Type 0) (more : List ℕ) (p : Passed) (old new : Steps) : Type 0 where
+pub record PassingScalar (Holds : List Open → Type 0) (more : List ℕ) (p : ScalarPart) (old new : Steps) : Type 0 where
   pub o : Open
   pub under : List Open
   pub x : PassesScalar o under more p old new
@@ -318,7 +318,7 @@ module _ (Holds : List Open → Type 0) (more : List ℕ) (old new : Steps) (w :
       go (o ∷ under) (inr x) h = record { opens = x.inside ∷ x.others ∷ under; amid = x.amid; holds = at_opening o under x h }
 
   -- another value
-  pub value_passed : (p : Passed) → Law (Ok (Some (step.Scalar p))) → PassingScalar Holds more p old new
+  pub value_passed : (p : ScalarPart) → Law (Ok (Some (step.Scalar p))) → PassingScalar Holds more p old new
   value_passed p law = go w.opens (law w.opens more w.amid) w.holds
     where
       go : (os : List Open) → StepsOver os more old (Ok (Some (step.Scalar p))) new → Holds os → PassingScalar Holds more p old new
@@ -329,7 +329,7 @@ module _ (Holds : List Open → Type 0) (more : List ℕ) (old new : Steps) (w :
   pub step_passed : (Then : List Open → Type 0) → (s : Step) → Law (Ok (Some s))
       → ((o : Open) (under : List Open) → PassesEnd o under more old new → Holds (o ∷ under) → Then under)
       → ((o : Open) (under : List Open) → (x : PassesOpening o under more old new) → Holds (o ∷ under) → Then (x.inside ∷ x.others ∷ under))
-      → ((o : Open) (under : List Open) → (p : Passed) → (x : PassesScalar o under more p old new) → Holds (o ∷ under) → Then (x.others ∷ under))
+      → ((o : Open) (under : List Open) → (p : ScalarPart) → (x : PassesScalar o under more p old new) → Holds (o ∷ under) → Then (x.others ∷ under))
       → Walking Then more new
   step_passed Then step.Edge law at_end at_opening at_value = edge_passed Then law at_end at_opening
   step_passed Then (step.Scalar p) law at_end at_opening at_value =

@@ -4,7 +4,7 @@ use Rattle.key_value.specs.Readable.{IsReadableAt}
 use Rattle.jsonb_spec.specs.SortKey.{key_of}
 use Rattle.jsonb_spec.specs.Tree.{Tree, no_trees, more_trees, no_members, more_members}
 use Rattle.key_walk.specs.declared.find.NoKey.{NoKey}
-use Rattle.key_walk.specs.declared.steps.Passed.{Passed}
+use Rattle.key_walk.specs.declared.steps.ScalarPart.{ScalarPart}
 use Rattle.key_walk.specs.declared.steps.Step.{Step}
 use Rattle.key_walk.specs.declared.steps.Step.TheVariants as step
 use Rattle.key_walk.specs.declared.steps.Steps.{Steps}
@@ -68,7 +68,7 @@ pub record PassesOpening (o : Open) (under : List Open) (more : List ℕ) (old n
   pub amid : IsAmid (inside ∷ others ∷ under) more new
 
 -- Its next part is passed, which is neither.
-pub record PassesScalar (o : Open) (under : List Open) (more : List ℕ) (passed : Passed) (old new : Steps)
+pub record PassesScalar (o : Open) (under : List Open) (more : List ℕ) (passed : ScalarPart) (old new : Steps)
     : Type 0 where
   pub name : List ℕ
   pub value : Tree

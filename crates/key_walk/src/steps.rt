@@ -25,12 +25,12 @@ pub enum Step<'k> {
     /// The end of an array or an object; or the beginning of one, and the name before it.
     Edge,
     /// Another value, and the name before it.
-    Scalar(Passed<'k>),
+    Scalar(ScalarPart<'k>),
 }
 
 /// A value that is neither an array nor an object.
 #[derive(Clone, Copy)]
-pub struct Passed<'k> {
+pub struct ScalarPart<'k> {
     /// Whether it is of a member.
     pub is_member: bool,
     /// The first byte of its key.
@@ -96,7 +96,7 @@ impl<'k> Steps<'k> {
             return Err(NoKey);
         };
         self.rest = after;
-        Ok(Some(Step::Scalar(Passed {
+        Ok(Some(Step::Scalar(ScalarPart {
             is_member: object,
             first: *first,
             part,
