@@ -101,7 +101,7 @@ pub(crate) fn is_word(byte: u8) -> bool
 
 /// The bytes after the key of a text that they begin with.
 #[inline(always)]
-pub fn after_text(bytes: &[u8]) -> Option<&[u8]>
+pub(crate) fn after_text(bytes: &[u8]) -> Option<&[u8]>
     ensures found { (text more : List ℕ) → bytes.now ≡ text_key text ++ more → Leaves result more }
     ensures shorter { IfSome result (λ rest. length rest.now < length bytes.now) }
 {
