@@ -1,12 +1,10 @@
 -- Which values have a table.
-use Rattle.std.proofs.Common.{◌≡◌, ℕ, ◌+◌, ◌*◌, ◌<◌, ◌≤◌, ◌&&◌, Bool, true, false, List, [], ◌∷◌, ◌++◌, length, nat_lt, nat_le, if◌then◌else◌, refl, sym, ap, subst, ◌∙◌, arith, append-nil, length-append}
-use Rattle.std.proofs.lemmas.Bool.{le-leb, lt-leb, ltb-true, ltb-false, leb-true, leb-false, lt-ltb, le-ltb}
+use Rattle.std.proofs.Common.{◌≡◌, ℕ, ◌+◌, ◌*◌, ◌<◌, ◌≤◌, ◌&&◌, Bool, true, false, List, [], ◌∷◌, ◌++◌, length, nat_lt, nat_le, if◌then◌else◌, refl, sym, ap, subst, ◌∙◌, arith, length-append}
+use Rattle.std.proofs.lemmas.Bool.{le-leb, lt-leb, ltb-true, ltb-false, leb-true}
 use Rattle.std.specs.Int.{is_in_range}
 use Rattle.std.specs.List.{flat_map}
-use Rattle.key_value.specs.Readable.{IsAnyNumber, IsReadable}
-use Rattle.jsonb_spec.specs.Proper.{HaveProperParts}
+use Rattle.key_value.specs.Readable.{IsReadable}
 use Rattle.jsonb_spec.specs.SortKey.{byte_key, key_of, members_key, text_key}
-use Rattle.jsonb_spec.specs.Text.Range.{HaveWithin}
 use Rattle.jsonb_spec.specs.Tree.{Tree, object, Members, no_members, more_members}
 use Rattle.key_walk.specs.Found.{members_len}
 use Rattle.key_walk.proofs.Occurrence.{true_false}

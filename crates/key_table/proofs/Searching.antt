@@ -1,11 +1,11 @@
 -- Members by their index in an object, in its table and in its key, and the search among them by halves.
-use Rattle.std.proofs.Common.{◌≡◌, ℕ, zero, suc, ◌+◌, ◌-◌, ◌*◌, ◌/◌, ◌<◌, ◌≤◌, ◌^◌, true, false, List, [], ◌∷◌, ◌++◌, Option, Some, None, Bor, Result, Ok, Err, Less, Equal, Greater, IsTrue, MatchOption, MatchResult, if◌then◌else◌, length, refl, sym, ap, subst, ◌∙◌, arith, append_assoc, append-nil, length-append}
+use Rattle.std.proofs.Common.{◌≡◌, ℕ, zero, suc, ◌+◌, ◌-◌, ◌*◌, ◌/◌, ◌<◌, ◌^◌, true, List, [], ◌∷◌, ◌++◌, Option, Some, None, Result, Ok, Err, Less, Equal, Greater, IsTrue, if◌then◌else◌, length, refl, sym, ap, subst, ◌∙◌, arith, append_assoc, length-append}
 use Rattle.std.proofs.lemmas.Map.Lookups.{exact_bytes}
-use Rattle.std.specs.Cmp.Lexicographic.{slice_cmp, nat_list_cmp_total}
+use Rattle.std.specs.Cmp.Lexicographic.{nat_list_cmp_total}
 use Rattle.std.specs.List.{flat_map}
-use Rattle.std.specs.Ordering.{is_eq, nat_cmp, ordering_reverse}
+use Rattle.std.specs.Ordering.{is_eq, ordering_reverse}
 use Rattle.std.specs.Str.{bytes_eq}
-use Rattle.key_value.specs.Readable.{IsAnyNumber, IsReadable}
+use Rattle.key_value.specs.Readable.{IsReadable}
 use Rattle.jsonb_spec.specs.Accessors.{find_member, get_by_name}
 use Rattle.jsonb_spec.specs.Keys.{IsBelowKeys, KeysAscend}
 use Rattle.jsonb_spec.specs.Order.{bytes_cmp}
@@ -19,7 +19,7 @@ use Rattle.key_walk.specs.declared.find.NoKey.{NoKey}
 use Rattle.key_walk.proofs.Occurrence.{below_all, equal_names, true_false}
 use Rattle.key_table.specs.Results.{ReportsRange, GivesRange}
 use Rattle.key_table.specs.Table.{has_table, in_two, member_offsets, table_mark, table_of, table_of_members}
-use Rattle.key_table.proofs.Having.{entries_long, most_size, table_some, two_each}
+use Rattle.key_table.proofs.Having.{entries_long, most_size, table_some}
 
 -- ---- the member of an index
 

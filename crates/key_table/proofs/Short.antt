@@ -1,5 +1,5 @@
 -- A table is short beside its key.
-use Rattle.std.proofs.Common.{◌≡◌, ℕ, ◌+◌, ◌*◌, ◌≤◌, Bool, true, false, List, [], ◌∷◌, ◌++◌, length, ap, refl, arith, length-append}
+use Rattle.std.proofs.Common.{◌≡◌, ◌+◌, ◌*◌, ◌≤◌, Bool, true, false, [], ◌∷◌, ◌++◌, length, ap, refl, arith, length-append}
 use Rattle.std.specs.List.{flat_map}
 use Rattle.jsonb_spec.specs.Proper.{IsProper, HaveProperParts}
 use Rattle.jsonb_spec.specs.SortKey.{byte_key, key_of, members_key, text_key}

@@ -1,5 +1,5 @@
 -- A table apart from what is before it, and bytes that are compared with a table.
-use Rattle.std.proofs.Common.{◌≡◌, ◌↔◌, option_map, ℕ, ◌+◌, ◌-◌, ◌*◌, ◌<◌, ◌≤◌, true, false, List, [], ◌∷◌, ◌++◌, Option, Some, None, Bor, IsTrue, take, drop, length, slice_index_or, nat_eq, refl, sym, ap, subst, ◌∙◌, arith, append_assoc, length-append}
+use Rattle.std.proofs.Common.{◌≡◌, ◌↔◌, option_map, ℕ, ◌+◌, ◌*◌, ◌<◌, ◌≤◌, false, List, [], ◌∷◌, ◌++◌, Option, Some, None, Bor, IsTrue, take, drop, length, slice_index_or, nat_eq, refl, sym, ap, ◌∙◌, arith, append_assoc, length-append}
 use Rattle.std.proofs.Math.Seq.{take-append_seam, drop-append_seam}
 use Rattle.std.proofs.lemmas.List.{append_cancel_left, same_from_push}
 use Rattle.std.proofs.lemmas.Bool.{eqb-true}
@@ -8,8 +8,8 @@ use Rattle.key_value.proofs.Texts.{none_some, some_same}
 use Rattle.key_walk.specs.AtKeys.{Leaves}
 use Rattle.key_walk.proofs.Occurrence.{true_false}
 use Rattle.key_table.specs.Entries.{OfMembers}
-use Rattle.key_table.specs.Table.{has_table, in_two, table_mark, table_of, table_of_members}
-use Rattle.key_table.proofs.Having.{TableParts, table_parts}
+use Rattle.key_table.specs.Table.{in_two, table_mark, table_of, table_of_members}
+use Rattle.key_table.proofs.Having.{TableParts}
 use Rattle.key_table.proofs.Walking.{Walked}
 
 -- bytes that end with a table

@@ -1,5 +1,5 @@
 -- No document ends with the byte with which tables do.
-use Rattle.std.proofs.Common.{◌≡◌, ℕ, ◌<◌, inl, inr, List, [], ◌∷◌, ◌++◌, refl, sym, ◌∙◌, arith}
+use Rattle.std.proofs.Common.{inl, inr, refl, sym, ◌∙◌, arith}
 use Rattle.std.proofs.lemmas.List.{same_from_push}
 use Rattle.key_value.specs.Readable.{IsReadable}
 use Rattle.jsonb_spec.specs.Grammar.{max_depth}

@@ -1,23 +1,21 @@
 -- Tables by what is left of them while the members of a key are walked.
-use Rattle.std.proofs.Common.{◌≡◌, ℕ, zero, suc, ◌+◌, ◌<◌, ◌≤◌, ◌/◌, ◌%◌, ◌&&◌, nat_le, Bool, true, false, List, [], ◌∷◌, ◌++◌, Option, Some, None, Bor, Result, Ok, Err, IfSome, take, drop, length, get_or, refl, sym, ap, subst, ◌∙◌, arith, append_assoc, append-nil, length-append}
-use Rattle.std.proofs.lemmas.Bool.{le-leb, lt-leb}
-use Rattle.std.proofs.lemmas.List.{take-append-drop, append_cancel_left}
+use Rattle.std.proofs.Common.{◌≡◌, ℕ, zero, suc, ◌+◌, ◌<◌, ◌≤◌, ◌&&◌, nat_le, Bool, true, false, List, [], ◌∷◌, ◌++◌, Option, Some, None, Bor, Ok, Err, IfSome, take, drop, length, get_or, refl, sym, ap, subst, ◌∙◌, arith, append-nil, length-append}
 use Rattle.std.proofs.lemmas.Nat.{be_bytes_2}
 use Rattle.std.specs.Int.{w16, from_be_bytes, is_in_range}
 use Rattle.std.specs.List.{flat_map}
 use Rattle.key_value.specs.Readable.{IsAnyNumber, IsReadable}
-use Rattle.key_value.proofs.Texts.{none_some, some_same}
+use Rattle.key_value.proofs.Texts.{none_some}
 use Rattle.jsonb_spec.specs.Proper.{HaveProperParts}
 use Rattle.jsonb_spec.specs.SortKey.{key_of, members_key, text_key}
 use Rattle.jsonb_spec.specs.Text.Range.{HaveWithin}
-use Rattle.jsonb_spec.specs.Tree.{Tree, object, Trees, no_trees, more_trees, Members, no_members, more_members}
+use Rattle.jsonb_spec.specs.Tree.{Tree, object, no_trees, more_trees, Members, no_members, more_members}
 use Rattle.key_walk.specs.AtKeys.{Leaves}
 use Rattle.key_walk.specs.Found.{members_len, IsNext}
 use Rattle.key_walk.specs.Open.{Open, items, members}
 use Rattle.key_walk.specs.declared.find.NoKey.{NoKey}
 use Rattle.key_walk.proofs.Finds.{parent_of}
 use Rattle.key_walk.proofs.Occurrence.{left_of, object_left}
-use Rattle.key_table.specs.Entries.{IsObjectOf, LeavesMembers}
+use Rattle.key_table.specs.Entries.{LeavesMembers}
 use Rattle.key_table.specs.Table.{has_table, in_two, member_offsets, table_mark, table_of_members}
 
 -- ---- numbers in two bytes

@@ -1,13 +1,11 @@
 -- Tables that are appended.
-use Rattle.std.proofs.Common.{◌≡◌, ℕ, ◌+◌, ◌<◌, ◌≤◌, Bool, true, false, List, [], ◌∷◌, ◌++◌, Option, Some, None, Result, Ok, Err, length, nat_lt, nat_le, refl, sym, ap, subst, ◌∙◌, arith, append_assoc, length-append}
+use Rattle.std.proofs.Common.{◌≡◌, ℕ, ◌+◌, ◌<◌, ◌≤◌, Bool, List, ◌++◌, Option, Some, None, Result, Ok, Err, length, ap, ◌∙◌, arith, append_assoc, length-append}
 use Rattle.std.specs.Prelude.{Vec, vec_len, vec_capacity, IsErrAnd}
 use Rattle.std.specs.declared.alloc.Global.{Global}
 use Rattle.jsonb_spec.specs.Tree.{Members}
-use Rattle.key_walk.specs.Found.{members_len}
 use Rattle.key_walk.specs.declared.find.NoKey.{NoKey}
 use Rattle.key_table.specs.Entries.{OfMembers, WritesTable}
-use Rattle.key_table.specs.Table.{in_two, table_mark, table_of_members}
-use Rattle.key_text.specs.Writes.{Preserves}
+use Rattle.key_table.specs.Table.{table_of_members}
 use Rattle.key_table.specs.declared.error.TableError.{TableError}
 use Rattle.key_table.specs.declared.error.TableError.TheVariants.{OutOfMemory}
 use Rattle.key_table.proofs.Walking.{Walked}

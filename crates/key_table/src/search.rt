@@ -21,11 +21,7 @@ const SHORT: usize = 6;
 /// # Errors
 ///
 /// `NoKey` only where the bytes are no key, or the others aren't its table.
-pub fn find_by_table(
-    key: &[u8],
-    table: &[u8],
-    name: &[u8],
-) -> Result<Option<(usize, usize)>, NoKey>
+pub fn find_by_table(key: &[u8], table: &[u8], name: &[u8]) -> Result<Option<(usize, usize)>, NoKey>
     ensures finds { FindsByTable key.now table.now name.now result }
 {
     let front = some_front_of(name);

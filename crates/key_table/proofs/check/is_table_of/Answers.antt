@@ -1,10 +1,10 @@
-use Rattle.std.proofs.Common.{◌≡◌, ◌+◌, ◌<◌, ◌++◌, ◌∷◌, [], Ok, Some, None, length, nat_le, refl, sym, ap, subst, ◌∙◌, arith, append-nil}
-use Rattle.std.proofs.lemmas.Bool.{le-leb, lt-leb}
+use Rattle.std.proofs.Common.{◌+◌, ◌++◌, [], Ok, length, refl, sym, ap, subst, ◌∙◌, arith, append-nil}
+use Rattle.std.proofs.lemmas.Bool.{lt-leb}
 use Rattle.jsonb_spec.specs.SortKey.{members_key}
-use Rattle.key_walk.specs.Found.{members_len, IsNext}
+use Rattle.key_walk.specs.Found.{IsNext}
 use Rattle.key_walk.specs.Open.{members}
-use Rattle.key_table.specs.Table.{in_two, table_mark, table_of_members}
-use Rattle.key_table.proofs.Walking.{Walked, all_walked, begun, first_walked, next_shorter, no_fault, stepped, table_left}
+use Rattle.key_table.specs.Table.{in_two}
+use Rattle.key_table.proofs.Walking.{all_walked, begun, first_walked, next_shorter, no_fault, stepped, table_left}
 use Rattle.key_table.proofs.Splitting.{Matches, false_never, matches_on, not_there, says_no}
 use Rattle.key_table.proofs.check.is_table_of.Goals as goal
 

@@ -1,4 +1,4 @@
-use Rattle.std.proofs.Common.{◌≡◌, ◌+◌, ◌++◌, [], Err, take, length, sym, ap, ◌∙◌, arith, append-nil}
+use Rattle.std.proofs.Common.{◌≡◌, ◌++◌, Err, take, length, sym, ap, ◌∙◌, arith, append-nil}
 use Rattle.std.proofs.Math.Seq.{take-append_seam}
 use Rattle.key_table.specs.Entries.{WritesTable}
 use Rattle.key_table.proofs.Having.{enough_there, few_there, of_members, table_none, table_there}

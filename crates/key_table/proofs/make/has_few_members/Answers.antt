@@ -1,6 +1,5 @@
-use Rattle.std.proofs.Common.{◌≡◌, ◌++◌, List, ℕ, [], Ok, Some, nat_lt, sym, ap, ◌∙◌, append-nil}
+use Rattle.std.proofs.Common.{[], Ok, nat_lt, sym, ap, ◌∙◌, append-nil}
 use Rattle.jsonb_spec.specs.SortKey.{key_of}
-use Rattle.jsonb_spec.specs.Tree.{Tree, Members, object}
 use Rattle.key_walk.specs.Found.{count_of, members_len}
 use Rattle.key_table.proofs.Writing.{same_count, no_count, error_count}
 use Rattle.key_table.proofs.make.has_few_members.Goals as goal

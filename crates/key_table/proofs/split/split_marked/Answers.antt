@@ -1,4 +1,4 @@
-use Rattle.std.proofs.Common.{◌≡◌, ◌++◌, ◌∷◌, [], ◌+◌, ◌*◌, ◌∙◌, sym, length, arith}
+use Rattle.std.proofs.Common.{◌≡◌, ◌++◌, ◌∷◌, [], ◌+◌, ◌*◌, ◌∙◌, length, arith}
 use Rattle.key_table.specs.Table.{table_mark}
 use Rattle.key_table.proofs.Having.{table_parts}
 use Rattle.key_table.proofs.Splitting.{count_there, end_at, front_there, table_behind, whole_size}
