@@ -15,7 +15,7 @@ use jsonb_value::sort_key::kind;
 use std::alloc::AllocError;
 use text_scan::parser::number::{after_minus, byte_at};
 
-// The digits of a decimal from the first on that is no zero, how many they are, and how many digits are behind the point.
+// The digits of a decimal from the first on that is no zero, how many they are, and how many are behind the point.
 #[derive(Drop)]
 struct PointedDigits {
     row: [u8; 32],
