@@ -59,7 +59,7 @@ fn some_front_of(name: &[u8]) -> Front
     front_of(name)
 }
 
-// Where the member of this entry ends in a key of this size: where the next one begins, or before the end of the object.
+// Where the member of this entry ends in a key of this size: where the next one begins, or before the object's end.
 #[inline(always)]
 fn end_of(key_size: usize, table: &[u8], entry: usize) -> usize
     requires { entry < (length table.now - 3) / 2 }

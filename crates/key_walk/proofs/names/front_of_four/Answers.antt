@@ -1,4 +1,4 @@
-use Rattle.std.proofs.Common.{◌≡◌, ◌∙◌, refl, arith}
+use Rattle.std.proofs.Common.{◌∙◌, refl, arith}
 use Rattle.key_walk.proofs.Fronts.{four_front, four_plain}
 use Rattle.key_walk.proofs.names.front_of_four.Goals as goal
 
