@@ -38,9 +38,9 @@ pub record ComeFirst (ms ns : Members) (rest : List ℕ) : Type 0 where
   pub readable : HaveReadable left
   pub rest_is : rest ≡ members_key left
 
--- The members of both begin with these: a run of those on the left side that come before all on the right, and a part of
--- those on the right that come before what is left on the left; a member with the first name of the part is replaced.
--- What is left on both sides is merged behind them.
+-- The members of both begin with these: a run of those on the left side that come before all on the right, and a part
+-- of those on the right that come before what is left on the left; a member with the first name of the part is
+-- replaced. What is left on both sides is merged behind them.
 pub record StepsOn (ms ns : Members) (step : Step) : Type 0 where
   pub run : Members
   pub replaced : Members
