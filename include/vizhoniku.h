@@ -531,7 +531,7 @@ uint32_t vizhoniku_document_strip_nulls(const unsigned char *document, size_t do
  *
  *  - VIZHONIKU_ACCEPTED: *size bytes were written. The rest of the buffer is as before.
  *  - VIZHONIKU_TOO_SHORT: *size bytes are needed, and nothing was written. They are at most two thirds of those of the
- *    key, and 3.
+ *    key, and one.
  *  - VIZHONIKU_NO_PART: the value has no table. *size is 0, and nothing was written.
  *  - VIZHONIKU_NO_KEY, VIZHONIKU_OUT_OF_MEMORY: *size is 0, and nothing was written. */
 uint32_t vizhoniku_table(const unsigned char *key, size_t key_size, unsigned char *buffer, size_t buffer_size,
