@@ -367,9 +367,9 @@ enum key_function {
 static const char *const key_functions[] = {
     "vizhoniku_key_check", "vizhoniku_key_count", "vizhoniku_key_next", "vizhoniku_key_member", "vizhoniku_key_item",
     "vizhoniku_key_part", "vizhoniku_key_string", "vizhoniku_key_contains", "vizhoniku_document_check",
-    "vizhoniku_table_member", "vizhoniku_table_check", "vizhoniku_key_part with an escape", "vizhoniku_key_text", "vizhoniku_key_set", "vizhoniku_key_remove",
-    "vizhoniku_key_put", "vizhoniku_key_push", "vizhoniku_key_merge", "vizhoniku_document_text",
-    "vizhoniku_document_part",
+    "vizhoniku_table_member", "vizhoniku_table_check", "vizhoniku_key_part with an escape", "vizhoniku_key_text",
+    "vizhoniku_key_set", "vizhoniku_key_remove", "vizhoniku_key_put", "vizhoniku_key_push", "vizhoniku_key_merge",
+    "vizhoniku_document_text", "vizhoniku_document_part",
     "vizhoniku_document_range", "vizhoniku_document_next", "vizhoniku_document_set", "vizhoniku_document_remove",
     "vizhoniku_document_put", "vizhoniku_document_push", "vizhoniku_document_insert", "vizhoniku_document_merge",
     "vizhoniku_document_without", "vizhoniku_document_strip_nulls", "vizhoniku_table",
@@ -493,12 +493,13 @@ static size_t levels_of(const struct text *text) {
 
 /* What the key of each function may hold at most: nothing, or what is written of it. A text is at most six times as
  * long as its key, and the others twice. A path takes some bytes more. The key of an integer has at most 11 bytes. Zeros
- * take what is written of them alone, and so do numbers with exponents, beside the text. For the path of an error the
- * text is copied into a vector. */
+ * take what is written of them alone, and so do a table, and numbers with exponents, beside the text. For the path of an
+ * error the text is copied into a vector. */
 static size_t bound_over_key(enum key_function function, const struct text *key, size_t written) {
   if (function < TAKES_MEMORY) return 0;
   if (function == KEY_ESCAPED_PART) return 256;
   if (function == KEY_OF_INTEGER) return 16;
+  if (function == TABLE) return 512 + ROOM(written);
   if (function == PLAIN_NUMBERS) return 512 + key->size + ROOM(written);
   if (function == MASKED_NUMBERS) return 512 + key->size;
   if (function == ERROR_PATH) return 512 + ROOM(key->size) + ROOM(written) + levels_of(key) * STEP;

@@ -228,8 +228,8 @@ struct call {
   enum function function;
   uint32_t mode;
   const struct text *text, *path;
-  unsigned char *buffer, *key_buffer, *key;
-  size_t room, key_size; /* the key has no bytes where the text is refused */
+  unsigned char *buffer, *key_buffer, *key, *table;
+  size_t room, key_size, table_size; /* the key has no bytes where the text is refused */
   const struct vizhoniku_error *why; /* in the call's mode */
   uint32_t status;
   const unsigned char *top; /* the machine stack where the call began */
@@ -328,7 +328,7 @@ static void *run(void *given) {
       call->status = vizhoniku_table(call->key, call->key_size, call->buffer, call->room, &size);
       break;
     case TABLE_CHECK:
-      call->status = vizhoniku_table_check(call->key, call->key_size, call->key, call->key_size);
+      call->status = vizhoniku_table_check(call->key, call->key_size, call->table, call->table_size);
       break;
     case TEXT_WITH_ZEROS:
       call->status = vizhoniku_text_with_zeros(bytes, text_size, NULL, 0, call->buffer, call->room, &size);
@@ -376,10 +376,18 @@ static size_t taken(struct call *call, const struct stack *stack) {
 /* The most that each function took where it made no value and where it made one, and over which text. */
 static size_t most[FUNCTIONS][2];
 static struct shape where[FUNCTIONS][2];
-static long runs, wrong;
+static long runs, wrong, tables;
 
 static int makes_value(enum function function, const struct shape *shape) {
   return shape->kind == OUT_OF_ORDER && function != CHECK && function < MESSAGE;
+}
+
+/* Whether the key's value has a table of members. */
+static int has_table(const struct call *call) {
+  size_t count;
+  return call->key_size >= 256 && call->key_size <= 65535 &&
+         vizhoniku_key_kind(call->key, call->key_size) == VIZHONIKU_OBJECT &&
+         vizhoniku_key_count(call->key, call->key_size, &count) == VIZHONIKU_ACCEPTED && count >= 4;
 }
 
 /* Each function over one text, with ample memory, and, in extended mode and with one member, with each request refused in
@@ -390,8 +398,10 @@ static void measure(const struct shape *shape, const struct stack *stack) {
   call.buffer = checked(__real_malloc(call.room));
   call.key_buffer = checked(__real_malloc(call.room));
   call.key = checked(__real_malloc(call.room));
+  call.table = checked(__real_malloc(call.room));
   struct vizhoniku_error error, why[2];
   vizhoniku_sort_key(VIZHONIKU_EXTENDED, text.bytes, text.size, call.key, call.room, &call.key_size, &error);
+  vizhoniku_table(call.key, call.key_size, call.table, call.room, &call.table_size);
   for (uint32_t mode = 0; mode < 2; mode++) vizhoniku_check(mode, text.bytes, text.size, &why[mode]);
   for (int i = 0; i < 2 * FUNCTIONS; i++) {
     uint32_t whole = VIZHONIKU_ACCEPTED;
@@ -423,9 +433,13 @@ static void measure(const struct shape *shape, const struct stack *stack) {
                   call.function >= PLAIN_NUMBERS;
     int is_deep = (call.function == KEY_SET || call.function == DOCUMENT_SET || call.function == DOCUMENT_INSERT) &&
                   whole == VIZHONIKU_TOO_DEEP;
-    if (!is_deep && whole != (is_read ? VIZHONIKU_ACCEPTED : VIZHONIKU_REJECTED)) wrong++;
+    int is_untabled = (call.function == TABLE || call.function == TABLE_CHECK) && !has_table(&call);
+    uint32_t expected = is_untabled ? VIZHONIKU_NO_PART : is_read ? VIZHONIKU_ACCEPTED : VIZHONIKU_REJECTED;
+    if (!is_deep && whole != expected) wrong++;
+    tables += call.function == TABLE && whole == VIZHONIKU_ACCEPTED;
   }
   refused = -1;
+  free(call.table);
   free(call.key);
   free(call.key_buffer);
   free(call.buffer);
@@ -478,5 +492,6 @@ int main(int count, char **words) {
     }
   }
   printf("%ld calls, %ld answered otherwise, %d took more than they may\n", runs, wrong, over);
-  return over || wrong;
+  if (!tables) printf("no object had a table\n");
+  return over || wrong || !tables;
 }

@@ -161,7 +161,7 @@ static Numeric
 numeric_of_text(const Reader *reader, const unsigned char *start, unsigned char zeros)
 {
 	unsigned char bytes[LONGEST_NUMBER];
-	Document	document = {{bytes, reader->at - start}, 0};
+	Document	document = {{bytes, reader->at - start}, 0, {NULL, 0}};
 	ZerosWriter writer = {0};
 	size_t		size;
 	char	   *text;

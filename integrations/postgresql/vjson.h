@@ -226,7 +226,7 @@ static inline Document
 get_document(struct varlena *value)
 {
 	Range		bytes = bytes_of(value);
-	Document	document = {bytes, bytes.size};
+	Document	document = {bytes, bytes.size, {NULL, 0}};
 
 	if (unlikely(*bytes.at < OLD_FORMS))
 		return vjson_old_document(bytes);
@@ -252,7 +252,7 @@ get_key(struct varlena *value)
 static inline Document
 document_of_key(Range key)
 {
-	Document	document = {key, key.size};
+	Document	document = {key, key.size, {NULL, 0}};
 
 	return document;
 }
