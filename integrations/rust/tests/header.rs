@@ -5,7 +5,7 @@
 use std::collections::BTreeMap;
 use std::path::Path;
 
-const LEFT_OUT: [&str; 16] = [
+const LEFT_OUT: [&str; 20] = [
     "vizhoniku_character",
     "vizhoniku_text_with_zeros",
     "vizhoniku_message",
@@ -22,6 +22,10 @@ const LEFT_OUT: [&str; 16] = [
     "vizhoniku_document_without",
     "vizhoniku_document_strip_nulls",
     "vizhoniku_document_insert",
+    "vizhoniku_table",
+    "vizhoniku_table_size",
+    "vizhoniku_table_member",
+    "vizhoniku_table_check",
 ];
 
 fn between<'a>(text: &'a str, left: &str, right: &str) -> Vec<(&'a str, &'a str)> {
