@@ -1,5 +1,5 @@
 -- The bytes of a number's digits, as they are in a text, are its sort key.
-use Rattle.std.proofs.Common.{◌≡◌, ◌≢◌, ℕ, zero, suc, ◌+◌, ◌-◌, ◌*◌, ◌/◌, ◌%◌, ◌^◌, ◌<◌, ◌≤◌, inl, inr, Bool, true, false, List, [], ◌∷◌, ◌++◌, length, map, take, drop, get_or, refl, sym, ap, ap₂, subst, ◌∙◌, arith, pos, append_assoc, eq-eqb}
+use Rattle.std.proofs.Common.{◌≡◌, ◌≢◌, ℕ, zero, suc, ◌+◌, ◌-◌, ◌*◌, ◌/◌, ◌%◌, ◌^◌, ◌<◌, ◌≤◌, inl, inr, Bool, true, false, List, [], ◌∷◌, ◌++◌, length, map, take, drop, get_or, refl, sym, ap, ap₂, subst, ◌∙◌, arith, pos, append_assoc, length-append, eq-eqb}
 use Rattle.std.specs.Prelude.{slice_index, slice_range, slice_set, neg_ℤ, unsigned_abs, if◌then◌else◌, ◌==◌, FitsSigned}
 use mir.Val.{bool_byte}
 use Rattle.std.specs.Char.{digit_value}
@@ -22,7 +22,7 @@ use Rattle.jsonb_spec.specs.Grammar.StandardNumber.{IsStandardNumber}
 use Rattle.jsonb_spec.specs.Tree.{Num}
 use Rattle.jsonb_value.proofs.Numbers.Pointed.{is_negative-pos}
 use Rattle.std.proofs.lemmas.Bool.Decides.{eqb_tells}
-use Rattle.std.proofs.lemmas.List.{drop-take, drop_all, drop_more, get_or-drop, get_or-take, length-drop, length-take-le, take-append-drop, take-map, take-take, take_rest}
+use Rattle.std.proofs.lemmas.List.{map-append, drop-take, drop_all, drop_more, get_or-drop, get_or-take, length-drop, length-take-le, take-append-drop, take-map, take-take, take_rest}
 use Rattle.jsonb_spec.specs.Source.{Source}
 use Rattle.text_write.specs.KeySink.{Writes}
 use Rattle.text_write.specs.Members.{source_key}
@@ -291,6 +291,28 @@ row_written negative ds row len last first second long is some few half f even o
     ] in
     ap (λ n. take n (map (invert_if negative) (slice_set row last (last_byte first second)))) more
     ∙ take-map (invert_if negative) (suc last) (slice_set row last (last_byte first second)) ∙ ap (map (invert_if negative)) whole
+
+more_follow : (d e : ℕ) (ds : List ℕ) → 0 < length ds → digit_bytes (d ∷ e ∷ ds) ≡ more_byte d e ∷ digit_bytes ds
+more_follow d e [] some = absurd (omega (arith, some))
+more_follow d e (f ∷ ds) some = refl
+
+front_row : (ds others : List ℕ) → Paired ds → 0 < length others → row_of ds ++ digit_bytes others ≡ digit_bytes (ds ++ others)
+front_row [] others p some = refl
+front_row (d ∷ []) others p some = absurd p
+front_row (d ∷ e ∷ ds) others p some =
+    ap (λ bs. more_byte d e ∷ bs) (front_row ds others p some) ∙ sym (more_follow d e (ds ++ others) (omega (arith, length-append ds others, some)))
+
+-- eight pairs, and the digits behind them
+pub front_written : (negative : Bool) (ds chunk others before middle after : List ℕ) (len : ℕ) → 16 < len → len ≤ length ds → chunk ≡ take 16 ds → others ≡ drop 16 (take len ds) → middle ≡ before ++ map (invert_if negative) (more_bytes 8 0 chunk)
+    → after ≡ middle ++ map (invert_if negative) (digit_bytes others) → after ≡ before ++ map (invert_if negative) (digit_bytes (take len ds))
+front_written negative ds chunk others before middle after len many inside c o m a =
+    let row = more_bytes 8 0 chunk in
+    let long : length chunk ≡ 16 = ap length c ∙ length-take-le 16 ds (omega (arith, many, inside)) in
+    let some : 0 < length others = omega (arith, ap length o, length-drop 16 (take len ds), length-take-le len ds inside, many) in
+    let whole : chunk ++ others ≡ take len ds = ap₂ (λ xs ys. xs ++ ys) (c ∙ sym (take-take 16 len ds (omega (arith, many)))) o ∙ take-append-drop 16 (take len ds) in
+    let row_is : row ++ digit_bytes others ≡ digit_bytes (take len ds) = ap (λ bs. bs ++ digit_bytes others) (row_from 8 0 chunk long) ∙ front_row chunk others (paired 8 chunk long) some ∙ ap digit_bytes whole in
+    a ∙ ap (λ xs. xs ++ map (invert_if negative) (digit_bytes others)) m ∙ append_assoc before (map (invert_if negative) row) (map (invert_if negative) (digit_bytes others))
+    ∙ ap (λ bs. before ++ bs) (sym (map-append (invert_if negative) row (digit_bytes others)) ∙ ap (map (invert_if negative)) row_is)
 
 -- ---- integers of a text
 

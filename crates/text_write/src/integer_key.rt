@@ -9,6 +9,7 @@ ghost use Rattle.jsonb_spec.specs.Tree.{Num};
 ghost use Rattle.text_write.specs.IntegerKey.{digit_bytes, last_byte, more_byte, more_bytes};
 
 use crate::key::KeySink;
+use crate::short::append_part;
 use jsonb_value::sort_key::kind;
 use std::alloc::AllocError;
 use text_scan::parser::number::byte_at;
@@ -96,19 +97,6 @@ pub(crate) fn significant_len(digits: &[u8]) -> usize
     len
 }
 
-// Appends bytes one by one, which takes less time than a call where they are few.
-#[inline(always)]
-fn append_each(bytes: &[u8], out: &mut Vec<u8>) -> Result<(), AllocError>
-    ensures bytes { OnOk result (out.new.items ≡ out.old.items ++ bytes.now) }
-    ensures retained { Extends out.old.items out.new.items }
-{
-    out.try_reserve(bytes.len())?;
-    'bytes: for byte in bytes {
-        out.push_reserved(*byte);
-    }
-    Ok(())
-}
-
 // Appends the bytes of at most 16 digits, which are the first ones.
 #[inline(always)]
 fn append_short(
@@ -126,7 +114,17 @@ fn append_short(
     let last = (len - 1) / 2;
     let second = if len % 2 == 0 { digits[len - 1] } else { b'0' };
     row[last] = last_byte(digits[2 * last], second);
-    append_each(&inverted_if(negative, row)[..last + 1], out)
+    append_part(&inverted_if(negative, row), last + 1, out)
+}
+
+// Appends the bytes of 16 digits behind which others are that aren't all zeros.
+#[inline(always)]
+fn append_front(negative: bool, digits: &[u8; 16], out: &mut Vec<u8>) -> Result<(), AllocError>
+    ensures bytes { OnOk result (out.new.items
+        ≡ out.old.items ++ map (invert_if negative) (more_bytes 8 0 digits.now)) }
+    ensures retained { Extends out.old.items out.new.items }
+{
+    out.extend_from_slice(&inverted_if(negative, more_bytes(digits)))
 }
 
 // Appends the bytes of any digits.
@@ -166,12 +164,14 @@ pub(crate) fn append_pairs(
         ≡ out.old.items ++ map (invert_if negative) (digit_bytes (take len digits.now))) }
     ensures retained { Extends out.old.items out.new.items }
 {
+    let Some(chunk) = digits.first_chunk::<16>() else {
+        return append_long(negative, &digits[..len], out);
+    };
     if len <= 16 {
-        if let Some(chunk) = digits.first_chunk::<16>() {
-            return append_short(negative, chunk, len, out);
-        }
+        return append_short(negative, chunk, len, out);
     }
-    append_long(negative, &digits[..len], out)
+    append_front(negative, chunk, out)?;
+    append_long(negative, &digits[16..len], out)
 }
 
 // Appends the key of an integer of one or two digits above or below 0.
