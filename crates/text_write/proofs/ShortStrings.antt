@@ -1,7 +1,7 @@
 -- Strings whose escapes are of one letter, written from the left.
 use Rattle.std.proofs.Common.{◌≡◌, ◌≢◌, ℕ, zero, suc, ◌+◌, ◌-◌, ◌<◌, ◌≤◌, Bool, true, false, List, [], ◌∷◌, ◌++◌, length, take, drop, get_or, Option, Some, None, ⊎_elim, refl, sym, ap, ap₂, subst, ◌∙◌, arith, append_assoc, append-nil, drop-drop, length-drop, length-append, map, slice_range, ◌==◌}
 use Rattle.std.specs.List.{flat_map, AllByRecursion}
-use Rattle.std.proofs.lemmas.List.{get_or-drop, drop_more, drop-take, drop_all, length-take-le, take-append-drop, take-take}
+use Rattle.std.proofs.lemmas.List.{get_or-take, get_or-drop, drop_more, drop-take, drop_all, length-take-le, take-append-drop, take-append-le, take-take, take_rest}
 use Rattle.std.proofs.lemmas.List.Concat.{flat_map-append}
 use Rattle.jsonb_spec.specs.Grammar.StringBody.{Item, raw, escape, unit, encoding, standard_escape}
 use Rattle.std.specs.Bool.{if◌then◌else◌}
@@ -16,6 +16,7 @@ use Rattle.text_write.specs.Members.{source_key}
 use Rattle.text_common.specs.VerbatimScalar.{IsShortAt}
 use Rattle.text_common.specs.SourceText.{source_text}
 use Rattle.text_common.specs.ShortString.{IsShort, IsShortItem, short_byte}
+use Rattle.text_scan.specs.Decoding.{SeesNoBackslash}
 use Rattle.jsonb_value.proofs.Strings.PlainTexts.{fewer_plain, no_mark, one_plain, rest_plain}
 use Rattle.text_write.specs.ShortString.{WritesFront, written_byte, written_bytes}
 
@@ -122,13 +123,19 @@ record StripsRun (bytes text : List ℕ) (run : ℕ) : Type 0 where
   short : IsShort (drop run bytes) left
   is : text ≡ take run bytes ++ left
 
-strip_run : (run : ℕ) (bytes text : List ℕ) → run ≤ length bytes → ArePlain (take run bytes) → IsShort bytes text → StripsRun bytes text run
-strip_run zero bytes text within plain short = record { left = text; short = short; is = refl }
-strip_run (suc run) [] text within plain short = absurd (omega (arith, within))
-strip_run (suc run) (b ∷ bs) text within plain short =
-    let s = strip_raw b bs text short (no_mark 92 b (omega arith) (one_plain b (take run bs) plain)) in
-    let rest = strip_run run bs s.left (omega (arith, within)) (rest_plain b (take run bs) plain) s.short in
+strip_run : (run : ℕ) (bytes text : List ℕ) → run ≤ length bytes → SeesNoBackslash bytes run → IsShort bytes text → StripsRun bytes text run
+strip_run zero bytes text within clear short = record { left = text; short = short; is = refl }
+strip_run (suc run) [] text within clear short = absurd (omega (arith, within))
+strip_run (suc run) (b ∷ bs) text within clear short =
+    let s = strip_raw b bs text short (clear 0 (omega arith)) in
+    let rest = strip_run run bs s.left (omega (arith, within)) (λ k l. clear (suc k) (omega arith)) s.short in
     record { left = rest.left; short = rest.short; is = s.is ∙ ap (λ xs. b ∷ xs) rest.is }
+
+plain_clear : (run : ℕ) (bytes : List ℕ) → run ≤ length bytes → ArePlain (take run bytes) → SeesNoBackslash bytes run
+plain_clear zero bytes within plain k l = absurd (omega (arith, l))
+plain_clear (suc run) [] within plain k l = absurd (omega (arith, within))
+plain_clear (suc run) (b ∷ bs) within plain zero l = no_mark 92 b (omega arith) (one_plain b (take run bs) plain)
+plain_clear (suc run) (b ∷ bs) within plain (suc k) l = plain_clear run bs (omega (arith, within)) (rest_plain b (take run bs) plain) k (omega (arith, l))
 
 pub as_they_are : (bytes : List ℕ) → flat_map (written_byte false) bytes ≡ bytes
 as_they_are [] = refl
@@ -142,16 +149,17 @@ run_written : (as_text : Bool) (bytes : List ℕ) → ArePlain bytes → written
 run_written true bytes h = with_escapes bytes ∙ h
 run_written false bytes h = as_they_are bytes
 
-writes_run : (as_text : Bool) (run : ℕ) (bytes text old new : List ℕ) → run ≤ length bytes → ArePlain (take run bytes) → new ≡ old ++ take run bytes → IsShort bytes text → WritesFront as_text bytes text old new run
-writes_run as_text run bytes text old new within plain w short =
-    let s = strip_run run bytes text within plain short in
+writes_run : (as_text : Bool) (run : ℕ) (bytes text old new : List ℕ) → run ≤ length bytes → SeesNoBackslash bytes run → written_bytes as_text (take run bytes) ≡ take run bytes → new ≡ old ++ take run bytes → IsShort bytes text
+    → WritesFront as_text bytes text old new run
+writes_run as_text run bytes text old new within clear same w short =
+    let s = strip_run run bytes text within clear short in
     let front = take run bytes in
     record {
       left = s.left;
       within = within;
       short = s.short;
       written = ap (λ xs. xs ++ written_bytes as_text s.left) w ∙ append_assoc old front (written_bytes as_text s.left)
-          ∙ ap (λ xs. old ++ xs) (ap (λ xs. xs ++ written_bytes as_text s.left) (sym (run_written as_text front plain)) ∙ sym (flat_map-append (written_byte as_text) front s.left) ∙ ap (written_bytes as_text) (sym s.is));
+          ∙ ap (λ xs. old ++ xs) (ap (λ xs. xs ++ written_bytes as_text s.left) (sym same) ∙ sym (flat_map-append (written_byte as_text) front s.left) ∙ ap (written_bytes as_text) (sym s.is));
     }
 
 writes_then : (as_text : Bool) (bytes text old middle new : List ℕ) (n m : ℕ) (f : WritesFront as_text bytes text old middle n) → WritesFront as_text (drop n bytes) f.left middle new m → WritesFront as_text bytes text old new (n + m)
@@ -172,15 +180,29 @@ WritesSome as_text bytes count old new at = (text : List ℕ) → IsShort (take 
 left_is : (bytes : List ℕ) (count at : ℕ) → at ≤ count → drop at (take count bytes) ≡ take (count - at) (drop at bytes)
 left_is bytes count at within = ap (λ n. drop at (take n bytes)) {x = count} {y = at + (count - at)} (omega (arith, within)) ∙ drop-take at (count - at) bytes
 
-pub some_run : (as_text : Bool) (bytes : List ℕ) (count at near run : ℕ) (old middle new : List ℕ) → at ≤ count → count ≤ length bytes → WritesSome as_text bytes count old middle at → ArePlain (take near (drop at bytes))
-    → run ≤ near → run ≤ count - at → new ≡ middle ++ take run (drop at bytes) → WritesSome as_text bytes count old new (at + run)
-some_run as_text bytes count at near run old middle new within inside f plain less few w text short =
+-- the bytes so far, and then a run of these
+some_front : (as_text : Bool) (bytes : List ℕ) (count at run : ℕ) (old middle new : List ℕ) → at ≤ count → count ≤ length bytes → WritesSome as_text bytes count old middle at → run ≤ count - at → SeesNoBackslash (drop at bytes) run
+    → written_bytes as_text (take run (drop at bytes)) ≡ take run (drop at bytes) → new ≡ middle ++ take run (drop at bytes) → WritesSome as_text bytes count old new (at + run)
+some_front as_text bytes count at run old middle new within inside f few clear same w text short =
     let front = f text short in
     let left = left_is bytes count at within in
     let taken : take run (drop at (take count bytes)) ≡ take run (drop at bytes) = ap (take run) left ∙ take-take run (count - at) (drop at bytes) few in
     let long : length (drop at (take count bytes)) ≡ count - at = ap length left ∙ length-take-le (count - at) (drop at bytes) (omega (arith, length-drop at bytes, inside, within)) in
+    let none : SeesNoBackslash (drop at (take count bytes)) run = λ k l z. clear k l (sym (get_or-take (count - at) (drop at bytes) k 0 (omega (arith, l, few))) ∙ ap (λ xs. get_or xs k 0) (sym left) ∙ z) in
     writes_then as_text (take count bytes) text old middle new at run front
-    (writes_run as_text run (drop at (take count bytes)) front.left middle new (omega (arith, long, few)) (subst (λ xs. ArePlain xs) (sym taken) (fewer_plain (drop at bytes) near run plain less)) (w ∙ ap (λ xs. middle ++ xs) (sym taken)) front.short)
+    (writes_run as_text run (drop at (take count bytes)) front.left middle new (omega (arith, long, few)) none (ap (written_bytes as_text) taken ∙ same ∙ sym taken) (w ∙ ap (λ xs. middle ++ xs) (sym taken)) front.short)
+
+pub some_run : (as_text : Bool) (bytes : List ℕ) (count at near run : ℕ) (old middle new : List ℕ) → at ≤ count → count ≤ length bytes → WritesSome as_text bytes count old middle at → ArePlain (take near (drop at bytes))
+    → run ≤ near → run ≤ count - at → new ≡ middle ++ take run (drop at bytes) → WritesSome as_text bytes count old new (at + run)
+some_run as_text bytes count at near run old middle new within inside f plain less few w =
+    let all = fewer_plain (drop at bytes) near run plain less in
+    some_front as_text bytes count at run old middle new within inside f few (plain_clear run (drop at bytes) (omega (arith, few, length-drop at bytes, inside, within)) all) (run_written as_text (take run (drop at bytes)) all) w
+
+-- as many bytes before a backslash, which are written as they are in a sort key
+pub some_clear : (bytes : List ℕ) (count at near run : ℕ) (old middle new : List ℕ) → at ≤ count → count ≤ length bytes → WritesSome false bytes count old middle at → SeesNoBackslash (drop at bytes) near → run ≤ near → run ≤ count - at
+    → new ≡ middle ++ take run (drop at bytes) → WritesSome false bytes count old new (at + run)
+some_clear bytes count at near run old middle new within inside f clear less few w =
+    some_front false bytes count at run old middle new within inside f few (λ k l. clear k (omega (arith, l, less))) (as_they_are (take run (drop at bytes))) w
 
 pub some_item : (as_text : Bool) (bytes item : List ℕ) (count at size : ℕ) (old middle new : List ℕ) → at ≤ count → WritesSome as_text bytes count old middle at → item ≡ take (count - at) (drop at bytes)
     → ((text : List ℕ) → IsShort item text → WritesFront as_text item text middle new size) → WritesSome as_text bytes count old new (at + size)
@@ -190,12 +212,29 @@ some_item as_text bytes item count at size old middle new within f is g text sho
     writes_then as_text (take count bytes) text old middle new at size front
     (subst (λ xs. WritesFront as_text xs front.left middle new size) (sym same) (g front.left (subst (λ xs. IsShort xs front.left) same front.short)))
 
+-- an escape behind so many bytes
+pub some_escape : (bytes : List ℕ) (count at byte : ℕ) (old middle new : List ℕ) → at < count → WritesSome false bytes count old middle at → get_or bytes at 0 ≡ 92 → standard_escape (get_or bytes (at + 1) 0) ≡ Some byte → count ≤ length bytes → new ≡ middle ++ byte ∷ []
+    → WritesSome false bytes count old new (at + 2)
+some_escape bytes count at byte old middle new within f here is inside w =
+    let item = take (count - at) (drop at bytes) in
+    let long : length item ≡ count - at = length-take-le (count - at) (drop at bytes) (omega (arith, length-drop at bytes, inside, within)) in
+    let first : get_or item 0 0 ≡ 92 = get_or-take (count - at) (drop at bytes) 0 0 (omega (arith, within)) ∙ get_or-drop at bytes 0 0 ∙ ap (λ n. get_or bytes n 0) {x = at + 0} {y = at} (omega arith) ∙ here in
+    some_item false bytes item count at 2 old middle new (omega (arith, within)) f refl (λ text short.
+    let s = strip_escape item text (omega (arith, long, within)) first short in
+    let second : get_or item 1 0 ≡ get_or bytes (at + 1) 0 = get_or-take (count - at) (drop at bytes) 1 0 (omega (arith, s.some, length-drop 1 item, long)) ∙ get_or-drop at bytes 1 0 in
+    writes_escape false item text middle new byte (omega (arith, long, within)) first (ap standard_escape second ∙ is) w short)
+
 pub some_all : (as_text : Bool) (bytes : List ℕ) (count at : ℕ) (old new text : List ℕ) → count ≤ length bytes → count ≤ at → WritesSome as_text bytes count old new at → IsShort (take count bytes) text → new ≡ old ++ written_bytes as_text text
 some_all as_text bytes count at old new text inside over f short =
     let front = f text short in
     let none : drop at (take count bytes) ≡ [] = drop_all at (take count bytes) (omega (arith, length-take-le count bytes inside, over)) in
     let left = none_left front.left front.short.items front.short.each (sym none ∙ front.short.encoded) front.short.means in
     sym (append-nil new) ∙ ap (λ t. new ++ written_bytes as_text t) (sym left) ∙ front.written
+
+-- what is in front of bytes that were put into a row
+pub front_of : (row put chunk : List ℕ) (end all n : ℕ) → take all put ≡ take end row ++ chunk → n ≤ end → end ≤ all → end ≤ length row → take n put ≡ take n row
+front_of row put chunk end all n is low high within =
+    sym (take-take n all put (omega (arith, low, high))) ∙ ap (take n) is ∙ take-append-le n (take end row) chunk (omega (arith, low, length-take-le end row within)) ∙ take-take n end row low
 
 -- so many bytes of what was put into a row
 pub put_some : (row put chunk : List ℕ) (end all run : ℕ) → run ≤ length chunk → end ≤ length row → all ≤ length put → take all put ≡ take end row ++ chunk
@@ -207,6 +246,15 @@ put_some row put chunk end all run few within inside is =
           ∙ ap (λ n. take (n + run) (take end row ++ chunk)) (sym long) ∙ take-append-add (take end row) chunk run,
       omega (arith, size, few, inside),
     )
+
+-- some of 16 bytes that were put so
+pub run_put : (bytes row put : List ℕ) (at end run : ℕ) → at + 16 ≤ length bytes → end + 16 ≤ length row → length put ≡ length row → take (end + 16) put ≡ take end row ++ take 16 (take (length bytes - at) (drop at bytes)) → run ≤ 16
+    → take (end + run) put ≡ take end row ++ take run (drop at bytes)
+run_put bytes row put at end run inside space size is few =
+    let chunk = take 16 (drop at bytes) in
+    let long : length chunk ≡ 16 = length-take-le 16 (drop at bytes) (omega (arith, length-drop at bytes, inside)) in
+    (put_some row put chunk end (end + 16) run (omega (arith, long, few)) (omega (arith, space)) (omega (arith, space, size)) (is ∙ ap (λ xs. take end row ++ take 16 xs) (take_rest bytes at))).0
+    ∙ ap (λ xs. take end row ++ xs) (take-take run 16 (drop at bytes) few)
 
 -- what is taken of a buffer behind whose old bytes a row was written
 pub row_taken : (old added ext row back : List ℕ) (start end len : ℕ) → ext ≡ old ++ added → start ≡ length old → take start row ≡ take start ext → start ≤ end → len ≡ length ext

@@ -1,6 +1,8 @@
 //! Strings whose escapes are of one letter, written from where they are in the text: each run is looked at and
 //! copied at once.
-ghost use Rattle.std.specs.Prelude.{◌≡◌, ◌+◌, ◌-◌, ◌≤◌, ◌<◌, ◌++◌, ◌∷◌, [], ℕ, List, true, false, length, take, slice_range, IfNone, IfOk, IfSome, MatchBool, OnOk};
+ghost use Rattle.std.specs.Int.{bit_at};
+ghost use Rattle.std.specs.Prelude.{◌≡◌, ◌+◌, ◌-◌, ◌≤◌, ◌<◌, ◌++◌, ◌∷◌, ◌↔◌, [], ℕ, List, true, false, length, take, slice_index, slice_range, IfNone, IfOk, IfSome, MatchBool, OnOk};
+ghost use Rattle.jsonb_spec.specs.Ascii as ascii;
 ghost use Rattle.jsonb_spec.specs.Source.{Source};
 ghost use Rattle.jsonb_spec.specs.Text.Appending.{Extends};
 ghost use Rattle.text_write.specs.Members.{source_key};
@@ -9,6 +11,7 @@ ghost use Rattle.text_common.specs.VerbatimScalar.{IsShortAt};
 ghost use Rattle.jsonb_spec.specs.Text.StringText.{ArePlain};
 ghost use Rattle.text_common.specs.ShortString.{IsShort};
 ghost use Rattle.text_common.specs.SourceText.{source_text};
+ghost use Rattle.text_scan.specs.Decoding.{SeesNoBackslash};
 
 use crate::escaped::is_verbatim_letter;
 use crate::key::KeySink;
@@ -128,7 +131,18 @@ fn put_item(bytes: &[u8], as_text: bool, row: &mut [u8], at: usize) -> Option<(u
     Some((end, 2))
 }
 
-// Puts 16 bytes into a row by one store, where there is space for them.
+// Puts the first 16 bytes into a row by one store.
+#[inline(always)]
+fn store_sixteen(row: &mut [u8], at: usize, bytes: &[u8])
+    requires enough { 16 ≤ length bytes.now }
+    requires space { at + 16 ≤ length row.old }
+    ensures put { take (at + 16) row.new ≡ take at row.old ++ take 16 bytes.now }
+    ensures size { length row.new ≡ length row.old }
+{
+    u8x16::from_slice(bytes).copy_to_slice(&mut row[at..]);
+}
+
+// Puts 16 bytes into a row so, where there is space for them.
 #[inline(always)]
 fn put_sixteen(row: &mut [u8], at: usize, chunk: &[u8; 16]) -> bool
     ensures within { MatchBool result (at + 16 ≤ length row.new) (Unit {0}) }
@@ -138,7 +152,7 @@ fn put_sixteen(row: &mut [u8], at: usize, chunk: &[u8; 16]) -> bool
     if row.len() < 16 || at > row.len() - 16 {
         return false;
     }
-    u8x16::from_slice(chunk).copy_to_slice(&mut row[at..]);
+    store_sixteen(row, at, chunk);
     true
 }
 
@@ -178,6 +192,84 @@ fn put_short(
     Some(end)
 }
 
+// Bit k is set where byte k is a backslash, among the first 16.
+#[inline(always)]
+fn backslashes(bytes: &[u8]) -> u64
+    requires { 16 ≤ length bytes.now }
+    ensures { (k : ℕ) → (bit_at result k ≡ 1) ↔ ((k < 16) × (slice_index bytes.now k ≡ ascii.backslash)) }
+{
+    u8x16::from_slice(bytes)
+        .simd_eq(u8x16::splat(b'\\'))
+        .to_bitmask()
+}
+
+// How many of the first 16 bytes are before a backslash.
+#[inline(always)]
+fn run_before_backslash(bytes: &[u8]) -> usize
+    requires { 16 ≤ length bytes.now }
+    ensures within { result ≤ 16 }
+    ensures before { SeesNoBackslash bytes.now result }
+    ensures here { result < 16 → slice_index bytes.now result ≡ ascii.backslash }
+{
+    let marks = backslashes(bytes);
+    if marks == 0 {
+        return 16;
+    }
+    marks.trailing_zeros() as usize
+}
+
+// Puts what contents mean into a row, from an index on, and returns where that ends there. The contents are the first
+// bytes, and 16 more are behind them and behind the space for them. Nothing where an escape isn't of one letter.
+#[inline(always)]
+fn put_meaning(bytes: &[u8], count: usize, row: &mut [u8], start: usize) -> Option<usize>
+    requires inside { count + 16 ≤ length bytes.now }
+    requires space { start + count + 16 ≤ length row.old }
+    ensures put { IfSome result (λ end. (text : List ℕ) → IsShort (take count bytes.now) text
+        → take end row.new ≡ take start row.old ++ written_bytes false text) }
+    ensures within { IfSome result (λ end. (start ≤ end) × (end ≤ length row.new)) }
+    ensures front { take start row.new ≡ take start row.old }
+{
+    let mut at = 0;
+    let mut end = start;
+    'items: while at < count {
+        let run = run_before_backslash(&bytes[at..]);
+        store_sixteen(row, end, &bytes[at..]);
+        if run >= count - at {
+            return Some(end + (count - at));
+        }
+        at += run;
+        end += run;
+        if run < 16 {
+            row[end] = short_byte(bytes[at + 1])?;
+            at += 2;
+            end += 1;
+        }
+    }
+    Some(end)
+}
+
+// Puts contents into a row so, for a text or a sort key.
+#[inline(always)]
+fn put_contents(
+    bytes: &[u8],
+    count: usize,
+    as_text: bool,
+    row: &mut [u8],
+    start: usize,
+) -> Option<usize>
+    requires inside { count + 16 ≤ length bytes.now }
+    requires space { start + count + 16 ≤ length row.old }
+    ensures put { IfSome result (λ end. (text : List ℕ) → IsShort (take count bytes.now) text
+        → take end row.new ≡ take start row.old ++ written_bytes as_text text) }
+    ensures within { IfSome result (λ end. (start ≤ end) × (end ≤ length row.new)) }
+    ensures front { take start row.new ≡ take start row.old }
+{
+    if as_text {
+        return put_short(bytes, count, true, row, start);
+    }
+    put_meaning(bytes, count, row, start)
+}
+
 // Appends contents, which are the first bytes. A row of their length is there before, so that they are put into it with
 // no test of its sink.
 #[inline(always)]
@@ -197,7 +289,7 @@ fn append_row(
     }
     let start = out.len();
     out.extend_from_slice(&bytes[..count + 16])?;
-    let Some(end) = put_short(bytes, count, as_text, out, start) else {
+    let Some(end) = put_contents(bytes, count, as_text, out, start) else {
         out.truncate(start);
         return append_short(bytes, count, as_text, out);
     };

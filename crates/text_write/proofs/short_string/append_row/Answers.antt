@@ -10,9 +10,9 @@ returns-in_default-clause-bytes c =
     let ext = c.extend_from_slice.new.self in
     let start = c.len-start.result in
     let is_len : start ≡ length old = omega (arith, c.len-start.ensures, c.args.out.now.ok.0) in
-    let same = c.put_short.ensures.front ∙ ap (take start) c.deref_mut.ensures.value in
+    let same = c.put_contents.ensures.front ∙ ap (take start) c.deref_mut.ensures.value in
     let size : ext.len ≡ length ext.items = omega (arith, c.deref_mut.ensures.len, ap length c.deref_mut.ensures.value) in
-    let taken = row_taken old _ ext.items c.put_short.new.row c.truncate.new.self.items start start ext.len c.in_ok-extend_from_slice.ensures.items is_len same (omega arith) size c.truncate.ensures.items in
+    let taken = row_taken old _ ext.items c.put_contents.new.row c.truncate.new.self.items start start ext.len c.in_ok-extend_from_slice.ensures.items is_len same (omega arith) size c.truncate.ensures.items in
     let back : c.truncate.new.self.items ≡ old = taken.1 ∙ ap (λ xs. old ++ xs) (taken.2 refl) ∙ append-nil old in
     on_ok c.append_short-in_default.result c.append_short-in_default.ensures.bytes (λ w text short. w text short ∙ ap (λ xs. xs ++ written_bytes c.args.as_text text) back)
 
@@ -22,7 +22,7 @@ returns-clause-retained c =
     let ext = c.extend_from_slice.new.self in
     let start = c.len-start.result in
     let is_len : start ≡ length old = omega (arith, c.len-start.ensures, c.args.out.now.ok.0) in
-    let same = c.put_short.ensures.front ∙ ap (take start) c.deref_mut.ensures.value in
+    let same = c.put_contents.ensures.front ∙ ap (take start) c.deref_mut.ensures.value in
     let size : ext.len ≡ length ext.items = omega (arith, c.deref_mut.ensures.len, ap length c.deref_mut.ensures.value) in
-    let taken = row_taken old _ ext.items c.put_short.new.row c.truncate-2.new.self.items start c.in-Some.end ext.len c.in_ok-extend_from_slice.ensures.items is_len same c.in-Some.ensures.within.0 size c.truncate-2.ensures.items in
+    let taken = row_taken old _ ext.items c.put_contents.new.row c.truncate-2.new.self.items start c.in-Some.end ext.len c.in_ok-extend_from_slice.ensures.items is_len same c.in-Some.ensures.within.0 size c.truncate-2.ensures.items in
     record { more = taken.0; extended = taken.1 }
