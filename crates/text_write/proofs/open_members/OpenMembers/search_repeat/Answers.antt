@@ -1,6 +1,6 @@
 use Rattle.std.proofs.Common.{None, Ok, IfOk, refl, ap, subst, ◌∙◌}
 use Rattle.text_write.specs.Members.{AreKeyed, ReportsRepeat}
-use Rattle.text_write.proofs.Objects.Ranks.{none_repeats}
+use Rattle.text_write.proofs.DifferentKeys.{none_repeats}
 use Rattle.text_write.proofs.OpenMembers.{found}
 use Rattle.text_write.proofs.open_members.OpenMembers.search_repeat.Goals as goal
 
