@@ -1,5 +1,6 @@
 -- The sink of a part after an event.
-use Rattle.std.proofs.Common.{◌≡◌, inl, inr, ℕ, zero, suc, ◌+◌, ◌-◌, ◌<◌, ◌≤◌, Bool, true, false, true≢false, List, [], ◌∷◌, ◌++◌, map, length, take, Option, Some, None, MatchOption, refl, sym, ap, subst, ◌∙◌, arith, append-nil, length-append, ◌==◌}
+use Rattle.std.proofs.lemmas.List.{append_cancel_left, take-append-drop}
+use Rattle.std.proofs.Common.{drop, ◌≡◌, inl, inr, ℕ, zero, suc, ◌+◌, ◌-◌, ◌<◌, ◌≤◌, Bool, true, false, true≢false, List, [], ◌∷◌, ◌++◌, map, length, take, Option, Some, None, MatchOption, refl, sym, ap, subst, ◌∙◌, arith, append-nil, length-append, ◌==◌}
 use Rattle.std.proofs.lemmas.Bool.{cond-true}
 use Rattle.std.specs.Option.{is_none, option_and_then, option_map, option_or, option_map_or}
 use Rattle.std.specs.Prelude.{if◌then◌else◌, nat_lt, IfOk}
@@ -19,7 +20,7 @@ use Rattle.text_write.specs.CheckSink as check
 use Rattle.text_write.specs.CheckSink.{CheckHolds, unwritten}
 use Rattle.text_write.specs.KeySink as key
 use Rattle.text_write.specs.OpenMembers.{EndsObject, ReportsRepeatOf, all_starts}
-use Rattle.text_write.specs.PartSink.{EndsAt, FilledAt, HeldFits, InnerEnds, IsAhead, IsAround, IsInPart, IsOutside, IsSeeking, IsWritten, Leads, PartFilled, PartHeld, PartHolds, HoldsAt, check_held, first_index, follow, follow_key, array_held, keys_of, path_behind, object_held, other_keys, part_inside, part_of, part_of_ended, part_with_value, less, rest_at, text_held, waits_at, within}
+use Rattle.text_write.specs.PartSink.{EndsAt, FilledAt, HeldFits, InnerEnds, IsAhead, IsAround, IsInPart, IsOutside, IsSeeking, IsWritten, Leads, PartFilled, PartHeld, PartHolds, HoldsAt, check_held, first_index, follow, follow_key, array_held, keys_of, path_behind, object_held, other_keys, part_inside, part_of, part_of_ended, part_with_value, less, rest_at, text_held, waits_at, within, ahead_of, level_of}
 use Rattle.text_write.specs.TextSink as text
 use Rattle.text_write.specs.TextSink.{SeesPart, TextFilled, TextHolds, base_of}
 use Rattle.text_write.specs.declared.check.CheckSink.{CheckSink}
@@ -193,30 +194,29 @@ in_part {document = document} {r = r} {held = held} {cs = cs} sink (inl some) = 
 in_part {document = document} {r = r} {held = held} {cs = cs} sink (inr first) =
     let holds : HoldsAt 0 document r true held cs = subst (λ n. HoldsAt n document r true held cs) first.0 sink.holds in
     let seeks : IsSeeking document r.check (keys_of r) r.due false None true held cs =
-    subst (λ b. IsSeeking document r.check (keys_of r) r.due b (if b then Some r.text.written.out.items else None) true held cs) first.1 holds.0 in
+    subst (λ b. IsSeeking document r.check (keys_of r) r.due b (if b then Some (drop r.text.base r.text.written.out.items) else None) true held cs) first.1 holds.0 in
     subst (λ n. IsInPart n document r held cs × TextHolds document r.text true (map text_held (take n held)) (take n cs)) (sym first.0)
     (record { seeks = seeks; open_yet = first.1; here = first.2; few = omega arith }, holds.1 first.1)
 
 -- one more container is written
-pub begun_in : {document : List ℕ} {r : PartSink} {w : TextSink} {held : List PartHeld} {cs : List Open} (g : PartHeld) (d : Open) (m : ℕ) → m ≡ r.inside + 1 → base_of w ≡ base_of r.text
+pub begun_in : {document : List ℕ} {r : PartSink} {w : TextSink} {held : List PartHeld} {cs : List Open} (g : PartHeld) (d : Open) (m : ℕ) → m ≡ r.inside + 1
     → ((hs : List text.Held) → (ds : List Open) → TextHolds document r.text true hs ds → TextHolds document w false (text_held g ∷ hs) (d ∷ ds)) → PartHolds document r true held cs → IsWritten r
     → PartHolds document (record { check = r.check; text = w; path = r.path; due = r.due; inside = m; found = r.found }) false (g ∷ held) (d ∷ cs)
-begun_in {document = document} {r = r} {w = w} {held = held} {cs = cs} g d m more same opens sink written =
+begun_in {document = document} {r = r} {w = w} {held = held} {cs = cs} g d m more opens sink written =
     let n = r.inside in
     let h = in_part sink written in
     let next : PartSink = record { check = r.check; text = w; path = r.path; due = r.due; inside = m; found = r.found } in
     let inner : IsInPart (suc n) document next (g ∷ held) (d ∷ cs) = record { seeks = h.0.seeks; open_yet = h.0.open_yet; here = h.0.here; few = omega (arith, h.0.few) } in
     let is : suc n ≡ m = omega (arith, more) in
     record {
-      base = same ∙ sink.base;
       holds = subst (λ k. HoldsAt k document next false (g ∷ held) (d ∷ cs)) is (inner, opens (map text_held (take n held)) (take n cs) h.1);
     }
 
 -- the innermost of them goes on
-pub goes_on_in : {document : List ℕ} {r : PartSink} {w : TextSink} {held : List PartHeld} {cs : List Open} (h g : PartHeld) (c d : Open) (due next_due : Bool) → 0 < r.inside → base_of w ≡ base_of r.text
+pub goes_on_in : {document : List ℕ} {r : PartSink} {w : TextSink} {held : List PartHeld} {cs : List Open} (h g : PartHeld) (c d : Open) (due next_due : Bool) → 0 < r.inside
     → ((hs : List text.Held) → (ds : List Open) → TextHolds document r.text due (text_held h ∷ hs) (c ∷ ds) → TextHolds document w next_due (text_held g ∷ hs) (d ∷ ds)) → PartHolds document r due (h ∷ held) (c ∷ cs)
     → PartHolds document (record { check = r.check; text = w; path = r.path; due = r.due; inside = r.inside; found = r.found }) next_due (g ∷ held) (d ∷ cs)
-goes_on_in {document = document} {r = r} {w = w} {held = held} {cs = cs} h g c d due next_due some same step sink = record { base = same ∙ sink.base; holds = by_count r.inside some sink.holds }
+goes_on_in {document = document} {r = r} {w = w} {held = held} {cs = cs} h g c d due next_due some step sink = record { holds = by_count r.inside some sink.holds }
   where
     next : PartSink
     next = record { check = r.check; text = w; path = r.path; due = r.due; inside = r.inside; found = r.found }
@@ -226,10 +226,10 @@ goes_on_in {document = document} {r = r} {w = w} {held = held} {cs = cs} h g c d
     by_count (suc n) some x = (record { seeks = x.0.seeks; open_yet = x.0.open_yet; here = x.0.here; few = x.0.few }, step (map text_held (take n held)) (take n cs) x.1)
 
 -- a value becomes a part of it
-pub put_in : {document : List ℕ} {r : PartSink} {w : TextSink} {s : Source} {held : List PartHeld} {cs : List Open} (h g : PartHeld) (c d : Open) → 0 < r.inside → base_of w ≡ base_of r.text
+pub put_in : {document : List ℕ} {r : PartSink} {w : TextSink} {s : Source} {held : List PartHeld} {cs : List Open} (h g : PartHeld) (c d : Open) → 0 < r.inside
     → ((hs : List text.Held) → (ds : List Open) → TextFilled document r.text s (text_held h ∷ hs) (c ∷ ds) → TextHolds document w false (text_held g ∷ hs) (d ∷ ds)) → PartFilled document r s (h ∷ held) (c ∷ cs)
     → PartHolds document (record { check = r.check; text = w; path = r.path; due = r.due; inside = r.inside; found = r.found }) false (g ∷ held) (d ∷ cs)
-put_in {document = document} {r = r} {w = w} {s = s} {held = held} {cs = cs} h g c d some same step sink = record { base = same ∙ sink.base; holds = by_count r.inside some sink.filled }
+put_in {document = document} {r = r} {w = w} {s = s} {held = held} {cs = cs} h g c d some step sink = record { holds = by_count r.inside some sink.filled }
   where
     next : PartSink
     next = record { check = r.check; text = w; path = r.path; due = r.due; inside = r.inside; found = r.found }
@@ -239,10 +239,10 @@ put_in {document = document} {r = r} {w = w} {s = s} {held = held} {cs = cs} h g
     by_count (suc n) some x = (record { seeks = x.0.seeks; open_yet = x.0.open_yet; here = x.0.here; few = x.0.few }, step (map text_held (take n held)) (take n cs) x.1)
 
 -- it ends
-pub ends_in : {document : List ℕ} {r : PartSink} {w : TextSink} {held : List PartHeld} {cs : List Open} (h : PartHeld) (c : Open) (s : Source) → 0 < r.inside → base_of w ≡ base_of r.text
+pub ends_in : {document : List ℕ} {r : PartSink} {w : TextSink} {held : List PartHeld} {cs : List Open} (h : PartHeld) (c : Open) (s : Source) → 0 < r.inside
     → ((hs : List text.Held) → (ds : List Open) → TextHolds document r.text false (text_held h ∷ hs) (c ∷ ds) → TextFilled document w s hs ds) → PartHolds document r false (h ∷ held) (c ∷ cs)
     → InnerEnds document (record { check = r.check; text = w; path = r.path; due = r.due; inside = r.inside; found = r.found }) s held cs
-ends_in {document = document} {r = r} {w = w} {held = held} {cs = cs} h c s some same step sink = by_count r.inside refl some sink.holds
+ends_in {document = document} {r = r} {w = w} {held = held} {cs = cs} h c s some step sink = by_count r.inside refl some sink.holds
   where
     next : PartSink
     next = record { check = r.check; text = w; path = r.path; due = r.due; inside = r.inside; found = r.found }
@@ -251,20 +251,19 @@ ends_in {document = document} {r = r} {w = w} {held = held} {cs = cs} h c s some
     by_count zero is some x = absurd (omega (arith, some))
     by_count (suc n) is some x =
         record {
-          base = same ∙ sink.base;
           outer = n;
           count = is;
           ends = (record { seeks = x.0.seeks; open_yet = x.0.open_yet; here = x.0.here; few = omega (arith, x.0.few) }, step (map text_held (take n held)) (take n cs) x.1);
         }
 
 -- a value that holds no others is counted as open
-pub alone_in : {document : List ℕ} {r : PartSink} {w : TextSink} {s : Source} {held : List PartHeld} {cs : List Open} (m : ℕ) → m ≡ r.inside + 1 → base_of w ≡ base_of r.text
+pub alone_in : {document : List ℕ} {r : PartSink} {w : TextSink} {s : Source} {held : List PartHeld} {cs : List Open} (m : ℕ) → m ≡ r.inside + 1
     → ((hs : List text.Held) → (ds : List Open) → TextHolds document r.text true hs ds → TextFilled document w s hs ds) → PartHolds document r true held cs → IsWritten r
     → InnerEnds document (record { check = r.check; text = w; path = r.path; due = r.due; inside = m; found = r.found }) s held cs
-alone_in {r = r} {w = w} {held = held} {cs = cs} m more same step sink written =
+alone_in {r = r} {w = w} {held = held} {cs = cs} m more step sink written =
     let n = r.inside in
     let h = in_part sink written in
-    record { base = same ∙ sink.base; outer = n; count = omega (arith, more); ends = (in_part_on n m w h.0, step (map text_held (take n held)) (take n cs) h.1) }
+    record { outer = n; count = omega (arith, more); ends = (in_part_on n m w h.0, step (map text_held (take n held)) (take n cs) h.1) }
 
 -- the part ends
 pub part_ends : {document : List ℕ} {r : PartSink} {w : TextSink} {s : Source} {held : List PartHeld} {cs : List Open} → r.inside ≡ 1 → base_of w ≡ base_of r.text
@@ -275,9 +274,10 @@ part_ends {document = document} {r = r} {w = w} {s = s} {held = held} {cs = cs} 
     let none : inner.outer ≡ 0 = omega (arith, one, inner.count) in
     let ends : EndsAt 0 document r s held cs = subst (λ n. EndsAt n document r s held cs) none inner.ends in
     let seeks : IsSeeking document r.check keys r.due false None true held cs = ends.0.seeks in
-    let text : w.written.out.items ≡ source_text s = finishes document s ends.1 ∙ ap (λ b. b ++ source_text s) inner.base in
+    let out = w.written.out.items in
+    let text : drop w.base out ≡ source_text s =
+    append_cancel_left (base_of w) (drop w.base out) (source_text s) (take-append-drop w.base out ∙ finishes document s ends.1 ∙ ap (λ b. b ++ source_text s) (sym same)) in
     record {
-      base = same ∙ inner.base;
       filled = (
         record {
           holds = seeks.holds;
@@ -292,7 +292,7 @@ part_ends {document = document} {r = r} {w = w} {s = s} {held = held} {cs = cs} 
 pub inner_ends : {document : List ℕ} {r : PartSink} {s : Source} {held : List PartHeld} {cs : List Open} (m : ℕ) → (r.inside ≡ 1 → ⊥) → m ≡ r.inside - 1 → InnerEnds document r s held cs
     → PartFilled document (record { check = r.check; text = r.text; path = r.path; due = r.due; inside = m; found = r.found }) s held cs
 inner_ends {document = document} {r = r} {s = s} {held = held} {cs = cs} m others less inner =
-    record { base = inner.base; filled = by_count inner.outer (omega (arith, less, inner.count)) (λ e. others (inner.count ∙ ap suc e)) inner.ends }
+    record { filled = by_count inner.outer (omega (arith, less, inner.count)) (λ e. others (inner.count ∙ ap suc e)) inner.ends }
   where
     next : PartSink
     next = record { check = r.check; text = r.text; path = r.path; due = r.due; inside = m; found = r.found }
@@ -313,18 +313,17 @@ around_filled {document = document} {r = r} {s = s} {held = held} {cs = cs} none
 outside : {document : List ℕ} (r : PartSink) {held : List PartHeld} {cs : List Open} → IsAround r → HoldsAt 0 document r true held cs → (level : Option ℕ) → level ≡ r.due → IsOutside (keys_of r) r.found level cs
 outside r away holds level is = record { leads = holds.0.leads refl ∙ ap (rest_at (keys_of r)) (sym is); other = λ e. away.1 (ap (rest_at (keys_of r)) (sym is) ∙ e) }
 
-pub array_begun : {document : List ℕ} {r : PartSink} {held : List PartHeld} {cs : List Open} (f : PartItems) → IsAround r → f.level ≡ r.due → f.ahead ≡ option_and_then first_index (rest_at (keys_of r) r.due) → PartHolds document r true held cs
+pub array_begun : {document : List ℕ} {r : PartSink} {held : List PartHeld} {cs : List Open} (f : PartItems) → IsAround r → (level_of f) ≡ r.due → (ahead_of f) ≡ option_and_then first_index (rest_at (keys_of r) r.due) → PartHolds document r true held cs
     → PartHolds document r false (array_held f ∷ held) (elements_so_far [] ∷ cs)
 array_begun {document = document} {r = r} {held = held} {cs = cs} f away level ahead sink =
     let keys = keys_of r in
     let holds = around away.0 sink in
-    let wanted : f.ahead ≡ option_and_then first_index (path_behind keys cs) = ahead ∙ ap (option_and_then first_index) (sym (holds.0.leads refl)) in
+    let wanted : (ahead_of f) ≡ option_and_then first_index (path_behind keys cs) = ahead ∙ ap (option_and_then first_index) (sym (holds.0.leads refl)) in
     record {
-      base = sink.base;
       holds = subst (λ n. HoldsAt n document r false (array_held f ∷ held) (elements_so_far [] ∷ cs)) (sym away.0) (
         record {
           holds = check_opened false [] holds.0.holds;
-          fits = (outside r away holds f.level level, (subst (λ a. IsAhead (option_and_then first_index (path_behind keys cs)) a 0) (sym wanted) (all_ahead (option_and_then first_index (path_behind keys cs))), holds.0.fits));
+          fits = (outside r away holds (level_of f) level, (subst (λ a. IsAhead (option_and_then first_index (path_behind keys cs)) a 0) (sym wanted) (all_ahead (option_and_then first_index (path_behind keys cs))), holds.0.fits));
           leads = λ e. absurd cc;
           part_is = holds.0.part_is ∙ ap (option_map tree_text) (none_ended (part_of_ended keys cs) (path_behind keys cs));
         },
@@ -340,7 +339,6 @@ object_begun_around {document = document} {r = r} {o = o} {held = held} {cs = cs
     let next : PartSink = record { check = o; text = r.text; path = r.path; due = r.due; inside = r.inside; found = r.found } in
     let holds = around away.0 sink in
     record {
-      base = sink.base;
       holds = subst (λ n. HoldsAt n document next false (object_held f ∷ held) (members_so_far [] k offset ∷ cs)) (sym away.0) (
         record {
           holds = opens holds.0.holds;
@@ -354,13 +352,12 @@ object_begun_around {document = document} {r = r} {o = o} {held = held} {cs = cs
 
 -- an item is due
 pub item_due : {document : List ℕ} {r : PartSink} {held : List PartHeld} {cs : List Open} (f : PartItems) (ss : List Source) (due : Option ℕ) → r.inside ≡ 0
-    → (Leads (keys_of r) f.level cs → IsAhead (option_and_then first_index (path_behind (keys_of r) cs)) f.ahead (length ss) → Leads (keys_of r) due (elements_so_far ss ∷ cs)) → PartHolds document r false (array_held f ∷ held) (elements_so_far ss ∷ cs)
+    → (Leads (keys_of r) (level_of f) cs → IsAhead (option_and_then first_index (path_behind (keys_of r) cs)) (ahead_of f) (length ss) → Leads (keys_of r) due (elements_so_far ss ∷ cs)) → PartHolds document r false (array_held f ∷ held) (elements_so_far ss ∷ cs)
     → PartHolds document (record { check = r.check; text = r.text; path = r.path; due = due; inside = r.inside; found = r.found }) true (array_held f ∷ held) (elements_so_far ss ∷ cs)
 item_due {document = document} {r = r} {held = held} {cs = cs} f ss due none leads sink =
     let next : PartSink = record { check = r.check; text = r.text; path = r.path; due = due; inside = r.inside; found = r.found } in
     let holds = around none sink in
     record {
-      base = sink.base;
       holds = subst (λ n. HoldsAt n document next true (array_held f ∷ held) (elements_so_far ss ∷ cs)) (sym none) (
         record {
           holds = check_opened true ss (check_closed false ss holds.0.holds);
@@ -383,7 +380,6 @@ member_due {document = document} {r = r} {k = k} {held = held} {cs = cs} f fs be
     let sink_then : PartSink = record { check = k; text = r.text; path = r.path; due = due; inside = r.inside; found = r.found } in
     let holds = around none sink in
     record {
-      base = sink.base;
       holds = subst (λ n. HoldsAt n document sink_then true (object_held f ∷ held) (members_so_far fs next after ∷ cs)) (sym none) (
         record {
           holds = begins holds.0.holds;
@@ -401,12 +397,11 @@ alone_around {document = document} {r = r} {held = held} {cs = cs} s away nothin
     let keys = keys_of r in
     let holds = around away.0 sink in
     record {
-      base = sink.base;
       filled = subst (λ n. FilledAt n document r s held cs) (sym away.0) (
         record {
           holds = holds.0.holds;
           fits = holds.0.fits;
-          part_is = ends_outside keys r.found r.text.written.out.items r.due s cs (outside r away holds r.due refl) (holds.0.part_is ∙ ap (option_map tree_text) (picked-alone keys s cs nothing));
+          part_is = ends_outside keys r.found (drop r.text.base r.text.written.out.items) r.due s cs (outside r away holds r.due refl) (holds.0.part_is ∙ ap (option_map tree_text) (picked-alone keys s cs nothing));
         },
         holds.1,
       );
@@ -417,12 +412,11 @@ array_ended {document = document} {r = r} {held = held} {cs = cs} f ss none sink
     let keys = keys_of r in
     let holds = around none sink in
     record {
-      base = sink.base;
       filled = subst (λ n. FilledAt n document r (array_source_of ss) held cs) (sym none) (
         record {
           holds = check_closed false ss holds.0.holds;
           fits = holds.0.fits.1.1;
-          part_is = ends_outside keys r.found r.text.written.out.items f.level (array_source_of ss) cs holds.0.fits.0 (holds.0.part_is ∙ ap (option_map tree_text) (picked-ended keys (elements_so_far ss) (array_source_of ss) cs (array-ended ss)));
+          part_is = ends_outside keys r.found (drop r.text.base r.text.written.out.items) (level_of f) (array_source_of ss) cs holds.0.fits.0 (holds.0.part_is ∙ ap (option_map tree_text) (picked-ended keys (elements_so_far ss) (array_source_of ss) cs (array-ended ss)));
         },
         holds.1,
       );
@@ -436,28 +430,26 @@ object_ended {document = document} {r = r} {k = k} {held = held} {cs = cs} f fs 
     let next : PartSink = record { check = k; text = r.text; path = r.path; due = r.due; inside = r.inside; found = r.found } in
     let holds = around none sink in
     record {
-      base = sink.base;
       filled = subst (λ n. FilledAt n document next (object_source_of fs) held cs) (sym none) (
         record {
           holds = ended;
           fits = holds.0.fits.1;
-          part_is = ends_outside keys r.found r.text.written.out.items f.level (object_source_of fs) cs holds.0.fits.0 (holds.0.part_is ∙ ap (option_map tree_text) (picked-ended keys (members_so_far fs last offset) (object_source_of fs) cs (λ rest. object-ended fs last offset rest new)));
+          part_is = ends_outside keys r.found (drop r.text.base r.text.written.out.items) f.level (object_source_of fs) cs holds.0.fits.0 (holds.0.part_is ∙ ap (option_map tree_text) (picked-ended keys (members_so_far fs last offset) (object_source_of fs) cs (λ rest. object-ended fs last offset rest new)));
         },
         holds.1,
       );
     }
 
-pub item_put : {document : List ℕ} {r : PartSink} {held : List PartHeld} {cs : List Open} (f g : PartItems) (ss : List Source) (s : Source) → r.inside ≡ 0 → g.level ≡ f.level → g.ahead ≡ less f.ahead → PartFilled document r s (array_held f ∷ held) (elements_so_far ss ∷ cs)
+pub item_put : {document : List ℕ} {r : PartSink} {held : List PartHeld} {cs : List Open} (f g : PartItems) (ss : List Source) (s : Source) → r.inside ≡ 0 → (level_of g) ≡ (level_of f) → (ahead_of g) ≡ less (ahead_of f) → PartFilled document r s (array_held f ∷ held) (elements_so_far ss ∷ cs)
     → PartHolds document r false (array_held g ∷ held) (elements_so_far (ss ++ s ∷ []) ∷ cs)
 item_put {document = document} {r = r} {held = held} {cs = cs} f g ss s none level ahead filled =
     let keys = keys_of r in
     let h = around_filled none filled in
     record {
-      base = filled.base;
       holds = subst (λ n. HoldsAt n document r false (array_held g ∷ held) (elements_so_far (ss ++ s ∷ []) ∷ cs)) (sym none) (
         record {
           holds = check_opened false (ss ++ s ∷ []) (check_closed true ss h.0.holds);
-          fits = (subst (λ l. IsOutside keys r.found l cs) (sym level) h.0.fits.0, (one_less (option_and_then first_index (path_behind keys cs)) f.ahead g.ahead ss s h.0.fits.1.0 ahead, h.0.fits.1.1));
+          fits = (subst (λ l. IsOutside keys r.found l cs) (sym level) h.0.fits.0, (one_less (option_and_then first_index (path_behind keys cs)) (ahead_of f) (ahead_of g) ss s h.0.fits.1.0 ahead, h.0.fits.1.1));
           leads = λ e. absurd cc;
           part_is = h.0.part_is ∙ ap (option_map tree_text) (picked-more keys (elements_so_far ss) s cs);
         },
@@ -471,7 +463,6 @@ member_put {document = document} {r = r} {held = held} {cs = cs} f fs k next off
     let keys = keys_of r in
     let h = around_filled none filled in
     record {
-      base = filled.base;
       holds = subst (λ n. HoldsAt n document r false (object_held f ∷ held) (members_so_far (fs ++ found_member k s offset ∷ []) next other ∷ cs)) (sym none) (
         record {
           holds = value_ended s next other h.0.holds;

@@ -3,6 +3,7 @@ pub mod CheckSink
 pub mod Contents
 pub mod DecimalKey
 pub mod Escaped
+pub mod Fingerprints
 pub mod IntegerKey
 pub mod KeySink
 pub mod MemberStarts

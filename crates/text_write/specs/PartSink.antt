@@ -114,6 +114,14 @@ less None = None
 less (Some zero) = None
 less (Some (suc n)) = Some n
 
+-- how many items come before the one on the path, if that is still to come
+abbrev pub ahead_of : PartItems → Option ℕ
+ahead_of f = if f.is_ahead then Some f.ahead else None
+
+-- how many keys of the path lead to an array, if it is on the path
+abbrev pub level_of : PartItems → Option ℕ
+level_of f = if f.is_on_path then Some f.level else None
+
 -- What is held of an open container.
 pub data PartHeld : Type 0 where
   array_held : PartItems → PartHeld
@@ -138,8 +146,8 @@ pub record IsOutside (keys : List (List ℕ)) (found : Bool) (level : Option ℕ
 abbrev pub HeldFits : List (List ℕ) → Bool → List PartHeld → List Open → Type 0
 HeldFits keys found [] [] = Unit {0}
 HeldFits keys found (array_held f ∷ held) (elements_so_far ss ∷ cs) =
-    IsOutside keys found f.level cs
-    × (IsAhead (option_and_then first_index (path_behind keys cs)) f.ahead (length ss) × HeldFits keys found held cs)
+    IsOutside keys found (level_of f) cs
+    × (IsAhead (option_and_then first_index (path_behind keys cs)) (ahead_of f) (length ss) × HeldFits keys found held cs)
 HeldFits keys found (object_held f ∷ held) (members_so_far fs key offset ∷ cs) =
     IsOutside keys found f.level cs × HeldFits keys found held cs
 HeldFits keys found held cs = ⊥
@@ -170,7 +178,11 @@ keys_of sink = map string_bytes sink.path.now
 
 -- the text of the part, if it ended
 abbrev pub part_of : PartSink → Option (List ℕ)
-part_of sink = if sink.found then Some sink.text.written.out.items else None
+part_of sink = if sink.found then Some (drop sink.text.base sink.text.written.out.items) else None
+
+-- what was written before the part, and the keys of the path
+abbrev pub base_and_keys : PartSink → List (List ℕ)
+base_and_keys sink = base_of sink.text ∷ keys_of sink
 
 -- the members among which those of the innermost object are
 abbrev pub members_of : PartSink → OpenMembers
@@ -205,7 +217,6 @@ HoldsAt (suc n) document sink due held cs =
 -- The part is written so far, and of what is open around it the keys are held.
 pub record PartHolds (document : List ℕ) (sink : PartSink) (due : Bool) (held : List PartHeld) (cs : List Open)
     : Type 0 where
-  pub base : base_of sink.text ≡ []
   pub holds : HoldsAt sink.inside document sink due held cs
 
 -- A value ended with so many containers written around it, the part among them or the value itself.
@@ -223,13 +234,11 @@ FilledAt (suc n) document sink s held cs = EndsAt (suc n) document sink s held c
 -- A value ended where one was due, and the part is written so far.
 pub record PartFilled (document : List ℕ) (sink : PartSink) (s : Source) (held : List PartHeld) (cs : List Open)
     : Type 0 where
-  pub base : base_of sink.text ≡ []
   pub filled : FilledAt sink.inside document sink s held cs
 
 -- A value that is written ended, and is still counted as open.
 pub record InnerEnds (document : List ℕ) (sink : PartSink) (s : Source) (held : List PartHeld) (cs : List Open)
     : Type 0 where
-  pub base : base_of sink.text ≡ []
   pub outer : ℕ
   pub count : sink.inside ≡ suc outer
   pub ends : EndsAt outer document sink s held cs

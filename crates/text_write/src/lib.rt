@@ -6,6 +6,7 @@ pub mod contents;
 mod decimal_key;
 mod escaped;
 mod escaped_key;
+mod fingerprints;
 mod integer_key;
 pub mod key;
 mod key_text;

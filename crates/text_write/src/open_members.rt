@@ -3,7 +3,9 @@ ghost use Rattle.std.specs.Prelude.{◌≡◌, ◌≤◌, [], ℕ, Bool, List, t
 ghost use Rattle.std.specs.Option.{is_some};
 ghost use Rattle.std.specs.Str.{IsUtf8};
 
-use crate::members::{Member, Spare, ascend, key_at, prefix_within, put_in_order, search_repeat};
+use crate::members::{
+    Member, Spare, ascend, few_differ, key_at, prefix_within, put_in_order, search_repeat,
+};
 use crate::object::{Keys, Site};
 use std::alloc::{AllocError, Global};
 
@@ -173,8 +175,11 @@ impl<'a> OpenMembers<'a> {
             → (fs : List Found) → EndIn commas bytes self.old first start fs → FindsRepeat self.new first fs found) }
     {
         let members = members_from(&self.entries, first);
+        if few_differ(members) {
+            return Ok(None);
+        }
         let keys = Keys::new(self.text, &self.decoded, members);
-        search_repeat(&keys, &mut self.spare.ranks)
+        search_repeat(&keys, &mut self.spare)
     }
 
     /// The key of a member, by its index among those from another index on, and the index after it in the text.

@@ -1,7 +1,6 @@
 //! The text of one part of a document. The part is written, and all around it is only checked.
-ghost use Rattle.std.specs.Prelude.{◌≡◌, ◌+◌, ◌-◌, ◌<◌, ◌∷◌, [], ℕ, List, Some, true, false, length, map, string_bytes, IfOk, MatchBool, OnOk};
-ghost use Rattle.std.specs.Option.{option_and_then, option_map};
-ghost use Rattle.text_write.specs.PartSink.{less};
+ghost use Rattle.std.specs.Prelude.{◌≡◌, ◌+◌, ◌-◌, ◌<◌, ◌∷◌, ◌++◌, [], ℕ, List, Some, true, false, length, map, string_bytes, IfOk, MatchBool, OnOk};
+ghost use Rattle.std.specs.Option.{option_and_then, option_map, unwrap_or};
 
 use crate::check::CheckSink;
 use crate::contents::Contents;
@@ -15,14 +14,74 @@ use std::borrow::CowStr;
 use text_common::verbatim::Verbatim;
 use text_scan::parser::Mode;
 
-/// What is held of an array: whether it has no items yet, how many of its items come before the one on the path, if
-/// that is still to come, and how many keys of the path lead to the array, if it is on the path. Of an array that is
-/// written only the first counts.
+/// What is held of an array: whether it has no items yet, whether the one on the path is still to come, and how many
+/// items come before that, and whether the array is on the path, and how many keys of the path lead to it. Of an array
+/// that is written only the first counts. Flags beside the numbers take less space than options.
 #[derive(Clone, Copy)]
 pub struct PartItems {
     pub is_first: bool,
-    pub ahead: Option<usize>,
-    pub level: Option<usize>,
+    pub is_ahead: bool,
+    pub is_on_path: bool,
+    pub ahead: usize,
+    pub level: usize,
+}
+
+impl PartItems {
+    ghost use Rattle.text_write.specs.PartSink.{ahead_of, level_of, less};
+
+    // An array with no items yet, or one that is written.
+    #[inline(always)]
+    fn new(is_first: bool, ahead: Option<usize>, level: Option<usize>) -> PartItems
+        ensures first { result.is_first ≡ is_first }
+        ensures ahead { ahead_of result ≡ ahead }
+        ensures level { level_of result ≡ level }
+    {
+        PartItems {
+            is_first,
+            is_ahead: ahead.is_some(),
+            is_on_path: level.is_some(),
+            ahead: ahead.unwrap_or(0),
+            level: level.unwrap_or(0),
+        }
+    }
+
+    // How many items come before the one on the path, if that is still to come.
+    #[inline(always)]
+    fn ahead(&self) -> Option<usize>
+        ensures { result ≡ ahead_of self.now }
+    {
+        if self.is_ahead {
+            Some(self.ahead)
+        } else {
+            None
+        }
+    }
+
+    // How many keys of the path lead to the array, if it is on the path.
+    #[inline(always)]
+    fn level(&self) -> Option<usize>
+        ensures { result ≡ level_of self.now }
+    {
+        if self.is_on_path {
+            Some(self.level)
+        } else {
+            None
+        }
+    }
+
+    // An item ended.
+    #[inline(always)]
+    fn pass(&mut self)
+        ensures first { self.new.is_first ≡ self.old.is_first }
+        ensures ahead { ahead_of self.new ≡ less (ahead_of self.old) }
+        ensures level { level_of self.new ≡ level_of self.old }
+    {
+        if self.ahead == 0 {
+            self.is_ahead = false;
+        } else {
+            self.ahead -= 1;
+        }
+    }
 }
 
 /// What is held of an object: the index of its first member, among those that are written or among those around the
@@ -51,17 +110,18 @@ impl<'a> PartSink<'a> {
     ghost use Rattle.text_scan.specs.Open.{Open};
     ghost use Rattle.text_scan.specs.Open.Open.{elements_so_far};
     ghost use Rattle.jsonb_spec.specs.Source.{Source};
-    ghost use Rattle.text_write.specs.PartSink.{InnerEnds, IsAhead, IsAround, IsWritten, Leads, PartFilled, PartHeld, PartHolds, first_index, first_key, follow_key, keys_of, members_of, path_behind, other_keys, part_of, rest_at};
+    ghost use Rattle.text_write.specs.PartSink.{InnerEnds, IsAhead, IsAround, IsWritten, Leads, PartFilled, PartHeld, PartHolds, ahead_of, base_and_keys, first_index, first_key, follow_key, keys_of, level_of, path_behind, other_keys, part_of, rest_at};
     ghost use Rattle.text_write.specs.PartSink.PartHeld.{array_held, object_held};
+    ghost use Rattle.text_write.specs.TextSink.{base_of};
 
-    /// No part yet, of a document of which nothing was parsed.
-    pub fn new(alloc: Global, text: &'a [u8], path: &'a [String]) -> PartSink<'a>
+    /// No part yet, of a document of which nothing was parsed. The part comes to the end of a buffer.
+    pub fn new(alloc: Global, text: &'a [u8], path: &'a [String], out: Vec<u8>) -> PartSink<'a>
         ensures holds { PartHolds text.entry.now result true [] [] }
-        ensures keys { keys_of result ≡ map string_bytes path.entry.now }
+        ensures base { base_and_keys result ≡ out.items ∷ map string_bytes path.entry.now }
     {
         PartSink {
             check: CheckSink::new(alloc, text),
-            text: TextSink::new(alloc, text, Vec::new(alloc)),
+            text: TextSink::new(alloc, text, out),
             path,
             due: Some(0),
             inside: 0,
@@ -151,10 +211,11 @@ impl<'a> PartSink<'a> {
     }
 
     // The part is written.
+    #[inline(never)]
     fn finish(&mut self) -> Result<(), AllocError>
         ensures holds { OnOk result ((text : List ℕ) → (s : Source) → (held : List PartHeld) → (cs : List Open)
             → InnerEnds text self.old s held cs → self.old.inside ≡ 1 → PartFilled text self.new s held cs) }
-        ensures keys { keys_of self.new ≡ keys_of self.old }
+        ensures base { base_and_keys self.new ≡ base_and_keys self.old }
     {
         self.text.finish()?;
         self.inside = 0;
@@ -163,11 +224,12 @@ impl<'a> PartSink<'a> {
     }
 
     // A container that is written ended.
+    #[inline(always)]
     pub(crate) fn end_inner(&mut self) -> Result<(), AllocError>
         requires { 0 < self.old.inside }
         ensures holds { OnOk result ((text : List ℕ) → (s : Source) → (held : List PartHeld) → (cs : List Open)
             → InnerEnds text self.old s held cs → PartFilled text self.new s held cs) }
-        ensures keys { keys_of self.new ≡ keys_of self.old }
+        ensures base { base_and_keys self.new ≡ base_and_keys self.old }
     {
         if self.inside == 1 {
             return self.finish();
@@ -179,31 +241,38 @@ impl<'a> PartSink<'a> {
     // How many keys of the path lead to the next item.
     #[inline(always)]
     fn item_level(&self, items: &PartItems) -> Option<usize>
-        ensures { (ss : List Source) → (cs : List Open) → Leads (keys_of self.now) items.now.level cs
-            → IsAhead (option_and_then first_index (path_behind (keys_of self.now) cs)) items.now.ahead (length ss)
+        ensures { (ss : List Source) → (cs : List Open) → Leads (keys_of self.now) (level_of items.now) cs
+            → IsAhead (option_and_then first_index (path_behind (keys_of self.now) cs)) (ahead_of items.now) (length ss)
             → Leads (keys_of self.now) result (elements_so_far ss ∷ cs) }
     {
-        match items.ahead {
-            Some(0) => self.deeper(items.level),
+        match items.ahead() {
+            Some(0) => self.deeper(items.level()),
             _ => None,
         }
     }
 
-    /// The text of the part, if the document has it.
-    pub fn into_part(self) -> Option<Vec<u8>>
-        ensures { option_map (λ part. part.items) result ≡ part_of self.entry }
+    /// The buffer with the part, where the document has it, and else as it was before.
+    pub fn into_buffer(self) -> Vec<u8>
+        ensures { result.items ≡ base_of self.entry.text ++ unwrap_or (part_of self.entry) [] }
     {
         let PartSink { text, found, .. } = self;
         if found {
-            Some(text.into_buffer())
-        } else {
-            None
+            return text.into_buffer();
         }
+        text.take_back()
+    }
+
+    /// The buffer, as it was before anything was written.
+    pub fn take_back(self) -> Vec<u8>
+        ensures { result.items ≡ base_of self.entry.text }
+    {
+        let PartSink { text, .. } = self;
+        text.take_back()
     }
 }
 
 impl<'a> Sink<'a> for PartSink<'a> {
-    ghost use Rattle.text_write.specs.PartSink.{PartFilled, PartHeld, PartHolds, keys_of, members_of};
+    ghost use Rattle.text_write.specs.PartSink.{PartFilled, PartHeld, PartHolds, base_and_keys, members_of};
     ghost use Rattle.text_write.specs.PartSink.PartHeld.{array_held, object_held};
 
     type Items = PartItems;
@@ -220,7 +289,7 @@ impl<'a> Sink<'a> for PartSink<'a> {
 
     ghost filled = { PartFilled };
 
-    ghost base = { keys_of };
+    ghost base = { base_and_keys };
 
     ghost opened = { members_of };
 
@@ -260,21 +329,15 @@ impl<'a> Sink<'a> for PartSink<'a> {
         self.end_inner()
     }
 
+    #[inline(always)]
     fn begin_array(&mut self, at: usize) -> Result<PartItems, AllocError> {
         if !self.is_written() {
-            return Ok(PartItems {
-                is_first: true,
-                ahead: self.index_ahead(self.due),
-                level: self.due,
-            });
+            let ahead = self.index_ahead(self.due);
+            return Ok(PartItems::new(true, ahead, self.due));
         }
         let is_first = self.text.begin_array(at)?;
         self.inside = self.one_more()?;
-        Ok(PartItems {
-            is_first,
-            ahead: None,
-            level: None,
-        })
+        Ok(PartItems::new(is_first, None, None))
     }
 
     #[inline(always)]
@@ -292,9 +355,10 @@ impl<'a> Sink<'a> for PartSink<'a> {
             self.text.push_inner(&mut items.is_first);
             return;
         }
-        items.ahead = one_less(items.ahead);
+        items.pass();
     }
 
+    #[inline(always)]
     fn end_array(&mut self, items: &PartItems, at: usize) -> Result<(), AllocError> {
         if self.inside == 0 {
             return Ok(());
@@ -303,6 +367,7 @@ impl<'a> Sink<'a> for PartSink<'a> {
         self.end_inner()
     }
 
+    #[inline(always)]
     fn begin_object(&mut self, at: usize) -> Result<PartMembers, AllocError> {
         if !self.is_written() {
             return Ok(PartMembers {
@@ -329,6 +394,7 @@ impl<'a> Sink<'a> for PartSink<'a> {
         self.check.borrowed_key(members.first, key, from, after)
     }
 
+    #[inline(always)]
     fn plain_key(
         &mut self,
         members: &PartMembers,
@@ -363,6 +429,7 @@ impl<'a> Sink<'a> for PartSink<'a> {
         }
     }
 
+    #[inline(always)]
     fn end_object(
         &mut self,
         members: &PartMembers,
@@ -396,16 +463,5 @@ impl<'a> Sink<'a> for PartSink<'a> {
     #[inline(always)]
     fn moved_much(&self) -> bool {
         self.text.moved_much()
-    }
-}
-
-// One less, and none behind the one on the path.
-#[inline(always)]
-fn one_less(ahead: Option<usize>) -> Option<usize>
-    ensures { result ≡ less ahead }
-{
-    match ahead {
-        Some(ahead) if ahead > 0 => Some(ahead - 1),
-        _ => None,
     }
 }

@@ -1,7 +1,7 @@
 -- What is appended of a document's part.
-use Rattle.std.proofs.Common.{◌⊎◌, inl, inr, ◌≡◌, ◌≢◌, ◌+◌, ◌<◌, ℕ, zero, suc, Bool, true, false, List, [], ◌∷◌, ◌++◌, length, Option, Some, None, Result, Err, IfErr, IfSome, refl, sym, ap, subst, ◌∙◌, if◌then◌else◌}
+use Rattle.std.proofs.Common.{◌⊎◌, inl, inr, ◌≡◌, ◌≢◌, ◌+◌, ◌<◌, ℕ, zero, suc, Bool, true, false, List, [], ◌∷◌, ◌++◌, length, Option, Some, None, Result, Err, IfErr, IfSome, refl, sym, ap, subst, ◌∙◌, append-nil, if◌then◌else◌}
 use Rattle.std.proofs.lemmas.Bool.{and_parts}
-use Rattle.std.specs.Option.{option_and_then, option_map}
+use Rattle.std.specs.Option.{option_and_then, option_map, unwrap_or}
 use Rattle.std.specs.Prelude.{IsErrOf}
 use Rattle.std.specs.Str.{bytes_eq}
 use Rattle.jsonb_value.specs.declared.error.Error.{Error}
@@ -91,7 +91,7 @@ part_lacks mode text t keys part r e capacity len document at is errors rejected
 -- ---- what is appended
 
 -- the part is there
-pub part_appended : (mode : Mode) (text : List ℕ) (keys : List (List ℕ)) (t : Tree) (old new bytes : List ℕ) → IsParsed mode text t → text_of t ≡ Some (tree_text t) → Some bytes ≡ option_map tree_text (part_at keys t) → new ≡ old ++ bytes → AppendsPartOf mode text keys old new true
+part_appended : (mode : Mode) (text : List ℕ) (keys : List (List ℕ)) (t : Tree) (old new bytes : List ℕ) → IsParsed mode text t → text_of t ≡ Some (tree_text t) → Some bytes ≡ option_map tree_text (part_at keys t) → new ≡ old ++ bytes → AppendsPartOf mode text keys old new true
 part_appended mode text keys t old new bytes parsed has is appended = record { tree = t; parsed = parsed; part = by (part_at keys t) refl is }
   where
     some_bytes : (xs ys : List ℕ) → Some xs ≡ Some ys → xs ≡ ys
@@ -110,9 +110,15 @@ part_appended mode text keys t old new bytes parsed has is appended = record { t
     }
 
 -- there is no such part
-pub part_missing : (mode : Mode) (text : List ℕ) (keys : List (List ℕ)) (t : Tree) (old : List ℕ) → IsParsed mode text t → None ≡ option_map tree_text (part_at keys t) → AppendsPartOf mode text keys old old false
+part_missing : (mode : Mode) (text : List ℕ) (keys : List (List ℕ)) (t : Tree) (old : List ℕ) → IsParsed mode text t → None ≡ option_map tree_text (part_at keys t) → AppendsPartOf mode text keys old old false
 part_missing mode text keys t old parsed is = record { tree = t; parsed = parsed; part = (by (part_at keys t) is, refl) }
   where
     by : (o : Option Tree) → None ≡ option_map tree_text o → o ≡ None
     by None e = refl
     by (Some part) e = absurd cc
+
+-- what the parser found, and the buffer after it
+pub part_ended : (mode : Mode) (text : List ℕ) (keys : List (List ℕ)) (t : Tree) (old new bytes : List ℕ) (found : Bool) → IsParsed mode text t → text_of t ≡ Some (tree_text t) → (if found then Some bytes else None) ≡ option_map tree_text (part_at keys t)
+    → new ≡ old ++ unwrap_or (if found then Some bytes else None) [] → AppendsPartOf mode text keys old new found
+part_ended mode text keys t old new bytes true parsed has is appended = part_appended mode text keys t old new bytes parsed has is appended
+part_ended mode text keys t old new bytes false parsed has is appended = subst (λ n. AppendsPartOf mode text keys old n false) (sym (appended ∙ append-nil old)) (part_missing mode text keys t old parsed is)

@@ -13,6 +13,7 @@ use crate::part::part_at;
 use jsonb_value::error::{Error, Result};
 use jsonb_value::value::Value;
 use std::alloc::Global;
+use std::mem;
 use text_parse::parse_text;
 use text_write::part::PartSink;
 
@@ -57,21 +58,21 @@ pub fn append_part(
     if !may_allocate(text) {
         return append_part_of_value(alloc, text, mode, path, buf);
     }
-    let mut sink = PartSink::new(alloc, text, path);
+    let out = mem::replace(buf, Vec::new(alloc));
+    let mut sink = PartSink::new(alloc, text, path, out);
     match parse_text::<SinkPart<PartSink>>(&mut sink, alloc, text, mode) {
-        Ok(_) => match sink.into_part() {
-            Some(part) => {
-                if buf.extend_from_slice(&part).is_err() {
-                    return Err(Error::OutOfMemory);
-                }
-                Ok(true)
+        Ok(_) => {
+            let found = sink.found;
+            *buf = sink.into_buffer();
+            Ok(found)
+        }
+        Err(reported) => {
+            *buf = sink.take_back();
+            match reported {
+                Some(error) => Err(error),
+                None => append_part_of_value(alloc, text, mode, path, buf),
             }
-            None => Ok(false),
-        },
-        Err(reported) => match reported {
-            Some(error) => Err(error),
-            None => append_part_of_value(alloc, text, mode, path, buf),
-        },
+        }
     }
 }
 

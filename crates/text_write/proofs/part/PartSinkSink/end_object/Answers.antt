@@ -4,7 +4,6 @@ use Rattle.text_scan.specs.Open.{members_so_far}
 use Rattle.jsonb_spec.specs.Source.{object_source_of}
 use Rattle.text_write.specs.PartSink.{check_held, object_held}
 use Rattle.text_write.proofs.PartSinks.{ended_in, ends_in, if_ok, new_in, reported_around, reported_in}
-use Rattle.text_write.proofs.Sinks.{same_only}
 use Rattle.text_write.proofs.part.PartSinkSink.end_object.Goals as goal
 
 pub returns-then-self-eq0-clause-holds : goal.returns-then-self-eq0-clause-holds
@@ -20,7 +19,7 @@ returns-in_ok-end_inner-clause-holds c =
     λ text held fs key offset cs sink.
     let ended = new_in c.in_ok-repeat.repeat f fs key offset some none (λ hs ds. c.in_ok-repeat.ensures.holds text hs fs key offset ds) sink in
     ended_in fs c.in_ok-repeat.repeat _ none
-    (c.in_ok-end_inner.ensures.holds text (object_source_of fs) held cs (ends_in (object_held f) (members_so_far fs key offset) (object_source_of fs) some (same_only c.end_object-2.ensures.base) ended.0 sink)) ended.1
+    (c.in_ok-end_inner.ensures.holds text (object_source_of fs) held cs (ends_in (object_held f) (members_so_far fs key offset) (object_source_of fs) some ended.0 sink)) ended.1
 
 pub returns-else-is_none-clause-holds : goal.returns-else-is_none-clause-holds
 returns-else-is_none-clause-holds c =

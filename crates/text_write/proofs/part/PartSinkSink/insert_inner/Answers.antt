@@ -3,7 +3,6 @@ use Rattle.text_scan.specs.Open.{members_so_far}
 use Rattle.jsonb_spec.specs.Source.{found_member}
 use Rattle.text_write.specs.PartSink.{object_held}
 use Rattle.text_write.proofs.PartSinks.{member_put, put_in}
-use Rattle.text_write.proofs.Sinks.{same_only}
 use Rattle.text_write.proofs.part.PartSinkSink.insert_inner.Goals as goal
 
 pub returns-then-self-gt0-clause-holds : goal.returns-then-self-gt0-clause-holds
@@ -11,7 +10,7 @@ returns-then-self-gt0-clause-holds c =
     let some : 0 < c.args.self.now.inside = search rules in
     λ text s held fs k offset cs next other filled.
     let f = c.args.members.now in
-    put_in (object_held f) (object_held f) (members_so_far fs k offset) (members_so_far (fs ++ found_member k s offset ∷ []) next other) some (same_only c.insert_inner.ensures.base)
+    put_in (object_held f) (object_held f) (members_so_far fs k offset) (members_so_far (fs ++ found_member k s offset ∷ []) next other) some
     (λ hs ds. c.insert_inner.ensures.holds text s hs fs k offset ds next other) filled
 
 pub returns-else-self-gt0-clause-holds : goal.returns-else-self-gt0-clause-holds

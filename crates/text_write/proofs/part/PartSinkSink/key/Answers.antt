@@ -5,7 +5,7 @@ use Rattle.text_scan.specs.Open.{members_so_far}
 use Rattle.jsonb_value.specs.View.{mark_view}
 use Rattle.text_write.specs.PartSink.{check_held, object_held, follow_key, keys_of, rest_at}
 use Rattle.text_write.proofs.PartSinks.{goes_on_in, member_due}
-use Rattle.text_write.proofs.Sinks.{on_ok, same_only}
+use Rattle.text_write.proofs.Sinks.{on_ok}
 use Rattle.text_write.proofs.part.PartSinkSink.key.Goals as goal
 
 pub returns-then-self-gt0-clause-holds : goal.returns-then-self-gt0-clause-holds
@@ -13,7 +13,7 @@ returns-then-self-gt0-clause-holds c =
     let some : 0 < c.args.self.now.inside = search rules in
     let f = c.args.members.now in
     on_ok c.key.result c.key.ensures.holds (λ holds text held fs k offset cs sink.
-    goes_on_in (object_held f) (object_held f) (members_so_far fs k offset) (members_so_far fs (mark_view c.args.key, cow_str_bytes c.args.key) c.args.after) false true some (same_only c.key.ensures.base)
+    goes_on_in (object_held f) (object_held f) (members_so_far fs k offset) (members_so_far fs (mark_view c.args.key, cow_str_bytes c.args.key) c.args.after) false true some
     (λ hs ds holds_so. holds text hs fs k offset ds holds_so) sink)
 
 pub returns-clause-holds : goal.returns-clause-holds

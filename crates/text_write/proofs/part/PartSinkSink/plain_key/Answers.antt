@@ -3,7 +3,7 @@ use Rattle.text_scan.specs.Open.{members_so_far}
 use Rattle.jsonb_spec.specs.Tree.Mark.{plain}
 use Rattle.text_write.specs.PartSink.{check_held, object_held}
 use Rattle.text_write.proofs.PartSinks.{goes_on_in, member_due}
-use Rattle.text_write.proofs.Sinks.{on_ok, same_only}
+use Rattle.text_write.proofs.Sinks.{on_ok}
 use Rattle.text_write.proofs.part.PartSinkSink.plain_key.Goals as goal
 
 pub returns-then-self-gt0-clause-holds : goal.returns-then-self-gt0-clause-holds
@@ -11,7 +11,7 @@ returns-then-self-gt0-clause-holds c =
     let some : 0 < c.args.self.now.inside = search rules in
     let f = c.args.members.now in
     on_ok c.plain_key.result c.plain_key.ensures.holds (λ holds text held fs k offset cs sink there plainly.
-    goes_on_in (object_held f) (object_held f) (members_so_far fs k offset) (members_so_far fs (plain, c.args.key.now) c.args.after) false true some (same_only c.plain_key.ensures.base)
+    goes_on_in (object_held f) (object_held f) (members_so_far fs k offset) (members_so_far fs (plain, c.args.key.now) c.args.after) false true some
     (λ hs ds holds_so. holds text hs fs k offset ds holds_so there plainly) sink)
 
 pub returns-clause-holds : goal.returns-clause-holds
