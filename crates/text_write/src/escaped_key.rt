@@ -8,6 +8,7 @@ ghost use Rattle.text_scan.specs.Answer.{mode_of};
 ghost use Rattle.text_scan.specs.Decoding.{AreContents};
 ghost use Rattle.text_scan.specs.QuotedString.{decoded_text};
 
+use crate::key_text::append_end;
 use jsonb_value::parts::append_text_key;
 use jsonb_value::sort_key::kind;
 use memchr::memchr;
@@ -51,15 +52,6 @@ fn double_zeros(from: usize, out: &mut Vec<u8>, spare: &mut Vec<u8>) -> Result<(
     append_text_key(text, out)?;
     spare.truncate(start);
     Ok(())
-}
-
-// Appends the end of a text.
-#[inline(always)]
-fn append_end(out: &mut Vec<u8>) -> Result<(), AllocError>
-    ensures bytes { OnOk result (out.new.items ≡ out.old.items ++ kind.terminator ∷ kind.text_end ∷ []) }
-    ensures retained { Extends out.old.items out.new.items }
-{
-    out.extend_from_slice(&[kind::TERMINATOR, kind::TEXT_END])
 }
 
 // Ends a text that is in the buffer from an index on. Hardly any has a zero.

@@ -21,6 +21,26 @@ fn append_row(row: [u8; 32], count: usize, out: &mut Vec<u8>) -> Result<(), Allo
     append_part(&whole, count + 2, out)
 }
 
+// Appends the end of a text.
+#[inline(always)]
+pub(crate) fn append_end(out: &mut Vec<u8>) -> Result<(), AllocError>
+    ensures bytes { OnOk result (out.new.items ≡ out.old.items ++ kind.terminator ∷ kind.text_end ∷ []) }
+    ensures retained { Extends out.old.items out.new.items }
+{
+    out.extend_from_slice(&[kind::TERMINATOR, kind::TEXT_END])
+}
+
+// Appends few bytes, and the end of a text.
+#[inline(always)]
+fn append_short(bytes: &[u8], out: &mut Vec<u8>) -> Result<(), AllocError>
+    ensures bytes { OnOk result (out.new.items
+        ≡ out.old.items ++ (bytes.now ++ kind.terminator ∷ kind.text_end ∷ [])) }
+    ensures retained { Extends out.old.items out.new.items }
+{
+    out.extend_from_slice(bytes)?;
+    append_end(out)
+}
+
 // Appends the first bytes, and the end of a text, where they are many, or near the end of the text.
 #[inline(never)]
 fn append_long(bytes: &[u8], count: usize, out: &mut Vec<u8>) -> Result<(), AllocError>
@@ -29,8 +49,11 @@ fn append_long(bytes: &[u8], count: usize, out: &mut Vec<u8>) -> Result<(), Allo
         ≡ out.old.items ++ (take count bytes.now ++ kind.terminator ∷ kind.text_end ∷ [])) }
     ensures retained { Extends out.old.items out.new.items }
 {
+    if count < 16 {
+        return append_short(&bytes[..count], out);
+    }
     append_first(bytes, count, out)?;
-    out.extend_from_slice(&[kind::TERMINATOR, kind::TEXT_END])
+    append_end(out)
 }
 
 // Appends the first bytes, and the end of a text. More are copied where there are so many, since a copy of a fixed
