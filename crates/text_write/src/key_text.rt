@@ -18,7 +18,7 @@ fn append_row(row: [u8; 32], count: usize, out: &mut Vec<u8>) -> Result<(), Allo
     let mut whole = row;
     whole[count] = kind::TERMINATOR;
     whole[count + 1] = kind::TEXT_END;
-    append_part(&whole, count + 2, out)
+    append_part(whole, count + 2, out)
 }
 
 // Appends the end of a text.

@@ -14,21 +14,26 @@ pub(crate) fn append_first(bytes: &[u8], count: usize, out: &mut Vec<u8>) -> Res
 {
     if count <= 32 && out.capacity() - out.len() >= 32 {
         if let Some(chunk) = bytes.first_chunk::<32>() {
-            return append_part(chunk, count, out);
+            return append_part(*chunk, count, out);
         }
     }
     append_more(bytes, count, out)
 }
 
-// Appends all bytes, and takes back those behind the first ones.
+// Appends all bytes of a row, and takes back those behind the first ones. By its value the row is known not to be in the
+// buffer, so that no copy asks for it.
 #[inline(always)]
-pub(crate) fn append_part(bytes: &[u8], count: usize, out: &mut Vec<u8>) -> Result<(), AllocError>
-    requires { count ≤ length bytes.now }
-    ensures bytes { OnOk result (out.new.items ≡ out.old.items ++ take count bytes.now) }
+pub(crate) fn append_part<const N: usize>(
+    row: [u8; N],
+    count: usize,
+    out: &mut Vec<u8>,
+) -> Result<(), AllocError>
+    requires { count ≤ N }
+    ensures bytes { OnOk result (out.new.items ≡ out.old.items ++ take count row.entry) }
     ensures retained { Extends out.old.items out.new.items }
 {
     let len = out.len();
-    out.extend_from_slice(bytes)?;
+    out.extend_from_slice(&row)?;
     out.truncate(len + count);
     Ok(())
 }
@@ -42,7 +47,7 @@ fn append_more(bytes: &[u8], count: usize, out: &mut Vec<u8>) -> Result<(), Allo
 {
     if count <= 64 {
         if let Some(chunk) = bytes.first_chunk::<64>() {
-            return append_part(chunk, count, out);
+            return append_part(*chunk, count, out);
         }
     }
     out.extend_from_slice(&bytes[..count])
