@@ -6,7 +6,7 @@ use Rattle.std.proofs.lemmas.List.{get_or-set_other, get_or-set_same}
 use Rattle.std.specs.List.{AllByRecursion}
 use Rattle.jsonb_spec.specs.Grammar.{AreDistinct}
 use Rattle.text_common.proofs.Repeats.{no_repeat}
-use Rattle.text_write.specs.Fingerprints.{IsIn, fingerprint_of, home_of}
+use Rattle.text_write.specs.Fingerprints.{IsIn, fingerprint_of, home_of, tag_of}
 use Rattle.text_write.specs.Members.{AreKeyed, IsKeyed, PrefixesDiffer, ReportsRepeat, first_bytes, key_in, spot_in}
 use Rattle.text_write.specs.declared.members.Member.{Member}
 
@@ -71,7 +71,7 @@ module _ (text decoded : List ℕ) where
 -- a member's fingerprint is in a row
 abbrev pub IsThere : ℕ → List ℕ → List ℕ → List ℕ → Member → Type 0
 IsThere bits row text decoded m =
-    let number = fingerprint_of m.prefix (key_in text decoded m) in IsIn row (home_of bits number) number
+    let number = fingerprint_of m.prefix (key_in text decoded m) in IsIn row (home_of bits number) (tag_of number)
 
 -- Where the keys that are left are different, and none of their fingerprints is in the row, all keys are different.
 pub record DifferFrom (bits : ℕ) (row text decoded : List ℕ) (whole rest : List Member) : Type 0 where
@@ -97,7 +97,7 @@ module _ (bits : ℕ) (text decoded : List ℕ) (whole : List Member) where
       onward : AreKeyed text decoded whole → AreDistinct (map (λ s. s.key) (map (spot_in text decoded) others)) → All (λ n. IsThere bits next text decoded n → ⊥) others → AreDistinct (map (λ s. s.key) (map (spot_in text decoded) whole))
       onward keyed distinct none =
           let here = now keyed in
-          let apart = each_other text decoded m others (λ k d l same. none k d l (subst (λ number. IsIn next (home_of bits number) number) (same_print (get_or others k d) (here 0 m (omega arith)) (here (suc k) d (omega arith)) same) there)) in
+          let apart = each_other text decoded m others (λ k d l same. none k d l (subst (λ number. IsIn next (home_of bits number) (tag_of number)) (same_print (get_or others k d) (here 0 m (omega arith)) (here (suc k) d (omega arith)) same) there)) in
           a.onward keyed (subst (λ ms. AreDistinct (map (λ s. s.key) (map (spot_in text decoded) ms))) (sym e) (apart, distinct)) (subst (All (λ n. IsThere bits row text decoded n → ⊥)) (sym e) each_new)
         where
           each_new : All (λ n. IsThere bits row text decoded n → ⊥) (m ∷ others)

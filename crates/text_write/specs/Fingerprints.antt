@@ -20,9 +20,13 @@ fingerprint_of prefix key = if nat_lt 8 (length key)
 abbrev pub home_of : ℕ → ℕ → ℕ
 home_of bits number = number * spread % 2 ^ 64 / 2 ^ (64 - bits)
 
--- A number other than 0 is in a row of slots, and none is free from its home up to it.
-pub record IsIn (row : List ℕ) (home number : ℕ) : Type 0 where
-  pub some : number ≢ 0
+-- what is held of a fingerprint
+abbrev pub tag_of : ℕ → ℕ
+tag_of number = number * 15241094284759029579 % 2 ^ 64 / 2 ^ 32 % 2 ^ 32
+
+-- A tag other than 0 is in a row of slots, and none is free from its home up to it.
+pub record IsIn (row : List ℕ) (home tag : ℕ) : Type 0 where
+  pub some : tag ≢ 0
   pub steps : ℕ
-  pub there : slice_index_or row (home + steps) 0 ≡ number
+  pub there : slice_index_or row (home + steps) 0 ≡ tag
   pub taken : (k : ℕ) → k < steps → slice_index_or row (home + k) 0 ≢ 0

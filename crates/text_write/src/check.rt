@@ -44,12 +44,13 @@ impl<'a> CheckSink<'a> {
         self.members.len()
     }
 
-    // Whether this range of the text has bytes.
+    // Whether this range of the text has bytes. It is told by the index of the last one, where a key's bytes end.
     #[inline(always)]
     fn is_range(&self, from: usize, to: usize) -> bool
         ensures { MatchBool result ((from < to) × (to ≤ length self.now.members.text.now)) (Unit {0}) }
     {
-        from < to && to <= self.members.text.len()
+        let last = to.wrapping_sub(1);
+        from <= last && last < self.members.text.len()
     }
 
     /// A key whose bytes are in the text from an index above 0 on, in double quotes and without escapes, and the

@@ -1,13 +1,15 @@
-//! Keys that are all different, which a table of their fingerprints shows.
+//! Keys that are all different, which a table of their fingerprints shows: in place of sorting them.
 ghost use Rattle.std.specs.Prelude.{◌≡◌, ◌≢◌, ◌≤◌, ℕ, IsTrue, None};
-ghost use Rattle.text_write.specs.Fingerprints.{IsIn, fingerprint_of, home_of};
+ghost use Rattle.text_write.specs.Fingerprints.{IsIn, fingerprint_of, home_of, tag_of};
 ghost use Rattle.text_write.specs.Members.{AreKeyed, ReportsRepeat, key_in};
 
 use crate::members::{Member, key_of, prefix_within};
 use crate::object::Keys;
 
-// Numbers times this one differ in their highest bits: it is 2 ^ 64 by the golden ratio.
+// Times these, numbers differ in their highest bits: 2 ^ 64 by the golden ratio, and another odd number.
 const SPREAD: u64 = 11400714819323198485;
+
+const SPREAD_TAG: u64 = 15241094284759029579;
 
 // So many slots from its home on are looked at for a fingerprint.
 const MOST_STEPS: usize = 96;
@@ -41,22 +43,30 @@ fn home(number: u64, bits: u32) -> usize
     (number.wrapping_mul(SPREAD) >> (64 - bits)) as usize
 }
 
-// Puts a fingerprint into the first free slot from an index on, if it isn't between them.
+// What is held of a fingerprint.
 #[inline(always)]
-fn put(row: &mut [u64], home: usize, number: u64) -> bool
-    ensures retained { IsTrue result → (other number : ℕ) → IsIn row.old other number → IsIn row.new other number }
-    ensures there { IsTrue result → IsIn row.new home number }
-    ensures new { IsTrue result → IsIn row.old home number → ⊥ }
+fn tag(number: u64) -> u32
+    ensures { result ≡ tag_of number }
 {
-    if number == 0 {
+    (number.wrapping_mul(SPREAD_TAG) >> 32) as u32
+}
+
+// Puts a tag into the first free slot from an index on, if it isn't before that.
+#[inline(always)]
+fn put(row: &mut [u32], home: usize, tag: u32) -> bool
+    ensures retained { IsTrue result → (other tag : ℕ) → IsIn row.old other tag → IsIn row.new other tag }
+    ensures there { IsTrue result → IsIn row.new home tag }
+    ensures new { IsTrue result → IsIn row.old home tag → ⊥ }
+{
+    if tag == 0 {
         return false;
     }
     'slots: for slot in home..home.saturating_add(MOST_STEPS) {
-        if slot >= row.len() || row[slot] == number {
+        if slot >= row.len() || row[slot] == tag {
             return false;
         }
         if row[slot] == 0 {
-            row[slot] = number;
+            row[slot] = tag;
             return true;
         }
     }
@@ -65,7 +75,7 @@ fn put(row: &mut [u64], home: usize, number: u64) -> bool
 
 /// Whether the keys are all different, as far as their fingerprints show it.
 #[inline(never)]
-pub(crate) fn keys_differ(keys: &Keys<'_>, table: &mut Vec<u64>) -> bool
+pub(crate) fn keys_differ(keys: &Keys<'_>, table: &mut Vec<u32>) -> bool
     ensures { IsTrue result → AreKeyed keys.now.text.now keys.now.decoded.now keys.now.members.now
         → ReportsRepeat keys.now.text.now keys.now.decoded.now keys.now.members.now None }
 {
@@ -78,7 +88,7 @@ pub(crate) fn keys_differ(keys: &Keys<'_>, table: &mut Vec<u64>) -> bool
     let mut rest = keys.members;
     'members: while let Some((member, others)) = rest.split_first() {
         let number = fingerprint(keys, member);
-        if !put(row, home(number, bits), number) {
+        if !put(row, home(number, bits), tag(number)) {
             return false;
         }
         rest = others;
