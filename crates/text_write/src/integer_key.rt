@@ -114,7 +114,7 @@ fn append_short(
     let last = (len - 1) / 2;
     let second = if len % 2 == 0 { digits[len - 1] } else { b'0' };
     row[last] = last_byte(digits[2 * last], second);
-    append_part(&inverted_if(negative, row), last + 1, out)
+    append_part(inverted_if(negative, row), last + 1, out)
 }
 
 // Appends the bytes of 16 digits behind which others are that aren't all zeros.
