@@ -193,10 +193,7 @@ impl<'a> PartSink<'a> {
         if self.inside > 0 {
             return true;
         }
-        if self.found {
-            return false;
-        }
-        self.is_part(self.due)
+        self.is_part(self.due) && !self.found
     }
 
     // How many of the containers that are open are written, and one more.
