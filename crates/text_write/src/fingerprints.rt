@@ -1,4 +1,4 @@
-//! Keys that are all different, which a table of their fingerprints shows: in place of sorting them.
+//! Whether keys are all different, told by a table of their fingerprints, so that they aren't sorted for it.
 ghost use Rattle.std.specs.Prelude.{◌≡◌, ◌≢◌, ◌≤◌, ℕ, IsTrue, None};
 ghost use Rattle.text_write.specs.Fingerprints.{IsIn, fingerprint_of, home_of, tag_of};
 ghost use Rattle.text_write.specs.Members.{AreKeyed, ReportsRepeat, key_in};
@@ -73,7 +73,7 @@ fn put(row: &mut [u32], home: usize, tag: u32) -> bool
     false
 }
 
-/// Whether the keys are all different, as far as their fingerprints show it.
+/// Whether the keys are all different, as far as a table of two to four slots for each shows it.
 #[inline(never)]
 pub(crate) fn keys_differ(keys: &Keys<'_>, table: &mut Vec<u32>) -> bool
     ensures { IsTrue result → AreKeyed keys.now.text.now keys.now.decoded.now keys.now.members.now

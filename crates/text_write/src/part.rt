@@ -342,7 +342,11 @@ impl<'a> Sink<'a> for PartSink<'a> {
         if self.inside > 0 {
             return self.text.next_item(&mut items.is_first);
         }
-        self.due = self.item_level(items);
+        let level = self.item_level(items);
+        if level.is_none() && self.due.is_none() {
+            return Ok(());
+        }
+        self.due = level;
         Ok(())
     }
 
