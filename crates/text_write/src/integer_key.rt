@@ -150,6 +150,28 @@ fn append_long(negative: bool, digits: &[u8], out: &mut Vec<u8>) -> Result<(), A
     Ok(())
 }
 
+// Appends the bytes of the first digits, mostly at most 16.
+#[inline(always)]
+fn append_last(
+    negative: bool,
+    digits: &[u8],
+    len: usize,
+    out: &mut Vec<u8>,
+) -> Result<(), AllocError>
+    requires some { 0 < len }
+    requires inside { len ≤ length digits.now }
+    ensures bytes { OnOk result (out.new.items
+        ≡ out.old.items ++ map (invert_if negative) (digit_bytes (take len digits.now))) }
+    ensures retained { Extends out.old.items out.new.items }
+{
+    if len <= 16 {
+        if let Some(chunk) = digits.first_chunk::<16>() {
+            return append_short(negative, chunk, len, out);
+        }
+    }
+    append_long(negative, &digits[..len], out)
+}
+
 // Appends the bytes of the first digits.
 #[inline(always)]
 pub(crate) fn append_pairs(
@@ -164,14 +186,14 @@ pub(crate) fn append_pairs(
         ≡ out.old.items ++ map (invert_if negative) (digit_bytes (take len digits.now))) }
     ensures retained { Extends out.old.items out.new.items }
 {
-    let Some(chunk) = digits.first_chunk::<16>() else {
-        return append_long(negative, &digits[..len], out);
-    };
     if len <= 16 {
-        return append_short(negative, chunk, len, out);
+        return append_last(negative, digits, len, out);
     }
+    let Some(chunk) = digits.first_chunk::<16>() else {
+        return append_last(negative, digits, len, out);
+    };
     append_front(negative, chunk, out)?;
-    append_long(negative, &digits[16..len], out)
+    append_last(negative, &digits[16..], len - 16, out)
 }
 
 // Appends the key of an integer of one or two digits above or below 0.
