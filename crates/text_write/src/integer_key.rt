@@ -1,5 +1,5 @@
 //! The sort key of an integer, made of its digits in a text.
-ghost use Rattle.std.specs.Prelude.{◌≡◌, ◌≢◌, ◌-◌, ◌<◌, ◌≤◌, ◌++◌, ◌∷◌, [], ℕ, List, true, false, length, map, take, slice_index, slice_range, OnOk};
+ghost use Rattle.std.specs.Prelude.{◌≡◌, ◌≢◌, ◌-◌, ◌<◌, ◌≤◌, ◌++◌, ◌∷◌, [], ℕ, List, true, false, length, map, take, drop, slice_index, slice_range, IfOk, OnOk};
 ghost use Rattle.std.specs.Str.Parse.{AllDigits, digits_value};
 ghost use Rattle.jsonb_spec.specs.Ascii as ascii;
 ghost use Rattle.jsonb_spec.specs.Grammar.StandardNumber.{IsStandardNumber};
@@ -150,6 +150,54 @@ fn append_long(negative: bool, digits: &[u8], out: &mut Vec<u8>) -> Result<(), A
     Ok(())
 }
 
+// Appends the bytes of the first digits, mostly at most 16.
+#[inline(always)]
+fn append_last(
+    negative: bool,
+    digits: &[u8],
+    len: usize,
+    out: &mut Vec<u8>,
+) -> Result<(), AllocError>
+    requires some { 0 < len }
+    requires inside { len ≤ length digits.now }
+    ensures bytes { OnOk result (out.new.items
+        ≡ out.old.items ++ map (invert_if negative) (digit_bytes (take len digits.now))) }
+    ensures retained { Extends out.old.items out.new.items }
+{
+    if len <= 16 {
+        if let Some(chunk) = digits.first_chunk::<16>() {
+            return append_short(negative, chunk, len, out);
+        }
+    }
+    append_long(negative, &digits[..len], out)
+}
+
+// Appends the bytes of the first 16 digits where there are more, and returns how many are appended.
+#[inline(always)]
+fn append_first_pairs(
+    negative: bool,
+    digits: &[u8],
+    len: usize,
+    out: &mut Vec<u8>,
+) -> Result<usize, AllocError>
+    requires some { 0 < len }
+    requires inside { len ≤ length digits.now }
+    ensures left { IfOk result (λ done. done < len) }
+    ensures bytes { IfOk result (λ done. out.new.items
+        ++ map (invert_if negative) (digit_bytes (take (len - done) (drop done digits.now)))
+        ≡ out.old.items ++ map (invert_if negative) (digit_bytes (take len digits.now))) }
+    ensures retained { Extends out.old.items out.new.items }
+{
+    if len <= 16 {
+        return Ok(0);
+    }
+    let Some(chunk) = digits.first_chunk::<16>() else {
+        return Ok(0);
+    };
+    append_front(negative, chunk, out)?;
+    Ok(16)
+}
+
 // Appends the bytes of the first digits.
 #[inline(always)]
 pub(crate) fn append_pairs(
@@ -164,14 +212,8 @@ pub(crate) fn append_pairs(
         ≡ out.old.items ++ map (invert_if negative) (digit_bytes (take len digits.now))) }
     ensures retained { Extends out.old.items out.new.items }
 {
-    let Some(chunk) = digits.first_chunk::<16>() else {
-        return append_long(negative, &digits[..len], out);
-    };
-    if len <= 16 {
-        return append_short(negative, chunk, len, out);
-    }
-    append_front(negative, chunk, out)?;
-    append_long(negative, &digits[16..len], out)
+    let done = append_first_pairs(negative, digits, len, out)?;
+    append_last(negative, &digits[done..], len - done, out)
 }
 
 // Appends the key of an integer of one or two digits above or below 0.
