@@ -117,7 +117,7 @@ extern Datum *vjson_entries(Datum document, int32 *count);
 extern Datum *vjson_name_entries(Datum document, int32 *count);
 extern int32 vjson_name_entry(Range name);
 
-/* The name that the first step of a path is, and the path behind it. False if the step has escapes, or there is none. */
+/* The name that the first step of a path is, and the path behind it. False if it has escapes, or there is none. */
 extern bool vjson_take_name(Range *path, Range *name);
 
 /* The part at a path, in which an index may count from the end. False if there is none. */
