@@ -77,10 +77,11 @@ vjson_value_with_table(char *block, size_t capacity, size_t size)
 struct varlena *
 vjson_of_key(Range key)
 {
-	char	   *block = palloc_extended(VARHDRSZ + key.size, MCXT_ALLOC_HUGE);
+	struct varlena *value = palloc(VARHDRSZ + key.size);
 
-	memcpy(block + VARHDRSZ, key.at, key.size);
-	return vjson_value(block, key.size);
+	SET_VARSIZE(value, VARHDRSZ + key.size);
+	memcpy(VARDATA(value), key.at, key.size);
+	return value;
 }
 
 
@@ -158,26 +159,23 @@ write_part(const void *arguments, unsigned char *buffer, size_t capacity, size_t
 	return vizhoniku_document_range(key.at, of->whole.size, of->part.at - key.at, of->part.size, buffer, capacity, size);
 }
 
-/* Whether a part has zeros behind its key, as far as the document and the kind of the part say. */
+/* Whether a part of a document with zeros may have some of them, as far as its kind says. */
 static inline bool
-may_have_zeros(const Document *whole, Range part)
+may_have_zeros(Range part)
 {
-	uint32		kind;
+	uint32		kind = kind_of(part);
 
-	if (likely(whole->size == whole->key.size))
-		return false;
-	kind = kind_of(part);
 	return kind == VIZHONIKU_NUMBER || !is_scalar(kind);
 }
 
 struct varlena *
-vjson_part(const Document *whole, Range part)
+vjson_part_with_zeros(const Document *whole, Range part)
 {
 	PartOf		of = {*whole, part};
 	size_t		size;
 	char	   *block;
 
-	if (!may_have_zeros(whole, part))
+	if (!may_have_zeros(part))
 		return vjson_of_key(part);
 	block = vjson_written(write_part, &of, VARHDRSZ, part.size + (whole->size - whole->key.size), &size);
 	if (block == NULL)
@@ -185,7 +183,7 @@ vjson_part(const Document *whole, Range part)
 	return vjson_value(block, size);
 }
 
-/* The text of a string's key, or of a name's, in the encoding of the database. */
+/* The text of a string's key, or of a name's, in the encoding of the database. Only of a zero byte a key has two. */
 text *
 vjson_text_of_string(Range key, bool is_name)
 {
@@ -197,7 +195,7 @@ vjson_text_of_string(Range key, bool is_name)
 
 	if (!is_found(status))
 		vjson_raise_corrupted();
-	if (memchr(bytes, 0, size))
+	if (size + STRING_EXTRA != key.size + is_name)
 		ereport(ERROR,
 				(errcode(ERRCODE_UNTRANSLATABLE_CHARACTER),
 				 errmsg("a string with \\u0000 cannot be converted to text")));
@@ -220,8 +218,8 @@ text_of_number(const Document *number)
 	return cstring_to_text(vjson_server_text(number));
 }
 
-text *
-vjson_text_of(const Document *document)
+static inline text *
+text_of(const Document *document)
 {
 	switch (kind_of(document->key))
 	{
@@ -237,11 +235,17 @@ vjson_text_of(const Document *document)
 }
 
 text *
+vjson_text_of(const Document *document)
+{
+	return text_of(document);
+}
+
+text *
 vjson_part_text(const Document *whole, Range part)
 {
 	Document	document = document_of_key(part);
 
-	if (may_have_zeros(whole, part))
-		document = get_document(vjson_part(whole, part));
-	return vjson_text_of(&document);
+	if (unlikely(whole->size > whole->key.size) && may_have_zeros(part))
+		document = get_document(vjson_part_with_zeros(whole, part));
+	return text_of(&document);
 }

@@ -31,9 +31,6 @@ PG_FUNCTION_INFO_V1(vjson_set_lax);
 PG_FUNCTION_INFO_V1(vjson_insert);
 PG_FUNCTION_INFO_V1(vjson_strip_nulls);
 
-/* From how many names on they are removed together. */
-#define MANY_NAMES		8
-
 /* A change of a document, as the library makes it. */
 typedef struct
 {
@@ -174,25 +171,53 @@ object_of_names(const Datum *words, const bool *nulls, int count)
 	return get_document(vjson_of_text(utf8, strlen(utf8)));
 }
 
-/* The object without the members of few names, one after the other. */
-static Datum
-without_each(Datum datum, Change *change, const Datum *words, const bool *nulls, int count)
+/* The names that a function was passed, and the object that has them, which are kept for its next calls. */
+typedef struct
 {
-	change->what = REMOVE;
-	for (int i = 0; i < count; i++)
-	{
-		struct varlena *value;
+	MemoryContext context;
+	struct varlena *names;		/* NULL where there are none yet */
+	Document	object;
+} KnownNames;
 
-		if (nulls[i])
-			continue;
-		change->path = path_of_name(utf8_of(DatumGetTextPP(words[i])));
-		value = changed(change);
-		if (value == NULL)
-			continue;
-		datum = PointerGetDatum(value);
-		change->document = get_document(value);
+/* Keep the names: a text, or an array of texts. */
+static void
+know_names(KnownNames *known, const struct varlena *names, bool is_array)
+{
+	MemoryContext caller = MemoryContextSwitchTo(known->context);
+	struct varlena *copy;
+	Datum		name;
+	Datum	   *words = &name;
+	bool	   *nulls = NULL;
+	int			count = 1;
+
+	known->names = NULL;
+	MemoryContextReset(known->context);
+	copy = palloc(VARSIZE_ANY(names));
+	memcpy(copy, names, VARSIZE_ANY(names));
+	name = PointerGetDatum(copy);
+	if (is_array)
+		deconstruct_array((ArrayType *) copy, TEXTOID, -1, false, TYPALIGN_INT, &words, &nulls, &count);
+	known->object = object_of_names(words, nulls, count);
+	known->names = copy;
+	MemoryContextSwitchTo(caller);
+}
+
+/* The object that has the names of an argument. It is made where they aren't those of the call before. */
+static Document
+object_of_argument(FunctionCallInfo fcinfo, const struct varlena *names, bool is_array)
+{
+	KnownNames *known = fcinfo->flinfo->fn_extra;
+
+	if (known == NULL)
+	{
+		known = MemoryContextAllocZero(fcinfo->flinfo->fn_mcxt, sizeof(KnownNames));
+		known->context = AllocSetContextCreate(fcinfo->flinfo->fn_mcxt, "names of a vjson", ALLOCSET_SMALL_SIZES);
+		fcinfo->flinfo->fn_extra = known;
 	}
-	return datum;
+	if (known->names == NULL || VARSIZE_ANY(known->names) != VARSIZE_ANY(names) ||
+		memcmp(known->names, names, VARSIZE_ANY(names)) != 0)
+		know_names(known, names, is_array);
+	return known->object;
 }
 
 Datum
@@ -209,7 +234,6 @@ vjson_delete(PG_FUNCTION_ARGS)
 {
 	Datum		datum = PG_GETARG_DATUM(0);
 	text	   *name = PG_GETARG_TEXT_PP(1);
-	Datum		words = PointerGetDatum(name);
 	Change		change = {REMOVE, .document = document_of_datum(datum)};
 	uint32		kind = kind_of(change.document.key);
 
@@ -220,7 +244,7 @@ vjson_delete(PG_FUNCTION_ARGS)
 	else
 	{
 		change.what = WITHOUT;
-		change.part = object_of_names(&words, NULL, 1);
+		change.part = object_of_argument(fcinfo, name, false);
 	}
 	return changed_or(&change, datum);
 }
@@ -231,18 +255,12 @@ vjson_delete_array(PG_FUNCTION_ARGS)
 	Datum		datum = PG_GETARG_DATUM(0);
 	ArrayType  *array = PG_GETARG_ARRAYTYPE_P(1);
 	Change		change = {WITHOUT, .document = document_of_datum(datum)};
-	Datum	   *names;
-	bool	   *nulls;
-	int			count;
 
 	if (ARR_NDIM(array) > 1)
 		ereport(ERROR, (errcode(ERRCODE_ARRAY_SUBSCRIPT_ERROR), errmsg("wrong number of array subscripts")));
 	if (is_scalar(kind_of(change.document.key)))
 		raise_wrong_kind("cannot delete from scalar");
-	deconstruct_array(array, TEXTOID, -1, false, TYPALIGN_INT, &names, &nulls, &count);
-	if (count < MANY_NAMES && kind_of(change.document.key) == VIZHONIKU_OBJECT)
-		return without_each(datum, &change, names, nulls, count);
-	change.part = object_of_names(names, nulls, count);
+	change.part = object_of_argument(fcinfo, (struct varlena *) array, true);
 	return changed_or(&change, datum);
 }
 
@@ -355,11 +373,12 @@ vjson_strip_nulls(PG_FUNCTION_ARGS)
 static bool
 index_of_words(const VjsonStep *step, int64 *index)
 {
+	const char *words = text_to_cstring(step->words);
 	char	   *end;
 
 	errno = 0;
-	*index = strtol(step->words, &end, 10);
-	return end != step->words && *end == '\0' && errno == 0 && *index >= PG_INT32_MIN && *index <= PG_INT32_MAX;
+	*index = strtol(words, &end, 10);
+	return end != words && *end == '\0' && errno == 0 && *index >= PG_INT32_MIN && *index <= PG_INT32_MAX;
 }
 
 bool
@@ -387,7 +406,8 @@ slot_of_step(const VjsonStep *step, int number, size_t count)
 	if (!index_of_words(step, &index))
 		ereport(ERROR,
 				(errcode(ERRCODE_INVALID_TEXT_REPRESENTATION),
-				 errmsg("path element at position %d is not an integer: \"%s\"", number + 1, step->words)));
+				 errmsg("path element at position %d is not an integer: \"%s\"", number + 1,
+						text_to_cstring(step->words))));
 	if (index < 0 && -index > (int64) count)
 		ereport(ERROR,
 				(errcode(ERRCODE_INVALID_PARAMETER_VALUE),

@@ -52,6 +52,9 @@
 /* Members up to which they are sorted by insertion. */
 #define FEW_MEMBERS		24
 
+/* Names up to which each is looked for in the table of the members, where there is one. */
+#define FEW_NAMES		4
+
 PG_FUNCTION_INFO_V1(vjson_to_jsonb);
 
 /*
@@ -73,6 +76,8 @@ typedef struct
 	size_t		block_size;
 	bool		ascii_alone;	/* whether other strings go by the text */
 	const VjsonWanted *wanted;	/* members; NULL where all are */
+	const Document *by_table;	/* the document, where its members are found by its table; or else NULL */
+	int			next_wanted;	/* name that is looked for in the table */
 	bool		is_cut;			/* whether it ends before the key does */
 } Reader;
 
@@ -530,6 +535,33 @@ is_wanted(const VjsonWanted *wanted, Range name)
 	return false;
 }
 
+/* How many steps lead to the member of that name, which is wanted. */
+static inline int
+steps_to(const Reader *reader, const Level *level, Range name)
+{
+	return level->steps >= 0 && same_bytes(reader->wanted->step[level->steps], name) ? level->steps + 1 : OTHER_STEPS;
+}
+
+/* Go to the next member that is wanted of the object round all others, by the table of its members. */
+static int
+go_to_member(Reader *reader, const Level *level)
+{
+	while (reader->next_wanted < reader->wanted->count)
+	{
+		Range		name = reader->wanted->names[reader->next_wanted++];
+		Range		value;
+
+		if (!find_member(reader->by_table, name, &value))
+			continue;
+		if (unlikely((size_t) (value.at - reader->key) < name.size + STRING_EXTRA))
+			vjson_raise_corrupted();
+		reader->at = value.at - (name.size + STRING_EXTRA - 1);
+		return steps_to(reader, level, name);
+	}
+	reader->is_cut = true;
+	return OTHER_STEPS;
+}
+
 /*
  * Pass the members that begin here and aren't wanted.  Then a member begins that
  * is wanted, and the answer is how many steps lead to it; or the object ends.
@@ -538,6 +570,8 @@ is_wanted(const VjsonWanted *wanted, Range name)
 static int
 pass_members(Reader *reader, const Level *level, bool is_outermost)
 {
+	if (is_outermost && reader->by_table != NULL)
+		return go_to_member(reader, level);
 	for (;;)
 	{
 		Range		name = {reader->at, 0};
@@ -557,8 +591,7 @@ pass_members(Reader *reader, const Level *level, bool is_outermost)
 		if (is_wanted(reader->wanted, name))
 		{
 			reader->at = name.at;
-			return level->steps >= 0 && same_bytes(reader->wanted->step[level->steps], name) ? level->steps + 1 :
-				OTHER_STEPS;
+			return steps_to(reader, level, name);
 		}
 		pass_value(reader);
 	}
@@ -690,6 +723,8 @@ vjson_jsonb(Datum document, const VjsonWanted *wanted)
 	reader.block = (char *) first_block;
 	reader.block_size = sizeof first_block;
 	reader.ascii_alone = GetDatabaseEncoding() != PG_UTF8;
+	if (whole.table.size > 0 && wanted != NULL && wanted->count <= FEW_NAMES)
+		reader.by_table = &whole;
 	begin_zeros(&reader.zeros, &whole);
 	if (!read_value(&reader))
 		return DirectFunctionCall1(jsonb_in, CStringGetDatum(vjson_server_text(&whole)));

@@ -18,6 +18,7 @@
 #include "catalog/pg_type.h"
 #include "mb/pg_wchar.h"
 #include "miscadmin.h"
+#include "nodes/primnodes.h"
 #include "utils/array.h"
 #include "utils/builtins.h"
 #include "utils/memutils.h"
@@ -65,6 +66,41 @@ PG_FUNCTION_INFO_V1(vjson_to_float8);
 
 
 /*
+ * Names that are asked for
+ */
+
+/* Whether the second argument is a constant of the query. */
+static bool
+is_constant(FunctionCallInfo fcinfo)
+{
+	Node	   *call = fcinfo->flinfo->fn_expr;
+	List	   *arguments = NIL;
+
+	if (call != NULL && IsA(call, OpExpr))
+		arguments = ((OpExpr *) call)->args;
+	else if (call != NULL && IsA(call, FuncExpr))
+		arguments = ((FuncExpr *) call)->args;
+	return list_length(arguments) > 1 && IsA(lsecond(arguments), Const);
+}
+
+Range
+vjson_words_of_call(FunctionCallInfo fcinfo)
+{
+	Range		words = utf8_of(PG_GETARG_TEXT_PP(1));
+
+	if (is_constant(fcinfo))
+	{
+		Range	   *known = MemoryContextAlloc(fcinfo->flinfo->fn_mcxt, sizeof(Range) + words.size);
+
+		known->at = memcpy(known + 1, words.at, words.size);
+		known->size = words.size;
+		fcinfo->flinfo->fn_extra = known;
+	}
+	return words;
+}
+
+
+/*
  * Members and items
  */
 
@@ -75,10 +111,10 @@ PG_FUNCTION_INFO_V1(vjson_to_float8);
 static bool
 find_element(Range key, int32 index, Range *part)
 {
-	if (!is_scalar(kind_of(key)))
-		return find_item(key, index, part);
+	if (find_item(key, index, part))
+		return true;
 	*part = key;
-	return index == 0 || index == -1;
+	return (index == 0 || index == -1) && is_scalar(kind_of(key));
 }
 
 Datum
@@ -87,7 +123,7 @@ vjson_object_field(PG_FUNCTION_ARGS)
 	Document	document = get_document(PG_GETARG_VARLENA_PP(0));
 	Range		part;
 
-	if (!find_member(&document, utf8_of(PG_GETARG_TEXT_PP(1)), &part))
+	if (!find_member(&document, words_of_call(fcinfo), &part))
 		PG_RETURN_NULL();
 	PG_RETURN_POINTER(vjson_part(&document, part));
 }
@@ -99,7 +135,7 @@ vjson_object_field_text(PG_FUNCTION_ARGS)
 	Range		part;
 	text	   *result = NULL;
 
-	if (find_member(&document, utf8_of(PG_GETARG_TEXT_PP(1)), &part))
+	if (find_member(&document, words_of_call(fcinfo), &part))
 		result = vjson_part_text(&document, part);
 	if (result == NULL)
 		PG_RETURN_NULL();
@@ -146,7 +182,7 @@ find_by_names(const Document *whole, ArrayType *array, Range *part)
 	for (int i = 0; i < count; i++)
 	{
 		text	   *words = DatumGetTextPP(names[i]);
-		VjsonStep	step = {text_to_cstring(words), utf8_of(words), false};
+		VjsonStep	step = {words, utf8_of(words), false};
 
 		if (!vjson_take_step(&at, &step, part))
 			return false;
@@ -199,6 +235,17 @@ next_step(Range *path, Range *step)
 	step->size = end != NULL ? (size_t) (end - step->at) : path->size - 1;
 	path->at = step->at + step->size;
 	path->size -= step->size + 1;
+	return true;
+}
+
+bool
+vjson_take_name(Range *path, Range *name)
+{
+	Range		rest = *path;
+
+	if (rest.size == 0 || *rest.at != '/' || !next_step(&rest, name) || memchr(name->at, '~', name->size) != NULL)
+		return false;
+	*path = rest;
 	return true;
 }
 
@@ -280,16 +327,16 @@ vjson_find_by_steps(const Document *whole, Range path, Range *part)
 
 /* Whether a member has the name, or an item or the value itself is that string. */
 static bool
-has_name(const Document *whole, text *words)
+has_name(const Document *whole, Range name)
 {
 	Range		key = whole->key;
-	Range		name = utf8_of(words);
-	uint32		kind = kind_of(key);
+	uint32		kind;
 	Range		wanted;
 	Walk		walk;
 
-	if (kind == VIZHONIKU_OBJECT)
-		return find_member(whole, name, &walk.value);
+	if (find_member(whole, name, &walk.value))
+		return true;
+	kind = kind_of(key);
 	if (kind != VIZHONIKU_ARRAY && kind != VIZHONIKU_STRING)
 		return false;
 	wanted = key_of_string(name);
@@ -310,7 +357,7 @@ vjson_exists(PG_FUNCTION_ARGS)
 {
 	Document	document = get_document(PG_GETARG_VARLENA_PP(0));
 
-	PG_RETURN_BOOL(has_name(&document, PG_GETARG_TEXT_PP(1)));
+	PG_RETURN_BOOL(has_name(&document, words_of_call(fcinfo)));
 }
 
 /* How many of the names are there, each counted once, in one pass over the key. *count is of how many there are. */
@@ -371,7 +418,7 @@ any_name(FunctionCallInfo fcinfo, bool wanted)
 	}
 	for (int i = 0; i < count; i++)
 	{
-		if (!nulls[i] && has_name(&document, DatumGetTextPP(names[i])) == wanted)
+		if (!nulls[i] && has_name(&document, utf8_of(DatumGetTextPP(names[i]))) == wanted)
 			return true;
 	}
 	return false;

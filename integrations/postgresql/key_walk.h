@@ -9,6 +9,7 @@
 #ifndef KEY_WALK_H
 #define KEY_WALK_H
 
+#include "fmgr.h"
 #include "mb/pg_wchar.h"
 
 #include <vizhoniku.h>
@@ -35,14 +36,30 @@ is_ascii(const unsigned char *text, size_t size)
 
 /* Words of the server in UTF-8. */
 static inline Range
+utf8_of_bytes(const char *words, size_t size)
+{
+	const char *utf8 = pg_server_to_any(words, (int) size, PG_UTF8);
+	Range		range = {(const unsigned char *) utf8, utf8 == words ? size : strlen(utf8)};
+
+	return range;
+}
+
+static inline Range
 utf8_of(text *words)
 {
-	char	   *utf8 = pg_server_to_any(VARDATA_ANY(words), (int) VARSIZE_ANY_EXHDR(words), PG_UTF8);
-	Range		range;
+	return utf8_of_bytes(VARDATA_ANY(words), VARSIZE_ANY_EXHDR(words));
+}
 
-	range.at = (unsigned char *) utf8;
-	range.size = utf8 == VARDATA_ANY(words) ? VARSIZE_ANY_EXHDR(words) : strlen(utf8);
-	return range;
+/* What words_of_call answers where nothing is kept yet. */
+extern Range vjson_words_of_call(FunctionCallInfo fcinfo);
+
+/* The words that are the second argument, in UTF-8. Those of a constant are kept for the next calls. */
+static inline Range
+words_of_call(FunctionCallInfo fcinfo)
+{
+	const Range *known = fcinfo->flinfo->fn_extra;
+
+	return likely(known != NULL) ? *known : vjson_words_of_call(fcinfo);
 }
 
 /* Whether a call found what it was asked for. An error is raised where the bytes that were passed are none of a value. */

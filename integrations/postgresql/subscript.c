@@ -89,7 +89,6 @@ take_subscripts(ExprState *state, ExprEvalStep *op, ExprContext *econtext)
 	for (int i = 0; i < reference->numupper; i++)
 	{
 		VjsonStep  *step = &steps->steps[i];
-		text	   *words;
 
 		if (reference->upperindexnull[i])
 		{
@@ -101,11 +100,10 @@ take_subscripts(ExprState *state, ExprEvalStep *op, ExprContext *econtext)
 			return false;
 		}
 		if (steps->types[i] == INT4OID)
-			words = cstring_to_text(psprintf("%d", DatumGetInt32(reference->upperindex[i])));
+			step->words = cstring_to_text(psprintf("%d", DatumGetInt32(reference->upperindex[i])));
 		else
-			words = DatumGetTextPP(reference->upperindex[i]);
-		step->words = text_to_cstring(words);
-		step->name = utf8_of(words);
+			step->words = DatumGetTextPP(reference->upperindex[i]);
+		step->name = utf8_of(step->words);
 		step->is_integer = steps->types[i] == INT4OID;
 	}
 	return true;

@@ -8,7 +8,8 @@
  * the sort key of the value: bytes whose order, by memcmp, is the order of
  * values, and that are equal exactly for equal values.  Comparing and hashing
  * look at it alone.  Behind it are the zeros that end decimals, where there are
- * any.  Values that older versions stored are still read (old_forms.c).
+ * any, and behind the document the table of the members of a larger object.
+ * Values that older versions stored are still read (old_forms.c).
  *
  * Keys and texts are in UTF-8 whatever the encoding of the database.
  *
@@ -811,11 +812,10 @@ report_no_path(Node *context, const char *path)
  * key.
  */
 static uint32
-find_part(Range key, const char *path, size_t path_size, Range *part)
+find_part(Range key, Range path, Range *part)
 {
 	size_t		offset;
-	uint32		status = vizhoniku_key_part(key.at, key.size, (const unsigned char *) path, path_size,
-											&offset, &part->size);
+	uint32		status = vizhoniku_key_part(key.at, key.size, path.at, path.size, &offset, &part->size);
 
 	if (status == VIZHONIKU_OUT_OF_MEMORY)
 		vjson_raise_out_of_memory(key.size);
@@ -886,13 +886,11 @@ make_path(const char *path, size_t size, Node *context)
 {
 	static const unsigned char null_key[] = {NULL_KEY};
 	Range		any_key = {null_key, sizeof null_key};
-	char	   *utf8;
 	Range		part;
 
 	if (size > 0 && path[0] == '{')
 		return path_of_array(pnstrdup(path, size), context);
-	utf8 = pg_server_to_any(path, (int) size, PG_UTF8);
-	if (find_part(any_key, utf8, utf8 == path ? size : strlen(utf8), &part) == VIZHONIKU_NO_PATH)
+	if (find_part(any_key, utf8_of_bytes(path, size), &part) == VIZHONIKU_NO_PATH)
 	{
 		report_no_path(context, pnstrdup(path, size));
 		return NULL;
@@ -936,60 +934,63 @@ vjson_path_from_names(PG_FUNCTION_ARGS)
 }
 
 /*
- * The part of a value at a path, or NULL.
+ * Where the part of a document at the path that is the second argument is.
+ * False if there is none.
  *
- * The key of a part is in that of the whole, and the zeros of its numbers are
- * among those of the whole, so nothing is read or written anew.  To the library
- * a step with a minus sign is no index, as RFC 6901 has it; here it counts from
- * the end, as in a path of what is changed.
+ * The first step goes by the table of the members, where there is one.  To the
+ * library a step with a minus sign is no index, as RFC 6901 has it; here it
+ * counts from the end, as in a path of what is changed.
  */
-static struct varlena *
-get_part(struct varlena *value, text *words)
+static bool
+find_at_path(FunctionCallInfo fcinfo, const Document *whole, Range *part)
 {
-	char	   *path = pg_server_to_any(VARDATA_ANY(words), (int) VARSIZE_ANY_EXHDR(words), PG_UTF8);
-	size_t		path_size = path == VARDATA_ANY(words) ? VARSIZE_ANY_EXHDR(words) : strlen(path);
-	Document	document = get_document(value);
-	Range		steps = {(const unsigned char *) path, path_size};
-	Range		part;
+	Range		path = words_of_call(fcinfo);
+	Range		rest = path;
+	Range		name;
 
-	switch (find_part(document.key, path, path_size, &part))
+	*part = whole->key;
+	if (whole->table.size > 0 && vjson_take_name(&rest, &name))
+	{
+		if (!find_member(whole, name, part))
+			return false;
+		if (rest.size == 0)
+			return true;
+	}
+	switch (find_part(*part, rest, part))
 	{
 		case VIZHONIKU_ACCEPTED:
-			return vjson_part(&document, part);
+			return true;
 		case VIZHONIKU_NO_PART:
-			if (memchr(path, '-', path_size) == NULL || !vjson_find_by_steps(&document, steps, &part))
-				return NULL;
-			return vjson_part(&document, part);
+			return memchr(path.at, '-', path.size) != NULL && vjson_find_by_steps(whole, path, part);
 		case VIZHONIKU_NO_PATH:
-			report_no_path(NULL, text_to_cstring(words));
-			return NULL;
+			report_no_path(NULL, text_to_cstring(PG_GETARG_TEXT_PP(1)));
+			return false;
 		default:
-			return NULL;
+			return false;
 	}
 }
 
 Datum
 vjson_get(PG_FUNCTION_ARGS)
 {
-	struct varlena *part = get_part(PG_GETARG_VARLENA_PP(0), PG_GETARG_TEXT_PP(1));
+	Document	document = get_document(PG_GETARG_VARLENA_PP(0));
+	Range		part;
 
-	if (part == NULL)
+	if (!find_at_path(fcinfo, &document, &part))
 		PG_RETURN_NULL();
-	PG_RETURN_POINTER(part);
+	PG_RETURN_POINTER(vjson_part(&document, part));
 }
 
 /* The part as a text: a string without its quotes and escapes, and NULL where it is null. */
 Datum
 vjson_get_text(PG_FUNCTION_ARGS)
 {
-	struct varlena *part = get_part(PG_GETARG_VARLENA_PP(0), PG_GETARG_TEXT_PP(1));
-	Document	document;
-	text	   *result;
+	Document	document = get_document(PG_GETARG_VARLENA_PP(0));
+	Range		part;
+	text	   *result = NULL;
 
-	if (part == NULL)
-		PG_RETURN_NULL();
-	document = get_document(part);
-	result = vjson_text_of(&document);
+	if (find_at_path(fcinfo, &document, &part))
+		result = vjson_part_text(&document, part);
 	if (result == NULL)
 		PG_RETURN_NULL();
 	PG_RETURN_TEXT_P(result);

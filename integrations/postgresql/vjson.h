@@ -102,7 +102,7 @@ extern char *vjson_without_numbers(const char *text, size_t size);
 /* A step of a subscript: a name, or an index in digits. */
 typedef struct
 {
-	char	   *words;			/* in the encoding of the database, for messages */
+	text	   *words;			/* in the encoding of the database */
 	Range		name;			/* in UTF-8 */
 	bool		is_integer;		/* whether it was an integer */
 } VjsonStep;
@@ -116,6 +116,9 @@ extern Datum *vjson_entries(Datum document, int32 *count);
 /* The entries of the names that ? finds, and that of a name as it is in a key. */
 extern Datum *vjson_name_entries(Datum document, int32 *count);
 extern int32 vjson_name_entry(Range name);
+
+/* The name that the first step of a path is, and the path behind it. False if it has escapes, or there is none. */
+extern bool vjson_take_name(Range *path, Range *name);
 
 /* The part at a path, in which an index may count from the end. False if there is none. */
 extern bool vjson_find_by_steps(const Document *whole, Range path, Range *part);
@@ -198,8 +201,8 @@ extern struct varlena *vjson_value_with_table(char *block, size_t capacity, size
 /* The value of a key without zeros. */
 extern struct varlena *vjson_of_key(Range key);
 
-/* The value of a part of the document's key, with the zeros of its numbers. */
-extern struct varlena *vjson_part(const Document *whole, Range part);
+/* The value of a part of the document's key, with the zeros of its numbers: of a document that has some. */
+extern struct varlena *vjson_part_with_zeros(const Document *whole, Range part);
 
 /* A document, and a part, as a text: a string without its quotes and escapes, and NULL where it is null. */
 extern text *vjson_text_of(const Document *document);
@@ -246,6 +249,13 @@ get_key(struct varlena *value)
 		return vjson_old_key(bytes, false);
 	bytes.size = vizhoniku_document_key(bytes.at, bytes.size - vizhoniku_table_size(bytes.at, bytes.size));
 	return bytes;
+}
+
+/* The value of a part of the document's key, with the zeros of its numbers. */
+static inline struct varlena *
+vjson_part(const Document *whole, Range part)
+{
+	return likely(whole->size == whole->key.size) ? vjson_of_key(part) : vjson_part_with_zeros(whole, part);
 }
 
 /* The document of a key without zeros. */
