@@ -240,6 +240,28 @@ fn append_few(
     Ok(())
 }
 
+// Appends the key of an integer of any digits. It is a call of its own, since with it in the loop over the elements of
+// an array the compiler no longer inlines the others.
+#[inline(never)]
+fn append_several(
+    negative: bool,
+    digits: &[u8],
+    count: usize,
+    out: &mut Vec<u8>,
+) -> Result<(), AllocError>
+    requires some { (0 < count) × (count < 32) }
+    requires inside { count ≤ length digits.now }
+    requires leads { slice_index digits.now 0 ≢ ascii.digit_zero }
+    ensures bytes { OnOk result (AllDigits 10 (take count digits.now) → out.new.items ≡ out.old.items
+        ++ map (invert_if negative) (magnitude_key 0 (digits_value 10 (take count digits.now)))) }
+    ensures retained { Extends out.old.items out.new.items }
+{
+    let len = significant_len(&digits[..count]);
+    out.try_reserve(16)?;
+    out.push_reserved(invert_if(negative, 0xA0 + count as u8));
+    append_pairs(negative, digits, len, out)
+}
+
 // Appends the key of an integer above or below 0, given its digits, and what is behind them.
 #[inline(always)]
 fn append_digits(
@@ -258,10 +280,7 @@ fn append_digits(
     if count <= 2 {
         return append_few(negative, digits, count, out);
     }
-    let len = significant_len(&digits[..count]);
-    out.try_reserve(16)?;
-    out.push_reserved(invert_if(negative, 0xA0 + count as u8));
-    append_pairs(negative, digits, len, out)
+    append_several(negative, digits, count, out)
 }
 
 // Appends the key of the integer that the first bytes of a text are.

@@ -1,7 +1,7 @@
 use Rattle.std.proofs.Common.{◌++◌, ◌∷◌, [], ◌∙◌, ap}
 use Rattle.text_write.proofs.IntegerKeys.{appended}
 use Rattle.text_write.proofs.Sinks.{on_ok}
-use Rattle.text_write.proofs.integer_key.append_digits.Goals as goal
+use Rattle.text_write.proofs.integer_key.append_several.Goals as goal
 
 pub returns-clause-bytes : goal.returns-clause-bytes
 returns-clause-bytes c =
