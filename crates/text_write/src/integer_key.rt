@@ -97,6 +97,25 @@ pub(crate) fn significant_len(digits: &[u8]) -> usize
     len
 }
 
+// Appends the first bytes of a row, turned round where the number is negative. Each way has a copy of its own, since of a
+// row that comes from either the bytes are put together one by one.
+#[inline(always)]
+fn append_turned(
+    negative: bool,
+    row: [u8; 8],
+    count: usize,
+    out: &mut Vec<u8>,
+) -> Result<(), AllocError>
+    requires { count ≤ 8 }
+    ensures bytes { OnOk result (out.new.items ≡ out.old.items ++ take count (map (invert_if negative) row)) }
+    ensures retained { Extends out.old.items out.new.items }
+{
+    if negative {
+        return append_part(inverted_if(negative, row), count, out);
+    }
+    append_part(row, count, out)
+}
+
 // Appends the bytes of at most 16 digits, which are the first ones.
 #[inline(always)]
 fn append_short(
@@ -114,7 +133,7 @@ fn append_short(
     let last = (len - 1) / 2;
     let second = if len % 2 == 0 { digits[len - 1] } else { b'0' };
     row[last] = last_byte(digits[2 * last], second);
-    append_part(inverted_if(negative, row), last + 1, out)
+    append_turned(negative, row, last + 1, out)
 }
 
 // Appends the bytes of 16 digits behind which others are that aren't all zeros.
@@ -124,7 +143,7 @@ fn append_front(negative: bool, digits: &[u8; 16], out: &mut Vec<u8>) -> Result<
         ≡ out.old.items ++ map (invert_if negative) (more_bytes 8 0 digits.now)) }
     ensures retained { Extends out.old.items out.new.items }
 {
-    out.extend_from_slice(&inverted_if(negative, more_bytes(digits)))
+    append_turned(negative, more_bytes(digits), 8, out)
 }
 
 // Appends the bytes of any digits.
