@@ -61,14 +61,11 @@ pub(crate) fn invert_if(negative: bool, byte: u8) -> u8
     if negative { 255 - byte } else { byte }
 }
 
-// The bytes, turned round where the number is negative.
+// The bytes, turned round.
 #[inline(always)]
-fn inverted_if(negative: bool, row: [u8; 8]) -> [u8; 8]
-    ensures { result ≡ map (invert_if negative) row }
+fn inverted(row: [u8; 8]) -> [u8; 8]
+    ensures { result ≡ map (invert_if true) row }
 {
-    if !negative {
-        return row;
-    }
     [
         255 - row[0],
         255 - row[1],
@@ -97,8 +94,30 @@ pub(crate) fn significant_len(digits: &[u8]) -> usize
     len
 }
 
-// Appends the first bytes of a row, turned round where the number is negative. Each way has a copy of its own, since of a
-// row that comes from either the bytes are put together one by one.
+// Appends bytes one by one, which takes less time than a call where they are few.
+#[inline(always)]
+fn append_each(bytes: &[u8], out: &mut Vec<u8>) -> Result<(), AllocError>
+    ensures bytes { OnOk result (out.new.items ≡ out.old.items ++ bytes.now) }
+    ensures retained { Extends out.old.items out.new.items }
+{
+    out.try_reserve(bytes.len())?;
+    'bytes: for byte in bytes {
+        out.push_reserved(*byte);
+    }
+    Ok(())
+}
+
+// Appends the first bytes of a row, turned round. It is a call of its own, as few numbers are negative.
+#[inline(never)]
+fn append_inverted(row: [u8; 8], count: usize, out: &mut Vec<u8>) -> Result<(), AllocError>
+    requires { count ≤ 8 }
+    ensures bytes { OnOk result (out.new.items ≡ out.old.items ++ take count (map (invert_if true) row)) }
+    ensures retained { Extends out.old.items out.new.items }
+{
+    append_part(inverted(row), count, out)
+}
+
+// Appends the first bytes of a row, turned round where the number is negative.
 #[inline(always)]
 fn append_turned(
     negative: bool,
@@ -111,9 +130,9 @@ fn append_turned(
     ensures retained { Extends out.old.items out.new.items }
 {
     if negative {
-        return append_part(inverted_if(negative, row), count, out);
+        return append_inverted(row, count, out);
     }
-    append_part(row, count, out)
+    append_each(&row[..count], out)
 }
 
 // Appends the bytes of at most 16 digits, which are the first ones.
