@@ -9,6 +9,7 @@ use Rattle.text_write.specs.CheckSink.{CheckEnds, CheckHolds, unwritten}
 use Rattle.text_write.specs.KeySink.{Held}
 use Rattle.text_write.specs.KeySink.Held.{members}
 use Rattle.text_write.specs.OpenMembers.{AreSame, Begins, Closes, EndIn, FindsRepeat, ReportsRepeatOf, next_start}
+use Rattle.text_write.specs.declared.open_members.Repeat.{Repeat}
 use Rattle.text_write.specs.declared.check.CheckSink.{CheckSink}
 use Rattle.text_write.proofs.OpenMembers as opened
 
@@ -35,15 +36,15 @@ value_ended {r = r} {fs = fs} {key = key} {offset = offset} {cs = cs} s next oth
 -- ---- the end of an object
 
 -- a key that comes twice
-pub repeat_reported : {text : List ℕ} {r : CheckSink} {first : ℕ} {held : List Held} {fs : List Found} {key : Mark × List ℕ} {offset : ℕ} {cs : List Open} (s : CheckSink) (found : Option ℕ) → CheckHolds text r false (members first ∷ held) (members_so_far fs key offset ∷ cs)
-    → ((commas : Bool) → (bytes : Found → List ℕ) → (start : ℕ) → (gs : List Found) → EndIn commas bytes r.members first start gs → FindsRepeat s.members first gs found) → is_some found ≡ true → MatchOption found (CheckEnds text s fs held cs) (ReportsRepeatOf s.members first fs)
+pub repeat_reported : {text : List ℕ} {r : CheckSink} {first : ℕ} {held : List Held} {fs : List Found} {key : Mark × List ℕ} {offset : ℕ} {cs : List Open} (s : CheckSink) (found : Option Repeat) → CheckHolds text r false (members first ∷ held) (members_so_far fs key offset ∷ cs)
+    → ((commas : Bool) → (bytes : Found → List ℕ) → (start : ℕ) → (gs : List Found) → EndIn commas bytes r.members first start gs → FindsRepeat s.members gs found) → is_some found ≡ true → MatchOption found (CheckEnds text s fs held cs) (ReportsRepeatOf s.members fs)
 repeat_reported {fs = fs} {cs = cs} s None sink finds e = absurd cc
 repeat_reported {fs = fs} {cs = cs} s (Some i) sink finds e = finds false (λ f. []) 0 fs (opened.ends_in sink.members sink.fits.0)
 
 -- no such key
-pub object_ended : {text : List ℕ} {r : CheckSink} {first : ℕ} {held : List Held} {fs : List Found} {key : Mark × List ℕ} {offset : ℕ} {cs : List Open} (s t : CheckSink) (found : Option ℕ) → CheckHolds text r false (members first ∷ held) (members_so_far fs key offset ∷ cs)
-    → ((commas : Bool) → (bytes : Found → List ℕ) → (start : ℕ) → (gs : List Found) → EndIn commas bytes r.members first start gs → FindsRepeat s.members first gs found) → is_some found ≡ false → AreSame r.members s.members → Closes first s.members t.members
-    → MatchOption found (CheckEnds text t fs held cs) (ReportsRepeatOf t.members first fs)
+pub object_ended : {text : List ℕ} {r : CheckSink} {first : ℕ} {held : List Held} {fs : List Found} {key : Mark × List ℕ} {offset : ℕ} {cs : List Open} (s t : CheckSink) (found : Option Repeat) → CheckHolds text r false (members first ∷ held) (members_so_far fs key offset ∷ cs)
+    → ((commas : Bool) → (bytes : Found → List ℕ) → (start : ℕ) → (gs : List Found) → EndIn commas bytes r.members first start gs → FindsRepeat s.members gs found) → is_some found ≡ false → AreSame r.members s.members → Closes first s.members t.members
+    → MatchOption found (CheckEnds text t fs held cs) (ReportsRepeatOf t.members fs)
 object_ended {fs = fs} {cs = cs} s t None sink finds e a closes =
     record { filled = record { members = opened.closed sink.members sink.fits.0 a closes; fits = sink.fits.1 }; new_keys = finds false (λ f. []) 0 fs (opened.ends_in sink.members sink.fits.0) }
 object_ended {fs = fs} {cs = cs} s t (Some i) sink finds e a closes = absurd cc

@@ -9,7 +9,7 @@ use Rattle.text_scan.specs.Open.{Open, members_so_far}
 use Rattle.jsonb_spec.specs.Source.{Found, Source, Spot, first_repeat, found_member, spot_of}
 use Rattle.text_write.specs.MemberStarts.{AreEntries, MemberStart, IsVerbatim}
 use Rattle.text_write.specs.Members.{AreInOrder, AreKeyed, AreWritten, Piece, SpotsAscend, HoldFrom, ReportsRepeat, between, bytes_of_pieces, join_pieces, pieces_of, spot_at, spot_in, spots_of_pieces}
-use Rattle.text_write.specs.OpenMembers.{AreOf, AreSame, Begins, Closes, EndIn, FindsRepeat, KeysAscendFrom, Layout, PutsInOrder, ReportsRepeatOf, all_starts, next_in, next_start, spot_among, starts_from, starts_in}
+use Rattle.text_write.specs.OpenMembers.{AreOf, AreSame, Begins, Closes, EndIn, FindsRepeat, KeysAscendFrom, Layout, PutsInOrder, ReportsRepeatOf, all_starts, next_in, next_start, repeat_among, spot_at_repeat, starts_from, starts_in}
 use Rattle.text_write.specs.declared.members.Member.{Member}
 use Rattle.text_write.specs.declared.open_members.OpenMembers.{OpenMembers}
 use Rattle.text_write.proofs.MemberStarts.{verbatim_all, verbatim_apart, verbatim_count, entry_keys, entry_spots, one_more, utf8_at}
@@ -177,33 +177,31 @@ object_verbatim commas bytes r first start fs decoded ms p q own =
     }
 
 reported : {commas : Bool} {bytes : Found → List ℕ} {start : ℕ} {fs : List Found} {decoded : List ℕ} {ms : List Member} (r s : OpenMembers) (first i : ℕ) → ObjectVerbatim commas bytes r.text.now decoded ms start fs → decoded ≡ r.decoded.items → ms ≡ drop first r.entries.items → AreSame r s
-    → ReportsRepeat r.text.now decoded ms (Some i) → ReportsRepeatOf s first fs i
+    → ReportsRepeat r.text.now decoded ms (Some i) → ReportsRepeatOf s fs (record { first = first; index = i })
 reported {decoded = decoded} {ms = ms} r s first i k p q a repeat =
-    let same : spot_at r.text.now decoded ms i ≡ spot_among s first i = λ j. spot_at (sym a.text j) ((p ∙ sym a.decoded) j) ((q ∙ ap (drop first) (sym a.entries)) j) i in
+    let same : spot_at r.text.now decoded ms i ≡ spot_at_repeat s (record { first = first; index = i }) = λ j. spot_at (sym a.text j) ((p ∙ sym a.decoded) j) ((q ∙ ap (drop first) (sym a.entries)) j) i in
     record {
       repeat = ap first_repeat (sym k.spots) ∙ repeat ∙ ap Some same;
       utf8 = subst (λ (t : Spot). IsUtf8 t.key) same (k.utf8 i);
     }
 
 -- by what was searched
-pub found : {E : Type 0} (r s : OpenMembers) (first : ℕ) (decoded : List ℕ) (ms : List Member) (answer : Result (Option ℕ) E) → decoded ≡ r.decoded.items → ms ≡ drop first r.entries.items → AreSame r s → (AreKeyed r.text.now decoded ms → IfOk answer (ReportsRepeat r.text.now decoded ms))
-    → IfOk answer (λ found. (commas : Bool) → (bytes : Found → List ℕ) → (start : ℕ) → (fs : List Found) → EndIn commas bytes r first start fs → FindsRepeat s first fs found)
-found r s first decoded ms (Err e) p q a repeat = tt
-found r s first decoded ms (Ok None) p q a repeat = λ commas bytes start fs own. let k = object_verbatim commas bytes r first start fs decoded ms p q own in ap first_repeat (sym k.spots) ∙ repeat k.keyed
-found r s first decoded ms (Ok (Some i)) p q a repeat = λ commas bytes start fs own. let k = object_verbatim commas bytes r first start fs decoded ms p q own in reported r s first i k p q a (repeat k.keyed)
+pub found : (r s : OpenMembers) (first : ℕ) (decoded : List ℕ) (ms : List Member) (index : Option ℕ) → decoded ≡ r.decoded.items → ms ≡ drop first r.entries.items → AreSame r s → (AreKeyed r.text.now decoded ms → ReportsRepeat r.text.now decoded ms index)
+    → (commas : Bool) → (bytes : Found → List ℕ) → (start : ℕ) → (fs : List Found) → EndIn commas bytes r first start fs → FindsRepeat s fs (repeat_among first index)
+found r s first decoded ms None p q a repeat = λ commas bytes start fs own. let k = object_verbatim commas bytes r first start fs decoded ms p q own in ap first_repeat (sym k.spots) ∙ repeat k.keyed
+found r s first decoded ms (Some i) p q a repeat = λ commas bytes start fs own. let k = object_verbatim commas bytes r first start fs decoded ms p q own in reported r s first i k p q a (repeat k.keyed)
 
 -- members put in order
-pub put : {E : Type 0} (commas : Bool) (floor : ℕ) (r s : OpenMembers) (first : ℕ) (old new : List ℕ) (decoded : List ℕ) (ms : List Member) (answer : Result (Option ℕ) E) → decoded ≡ r.decoded.items → ms ≡ drop first r.entries.items → AreSame r s
-    → (AreKeyed r.text.now decoded ms → IfOk answer (ReportsRepeat r.text.now decoded ms))
-    → (AreKeyed r.text.now decoded ms → (front : List ℕ) → (pieces : List Piece) → floor ≤ length front → spots_of_pieces pieces ≡ map (spot_in r.text.now decoded) ms → AreWritten commas ms front (bytes_of_pieces pieces) old → IfOk answer (λ reported. AreInOrder commas front pieces reported new))
-    → IfOk answer (PutsInOrder commas floor r s first old new)
-put commas floor r s first old new decoded ms (Err e) p q a repeat order = tt
-put commas floor r s first old new decoded ms (Ok None) p q a repeat order = λ bytes front fs enough own whole.
+pub put : (commas : Bool) (floor : ℕ) (r s : OpenMembers) (first : ℕ) (old new : List ℕ) (decoded : List ℕ) (ms : List Member) (index : Option ℕ) → decoded ≡ r.decoded.items → ms ≡ drop first r.entries.items → AreSame r s
+    → (AreKeyed r.text.now decoded ms → ReportsRepeat r.text.now decoded ms index)
+    → (AreKeyed r.text.now decoded ms → (front : List ℕ) → (pieces : List Piece) → floor ≤ length front → spots_of_pieces pieces ≡ map (spot_in r.text.now decoded) ms → AreWritten commas ms front (bytes_of_pieces pieces) old → AreInOrder commas front pieces index new)
+    → PutsInOrder commas floor r s first old new (repeat_among first index)
+put commas floor r s first old new decoded ms None p q a repeat order = λ bytes front fs enough own whole.
     let k = object_verbatim commas bytes r first (length front) fs decoded ms p q own in
     let written : AreWritten commas ms front (bytes_of_pieces (pieces_of bytes fs)) old = subst (λ texts. AreWritten commas ms front texts old) (sym (piece_bytes bytes fs)) (record { whole = whole; starts = k.hold }) in
     record {
       written = order k.keyed front (pieces_of bytes fs) enough (piece_spots bytes fs ∙ sym k.spots) written ∙ ap (λ texts. front ++ join_pieces commas texts) (bytes_in_order bytes fs);
       new_keys = ap first_repeat (sym k.spots) ∙ repeat k.keyed;
     }
-put commas floor r s first old new decoded ms (Ok (Some i)) p q a repeat order = λ bytes front fs enough own whole.
+put commas floor r s first old new decoded ms (Some i) p q a repeat order = λ bytes front fs enough own whole.
     let k = object_verbatim commas bytes r first (length front) fs decoded ms p q own in reported r s first i k p q a (repeat k.keyed)

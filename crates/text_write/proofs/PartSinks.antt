@@ -20,6 +20,7 @@ use Rattle.text_write.specs.CheckSink as check
 use Rattle.text_write.specs.CheckSink.{CheckHolds, unwritten}
 use Rattle.text_write.specs.KeySink as key
 use Rattle.text_write.specs.OpenMembers.{EndsObject, ReportsRepeatOf, all_starts}
+use Rattle.text_write.specs.declared.open_members.Repeat.{Repeat}
 use Rattle.text_write.specs.PartSink.{EndsAt, FilledAt, HeldFits, InnerEnds, IsAhead, IsAround, IsInPart, IsOutside, IsSeeking, IsWritten, Leads, PartFilled, PartHeld, PartHolds, HoldsAt, check_held, first_index, follow, follow_key, array_held, keys_of, path_behind, object_held, other_keys, part_inside, part_of, part_of_ended, part_with_value, less, rest_at, text_held, waits_at, within, ahead_of, level_of}
 use Rattle.text_write.specs.TextSink as text
 use Rattle.text_write.specs.TextSink.{SeesPart, TextFilled, TextHolds, base_of}
@@ -481,27 +482,27 @@ if_ok (Ok x) p f = f x p
 if_ok (Err e) p f = tt
 
 -- around the part
-pub reported_around : {document : List ℕ} {r : PartSink} (k : CheckSink) {held : List PartHeld} {cs : List Open} (reported : Option ℕ) (f : PartMembers) (fs : List Found) (last : Mark × List ℕ) (offset : ℕ) → r.inside ≡ 0
-    → (CheckHolds document r.check false (key.members f.first ∷ map check_held held) (members_so_far fs last offset ∷ cs) → MatchOption reported (check.CheckEnds document k fs (map check_held held) cs) (ReportsRepeatOf k.members f.first fs))
+pub reported_around : {document : List ℕ} {r : PartSink} (k : CheckSink) {held : List PartHeld} {cs : List Open} (reported : Option Repeat) (f : PartMembers) (fs : List Found) (last : Mark × List ℕ) (offset : ℕ) → r.inside ≡ 0
+    → (CheckHolds document r.check false (key.members f.first ∷ map check_held held) (members_so_far fs last offset ∷ cs) → MatchOption reported (check.CheckEnds document k fs (map check_held held) cs) (ReportsRepeatOf k.members fs))
     → PartHolds document r false (object_held f ∷ held) (members_so_far fs last offset ∷ cs)
     → MatchOption reported (EndsObject (PartFilled document) (record { check = k; text = r.text; path = r.path; due = r.due; inside = r.inside; found = r.found }) fs held cs)
-    (λ i. ReportsRepeatOf (if nat_lt 0 r.inside then r.text.members else k.members) f.first fs i)
+    (λ i. ReportsRepeatOf (if nat_lt 0 r.inside then r.text.members else k.members) fs i)
 reported_around {document = document} {r = r} k {held = held} {cs = cs} reported f fs last offset none reports sink = by_reported reported (reports (around none sink).0.holds)
   where
-    by_reported : (o : Option ℕ) → MatchOption o (check.CheckEnds document k fs (map check_held held) cs) (ReportsRepeatOf k.members f.first fs)
-        → MatchOption o (EndsObject (PartFilled document) (record { check = k; text = r.text; path = r.path; due = r.due; inside = r.inside; found = r.found }) fs held cs) (λ i. ReportsRepeatOf (if nat_lt 0 r.inside then r.text.members else k.members) f.first fs i)
+    by_reported : (o : Option Repeat) → MatchOption o (check.CheckEnds document k fs (map check_held held) cs) (ReportsRepeatOf k.members fs)
+        → MatchOption o (EndsObject (PartFilled document) (record { check = k; text = r.text; path = r.path; due = r.due; inside = r.inside; found = r.found }) fs held cs) (λ i. ReportsRepeatOf (if nat_lt 0 r.inside then r.text.members else k.members) fs i)
     by_reported None ends = record { filled = object_ended f fs last offset none ends.filled ends.new_keys sink; new_keys = ends.new_keys }
-    by_reported (Some i) reported = subst (λ n. ReportsRepeatOf (if nat_lt 0 n then r.text.members else k.members) f.first fs i) (sym none) reported
+    by_reported (Some i) reported = subst (λ n. ReportsRepeatOf (if nat_lt 0 n then r.text.members else k.members) fs i) (sym none) reported
 
 -- in it, where none comes twice
-pub new_in : {document : List ℕ} {r : PartSink} {w : TextSink} {held : List PartHeld} {cs : List Open} (reported : Option ℕ) (f : PartMembers) (fs : List Found) (last : Mark × List ℕ) (offset : ℕ) → 0 < r.inside → is_none reported ≡ true
-    → ((hs : List text.Held) → (ds : List Open) → TextHolds document r.text false (text.members f.first ∷ hs) (members_so_far fs last offset ∷ ds) → MatchOption reported (EndsObject (TextFilled document) w fs hs ds) (ReportsRepeatOf w.members f.first fs))
+pub new_in : {document : List ℕ} {r : PartSink} {w : TextSink} {held : List PartHeld} {cs : List Open} (reported : Option Repeat) (f : PartMembers) (fs : List Found) (last : Mark × List ℕ) (offset : ℕ) → 0 < r.inside → is_none reported ≡ true
+    → ((hs : List text.Held) → (ds : List Open) → TextHolds document r.text false (text.members f.first ∷ hs) (members_so_far fs last offset ∷ ds) → MatchOption reported (EndsObject (TextFilled document) w fs hs ds) (ReportsRepeatOf w.members fs))
     → PartHolds document r false (object_held f ∷ held) (members_so_far fs last offset ∷ cs) → ((hs : List text.Held) → (ds : List Open) → TextHolds document r.text false (text.members f.first ∷ hs) (members_so_far fs last offset ∷ ds) → TextFilled document w (object_source_of fs) hs ds)
     × (first_repeat (map spot_of fs) ≡ None)
 new_in {document = document} {r = r} {w = w} {held = held} {cs = cs} reported f fs last offset some none reports sink =
     (λ hs ds holds_so. (by_reported reported none (reports hs ds holds_so)).filled, by_count r.inside some sink.holds)
   where
-    by_reported : {hs : List text.Held} {ds : List Open} (o : Option ℕ) → is_none o ≡ true → MatchOption o (EndsObject (TextFilled document) w fs hs ds) (ReportsRepeatOf w.members f.first fs) → EndsObject (TextFilled document) w fs hs ds
+    by_reported : {hs : List text.Held} {ds : List Open} (o : Option Repeat) → is_none o ≡ true → MatchOption o (EndsObject (TextFilled document) w fs hs ds) (ReportsRepeatOf w.members fs) → EndsObject (TextFilled document) w fs hs ds
     by_reported None e ends = ends
     by_reported (Some i) e ends = absurd cc
 
@@ -509,22 +510,22 @@ new_in {document = document} {r = r} {w = w} {held = held} {cs = cs} reported f 
     by_count zero some x = absurd (omega (arith, some))
     by_count (suc n) some x = (by_reported reported none (reports (map text_held (take n held)) (take n cs) x.1)).new_keys
 
-pub ended_in : {document : List ℕ} {next : PartSink} (fs : List Found) {held : List PartHeld} {cs : List Open} (reported : Option ℕ) (B : ℕ → Type 0) → is_none reported ≡ true → PartFilled document next (object_source_of fs) held cs → first_repeat (map spot_of fs) ≡ None
+pub ended_in : {document : List ℕ} {next : PartSink} (fs : List Found) {held : List PartHeld} {cs : List Open} (reported : Option Repeat) (B : Repeat → Type 0) → is_none reported ≡ true → PartFilled document next (object_source_of fs) held cs → first_repeat (map spot_of fs) ≡ None
     → MatchOption reported (EndsObject (PartFilled document) next fs held cs) B
 ended_in fs None B e filled new = record { filled = filled; new_keys = new }
 ended_in fs (Some i) B e filled new = absurd cc
 
 -- in it, where one does
-pub reported_in : {document : List ℕ} {r : PartSink} (w : TextSink) {held : List PartHeld} {cs : List Open} (A : Type 0) (reported : Option ℕ) (f : PartMembers) (fs : List Found) (last : Mark × List ℕ) (offset : ℕ) → 0 < r.inside → is_none reported ≡ false
-    → ((hs : List text.Held) → (ds : List Open) → TextHolds document r.text false (text.members f.first ∷ hs) (members_so_far fs last offset ∷ ds) → MatchOption reported (EndsObject (TextFilled document) w fs hs ds) (ReportsRepeatOf w.members f.first fs))
-    → PartHolds document r false (object_held f ∷ held) (members_so_far fs last offset ∷ cs) → MatchOption reported A (λ i. ReportsRepeatOf (if nat_lt 0 r.inside then w.members else r.check.members) f.first fs i)
+pub reported_in : {document : List ℕ} {r : PartSink} (w : TextSink) {held : List PartHeld} {cs : List Open} (A : Type 0) (reported : Option Repeat) (f : PartMembers) (fs : List Found) (last : Mark × List ℕ) (offset : ℕ) → 0 < r.inside → is_none reported ≡ false
+    → ((hs : List text.Held) → (ds : List Open) → TextHolds document r.text false (text.members f.first ∷ hs) (members_so_far fs last offset ∷ ds) → MatchOption reported (EndsObject (TextFilled document) w fs hs ds) (ReportsRepeatOf w.members fs))
+    → PartHolds document r false (object_held f ∷ held) (members_so_far fs last offset ∷ cs) → MatchOption reported A (λ i. ReportsRepeatOf (if nat_lt 0 r.inside then w.members else r.check.members) fs i)
 reported_in {document = document} {r = r} w {held = held} {cs = cs} A reported f fs last offset some other reports sink = by_count r.inside some sink.holds
   where
-    by_reported : (B C : Type 0) (D : ℕ → Type 0) (o : Option ℕ) → is_none o ≡ false → MatchOption o B D → MatchOption o C D
+    by_reported : (B C : Type 0) (D : Repeat → Type 0) (o : Option Repeat) → is_none o ≡ false → MatchOption o B D → MatchOption o C D
     by_reported B C D None e h = absurd cc
     by_reported B C D (Some i) e h = h
 
-    by_count : (n : ℕ) → 0 < n → HoldsAt n document r false (object_held f ∷ held) (members_so_far fs last offset ∷ cs) → MatchOption reported A (λ i. ReportsRepeatOf (if nat_lt 0 n then w.members else r.check.members) f.first fs i)
+    by_count : (n : ℕ) → 0 < n → HoldsAt n document r false (object_held f ∷ held) (members_so_far fs last offset ∷ cs) → MatchOption reported A (λ i. ReportsRepeatOf (if nat_lt 0 n then w.members else r.check.members) fs i)
     by_count zero some x = absurd (omega (arith, some))
     by_count (suc n) some x = let tested : nat_lt 0 (suc n) ≡ true = grind (arith, nat_tests) in rw tested (by_reported _ A _ reported other (reports (map text_held (take n held)) (take n cs) x.1))
 

@@ -8,6 +8,7 @@ use Rattle.text_scan.specs.Open.{Open, members_so_far}
 use Rattle.jsonb_spec.specs.Source.{Found, sort_by, spot_of}
 use Rattle.text_write.specs.Members.{join_pieces}
 use Rattle.text_write.specs.OpenMembers.{AreOf, AreSettled, EndIn, EndsObject, KeysAscendFrom, PutsInOrder, ReportsRepeatOf}
+use Rattle.text_write.specs.declared.open_members.Repeat.{Repeat}
 use Rattle.text_write.specs.OpenText.{member_text, open_text}
 use Rattle.text_write.specs.TextSink.{Closes, Held, HeldFits, IsSettled, PreservesMembers, TextFilled, TextHolds, base_of, members, text_layout}
 use Rattle.text_write.specs.Written.{bytes_of}
@@ -39,14 +40,14 @@ joined_behind r cs fs = behind_front (base_of r) (open_text true cs) (with_comma
 
 -- ---- members put in order
 
-pub settled : {E : Type 0} (r s : TextSink) (first : ℕ) (answer : Result (Option ℕ) E) → IfOk answer (PutsInOrder true r.base r.members s.members first (bytes_of r.written) (bytes_of s.written))
-    → IfOk answer (λ reported. (text : List ℕ) → (held : List Held) → (fs : List Found) → (key : Mark × List ℕ) → (offset : ℕ) → (cs : List Open) → TextHolds text r false (members first ∷ held) (members_so_far fs key offset ∷ cs) → MatchOption reported (IsSettled r s fs cs) (ReportsRepeatOf s.members first fs))
+pub settled : {E : Type 0} (r s : TextSink) (first : ℕ) (answer : Result (Option Repeat) E) → IfOk answer (PutsInOrder true r.base r.members s.members first (bytes_of r.written) (bytes_of s.written))
+    → IfOk answer (λ reported. (text : List ℕ) → (held : List Held) → (fs : List Found) → (key : Mark × List ℕ) → (offset : ℕ) → (cs : List Open) → TextHolds text r false (members first ∷ held) (members_so_far fs key offset ∷ cs) → MatchOption reported (IsSettled r s fs cs) (ReportsRepeatOf s.members fs))
 settled r s first (Err e) h = tt
 settled r s first (Ok reported) h = λ text held fs key offset cs sink. by fs cs reported (
     h member_text (front r cs) fs (omega (arith, front_length r cs)) (subst (λ n. EndIn true member_text r.members first n fs) (front_length r cs) (opened.ends_in sink.members sink.fits.0)) (sink.bytes ∙ joined_behind r cs fs)
     )
   where
-    by : (fs : List Found) (cs : List Open) (reported : Option ℕ) → MatchOption reported (AreSettled true member_text (front r cs) fs (bytes_of s.written)) (ReportsRepeatOf s.members first fs) → MatchOption reported (IsSettled r s fs cs) (ReportsRepeatOf s.members first fs)
+    by : (fs : List Found) (cs : List Open) (reported : Option Repeat) → MatchOption reported (AreSettled true member_text (front r cs) fs (bytes_of s.written)) (ReportsRepeatOf s.members fs) → MatchOption reported (IsSettled r s fs cs) (ReportsRepeatOf s.members fs)
     by fs cs None is = record { written = is.written ∙ sym (joined_behind r cs (sort_by spot_of fs)); new_keys = is.new_keys }
     by fs cs (Some i) is = is
 
@@ -84,11 +85,11 @@ ended {text = text} {r = r} {t = t} {held = held} {fs = fs} {cs = cs} sink prese
 
 -- ---- what was reported
 
-pub if_some : (text : List ℕ) (r s : TextSink) (first : ℕ) (fs : List Found) (held : List Held) (cs : List Open) (reported : Option ℕ) → true ≡ is_some reported → MatchOption reported (IsSettled r s fs cs) (ReportsRepeatOf s.members first fs)
-    → MatchOption reported (EndsObject (TextFilled text) s fs held cs) (ReportsRepeatOf s.members first fs)
-if_some text r s first fs held cs None e h = absurd cc
-if_some text r s first fs held cs (Some n) e h = h
+pub if_some : (text : List ℕ) (r s : TextSink) (fs : List Found) (held : List Held) (cs : List Open) (reported : Option Repeat) → true ≡ is_some reported → MatchOption reported (IsSettled r s fs cs) (ReportsRepeatOf s.members fs)
+    → MatchOption reported (EndsObject (TextFilled text) s fs held cs) (ReportsRepeatOf s.members fs)
+if_some text r s fs held cs None e h = absurd cc
+if_some text r s fs held cs (Some n) e h = h
 
-pub if_none : (r s : TextSink) (first : ℕ) (fs : List Found) (cs : List Open) (reported : Option ℕ) → false ≡ is_some reported → MatchOption reported (IsSettled r s fs cs) (ReportsRepeatOf s.members first fs) → IsSettled r s fs cs
-if_none r s first fs cs None e h = h
-if_none r s first fs cs (Some n) e h = absurd cc
+pub if_none : (r s : TextSink) (fs : List Found) (cs : List Open) (reported : Option Repeat) → false ≡ is_some reported → MatchOption reported (IsSettled r s fs cs) (ReportsRepeatOf s.members fs) → IsSettled r s fs cs
+if_none r s fs cs None e h = h
+if_none r s fs cs (Some n) e h = absurd cc

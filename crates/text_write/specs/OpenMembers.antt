@@ -1,5 +1,6 @@
 -- The members of the objects that are open: what is held of them, and what is known where an object ends.
 use Rattle.std.specs.Prelude.{◌≡◌, ℕ, ◌+◌, ◌≤◌, Bool, true, false, List, [], ◌∷◌, ◌++◌, length, map, drop, take, Option, Some, None, MatchOption}
+use Rattle.std.specs.Option.{option_map}
 use Rattle.std.specs.Str.{IsUtf8}
 use Rattle.text_scan.specs.Open.{Open, elements_so_far, members_so_far}
 use Rattle.jsonb_spec.specs.Source.{Found, Source, Spot, first_repeat, object_source_of, sort_by, spot_of}
@@ -7,6 +8,7 @@ use Rattle.text_write.specs.MemberStarts.{AreEntries, MemberStart, IsVerbatim}
 use Rattle.text_write.specs.Members.{AreKeyed, SpotsAscend, between, join_pieces, spot_at, spot_in}
 use Rattle.text_write.specs.declared.members.Member.{Member}
 use Rattle.text_write.specs.declared.open_members.OpenMembers.{OpenMembers}
+use Rattle.text_write.specs.declared.open_members.Repeat.{Repeat}
 
 -- ---- steps
 
@@ -96,18 +98,22 @@ KeysAscendFrom ms first =
     AreKeyed ms.text.now ms.decoded.items (drop first ms.entries.items)
     → SpotsAscend (map (spot_in ms.text.now ms.decoded.items) (drop first ms.entries.items))
 
--- the spot of a member, by its index among those from another index on
-abbrev pub spot_among : OpenMembers → ℕ → ℕ → Spot
-spot_among ms first i = spot_at ms.text.now ms.decoded.items (drop first ms.entries.items) i
+-- the spot of the member where a key comes twice
+abbrev pub spot_at_repeat : OpenMembers → Repeat → Spot
+spot_at_repeat ms r = spot_at ms.text.now ms.decoded.items (drop r.first ms.entries.items) r.index
+
+-- the member where a key comes twice, among those from an index on
+abbrev pub repeat_among : ℕ → Option ℕ → Option Repeat
+repeat_among first found = option_map (λ i. record { first = first; index = i }) found
 
 -- The least key that comes twice is that of this member, and is UTF-8.
-pub record ReportsRepeatOf (ms : OpenMembers) (first : ℕ) (fs : List Found) (i : ℕ) : Type 0 where
-  pub repeat : first_repeat (map spot_of fs) ≡ Some (spot_among ms first i)
-  pub utf8 : IsUtf8 (spot_among ms first i).key
+pub record ReportsRepeatOf (ms : OpenMembers) (fs : List Found) (r : Repeat) : Type 0 where
+  pub repeat : first_repeat (map spot_of fs) ≡ Some (spot_at_repeat ms r)
+  pub utf8 : IsUtf8 (spot_at_repeat ms r).key
 
 -- No key comes twice, or the least one that does is reported.
-abbrev pub FindsRepeat : OpenMembers → ℕ → List Found → Option ℕ → Type 0
-FindsRepeat ms first fs found = MatchOption found (first_repeat (map spot_of fs) ≡ None) (ReportsRepeatOf ms first fs)
+abbrev pub FindsRepeat : OpenMembers → List Found → Option Repeat → Type 0
+FindsRepeat ms fs found = MatchOption found (first_repeat (map spot_of fs) ≡ None) (ReportsRepeatOf ms fs)
 
 -- No key comes twice, and behind what is in front the members' bytes are written in the order of the keys.
 pub record AreSettled (commas : Bool) (bytes : Found → List ℕ) (front : List ℕ) (fs : List Found) (all : List ℕ)
@@ -117,11 +123,11 @@ pub record AreSettled (commas : Bool) (bytes : Found → List ℕ) (front : List
 
 -- The members from an index on were written behind what is in front. They are so in the order of their keys, or
 -- the least key that comes twice is reported.
-abbrev pub PutsInOrder : Bool → ℕ → OpenMembers → OpenMembers → ℕ → List ℕ → List ℕ → Option ℕ → Type 0
+abbrev pub PutsInOrder : Bool → ℕ → OpenMembers → OpenMembers → ℕ → List ℕ → List ℕ → Option Repeat → Type 0
 PutsInOrder commas floor before after first old new found =
     (bytes : Found → List ℕ) → (front : List ℕ) → (fs : List Found) → floor ≤ length front
     → EndIn commas bytes before first (length front) fs → old ≡ front ++ join_pieces commas (map bytes fs)
-    → MatchOption found (AreSettled commas bytes front fs new) (ReportsRepeatOf after first fs)
+    → MatchOption found (AreSettled commas bytes front fs new) (ReportsRepeatOf after fs)
 
 -- No key comes twice, and the object ended, of which this holds.
 pub record EndsObject {R H : Type 0} (Filled : R → Source → List H → List Open → Type 0) (sink : R)

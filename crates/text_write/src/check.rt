@@ -1,10 +1,8 @@
 //! What is held of a text that is only checked: the keys of the objects that are open.
 ghost use Rattle.std.specs.Prelude.{◌≡◌, ◌-◌, ◌<◌, ◌≤◌, ◌∷◌, [], ℕ, List, true, false, length, slice_range, IfOk, MatchBool, MatchOption, OnOk};
-ghost use Rattle.std.specs.Cow.{cow_str_bytes};
 
-use crate::open_members::OpenMembers;
+use crate::open_members::{OpenMembers, Repeat};
 use std::alloc::{AllocError, Global};
-use std::borrow::CowStr;
 
 /// The members of the objects that are open, by their keys. Nothing is written.
 #[derive(Drop)]
@@ -19,7 +17,6 @@ impl<'a> CheckSink<'a> {
     ghost use Rattle.jsonb_spec.specs.Text.{in_quotes};
     ghost use Rattle.jsonb_spec.specs.Tree.{Mark};
     ghost use Rattle.jsonb_spec.specs.Tree.Mark.{plain};
-    ghost use Rattle.jsonb_value.specs.View.{mark_view};
     ghost use Rattle.text_write.specs.CheckSink.{CheckEnds, CheckHolds};
     ghost use Rattle.text_write.specs.KeySink.{Held};
     ghost use Rattle.text_write.specs.KeySink.Held.{members};
@@ -44,19 +41,10 @@ impl<'a> CheckSink<'a> {
         self.members.len()
     }
 
-    // Whether this range of the text has bytes. It is told by the index of the last one, where a key's bytes end.
-    #[inline(always)]
-    fn is_range(&self, from: usize, to: usize) -> bool
-        ensures { MatchBool result ((from < to) × (to ≤ length self.now.members.text.now)) (Unit {0}) }
-    {
-        let last = to.wrapping_sub(1);
-        from <= last && last < self.members.text.len()
-    }
-
     /// A key whose bytes are in the text from an index above 0 on, in double quotes and without escapes, and the
     /// index after it. With 0 for the first index the key may be anywhere.
     #[inline(always)]
-    pub fn borrowed_key(
+    pub fn cut_key(
         &mut self,
         first: usize,
         key: &'a str,
@@ -69,30 +57,15 @@ impl<'a> CheckSink<'a> {
             → (0 < from → slice_range text (from - 1) after ≡ in_quotes key.now)
             → CheckHolds text self.new true (members first ∷ held) (members_so_far fs (plain, key.now) after ∷ cs)) }
     {
-        if 0 < from && self.is_range(from, after) {
-            return self.members.begin_within(from, after - 1, after, 0);
+        if from == 0 || !self.members.has_range(from, after) {
+            return self.key(first, key, after);
         }
-        self.decoded_key(first, key, after)
+        self.members.begin_within(from, after - 1, after, 0)
     }
 
-    /// A key, and the index after it in the text.
+    /// Any key, and the index after it in the text.
     #[inline(always)]
-    pub fn key(&mut self, first: usize, key: CowStr<'a>, after: usize) -> Result<(), AllocError>
-        ensures holds { OnOk result ((text : List ℕ) → (held : List Held) → (fs : List Found) → (k : Mark × List ℕ)
-            → (offset : ℕ) → (cs : List Open)
-            → CheckHolds text self.old false (members first ∷ held) (members_so_far fs k offset ∷ cs)
-            → CheckHolds text self.new true (members first ∷ held)
-            (members_so_far fs (mark_view key.entry, cow_str_bytes key.entry) after ∷ cs)) }
-    {
-        match key {
-            CowStr::Borrowed(key) => self.decoded_key(first, key, after),
-            CowStr::Owned(key) => self.decoded_key(first, key.as_str(), after),
-        }
-    }
-
-    // A key that is held among the decoded ones.
-    #[inline(always)]
-    fn decoded_key(&mut self, first: usize, key: &str, after: usize) -> Result<(), AllocError>
+    pub fn key(&mut self, first: usize, key: &str, after: usize) -> Result<(), AllocError>
         ensures holds { OnOk result ((text : List ℕ) → (held : List Held) → (fs : List Found) → (k : Mark × List ℕ)
             → (offset : ℕ) → (cs : List Open) → (mark : Mark)
             → CheckHolds text self.old false (members first ∷ held) (members_so_far fs k offset ∷ cs)
@@ -101,14 +74,14 @@ impl<'a> CheckSink<'a> {
         self.members.begin_decoded(key, after, 0)
     }
 
-    /// The end of an object, whose members are held no longer. Where a key comes twice, what is returned is the index,
-    /// among the members, of the one where the least such key comes the second time.
+    /// The end of an object, whose members are held no longer. Where a key comes twice, what is returned is the member
+    /// where the least such key comes the second time.
     #[inline(always)]
-    pub fn end_object(&mut self, first: usize) -> Result<Option<usize>, AllocError>
+    pub fn end_object(&mut self, first: usize) -> Result<Option<Repeat>, AllocError>
         ensures holds { IfOk result (λ repeat. (text : List ℕ) → (held : List Held) → (fs : List Found)
             → (key : Mark × List ℕ) → (offset : ℕ) → (cs : List Open)
             → CheckHolds text self.old false (members first ∷ held) (members_so_far fs key offset ∷ cs)
-            → MatchOption repeat (CheckEnds text self.new fs held cs) (ReportsRepeatOf self.new.members first fs)) }
+            → MatchOption repeat (CheckEnds text self.new fs held cs) (ReportsRepeatOf self.new.members fs)) }
     {
         let repeat = self.members.find_repeat(first)?;
         if repeat.is_none() {

@@ -6,7 +6,7 @@ use crate::contents::Contents;
 use crate::escaped_key::append_escaped_key;
 use crate::key_text::{append_key_text, append_with_kind};
 use crate::object::Site;
-use crate::open_members::OpenMembers;
+use crate::open_members::{OpenMembers, Repeat};
 use crate::sink::Sink;
 use crate::text::Part;
 use jsonb_value::error::Error;
@@ -17,9 +17,6 @@ use std::alloc::{AllocError, Global};
 use std::borrow::CowStr;
 use text_common::verbatim::Verbatim;
 use text_scan::parser::Mode;
-
-// How many times the bytes of the text may be moved.
-const MOST_MOVED: usize = 8;
 
 /// What is written of a sort key, behind the bytes that a buffer held before.
 #[derive(Drop)]
@@ -112,14 +109,6 @@ impl<'a> KeySink<'a> {
         )
     }
 
-    // Whether this range of the text has bytes.
-    #[inline(always)]
-    fn is_range(&self, from: usize, to: usize) -> bool
-        ensures { MatchBool result ((from < to) × (to ≤ length self.now.members.text.now)) (Unit {0}) }
-    {
-        from < to && to <= self.members.text.len()
-    }
-
     // Writes a member's key from where it is in the text.
     #[inline(always)]
     fn preserve_text(&mut self, from: usize, to: usize) -> Result<(), AllocError>
@@ -139,7 +128,7 @@ impl<'a> KeySink<'a> {
             × ArePlain string.now) → Writes (kind.string ∷ text_key string.now) self.old self.new) }
         ensures base { base_of self.new ≡ base_of self.old }
     {
-        if self.is_range(from, to) && to - from > 1 {
+        if self.members.has_range(from, to) && to - from > 1 {
             return append_with_kind(
                 kind::STRING,
                 &self.members.text[from..],
@@ -170,29 +159,15 @@ impl<'a> KeySink<'a> {
         }
     }
 
-    // A key that is held among the decoded ones.
-    #[inline(never)]
-    fn decoded_key(&mut self, first: usize, key: &str, after: usize) -> Result<(), AllocError>
-        ensures holds { OnOk result ((text : List ℕ) → (held : List Held) → (fs : List Found) → (k : Mark × List ℕ)
-            → (offset : ℕ) → (cs : List Open) → (mark : Mark)
-            → KeyHolds text self.old false (members first ∷ held) (members_so_far fs k offset ∷ cs)
-            → KeyHolds text self.new true (members first ∷ held) (members_so_far fs (mark, key.now) after ∷ cs)) }
-        ensures base { base_of self.new ≡ base_of self.old }
-    {
-        let start = self.out.len();
-        self.members.begin_decoded(key, after, start)?;
-        self.append_text(key)
-    }
-
-    // Puts the members from an index on in the order of their keys. Where a key comes twice, it returns the index among
-    // them of the one where the least such key comes the second time.
+    // Puts the members from an index on in the order of their keys. Where a key comes twice, it returns the member where
+    // the least such key comes the second time.
     #[inline(always)]
-    fn settle(&mut self, first: usize) -> Result<Option<usize>, AllocError>
+    fn settle(&mut self, first: usize) -> Result<Option<Repeat>, AllocError>
         ensures same { OnOk result (PreservesMembers self.old self.new) }
         ensures repeat { IfOk result (λ repeat. (text : List ℕ) → (held : List Held) → (fs : List Found)
             → (key : Mark × List ℕ) → (offset : ℕ) → (cs : List Open)
             → KeyHolds text self.old false (members first ∷ held) (members_so_far fs key offset ∷ cs)
-            → MatchOption repeat (IsSettled self.old self.new fs cs) (ReportsRepeatOf self.new.members first fs)) }
+            → MatchOption repeat (IsSettled self.old self.new fs cs) (ReportsRepeatOf self.new.members fs)) }
         ensures base { base_of self.new ≡ base_of self.old }
     {
         if self.members.ascend(first) {
@@ -270,8 +245,6 @@ impl<'a> Sink<'a> for KeySink<'a> {
 
     ghost opened = { λ sink. sink.members };
 
-    ghost first = { λ first. first };
-
     #[inline(always)]
     fn contents(
         body: &'a str,
@@ -321,50 +294,37 @@ impl<'a> Sink<'a> for KeySink<'a> {
     }
 
     #[inline(always)]
-    fn borrowed_key(
+    fn cut_key(
         &mut self,
         first: &usize,
         key: &'a str,
+        is_plain: bool,
         from: usize,
         after: usize,
     ) -> Result<(), AllocError> {
-        if 0 < from && self.is_range(from, after) {
-            let start = self.out.len();
-            self.members.begin_within(from, after - 1, after, start)?;
-            return self.append_text(key);
+        if from == 0 || !self.members.has_range(from, after) {
+            return self.key(first, key, after);
         }
-        self.decoded_key(*first, key, after)
-    }
-
-    #[inline(always)]
-    fn plain_key(
-        &mut self,
-        first: &usize,
-        key: &'a str,
-        from: usize,
-        after: usize,
-    ) -> Result<(), AllocError> {
-        if 0 < from && self.is_range(from, after) {
-            let start = self.out.len();
-            self.members.begin_within(from, after - 1, after, start)?;
+        let start = self.out.len();
+        self.members.begin_within(from, after - 1, after, start)?;
+        if is_plain {
             return self.preserve_text(from, after - 1);
         }
-        self.decoded_key(*first, key, after)
+        self.append_text(key)
     }
 
-    #[inline(always)]
-    fn key(&mut self, first: &usize, key: CowStr<'a>, after: usize) -> Result<(), AllocError> {
-        match key {
-            CowStr::Borrowed(key) => self.decoded_key(*first, key, after),
-            CowStr::Owned(key) => self.decoded_key(*first, key.as_str(), after),
-        }
+    #[inline(never)]
+    fn key(&mut self, first: &usize, key: &str, after: usize) -> Result<(), AllocError> {
+        let start = self.out.len();
+        self.members.begin_decoded(key, after, start)?;
+        self.append_text(key)
     }
 
     #[inline(always)]
     fn insert_inner(&mut self, first: &usize) {}
 
     #[inline(always)]
-    fn end_object(&mut self, first: &usize, at: usize) -> Result<Option<usize>, AllocError> {
+    fn end_object(&mut self, first: &usize, at: usize) -> Result<Option<Repeat>, AllocError> {
         let repeat = self.settle(*first)?;
         if repeat.is_some() {
             return Ok(repeat);
@@ -376,17 +336,5 @@ impl<'a> Sink<'a> for KeySink<'a> {
     #[inline(always)]
     fn open_members(&self) -> &OpenMembers<'a> {
         &self.members
-    }
-
-    #[inline(always)]
-    fn first_member(first: &usize) -> usize
-        ensures { result ≡ first.now }
-    {
-        *first
-    }
-
-    #[inline(always)]
-    fn moved_much(&self) -> bool {
-        self.members.spare.total / MOST_MOVED > self.members.text.len()
     }
 }

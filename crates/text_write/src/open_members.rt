@@ -1,13 +1,25 @@
 //! The members of the objects that are open.
-ghost use Rattle.std.specs.Prelude.{◌≡◌, ◌≤◌, [], ℕ, Bool, List, true, length, drop, take, slice_range, IfOk, IfSome, IsTrue, OnOk};
+ghost use Rattle.std.specs.Prelude.{◌≡◌, ◌<◌, ◌≤◌, [], ℕ, Bool, List, true, length, drop, take, slice_range, IfOk, IfSome, IsTrue, MatchBool, OnOk};
 ghost use Rattle.std.specs.Option.{is_some};
 ghost use Rattle.std.specs.Str.{IsUtf8};
+ghost use Rattle.text_write.specs.OpenMembers.{repeat_among};
 
 use crate::members::{
     Member, Spare, ascend, few_differ, key_at, prefix_within, put_in_order, search_repeat,
 };
 use crate::object::{Keys, Site};
 use std::alloc::{AllocError, Global};
+
+// How many times the bytes of the text may be moved.
+const MOST_MOVED: usize = 8;
+
+/// Where a key comes twice in an object: the index of its first member among those that are open, and the index behind
+/// that one of the member where the key comes the second time.
+#[derive(Clone, Copy)]
+pub struct Repeat {
+    pub first: usize,
+    pub index: usize,
+}
 
 /// The members of the objects that are open, those of the outermost first. A key that isn't in the text is
 /// among the decoded ones.
@@ -28,11 +40,22 @@ fn members_from(entries: &Vec<Member>, first: usize) -> &[Member]
     &entries[first.min(count)..]
 }
 
+// A repeat among the members from an index on.
+#[inline(always)]
+fn repeat_from(first: usize, found: Option<usize>) -> Option<Repeat>
+    ensures { result ≡ repeat_among first found }
+{
+    match found {
+        Some(index) => Some(Repeat { first, index }),
+        None => None,
+    }
+}
+
 impl<'a> OpenMembers<'a> {
     ghost use Rattle.jsonb_spec.specs.Source.{Found};
     ghost use Rattle.jsonb_spec.specs.Text.Appending.{Extends};
     ghost use Rattle.text_write.specs.Members.{WasCopied};
-    ghost use Rattle.text_write.specs.OpenMembers.{AreOf, AreSame, Begins, Closes, EndIn, FindsRepeat, HasMember, KeysAscendFrom, Layout, PutsInOrder, spot_among};
+    ghost use Rattle.text_write.specs.OpenMembers.{AreOf, AreSame, Begins, Closes, EndIn, FindsRepeat, HasMember, KeysAscendFrom, Layout, PutsInOrder, spot_at_repeat};
 
     /// No object is open.
     pub fn new(alloc: Global, text: &'a [u8]) -> OpenMembers<'a>
@@ -52,6 +75,21 @@ impl<'a> OpenMembers<'a> {
         ensures { result ≡ length self.now.entries.items }
     {
         self.entries.len()
+    }
+
+    /// Whether this range of the text has bytes. It is told by the index of the last one, where a key's bytes end.
+    #[inline(always)]
+    pub(crate) fn has_range(&self, from: usize, to: usize) -> bool
+        ensures { MatchBool result ((from < to) × (to ≤ length self.now.text.now)) (Unit {0}) }
+    {
+        let last = to.wrapping_sub(1);
+        from <= last && last < self.text.len()
+    }
+
+    /// Whether so many bytes of members were moved that another way takes less time: several times those of the text.
+    #[inline(always)]
+    pub fn moved_much(&self) -> bool {
+        self.spare.total / MOST_MOVED > self.text.len()
     }
 
     // Stores what is known of a member.
@@ -130,9 +168,8 @@ impl<'a> OpenMembers<'a> {
         ascend(&self.keys(first))
     }
 
-    /// Puts the bytes of the members from an index on, which end what is written, in the order of their keys. Reports a
-    /// key that comes twice by the index, among them, of the one where the least such key comes the second time. The
-    /// first `floor` bytes stay.
+    /// Puts the bytes of the members from an index on, which end what is written, in the order of their keys. Reports the
+    /// member where the least key that comes twice comes the second time. The first `floor` bytes stay.
     #[cold]
     #[inline(never)]
     pub(crate) fn put_in_order(
@@ -140,7 +177,7 @@ impl<'a> OpenMembers<'a> {
         first: usize,
         out: &mut Vec<u8>,
         site: &Site<'_>,
-    ) -> Result<Option<usize>, AllocError>
+    ) -> Result<Option<Repeat>, AllocError>
         requires { WasCopied site.now out.old.items }
         ensures same { AreSame self.old self.new }
         ensures retained { Extends (take site.now.floor out.old.items) out.new.items }
@@ -149,16 +186,17 @@ impl<'a> OpenMembers<'a> {
     {
         let members = members_from(&self.entries, first);
         let keys = Keys::new(self.text, &self.decoded, members);
-        put_in_order(out, &keys, &mut self.spare, site)
+        let found = put_in_order(out, &keys, &mut self.spare, site)?;
+        Ok(repeat_from(first, found))
     }
 
-    /// Finds a key that comes twice among the members from an index on, and reports it by the index, among them, of the
-    /// one where the least such key comes the second time.
+    /// Finds a key that comes twice among the members from an index on, and reports the member where the least such key
+    /// comes the second time.
     #[inline(always)]
-    pub(crate) fn find_repeat(&mut self, first: usize) -> Result<Option<usize>, AllocError>
+    pub(crate) fn find_repeat(&mut self, first: usize) -> Result<Option<Repeat>, AllocError>
         ensures same { AreSame self.old self.new }
         ensures repeat { IfOk result (λ found. (commas : Bool) → (bytes : Found → List ℕ) → (start : ℕ)
-            → (fs : List Found) → EndIn commas bytes self.old first start fs → FindsRepeat self.new first fs found) }
+            → (fs : List Found) → EndIn commas bytes self.old first start fs → FindsRepeat self.new fs found) }
     {
         if self.ascend(first) {
             return Ok(None);
@@ -169,31 +207,32 @@ impl<'a> OpenMembers<'a> {
     // Finds it where the keys don't ascend.
     #[cold]
     #[inline(never)]
-    fn search_repeat(&mut self, first: usize) -> Result<Option<usize>, AllocError>
+    fn search_repeat(&mut self, first: usize) -> Result<Option<Repeat>, AllocError>
         ensures same { AreSame self.old self.new }
         ensures repeat { IfOk result (λ found. (commas : Bool) → (bytes : Found → List ℕ) → (start : ℕ)
-            → (fs : List Found) → EndIn commas bytes self.old first start fs → FindsRepeat self.new first fs found) }
+            → (fs : List Found) → EndIn commas bytes self.old first start fs → FindsRepeat self.new fs found) }
     {
         let members = members_from(&self.entries, first);
         if few_differ(members) {
             return Ok(None);
         }
         let keys = Keys::new(self.text, &self.decoded, members);
-        search_repeat(&keys, &mut self.spare)
+        let found = search_repeat(&keys, &mut self.spare)?;
+        Ok(repeat_from(first, found))
     }
 
-    /// The key of a member, by its index among those from another index on, and the index after it in the text.
-    pub fn repeated(&self, first: usize, index: usize) -> Option<(&str, usize)>
-        ensures key { IfSome result (λ reported. reported.0.now ≡ (spot_among self.now first index).key) }
-        ensures offset { IfSome result (λ reported. reported.1 ≡ (spot_among self.now first index).offset) }
-        ensures some { IsUtf8 (spot_among self.now first index).key → IsTrue (is_some result) }
+    /// The key that comes twice, and the index after it in the text where it does so.
+    pub fn repeated(&self, repeat: &Repeat) -> Option<(&str, usize)>
+        ensures key { IfSome result (λ reported. reported.0.now ≡ (spot_at_repeat self.now repeat.now).key) }
+        ensures offset { IfSome result (λ reported. reported.1 ≡ (spot_at_repeat self.now repeat.now).offset) }
+        ensures some { IsUtf8 (spot_at_repeat self.now repeat.now).key → IsTrue (is_some result) }
     {
-        let keys = self.keys(first);
-        let offset = match keys.members.get(index) {
+        let keys = self.keys(repeat.first);
+        let offset = match keys.members.get(repeat.index) {
             Some(member) => member.after,
             None => 0,
         };
-        match std::str::from_utf8(key_at(&keys, index)) {
+        match std::str::from_utf8(key_at(&keys, repeat.index)) {
             Ok(key) => Some((key, offset)),
             Err(_) => None,
         }

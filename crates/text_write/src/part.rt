@@ -4,13 +4,12 @@ ghost use Rattle.std.specs.Option.{option_and_then, option_map, unwrap_or};
 
 use crate::check::CheckSink;
 use crate::contents::Contents;
-use crate::open_members::OpenMembers;
+use crate::open_members::{OpenMembers, Repeat};
 use crate::sink::Sink;
 use crate::text::{Part, TextSink};
 use jsonb_path::index_of;
 use jsonb_value::error::Error;
 use std::alloc::{AllocError, Global};
-use std::borrow::CowStr;
 use text_common::verbatim::Verbatim;
 use text_scan::parser::Mode;
 
@@ -290,8 +289,6 @@ impl<'a> Sink<'a> for PartSink<'a> {
 
     ghost opened = { members_of };
 
-    ghost first = { λ members. members.first };
-
     #[inline(always)]
     fn contents(
         body: &'a str,
@@ -381,45 +378,29 @@ impl<'a> Sink<'a> for PartSink<'a> {
         Ok(PartMembers { first, level: None })
     }
 
-    fn borrowed_key(
-        &mut self,
-        members: &PartMembers,
-        key: &'a str,
-        from: usize,
-        after: usize,
-    ) -> Result<(), AllocError> {
-        if self.inside > 0 {
-            return self.text.borrowed_key(&members.first, key, from, after);
-        }
-        self.due = self.follow(members.level, key);
-        self.check.borrowed_key(members.first, key, from, after)
-    }
-
     #[inline(always)]
-    fn plain_key(
+    fn cut_key(
         &mut self,
         members: &PartMembers,
         key: &'a str,
+        is_plain: bool,
         from: usize,
         after: usize,
     ) -> Result<(), AllocError> {
         if self.inside > 0 {
-            return self.text.plain_key(&members.first, key, from, after);
+            return self
+                .text
+                .cut_key(&members.first, key, is_plain, from, after);
         }
         self.due = self.follow(members.level, key);
-        self.check.borrowed_key(members.first, key, from, after)
+        self.check.cut_key(members.first, key, from, after)
     }
 
-    fn key(
-        &mut self,
-        members: &PartMembers,
-        key: CowStr<'a>,
-        after: usize,
-    ) -> Result<(), AllocError> {
+    fn key(&mut self, members: &PartMembers, key: &str, after: usize) -> Result<(), AllocError> {
         if self.inside > 0 {
             return self.text.key(&members.first, key, after);
         }
-        self.due = self.follow(members.level, key.as_str());
+        self.due = self.follow(members.level, key);
         self.check.key(members.first, key, after)
     }
 
@@ -435,7 +416,7 @@ impl<'a> Sink<'a> for PartSink<'a> {
         &mut self,
         members: &PartMembers,
         at: usize,
-    ) -> Result<Option<usize>, AllocError> {
+    ) -> Result<Option<Repeat>, AllocError> {
         if self.inside == 0 {
             return self.check.end_object(members.first);
         }
@@ -452,17 +433,5 @@ impl<'a> Sink<'a> for PartSink<'a> {
         } else {
             &self.check.members
         }
-    }
-
-    #[inline(always)]
-    fn first_member(members: &PartMembers) -> usize
-        ensures { result ≡ members.now.first }
-    {
-        members.first
-    }
-
-    #[inline(always)]
-    fn moved_much(&self) -> bool {
-        self.text.moved_much()
     }
 }

@@ -1,6 +1,5 @@
 //! What is written while a text is parsed: serialized text, a sort key, or the text of a part.
 ghost use Rattle.std.specs.Prelude.{◌≡◌, ◌+◌, ◌-◌, ◌^◌, ◌<◌, ◌++◌, ◌∷◌, [], ℕ, List, Bool, true, false, length, slice_range, IfOk, MatchOption, OnOk};
-ghost use Rattle.std.specs.Cow.{cow_str_bytes};
 ghost use Rattle.text_scan.specs.Answer.{mode_of};
 ghost use Rattle.text_scan.specs.Decoding.{ReportsBackslash};
 ghost use Rattle.text_scan.specs.Open.{Open, elements_so_far, members_so_far};
@@ -10,7 +9,6 @@ ghost use Rattle.jsonb_spec.specs.Text.{in_quotes};
 ghost use Rattle.jsonb_spec.specs.Text.StringText.{ArePlain};
 ghost use Rattle.jsonb_spec.specs.Tree.{Mark};
 ghost use Rattle.jsonb_spec.specs.Tree.Mark.{plain};
-ghost use Rattle.jsonb_value.specs.View.{mark_view};
 ghost use Rattle.text_write.specs.Contents.{ChecksAs};
 ghost use Rattle.text_write.specs.OpenMembers.{EndsObject, ReportsRepeatOf};
 ghost use Rattle.text_write.specs.TextSink.{IsEncoded, SeesPart};
@@ -18,11 +16,10 @@ ghost use Rattle.text_write.specs.declared.open_members.OpenMembers.{OpenMembers
 ghost use Rattle.text_common.specs.VerbatimScalar.{IsVerbatimAt};
 
 use crate::contents::Contents;
-use crate::open_members::OpenMembers;
+use crate::open_members::{OpenMembers, Repeat};
 use crate::text::Part;
 use jsonb_value::error::Error;
 use std::alloc::AllocError;
-use std::borrow::CowStr;
 use text_common::verbatim::Verbatim;
 use text_scan::parser::Mode;
 
@@ -58,9 +55,6 @@ pub trait Sink<'a>: Drop + Sized {
 
     /// The members among which those of the innermost object are.
     ghost opened: { Self → OpenMembers };
-
-    /// The index of the object's first member among these.
-    ghost first: { Self.Members → ℕ };
 
     /// The contents of a string that have escapes, for this sink. An error counts from `offset`.
     ///
@@ -130,48 +124,28 @@ pub trait Sink<'a>: Drop + Sized {
         ensures base { base self.new ≡ base self.old };
 
     /// A key whose bytes are in the text from an index above 0 on, in double quotes and without escapes, and the
-    /// index after it. With 0 for the first index the key may be anywhere.
-    fn borrowed_key(
+    /// index after it. With 0 for the first index the key may be anywhere. Of one that is plain no byte has an escape.
+    fn cut_key(
         &mut self,
         members: &Self::Members,
         key: &'a str,
+        is_plain: bool,
         from: usize,
         after: usize,
     ) -> Result<(), AllocError>
         ensures holds { OnOk result ((text : List ℕ) → (held : List Held) → (fs : List Found) → (k : Mark × List ℕ)
             → (offset : ℕ) → (cs : List Open)
             → holds text self.old false (object members.now ∷ held) (members_so_far fs k offset ∷ cs)
-            → (0 < from → slice_range text (from - 1) after ≡ in_quotes key.now)
+            → (0 < from → slice_range text (from - 1) after ≡ in_quotes key.now) → (is_plain ≡ true → ArePlain key.now)
             → holds text self.new true (object members.now ∷ held) (members_so_far fs (plain, key.now) after ∷ cs)) }
         ensures base { base self.new ≡ base self.old };
 
-    /// A key that is so, and none of whose bytes has an escape.
-    fn plain_key(
-        &mut self,
-        members: &Self::Members,
-        key: &'a str,
-        from: usize,
-        after: usize,
-    ) -> Result<(), AllocError>
+    /// Any key, and the index after it in the text.
+    fn key(&mut self, members: &Self::Members, key: &str, after: usize) -> Result<(), AllocError>
         ensures holds { OnOk result ((text : List ℕ) → (held : List Held) → (fs : List Found) → (k : Mark × List ℕ)
-            → (offset : ℕ) → (cs : List Open)
+            → (offset : ℕ) → (cs : List Open) → (mark : Mark)
             → holds text self.old false (object members.now ∷ held) (members_so_far fs k offset ∷ cs)
-            → (0 < from → slice_range text (from - 1) after ≡ in_quotes key.now) → ArePlain key.now
-            → holds text self.new true (object members.now ∷ held) (members_so_far fs (plain, key.now) after ∷ cs)) }
-        ensures base { base self.new ≡ base self.old };
-
-    /// A key, and the index after it in the text.
-    fn key(
-        &mut self,
-        members: &Self::Members,
-        key: CowStr<'a>,
-        after: usize,
-    ) -> Result<(), AllocError>
-        ensures holds { OnOk result ((text : List ℕ) → (held : List Held) → (fs : List Found) → (k : Mark × List ℕ)
-            → (offset : ℕ) → (cs : List Open)
-            → holds text self.old false (object members.now ∷ held) (members_so_far fs k offset ∷ cs)
-            → holds text self.new true (object members.now ∷ held)
-            (members_so_far fs (mark_view key.entry, cow_str_bytes key.entry) after ∷ cs)) }
+            → holds text self.new true (object members.now ∷ held) (members_so_far fs (mark, key.now) after ∷ cs)) }
         ensures base { base self.new ≡ base self.old };
 
     /// A member's value that ended.
@@ -184,27 +158,20 @@ pub trait Sink<'a>: Drop + Sized {
         ensures base { base self.new ≡ base self.old };
 
     /// The end of an object. Its brace is in the text at an index. Where a key comes twice, what is returned is the
-    /// index, among the members, of the one where the least such key comes the second time.
+    /// member where the least such key comes the second time.
     fn end_object(
         &mut self,
         members: &Self::Members,
         at: usize,
-    ) -> Result<Option<usize>, AllocError>
+    ) -> Result<Option<Repeat>, AllocError>
         ensures holds { IfOk result (λ repeat. (text : List ℕ) → (held : List Held) → (fs : List Found)
             → (key : Mark × List ℕ) → (offset : ℕ) → (cs : List Open)
             → holds text self.old false (object members.now ∷ held) (members_so_far fs key offset ∷ cs)
             → MatchOption repeat (EndsObject (filled text) self.new fs held cs)
-            (λ i. ReportsRepeatOf (opened self.new) (first members.now) fs i)) }
+            (ReportsRepeatOf (opened self.new) fs)) }
         ensures base { base self.new ≡ base self.old };
 
     /// The members among which those of the innermost object are.
     fn open_members(&self) -> &OpenMembers<'a>
         ensures { result.now ≡ opened self.now };
-
-    /// The index of the object's first member among these.
-    fn first_member(members: &Self::Members) -> usize
-        ensures { result ≡ first members.now };
-
-    /// Whether so many bytes of members were moved that another way takes less time: several times those of the text.
-    fn moved_much(&self) -> bool;
 }

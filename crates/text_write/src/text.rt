@@ -4,7 +4,7 @@ ghost use Rattle.std.specs.Option.{is_some};
 ghost use Rattle.text_common.specs.EncodedNumber.{StaysEncoded};
 
 use crate::contents::Contents;
-use crate::open_members::OpenMembers;
+use crate::open_members::{OpenMembers, Repeat};
 use crate::sink::Sink;
 use crate::written::Written;
 use jsonb_value::error::Error;
@@ -28,9 +28,6 @@ pub enum Part<'a> {
     Plain(&'a str),
     Written,
 }
-
-// How many times the bytes of the text may be moved.
-const MOST_MOVED: usize = 8;
 
 /// What is written of a text, behind the bytes that a buffer held before.
 #[derive(Drop)]
@@ -219,31 +216,15 @@ impl<'a> TextSink<'a> {
         Ok(())
     }
 
-    // A key that is held among the decoded ones.
-    #[inline(never)]
-    fn decoded_key(&mut self, first: usize, key: &str, after: usize) -> Result<(), AllocError>
-        ensures holds { OnOk result ((text : List ℕ) → (held : List Held) → (fs : List Found) → (k : Mark × List ℕ)
-            → (offset : ℕ) → (cs : List Open) → (mark : Mark)
-            → TextHolds text self.old false (members first ∷ held) (members_so_far fs k offset ∷ cs)
-            → TextHolds text self.new true (members first ∷ held) (members_so_far fs (mark, key.now) after ∷ cs)) }
-        ensures base { base_of self.new ≡ base_of self.old }
-    {
-        self.next_member(first)?;
-        let start = self.written.len();
-        self.members.begin_decoded(key, after, start)?;
-        self.string(key, 0, 0)?;
-        self.put(b':')
-    }
-
-    // Puts the members from an index on in the order of their keys. Where a key comes twice, it returns the index among
-    // them of the one where the least such key comes the second time.
+    // Puts the members from an index on in the order of their keys. Where a key comes twice, it returns the member where
+    // the least such key comes the second time.
     #[inline(always)]
-    fn settle(&mut self, first: usize) -> Result<Option<usize>, AllocError>
+    fn settle(&mut self, first: usize) -> Result<Option<Repeat>, AllocError>
         ensures same { OnOk result (PreservesMembers self.old self.new) }
         ensures repeat { IfOk result (λ repeat. (text : List ℕ) → (held : List Held) → (fs : List Found)
             → (key : Mark × List ℕ) → (offset : ℕ) → (cs : List Open)
             → TextHolds text self.old false (members first ∷ held) (members_so_far fs key offset ∷ cs)
-            → MatchOption repeat (IsSettled self.old self.new fs cs) (ReportsRepeatOf self.new.members first fs)) }
+            → MatchOption repeat (IsSettled self.old self.new fs cs) (ReportsRepeatOf self.new.members fs)) }
         ensures base { base_of self.new ≡ base_of self.old }
     {
         if self.members.ascend(first) {
@@ -315,8 +296,6 @@ impl<'a> Sink<'a> for TextSink<'a> {
 
     ghost opened = { λ sink. sink.members };
 
-    ghost first = { λ first. first };
-
     #[inline(always)]
     fn contents(
         body: &'a str,
@@ -371,54 +350,42 @@ impl<'a> Sink<'a> for TextSink<'a> {
     }
 
     #[inline(always)]
-    fn borrowed_key(
+    fn cut_key(
         &mut self,
         first: &usize,
         key: &'a str,
+        is_plain: bool,
         from: usize,
         after: usize,
     ) -> Result<(), AllocError> {
-        if 0 < from && self.is_range(from, after) {
-            self.next_member(*first)?;
-            let start = self.written.len();
-            self.members.begin_within(from, after - 1, after, start)?;
-            self.string(key, from - 1, after)?;
-            return self.put(b':');
+        if from == 0 || !self.is_range(from, after) {
+            return self.key(first, key, after);
         }
-        self.decoded_key(*first, key, after)
-    }
-
-    #[inline(always)]
-    fn plain_key(
-        &mut self,
-        first: &usize,
-        key: &'a str,
-        from: usize,
-        after: usize,
-    ) -> Result<(), AllocError> {
-        if 0 < from && self.is_range(from, after) {
-            self.next_member(*first)?;
-            let start = self.written.len();
-            self.members.begin_within(from, after - 1, after, start)?;
+        self.next_member(*first)?;
+        let start = self.written.len();
+        self.members.begin_within(from, after - 1, after, start)?;
+        if is_plain {
             self.preserve(from - 1, after)?;
             return self.put(b':');
         }
-        self.decoded_key(*first, key, after)
+        self.string(key, from - 1, after)?;
+        self.put(b':')
     }
 
-    #[inline(always)]
-    fn key(&mut self, first: &usize, key: CowStr<'a>, after: usize) -> Result<(), AllocError> {
-        match key {
-            CowStr::Borrowed(key) => self.decoded_key(*first, key, after),
-            CowStr::Owned(key) => self.decoded_key(*first, key.as_str(), after),
-        }
+    #[inline(never)]
+    fn key(&mut self, first: &usize, key: &str, after: usize) -> Result<(), AllocError> {
+        self.next_member(*first)?;
+        let start = self.written.len();
+        self.members.begin_decoded(key, after, start)?;
+        self.string(key, 0, 0)?;
+        self.put(b':')
     }
 
     #[inline(always)]
     fn insert_inner(&mut self, first: &usize) {}
 
     #[inline(always)]
-    fn end_object(&mut self, first: &usize, at: usize) -> Result<Option<usize>, AllocError> {
+    fn end_object(&mut self, first: &usize, at: usize) -> Result<Option<Repeat>, AllocError> {
         let repeat = self.settle(*first)?;
         if repeat.is_some() {
             return Ok(repeat);
@@ -430,17 +397,5 @@ impl<'a> Sink<'a> for TextSink<'a> {
     #[inline(always)]
     fn open_members(&self) -> &OpenMembers<'a> {
         &self.members
-    }
-
-    #[inline(always)]
-    fn first_member(first: &usize) -> usize
-        ensures { result ≡ first.now }
-    {
-        *first
-    }
-
-    #[inline(always)]
-    fn moved_much(&self) -> bool {
-        self.members.spare.total / MOST_MOVED > self.written.text.len()
     }
 }

@@ -5,7 +5,7 @@ ghost use Rattle.std.specs.Prelude.{◌≡◌, ◌+◌, ◌<◌, ◌≤◌, ◌+
 use crate::contents::Contents;
 use crate::escaped::append_contents;
 use crate::object::Site;
-use crate::open_members::OpenMembers;
+use crate::open_members::{OpenMembers, Repeat};
 use crate::short::append_first;
 use jsonb_value::number::Number;
 use jsonb_value::parts::{append_number, append_string};
@@ -197,8 +197,8 @@ impl<'a> Written<'a> {
     }
 
     /// Puts the members from an index on, which end what is written, in the order of their keys, with commas between
-    /// them, and reports a key that comes twice by the index, among them, of the one where the least such key comes the
-    /// second time. The first `floor` bytes stay.
+    /// them, and reports the member where the least key that comes twice comes the second time. The first `floor` bytes
+    /// stay.
     #[cold]
     #[inline(never)]
     pub(crate) fn settle(
@@ -206,7 +206,7 @@ impl<'a> Written<'a> {
         members: &mut OpenMembers<'_>,
         first: usize,
         floor: usize,
-    ) -> Result<Option<usize>, AllocError>
+    ) -> Result<Option<Repeat>, AllocError>
         ensures same { AreSame members.old members.new }
         ensures order { IfOk result (PutsInOrder true floor members.old members.new first (bytes_of self.old)
             (bytes_of self.new)) }

@@ -139,9 +139,9 @@ impl<'a> Handler<'a> for CheckedPart {
         after: usize,
     ) -> Result<(), AllocError> {
         match text {
-            Text::Plain(text) => sink.borrowed_key(object.members, text, from, after),
-            Text::Borrowed(text) => sink.borrowed_key(object.members, text, from, after),
-            Text::Decoded(text) => sink.key(object.members, text, after),
+            Text::Plain(text) => sink.cut_key(object.members, text, from, after),
+            Text::Borrowed(text) => sink.cut_key(object.members, text, from, after),
+            Text::Decoded(text) => sink.key(object.members, text.as_str(), after),
         }
     }
 
@@ -175,11 +175,10 @@ impl<'a> Handler<'a> for CheckedPart {
         reported: &mut Option<Error>,
         at: usize,
     ) -> Result<(), Failed> {
-        let first = *members;
-        match sink.end_object(first) {
+        match sink.end_object(*members) {
             Ok(None) => Ok(()),
-            Ok(Some(index)) => {
-                report_repeat(&sink.members, alloc, first, index, reported);
+            Ok(Some(repeat)) => {
+                report_repeat(&sink.members, alloc, &repeat, reported);
                 Err(Failed)
             }
             Err(_) => {

@@ -7,7 +7,7 @@ ghost use Rattle.text_write.specs.OpenMembers.{ReportsRepeatOf};
 
 use jsonb_value::error::{Error, ParseErrorCode};
 use std::alloc::Global;
-use text_write::open_members::OpenMembers;
+use text_write::open_members::{OpenMembers, Repeat};
 
 // Reports the least key that comes twice, and where it comes the second time.
 #[cold]
@@ -15,14 +15,13 @@ use text_write::open_members::OpenMembers;
 pub(super) fn report_repeat(
     members: &OpenMembers,
     alloc: Global,
-    first: usize,
-    index: usize,
+    repeat: &Repeat,
     reported: &mut Option<Error>,
 )
-    ensures { (fs : List Found) → (rest : List ℕ) → ReportsRepeatOf members.now first fs index
+    ensures { (fs : List Found) → (rest : List ℕ) → ReportsRepeatOf members.now fs repeat.now
         → Misses false reported.new (object_end fs rest) }
 {
-    let Some((key, offset)) = members.repeated(first, index) else {
+    let Some((key, offset)) = members.repeated(repeat) else {
         return;
     };
     *reported = match String::from_str(alloc, key) {

@@ -194,9 +194,9 @@ impl<'a, S: Sink<'a>> Handler<'a> for SinkPart<'a, S> {
         after: usize,
     ) -> Result<(), AllocError> {
         match text {
-            Text::Plain(text) => sink.plain_key(&object.members, text, from, after),
-            Text::Borrowed(text) => sink.borrowed_key(&object.members, text, from, after),
-            Text::Decoded(text) => sink.key(&object.members, text, after),
+            Text::Plain(text) => sink.cut_key(&object.members, text, true, from, after),
+            Text::Borrowed(text) => sink.cut_key(&object.members, text, false, from, after),
+            Text::Decoded(text) => sink.key(&object.members, text.as_str(), after),
         }
     }
 
@@ -233,15 +233,14 @@ impl<'a, S: Sink<'a>> Handler<'a> for SinkPart<'a, S> {
         reported: &mut Option<Error>,
         at: usize,
     ) -> Result<(), Failed> {
-        if sink.moved_much() {
+        if sink.open_members().moved_much() {
             *reported = None;
             return Err(Failed);
         }
         match sink.end_object(members, at) {
             Ok(None) => Ok(()),
-            Ok(Some(index)) => {
-                let first = S::first_member(members);
-                report_repeat(sink.open_members(), alloc, first, index, reported);
+            Ok(Some(repeat)) => {
+                report_repeat(sink.open_members(), alloc, &repeat, reported);
                 Err(Failed)
             }
             Err(_) => {

@@ -9,8 +9,8 @@ pub returns-then-to-from-gt1-clause-bytes : goal.returns-then-to-from-gt1-clause
 returns-then-to-from-gt1-clause-bytes c =
     let r = c.args.self.now in
     on_ok c.append_with_kind.result c.append_with_kind.ensures.bytes (λ e encoded.
-    let there_plain = encoded c.if-is_range.ensures.0 in
-    let there = string_there r.members.text.now c.args.string.now c.args.from c.args.to (omega arith) c.if-is_range.ensures.1 there_plain.0 in
+    let there_plain = encoded c.if-has_range.ensures.0 in
+    let there = string_there r.members.text.now c.args.string.now c.args.from c.args.to (omega arith) c.if-has_range.ensures.1 there_plain.0 in
     let is_plain = there_plain.1 in
     wrote refl (same r.members)
     (e ∙ ap (λ xs. r.out.items ++ 208 ∷ xs) (ap (λ xs. drop 1 (take (c.args.to - c.args.from - 1) xs) ++ 0 ∷ 1 ∷ []) (take_rest r.members.text.now c.args.from) ∙ ap (λ xs. xs ++ 0 ∷ 1 ∷ []) there ∙ sym (plain_text_key c.args.string.now is_plain))))

@@ -1,13 +1,18 @@
-use Rattle.std.proofs.Common.{map}
+use Rattle.std.proofs.Common.{◌∷◌, false, true, absurd, map, subst}
 use Rattle.jsonb.specs.Held.{held_by}
+use Rattle.jsonb_value.specs.View.{mark_view}
+use Rattle.text_scan.specs.Open.{members_so_far}
 use Rattle.text_parse.proofs.Steps.Failures.{ok_if}
 use Rattle.jsonb.proofs.parser.handler.sink.SinkPartHandler.key.Goals as goal
 
 pub returns-in-Plain-clause-begun : goal.returns-in-Plain-clause-begun
-returns-in-Plain-clause-begun g c = rw (c.in-Plain.is) (ok_if c.plain_key.result (λ key h text at front other other_offset fs cs held. h text (map (held_by g.S.Sink.array g.S.Sink.object) fs) front other other_offset cs held at.0 at.1) c.plain_key.ensures.holds)
+returns-in-Plain-clause-begun g c = rw (c.in-Plain.is) (ok_if c.cut_key.result (λ key h text at front other other_offset fs cs held. h text (map (held_by g.S.Sink.array g.S.Sink.object) fs) front other other_offset cs held at.0 (λ e. at.1)) c.cut_key.ensures.holds)
 
 pub returns-in-Borrowed-clause-begun : goal.returns-in-Borrowed-clause-begun
-returns-in-Borrowed-clause-begun g c = rw (c.in-Borrowed.is) (ok_if c.borrowed_key.result (λ key h text at front other other_offset fs cs held. h text (map (held_by g.S.Sink.array g.S.Sink.object) fs) front other other_offset cs held at) c.borrowed_key.ensures.holds)
+returns-in-Borrowed-clause-begun g c = rw (c.in-Borrowed.is) (ok_if c.cut_key-in-Borrowed.result (λ key h text at front other other_offset fs cs held. h text (map (held_by g.S.Sink.array g.S.Sink.object) fs) front other other_offset cs held at (λ (e : false ≡ true). absurd cc)) c.cut_key-in-Borrowed.ensures.holds)
 
 pub returns-in-Decoded-clause-begun : goal.returns-in-Decoded-clause-begun
-returns-in-Decoded-clause-begun g c = rw (c.in-Decoded.is) (ok_if c.key.result (λ key h text at front other other_offset fs cs held. h text (map (held_by g.S.Sink.array g.S.Sink.object) fs) front other other_offset cs held) c.key.ensures.holds)
+returns-in-Decoded-clause-begun g c = rw (c.in-Decoded.is) (ok_if c.key.result (λ key h text at front other other_offset fs cs held.
+    let frames = map (held_by g.S.Sink.array g.S.Sink.object) fs in
+    subst (λ bytes. g.S.Sink.holds text c.key.new.self true (g.S.Sink.object c.args.object.now.members ∷ frames) (members_so_far front (mark_view c.in-Decoded.text, bytes) c.args.after ∷ cs)) c.as_str.ensures.value
+    (h text frames front other other_offset cs (mark_view c.in-Decoded.text) held)) c.key.ensures.holds)
