@@ -264,15 +264,12 @@ even_row zero (d ∷ e ∷ ds) p l = refl
 even_row (suc last) (d ∷ e ∷ []) p l = absurd (omega (arith, l))
 even_row (suc last) (d ∷ e ∷ f ∷ ds) p l = ap (λ bs. more_byte d e ∷ bs) (even_row last (f ∷ ds) p (omega (arith, l)))
 
-row_is : (ds row : List ℕ) → length ds ≡ 16 → row ≡ more_bytes 8 0 ds → row ≡ row_of ds
-row_is ds row long is = is ∙ row_from 8 0 ds long
-
-pub row_written : (negative : Bool) (ds row : List ℕ) (len last first second : ℕ) → length ds ≡ 16 → row ≡ more_bytes 8 0 ds → 0 < len → len ≤ 16
+pub row_written : (negative : Bool) (ds row : List ℕ) (len last first second : ℕ) → length ds ≡ 32 → row ≡ more_bytes 16 0 ds → 0 < len → len ≤ 32
     → last ≡ (len - 1) / 2 → first ≡ get_or ds (2 * last) 0 → (len % 2 ≡ 0 → second ≡ get_or ds (len - 1) 0) → (len % 2 ≢ 0 → second ≡ 48)
     → take (last + 1) (map (invert_if negative) (slice_set row last (last_byte first second))) ≡ map (invert_if negative) (digit_bytes (take len ds))
 row_written negative ds row len last first second long is some few half f even odd =
-    let row_is = is ∙ row_from 8 0 ds long in
-    let pairs = paired 8 ds long in
+    let row_is = is ∙ row_from 16 0 ds long in
+    let pairs = paired 16 ds long in
     let twice = double_is last in
     let first_is : first ≡ get_or ds (double last) 0 = f ∙ ap (λ n. get_or ds n 0) (sym twice) in
     let more : last + 1 ≡ suc last = omega arith in
@@ -292,27 +289,22 @@ row_written negative ds row len last first second long is some few half f even o
     ap (λ n. take n (map (invert_if negative) (slice_set row last (last_byte first second)))) more
     ∙ take-map (invert_if negative) (suc last) (slice_set row last (last_byte first second)) ∙ ap (map (invert_if negative)) whole
 
-more_follow : (d e : ℕ) (ds : List ℕ) → 0 < length ds → digit_bytes (d ∷ e ∷ ds) ≡ more_byte d e ∷ digit_bytes ds
-more_follow d e [] some = absurd (omega (arith, some))
-more_follow d e (f ∷ ds) some = refl
+-- the first bytes from an index on, turned round
+abbrev turned_from : ℕ → ℕ → List ℕ → List ℕ
+turned_from zero i xs = []
+turned_from (suc n) i xs = (255 - get_or xs i 0) ∷ turned_from n (i + 1) xs
 
-front_row : (ds others : List ℕ) → Paired ds → 0 < length others → row_of ds ++ digit_bytes others ≡ digit_bytes (ds ++ others)
-front_row [] others p some = refl
-front_row (d ∷ []) others p some = absurd p
-front_row (d ∷ e ∷ ds) others p some =
-    ap (λ bs. more_byte d e ∷ bs) (front_row ds others p some) ∙ sym (more_follow d e (ds ++ others) (omega (arith, length-append ds others, some)))
+turned_are : (n i : ℕ) (xs : List ℕ) → length xs ≡ i + n → turned_from n i xs ≡ map (invert_if true) (drop i xs)
+turned_are zero i xs h = sym (ap (map (invert_if true)) (drop_all i xs (omega (arith, h))))
+turned_are (suc n) i xs h =
+    ap (λ ys. (255 - get_or xs i 0) ∷ ys) (turned_are n (i + 1) xs (omega (arith, h))) ∙ sym (ap (map (invert_if true)) (drop_more xs i 0 (omega (arith, h))))
 
--- eight pairs, and the digits behind them
-pub front_written : (negative : Bool) (ds chunk others before middle after : List ℕ) (len : ℕ) → 16 < len → len ≤ length ds → chunk ≡ take 16 ds → others ≡ drop 16 (take len ds) → middle ≡ before ++ map (invert_if negative) (more_bytes 8 0 chunk)
-    → after ≡ middle ++ map (invert_if negative) (digit_bytes others) → after ≡ before ++ map (invert_if negative) (digit_bytes (take len ds))
-front_written negative ds chunk others before middle after len many inside c o m a =
-    let row = more_bytes 8 0 chunk in
-    let long : length chunk ≡ 16 = ap length c ∙ length-take-le 16 ds (omega (arith, many, inside)) in
-    let some : 0 < length others = omega (arith, ap length o, length-drop 16 (take len ds), length-take-le len ds inside, many) in
-    let whole : chunk ++ others ≡ take len ds = ap₂ (λ xs ys. xs ++ ys) (c ∙ sym (take-take 16 len ds (omega (arith, many)))) o ∙ take-append-drop 16 (take len ds) in
-    let row_is : row ++ digit_bytes others ≡ digit_bytes (take len ds) = ap (λ bs. bs ++ digit_bytes others) (row_from 8 0 chunk long) ∙ front_row chunk others (paired 8 chunk long) some ∙ ap digit_bytes whole in
-    a ∙ ap (λ xs. xs ++ map (invert_if negative) (digit_bytes others)) m ∙ append_assoc before (map (invert_if negative) row) (map (invert_if negative) (digit_bytes others))
-    ∙ ap (λ bs. before ++ bs) (sym (map-append (invert_if negative) row (digit_bytes others)) ∙ ap (map (invert_if negative)) row_is)
+pub sixteen_turned : (xs : List ℕ) → length xs ≡ 16 → turned_from 16 0 xs ≡ map (invert_if true) xs
+sixteen_turned xs h = turned_are 16 0 xs h
+
+pub not_turned : (xs : List ℕ) → xs ≡ map (invert_if false) xs
+not_turned [] = refl
+not_turned (x ∷ xs) = ap (λ ys. x ∷ ys) (not_turned xs)
 
 -- ---- integers of a text
 

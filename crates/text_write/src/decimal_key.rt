@@ -68,7 +68,7 @@ fn append_pointed(
 {
     let len = significant_len(&digits.row[..digits.count]);
     let offset = 0xA0 + digits.count - digits.scale;
-    out.try_reserve(16)?;
+    out.try_reserve(17)?;
     out.push_reserved(invert_if(negative, offset as u8));
     append_pairs(negative, &digits.row, len, out)
 }

@@ -1,5 +1,5 @@
 //! The sort key of an integer, made of its digits in a text.
-ghost use Rattle.std.specs.Prelude.{◌≡◌, ◌≢◌, ◌-◌, ◌<◌, ◌≤◌, ◌++◌, ◌∷◌, [], ℕ, List, true, false, length, map, take, drop, slice_index, slice_range, IfOk, OnOk};
+ghost use Rattle.std.specs.Prelude.{◌≡◌, ◌≢◌, ◌-◌, ◌<◌, ◌≤◌, ◌++◌, ◌∷◌, [], ℕ, List, true, length, map, take, slice_index, slice_range, OnOk};
 ghost use Rattle.std.specs.Str.Parse.{AllDigits, digits_value};
 ghost use Rattle.jsonb_spec.specs.Ascii as ascii;
 ghost use Rattle.jsonb_spec.specs.Grammar.StandardNumber.{IsStandardNumber};
@@ -36,10 +36,10 @@ fn last_byte(first: u8, second: u8) -> u8
         .wrapping_add(224)
 }
 
-// The bytes of eight pairs of digits. They are made at once, since each is made alike.
+// The bytes of sixteen pairs of digits. They are made at once, since each is made alike.
 #[inline(always)]
-fn more_bytes(digits: &[u8; 16]) -> [u8; 8]
-    ensures { result ≡ more_bytes 8 0 digits.now }
+fn more_bytes(digits: &[u8; 32]) -> [u8; 16]
+    ensures { result ≡ more_bytes 16 0 digits.now }
 {
     [
         more_byte(digits[0], digits[1]),
@@ -50,6 +50,14 @@ fn more_bytes(digits: &[u8; 16]) -> [u8; 8]
         more_byte(digits[10], digits[11]),
         more_byte(digits[12], digits[13]),
         more_byte(digits[14], digits[15]),
+        more_byte(digits[16], digits[17]),
+        more_byte(digits[18], digits[19]),
+        more_byte(digits[20], digits[21]),
+        more_byte(digits[22], digits[23]),
+        more_byte(digits[24], digits[25]),
+        more_byte(digits[26], digits[27]),
+        more_byte(digits[28], digits[29]),
+        more_byte(digits[30], digits[31]),
     ]
 }
 
@@ -61,11 +69,14 @@ pub(crate) fn invert_if(negative: bool, byte: u8) -> u8
     if negative { 255 - byte } else { byte }
 }
 
-// The bytes, turned round.
+// The bytes, turned round where the number is negative.
 #[inline(always)]
-fn inverted(row: [u8; 8]) -> [u8; 8]
-    ensures { result ≡ map (invert_if true) row }
+fn turned(negative: bool, row: [u8; 16]) -> [u8; 16]
+    ensures { result ≡ map (invert_if negative) row }
 {
+    if !negative {
+        return row;
+    }
     [
         255 - row[0],
         255 - row[1],
@@ -75,6 +86,14 @@ fn inverted(row: [u8; 8]) -> [u8; 8]
         255 - row[5],
         255 - row[6],
         255 - row[7],
+        255 - row[8],
+        255 - row[9],
+        255 - row[10],
+        255 - row[11],
+        255 - row[12],
+        255 - row[13],
+        255 - row[14],
+        255 - row[15],
     ]
 }
 
@@ -94,56 +113,15 @@ pub(crate) fn significant_len(digits: &[u8]) -> usize
     len
 }
 
-// Appends bytes one by one, which takes less time than a call where they are few.
-#[inline(always)]
-fn append_each(bytes: &[u8], out: &mut Vec<u8>) -> Result<(), AllocError>
-    ensures bytes { OnOk result (out.new.items ≡ out.old.items ++ bytes.now) }
-    ensures retained { Extends out.old.items out.new.items }
-{
-    out.try_reserve(bytes.len())?;
-    'bytes: for byte in bytes {
-        out.push_reserved(*byte);
-    }
-    Ok(())
-}
-
-// Appends the first bytes of a row, turned round. It is a call of its own, as few numbers are negative.
-#[inline(never)]
-fn append_inverted(row: [u8; 8], count: usize, out: &mut Vec<u8>) -> Result<(), AllocError>
-    requires { count ≤ 8 }
-    ensures bytes { OnOk result (out.new.items ≡ out.old.items ++ take count (map (invert_if true) row)) }
-    ensures retained { Extends out.old.items out.new.items }
-{
-    append_part(inverted(row), count, out)
-}
-
-// Appends the first bytes of a row, turned round where the number is negative.
-#[inline(always)]
-fn append_turned(
-    negative: bool,
-    row: [u8; 8],
-    count: usize,
-    out: &mut Vec<u8>,
-) -> Result<(), AllocError>
-    requires { count ≤ 8 }
-    ensures bytes { OnOk result (out.new.items ≡ out.old.items ++ take count (map (invert_if negative) row)) }
-    ensures retained { Extends out.old.items out.new.items }
-{
-    if negative {
-        return append_inverted(row, count, out);
-    }
-    append_each(&row[..count], out)
-}
-
-// Appends the bytes of at most 16 digits, which are the first ones.
+// Appends the bytes of the first of these digits.
 #[inline(always)]
 fn append_short(
     negative: bool,
-    digits: &[u8; 16],
+    digits: &[u8; 32],
     len: usize,
     out: &mut Vec<u8>,
 ) -> Result<(), AllocError>
-    requires { (0 < len) × (len ≤ 16) }
+    requires { (0 < len) × (len ≤ 32) }
     ensures bytes { OnOk result (out.new.items
         ≡ out.old.items ++ map (invert_if negative) (digit_bytes (take len digits.now))) }
     ensures retained { Extends out.old.items out.new.items }
@@ -152,17 +130,7 @@ fn append_short(
     let last = (len - 1) / 2;
     let second = if len % 2 == 0 { digits[len - 1] } else { b'0' };
     row[last] = last_byte(digits[2 * last], second);
-    append_turned(negative, row, last + 1, out)
-}
-
-// Appends the bytes of 16 digits behind which others are that aren't all zeros.
-#[inline(always)]
-fn append_front(negative: bool, digits: &[u8; 16], out: &mut Vec<u8>) -> Result<(), AllocError>
-    ensures bytes { OnOk result (out.new.items
-        ≡ out.old.items ++ map (invert_if negative) (more_bytes 8 0 digits.now)) }
-    ensures retained { Extends out.old.items out.new.items }
-{
-    append_turned(negative, more_bytes(digits), 8, out)
+    append_part(turned(negative, row), last + 1, out)
 }
 
 // Appends the bytes of any digits.
@@ -188,55 +156,7 @@ fn append_long(negative: bool, digits: &[u8], out: &mut Vec<u8>) -> Result<(), A
     Ok(())
 }
 
-// Appends the bytes of the first digits, mostly at most 16.
-#[inline(always)]
-fn append_last(
-    negative: bool,
-    digits: &[u8],
-    len: usize,
-    out: &mut Vec<u8>,
-) -> Result<(), AllocError>
-    requires some { 0 < len }
-    requires inside { len ≤ length digits.now }
-    ensures bytes { OnOk result (out.new.items
-        ≡ out.old.items ++ map (invert_if negative) (digit_bytes (take len digits.now))) }
-    ensures retained { Extends out.old.items out.new.items }
-{
-    if len <= 16 {
-        if let Some(chunk) = digits.first_chunk::<16>() {
-            return append_short(negative, chunk, len, out);
-        }
-    }
-    append_long(negative, &digits[..len], out)
-}
-
-// Appends the bytes of the first 16 digits where there are more, and returns how many are appended.
-#[inline(always)]
-fn append_first_pairs(
-    negative: bool,
-    digits: &[u8],
-    len: usize,
-    out: &mut Vec<u8>,
-) -> Result<usize, AllocError>
-    requires some { 0 < len }
-    requires inside { len ≤ length digits.now }
-    ensures left { IfOk result (λ done. done < len) }
-    ensures bytes { IfOk result (λ done. out.new.items
-        ++ map (invert_if negative) (digit_bytes (take (len - done) (drop done digits.now)))
-        ≡ out.old.items ++ map (invert_if negative) (digit_bytes (take len digits.now))) }
-    ensures retained { Extends out.old.items out.new.items }
-{
-    if len <= 16 {
-        return Ok(0);
-    }
-    let Some(chunk) = digits.first_chunk::<16>() else {
-        return Ok(0);
-    };
-    append_front(negative, chunk, out)?;
-    Ok(16)
-}
-
-// Appends the bytes of the first digits.
+// Appends the bytes of the first digits. A row of 32 is read, where there are so many bytes.
 #[inline(always)]
 pub(crate) fn append_pairs(
     negative: bool,
@@ -250,8 +170,12 @@ pub(crate) fn append_pairs(
         ≡ out.old.items ++ map (invert_if negative) (digit_bytes (take len digits.now))) }
     ensures retained { Extends out.old.items out.new.items }
 {
-    let done = append_first_pairs(negative, digits, len, out)?;
-    append_last(negative, &digits[done..], len - done, out)
+    if len <= 32 {
+        if let Some(chunk) = digits.first_chunk::<32>() {
+            return append_short(negative, chunk, len, out);
+        }
+    }
+    append_long(negative, &digits[..len], out)
 }
 
 // Appends the key of an integer of one or two digits above or below 0.
@@ -295,7 +219,7 @@ fn append_several(
     ensures retained { Extends out.old.items out.new.items }
 {
     let len = significant_len(&digits[..count]);
-    out.try_reserve(16)?;
+    out.try_reserve(17)?;
     out.push_reserved(invert_if(negative, 0xA0 + count as u8));
     append_pairs(negative, digits, len, out)
 }

@@ -10,9 +10,9 @@ pub returns-clause-bytes : goal.returns-clause-bytes
 returns-clause-bytes c =
     let len = c.args.len in
     let last = (len - 1) / 2 in
-    on_ok c.append_turned.result c.append_turned.ensures.bytes (λ e.
+    on_ok c.append_part.result c.append_part.ensures.bytes (λ e.
     e ∙ ap (λ xs. c.args.out.now.items ++ xs)
-    (ap (take (last + 1)) (ap (λ b. map (invert_if c.args.negative) (slice_set c.more_bytes-row.result last b)) c.last_byte.ensures)
+    (ap (take (last + 1)) (c.turned.ensures ∙ ap (λ b. map (invert_if c.args.negative) (slice_set c.more_bytes-row.result last b)) c.last_byte.ensures)
     ∙ row_written c.args.negative c.args.digits.now c.more_bytes-row.result len last _ c.if-len-eq0.second (search rules) c.more_bytes-row.ensures c.requires.0 c.requires.1 refl refl
     (λ z. elim c.if-len-eq0.branch [ then-len-eq0 w ↦ w.second-is | else-len-eq0 w ↦ absurd (w.if-len-eq0.false z) ])
     (λ z. elim c.if-len-eq0.branch [ then-len-eq0 w ↦ absurd (z w.if-len-eq0.true) | else-len-eq0 w ↦ w.second-is ])))

@@ -1,4 +1,4 @@
-use Rattle.std.proofs.Common.{◌∷◌, false, true, absurd, map, subst}
+use Rattle.std.proofs.Common.{◌≡◌, ◌∷◌, false, true, map, subst}
 use Rattle.jsonb.specs.Held.{held_by}
 use Rattle.jsonb_value.specs.View.{mark_view}
 use Rattle.text_scan.specs.Open.{members_so_far}
