@@ -31,8 +31,3 @@ pub named_child : (t : Tree) (key : List ℕ) → None ≡ option_map trees_len 
 named_child (array ts) key e = absurd (no_some (trees_len ts) (sym e))
 named_child (object ms) key e = refl
 named_child t key e = refl
-
--- in an array, by a key that names no index
-pub no_child : (t : Tree) (key : List ℕ) (len : ℕ) → Some len ≡ option_map trees_len (as_array t) → None ≡ index_named key → None ≡ child_at key t
-no_child (array ts) key len some e = ap (option_and_then (item_at ts)) e
-no_child t key len some e = absurd (no_some len some)

@@ -38,15 +38,6 @@ key_split key value rest = append_assoc key (58 ∷ 32 ∷ value) rest ∙ sym (
 pub key_done : (old now text key value rest new : List ℕ) → IsUnderway old now text ((key ++ 58 ∷ 32 ∷ value) ++ rest) → new ≡ now ++ (key ++ 58 ∷ 32 ∷ []) → IsUnderway old new text (value ++ rest)
 key_done old now text key value rest new u more = goes_on new (key ++ 58 ∷ 32 ∷ []) (value ++ rest) u (key_split key value rest) more
 
--- all lines are written
-pub lines_done : (old now text : List ℕ) (is_first : Bool) (lines : List (List ℕ)) → lines ≡ [] → IsUnderway old now text (texts_left is_first lines ++ []) → now ≡ old ++ text
-lines_done old now text is_first lines none u =
-    u.appended ∙ ap (λ front. old ++ front) (sym (append-nil u.front) ∙ ap (λ left. u.front ++ left) (nothing_left is_first ∙ sym (ap (λ ls. texts_left is_first ls ++ []) none)) ∙ sym u.whole)
-  where
-    nothing_left : (b : Bool) → [] ≡ texts_left b [] ++ []
-    nothing_left true = refl
-    nothing_left false = refl
-
 -- ---- what encloses the lines
 
 pub array_is : (indent margin inner : ℕ) (vs : List Value) → length vs ≢ 0 → inner ≡ margin + indent

@@ -8,7 +8,7 @@ pub mod integer;
 pub mod key;
 pub mod number;
 pub mod string;
-mod vector;
+pub(crate) mod vector;
 pub mod verbatim;
 pub mod whitespace;
 

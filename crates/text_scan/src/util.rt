@@ -2,5 +2,5 @@
 
 mod decoder;
 
-pub(crate) use decoder::unescape;
+pub(crate) use decoder::{digit, unescape};
 pub use decoder::{check_contents, decode_behind, decode_escape, parse_string};

@@ -45,11 +45,6 @@ pub builds_then : {X F Y B : Type 0} (silent : Bool) (reported : Option Error) (
 builds_then silent reported See (Ok x) read rest then whole P b e f = f x b.0 b.1 (e ∙ ap (λ q. q >>= then) b.2)
 builds_then silent reported See (Err t) read rest then whole P b e f = misses_same silent reported (read >>= then) whole e (misses_through silent reported read then b)
 
--- a value that holds no others
-pub builds_alone : {X F : Type 0} (silent : Bool) (reported : Option Error) (Sees : X → Source → Type 0) (r : Result X F) (read : Parse Tree) (rest : List ℕ) → Builds silent reported (AsScalar Sees) r read rest → Builds silent reported Sees r (alone_at read) rest
-builds_alone silent reported Sees (Ok x) read rest b = (source_alone b.0, b.1, ap alone_at b.2)
-builds_alone silent reported Sees (Err f) read rest b = misses_through silent reported read (λ x. Ok (source_alone x.0, x.1)) b
-
 pub each_error : {X F : Type 0} {P : F → Type 0} (r : Result X F) → ((f : F) → P f) → IfErr r P
 each_error (Ok x) h = tt
 each_error (Err f) h = h f

@@ -42,10 +42,6 @@ use Rattle.text_parse.proofs.Steps.Outcomes.{same_size, scalar_quoted}
 pub string_read : (size : ℕ) (mode : Mode) (quote : ℕ) (bytes : List ℕ) (x : Mark × List ℕ) (rest : List ℕ) → string_at size mode quote bytes ≡ Ok (x, rest) → quoted_at size mode quote bytes ≡ Ok (string x.0 x.1, rest)
 string_read size mode quote bytes x rest read = ap (λ (r : Parse (Mark × List ℕ)). r >>= λ (s : (Mark × List ℕ) × List ℕ). Ok (string s.0.0 s.0.1, s.1)) read
 
-pub scalar_string : (p q : Parser) (x : Mark × List ℕ) (rest : List ℕ) → Advances p q → rest_of p ≡ 34 ∷ rest_of q → string_at (size_of q) (mode_of q.mode) 34 (rest_of q) ≡ Ok (x, rest)
-    → scalar_at (size_of p) (mode_of p.mode) (rest_of p) ≡ Ok (string x.0 x.1, rest)
-scalar_string p q x rest a e read = scalar_quoted p q a e ∙ string_read (size_of q) (mode_of q.mode) 34 (rest_of q) x rest read
-
 -- ---- words
 
 pub null_read : (size : ℕ) (mode : Mode) (bytes rest : List ℕ) → letters_at size mode (codes "null") bytes ≡ Ok rest → null_at size mode bytes ≡ Ok (null, rest)
@@ -60,12 +56,6 @@ null_missed size extended bytes OutOfMemory is other h = absurd (other refl)
 null_missed size extended bytes e is other h = absurd h
 
 -- ---- numbers
-
--- a number as a value
-pub number_built : {V F : Type 0} (silent : Bool) (reported : Option Error) (Sees : V → Source → Type 0) (result : Result V F) (size : ℕ) (mode : Mode) (bytes rest : List ℕ) → Builds silent reported (AsNumber Sees) result (number_at size mode bytes) rest
-    → Builds silent reported (AsScalar Sees) result (number_value_at size mode bytes) rest
-number_built silent reported Sees (Ok v) size mode bytes rest h = (number h.0, h.1, ap (λ (r : Parse Num). r >>= λ x. Ok (number x.0, x.1)) h.2)
-number_built silent reported Sees (Err f) size mode bytes rest h = misses_through silent reported (number_at size mode bytes) (λ x. Ok (number x.0, x.1)) h
 
 -- ---- what is parsed is put in
 

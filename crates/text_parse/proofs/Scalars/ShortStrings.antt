@@ -80,9 +80,6 @@ meaning_is (unit braces digits ∷ xs) h = absurd h.0
 
 -- ---- the front of a string
 
-pub front_start : (bytes : List ℕ) → IsShortFront bytes 0 true
-front_start bytes = record { text = []; within = omega arith; short = short_none; same = λ t. refl }
-
 pub front_run : (bytes : List ℕ) (end run : ℕ) (is_same : Bool) → IsShortFront bytes end is_same → end + run ≤ length bytes → ArePlain (take run (drop end bytes)) → IsShortFront bytes (end + run) is_same
 front_run bytes end run is_same f within plain =
     let added = take run (drop end bytes) in

@@ -70,7 +70,7 @@ impl<'a> Parser<'a> {
         ensures { CutsString (λ s. s.now) quote result self.old self.new }
     {
         let rest = self.rest();
-        let end = next_mark(rest, quote, 0);
+        let (end, _marks) = next_mark(rest, quote, 0);
         if end == rest.len() {
             return None;
         }

@@ -3,33 +3,24 @@ use Rattle.std.proofs.Common.{◌≡◌, ℕ, ◌+◌, ◌*◌, ◌^◌, ◌<◌
 use Rattle.std.specs.Char.{digit_value, is_ascii_digit}
 use Rattle.std.specs.Option.{SomeIff}
 use Rattle.std.specs.Str.Parse.{AllDigits, digits_value, digits_value_after}
-use Rattle.std.specs.Int.Digits.{number_from_digits, number_from_digits_after}
-use Rattle.std.proofs.lemmas.Int.Digits.{digits_value_is, digits_value_more, number_after_append, number_after_ge, number_after_lt, all_below_base_from_digits}
+use Rattle.std.specs.Int.Digits.{number_from_digits_after}
+use Rattle.std.proofs.lemmas.Int.Digits.{digits_value_more, number_after_ge, number_after_lt, all_below_base_from_digits}
 use Rattle.std.proofs.lemmas.Str.{digit_value_digit}
+use Rattle.std.proofs.lemmas.Str.Parse.{digits_value-take-le}
 use Rattle.std.proofs.Math.Nat.{pow-suc, pow-le-pow_right}
 use Rattle.text_scan.proofs.Numbers.Steps.{digit_is}
-use Rattle.std.proofs.lemmas.List.{take-append-drop, map-append, take_all, take_more, length-map}
-
--- the first digits write no greater number than all
-pub digits_value-take_le : (ds : List ℕ) (i : ℕ) → digits_value 10 (take i ds) ≤ digits_value 10 ds
-digits_value-take_le ds i =
-    let front = map digit_value (take i ds) in
-    let rest = map digit_value (drop i ds) in
-    let whole : map digit_value (take i ds) ++ map digit_value (drop i ds) ≡ map digit_value ds = sym (map-append digit_value (take i ds) (drop i ds)) ∙ ap (map digit_value) (take-append-drop i ds) in
-    let value : number_from_digits 10 (map digit_value ds) ≡ number_from_digits_after 10 (number_from_digits 10 (map digit_value (take i ds))) (map digit_value (drop i ds)) = ap (number_from_digits 10) (sym whole) ∙ number_after_append 10 0 (map digit_value (take i ds)) (map digit_value (drop i ds)) in
-    omega (arith, digits_value_is 10 (take i ds), digits_value_is 10 ds, value, number_after_ge 10 (number_from_digits 10 (map digit_value (take i ds))) (map digit_value (drop i ds)) (omega arith))
+use Rattle.std.proofs.lemmas.List.{take-append-drop, take_all, take_more, length-map}
 
 -- one digit more is too great, and so is the whole
-pub digits_value_past : (ds : List ℕ) (i bound : ℕ) → i < length ds → bound ≤ digits_value 10 (take i ds) * 10 + digit_value (get_or ds i 0) → bound ≤ digits_value 10 ds
-digits_value_past ds i bound inside past = omega (arith, digits_value_more 10 ds i inside, digits_value-take_le ds (i + 1))
+pub appended_none : (base : ℕ) → 0 < base → (r : Option ℕ) (ds : List ℕ) (i n : ℕ) → i < length ds → n ≡ digits_value base (take i ds) → (n * base + digit_value (get_or ds i 0) < 2 ^ 128 → ⊥) → r ≡ None → SomeIff r (digits_value base ds < 2 ^ 128) (digits_value base ds)
+appended_none base some (Some v) ds i n inside front past none = absurd (cc)
+appended_none base some None ds i n inside front past none = λ small.
+    let next = ap (λ m. m * base + digit_value (get_or ds i 0)) front in
+    past (omega (arith, small, next, digits_value_more base ds i inside, digits_value-take-le base ds (i + 1) some))
 
-pub appended_none : (r : Option ℕ) (ds : List ℕ) (i n : ℕ) → i < length ds → n ≡ digits_value 10 (take i ds) → (n * 10 + digit_value (get_or ds i 0) < 2 ^ 64 → ⊥) → r ≡ None → SomeIff r (digits_value 10 ds < 2 ^ 64) (digits_value 10 ds)
-appended_none (Some v) ds i n inside front past none = absurd (cc)
-appended_none None ds i n inside front past none = λ small. past (omega (arith, digits_value_past ds i (n * 10 + digit_value (get_or ds i 0)) inside (omega arith)))
-
-pub all_digits_value : (ds : List ℕ) (i n : ℕ) → length ds ≤ i → n ≡ digits_value 10 (take i ds) → n < 2 ^ 64 → (digits_value 10 ds < 2 ^ 64) × (n ≡ digits_value 10 ds)
-all_digits_value ds i n end front small =
-    let whole : n ≡ digits_value 10 ds = front ∙ ap (digits_value 10) (take_all i ds end) in (rw (← whole) small, whole)
+pub all_digits_value : (base : ℕ) (ds : List ℕ) (i n : ℕ) → length ds ≤ i → n ≡ digits_value base (take i ds) → n < 2 ^ 128 → (digits_value base ds < 2 ^ 128) × (n ≡ digits_value base ds)
+all_digits_value base ds i n end front small =
+    let whole : n ≡ digits_value base ds = front ∙ ap (digits_value base) (take_all i ds end) in (rw (← whole) small, whole)
 
 -- ---- digits that follow a number
 

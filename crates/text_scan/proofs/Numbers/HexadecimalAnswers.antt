@@ -25,10 +25,6 @@ taken_digits (b ∷ bs) =
     (λ digit. rw (is_below (digit_value b) 16 digit, one) ((digit, rest.0), rest.1, omega (arith, rest.2)))
     (λ other. rw (is_not_below (digit_value b) 16 (omega (arith, other))) (tt, omega (arith, other), omega arith)) (cases_lt (digit_value b) 16)
 
--- the digits that are taken, by their number
-pub digits_of_length : (bs : List ℕ) (n : ℕ) → n ≡ hexadecimal_length bs → AllDigits 16 (take n bs)
-digits_of_length bs n e = rw e (taken_digits bs).0
-
 pub fits_is : (r : Option ℕ) (ds : List ℕ) → SomeIff r (digits_value 16 ds < 2 ^ 128) (digits_value 16 ds) → is_some r ≡ hexadecimal_fits ds
 fits_is None ds h = sym (is_not_below (digits_value 16 ds) (2 ^ 128) (omega (arith, h)))
 fits_is (Some v) ds h = sym (is_below (digits_value 16 ds) (2 ^ 128) h.0)

@@ -1,14 +1,9 @@
 -- Hexadecimal digits from left to right, and the number that they write.
-use Rattle.std.proofs.Common.{◌≡◌, ℕ, ◌+◌, ◌*◌, ◌^◌, ◌<◌, ◌≤◌, true, false, zero, suc, Option, Some, None, List, [], ◌∷◌, ◌++◌, length, get_or, take, drop, map, refl, sym, ap, ◌∙◌, arith, nat_lt}
+use Rattle.std.proofs.Common.{◌≡◌, ℕ, ◌^◌, ◌<◌, ◌≤◌, true, false, zero, suc, Some, None, List, length, drop, refl, sym, ap, ◌∙◌, arith, nat_lt}
 use Rattle.std.specs.Prelude.{slice_index, nat_le, ℤ, neg_ℤ, pos, FitsSigned, Bool}
 use Rattle.std.specs.Int.{w64}
 use Rattle.std.specs.Char.{digit_value}
-use Rattle.std.specs.Option.{SomeIff}
-use Rattle.std.specs.Str.Parse.{AllDigits, digits_value}
-use Rattle.std.specs.Int.Digits.{number_from_digits, number_from_digits_after}
 use Rattle.std.proofs.lemmas.Bool.Decides.{nat_tests}
-use Rattle.std.proofs.lemmas.Int.Digits.{digits_value_is, digits_value_more, number_after_append, number_after_ge}
-use Rattle.std.proofs.lemmas.List.{take-append-drop, map-append, take_all}
 use Rattle.jsonb_spec.specs.Number.Signed.{signed_by}
 use Rattle.jsonb_spec.specs.Tree.{int64, uint64, decimal128}
 use Rattle.jsonb_spec.specs.Grammar.ExtendedNumber.{hexadecimal_number}
@@ -26,31 +21,6 @@ length_more bs i h =
 pub length_stop : (bs : List ℕ) (i : ℕ) → 16 ≤ digit_value (slice_index bs i) → hexadecimal_length (drop i bs) ≡ 0
 unfolding hexadecimal_length
 length_stop bs i h = run_stop (λ b. nat_lt (digit_value b) 16) refl bs i (is_not_below (digit_value (slice_index bs i)) 16 h)
-
--- ---- the number
-
-value-take_le : (ds : List ℕ) (i : ℕ) → digits_value 16 (take i ds) ≤ digits_value 16 ds
-value-take_le ds i =
-    let whole : map digit_value (take i ds) ++ map digit_value (drop i ds) ≡ map digit_value ds = sym (map-append digit_value (take i ds) (drop i ds)) ∙ ap (map digit_value) (take-append-drop i ds) in
-    let value : number_from_digits 16 (map digit_value ds) ≡ number_from_digits_after 16 (number_from_digits 16 (map digit_value (take i ds))) (map digit_value (drop i ds)) = ap (number_from_digits 16) (sym whole) ∙ number_after_append 16 0 (map digit_value (take i ds)) (map digit_value (drop i ds)) in
-    omega (arith, digits_value_is 16 (take i ds), digits_value_is 16 ds, value, number_after_ge 16 (number_from_digits 16 (map digit_value (take i ds))) (map digit_value (drop i ds)) (omega arith))
-
--- one digit more is too great, and so is the whole
-value_past : (ds : List ℕ) (i bound : ℕ) → i < length ds → bound ≤ digits_value 16 (take i ds) * 16 + digit_value (get_or ds i 0) → bound ≤ digits_value 16 ds
-value_past ds i bound inside past = omega (arith, digits_value_more 16 ds i inside, value-take_le ds (i + 1))
-
-pub hexadecimal_none : (r : Option ℕ) (ds : List ℕ) (i n : ℕ) → i < length ds → n ≡ digits_value 16 (take i ds) → (n * 16 + digit_value (get_or ds i 0) < 2 ^ 128 → ⊥) → r ≡ None → SomeIff r (digits_value 16 ds < 2 ^ 128) (digits_value 16 ds)
-hexadecimal_none (Some v) ds i n inside front past none = absurd (cc)
-hexadecimal_none None ds i n inside front past none = λ small. past (omega (arith, value_past ds i (n * 16 + digit_value (get_or ds i 0)) inside (omega arith)))
-
-pub hexadecimal_all : (ds : List ℕ) (i n : ℕ) → length ds ≤ i → n ≡ digits_value 16 (take i ds) → n < 2 ^ 128 → (digits_value 16 ds < 2 ^ 128) × (n ≡ digits_value 16 ds)
-hexadecimal_all ds i n end front small =
-    let whole : n ≡ digits_value 16 ds = front ∙ ap (digits_value 16) (take_all i ds end) in (rw (← whole) small, whole)
-
-pub digit_below : (ds : List ℕ) (i : ℕ) → AllDigits 16 ds → i < length ds → digit_value (get_or ds i 0) < 16
-digit_below [] i h inside = absurd (omega (arith, inside))
-digit_below (d ∷ ds) zero h inside = h.0
-digit_below (d ∷ ds) (suc i) h inside = digit_below ds i h.1 (omega (arith, inside))
 
 -- ---- the variant
 

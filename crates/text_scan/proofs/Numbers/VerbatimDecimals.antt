@@ -1,5 +1,5 @@
 -- Decimals that are written as they are.
-use Rattle.std.proofs.Common.{◌≡◌, ◌≢◌, ◌⊎◌, ℕ, zero, suc, ◌+◌, ◌-◌, ◌^◌, ◌<◌, ◌≤◌, Bool, true, false, List, [], ◌∷◌, ◌++◌, length, length-append, take, drop, get_or, refl, sym, subst, ap, ap₂, ◌∙◌, inl, inr, ⊎_elim, arith}
+use Rattle.std.proofs.Common.{◌≡◌, ◌≢◌, ◌⊎◌, ℕ, zero, suc, ◌+◌, ◌-◌, ◌^◌, ◌<◌, ◌≤◌, Bool, true, false, List, [], ◌∷◌, ◌++◌, length, length-append, take, drop, get_or, refl, sym, subst, ap, ap₂, ◌∙◌, inl, inr, not, ⊎_elim, arith}
 use Rattle.std.specs.Prelude.{slice_index, replicate, unsigned_abs, ◌==◌, nat_eq, MatchBool}
 use Rattle.std.specs.Fmt.{decimal, sign_text}
 use Rattle.std.specs.Int.{is_negative, from_bool}
@@ -99,11 +99,11 @@ above (d ∷ front) back some all needless either = ⊎_elim (λ zero_byte. behi
     behind zero_byte =
         ⊎_elim (λ other. absurd (other zero_byte)) (λ more. ⊎_elim (λ other. absurd (other zero_byte)) (λ single. alone front single zero_byte more) needless) either
 
--- what a test for zeros says of digits that write no less
-pub zeros_are : (v total : ℕ) → v ≤ total → MatchBool (nat_eq v 0) (Unit {0}) (0 < total)
-zeros_are v total h =
-    ⊎_elim (λ none. subst (λ n. MatchBool (nat_eq n 0) (Unit {0}) (0 < total)) (sym none) tt)
-    (λ other. let some : (v == 0) ≡ false = is_some v (omega (arith, other)) in rw some (omega (arith, h, other))) (cases_eq v 0)
+-- what a test for digits other than zeros says of digits that write no less
+pub some_sign : (Q P : Type 0) (v total : ℕ) → v ≤ total → MatchBool (not (nat_eq v 0)) (Q → P ⊎ (0 < total)) (Unit {0})
+some_sign Q P v total h =
+    ⊎_elim (λ none. subst (λ n. MatchBool (not (nat_eq n 0)) (Q → P ⊎ (0 < total)) (Unit {0})) (sym none) tt)
+    (λ other. let some : (v == 0) ≡ false = is_some v (omega (arith, other)) in rw some (λ q. inr (omega (arith, h, other)))) (cases_eq v 0)
 
 -- the first bytes around a point
 at_point : (bytes : List ℕ) (front back : ℕ) → slice_index bytes front ≡ 46 → front < length bytes → take (front + 1 + back) bytes ≡ take front bytes ++ 46 ∷ take back (drop (front + 1) bytes)

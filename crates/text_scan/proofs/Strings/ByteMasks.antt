@@ -1,15 +1,14 @@
 -- The bits of a mask: where a byte is among 16.
-use Rattle.std.proofs.Common.{◌≡◌, ◌↔◌, ℕ, zero, suc, ◌+◌, ◌^◌, ◌<◌, ◌≤◌, ◌-◌, ◌++◌, ⊎_elim, List, [], ◌∷◌, Bool, true, false, true≢false, cond, eqb, eqb-true, eq-eqb, ne_eqb, length, get_or, map, take, drop, sym, subst, ap, ◌∙◌, refl, arith}
-use Rattle.std.proofs.lemmas.Simd.{bit_mask_l, mask_l-lt}
-use Rattle.std.proofs.lemmas.List.{append_assoc, get_or-drop, get_or-take, length-map, length-take-le, take-append-le, take-append-drop}
-use Rattle.std.proofs.Math.ListN.{get_or-map}
+use Rattle.std.proofs.Common.{◌≡◌, ◌↔◌, ℕ, zero, suc, ◌+◌, ◌^◌, ◌<◌, ◌≤◌, ◌-◌, ◌++◌, ⊎_elim, List, [], ◌∷◌, Bool, true, false, true≢false, cond, eqb, eqb-true, eq-eqb, length, get_or, map, take, drop, sym, subst, ap, ◌∙◌, refl, arith}
+use Rattle.std.proofs.lemmas.Simd.{bit_mask_l, get_or-chunk, length-chunk}
+use Rattle.std.proofs.lemmas.List.{append_assoc, get_or-drop, get_or-map, get_or_past, length-map, length-take-le, take-append-le, take-append-drop}
 use Rattle.std.proofs.Math.Seq.{take-append-add}
 use Rattle.std.proofs.lemmas.Bool.{cases_lt}
 use Rattle.std.specs.Int.{bit_at}
-use Rattle.std.specs.Simd.Lanes.{mask_l}
+use Rattle.std.specs.Simd.Lanes.{chunk, mask_l}
 use Rattle.text_scan.specs.Decoding.{SeesNoBackslash}
 
-within : (byte : ℕ) → 0 < byte → (bytes : List ℕ) (k : ℕ) → get_or bytes k 0 ≡ byte → k < length bytes
+pub within : (byte : ℕ) → 0 < byte → (bytes : List ℕ) (k : ℕ) → get_or bytes k 0 ≡ byte → k < length bytes
 within byte some [] k e = absurd (omega (arith, some, e))
 within byte some (b ∷ bytes) zero e = omega arith
 within byte some (b ∷ bytes) (suc k) e = let below = within byte some bytes k e in omega (arith, below)
@@ -18,27 +17,35 @@ set_reports : (b byte : ℕ) (t : Bool) → eqb b byte ≡ t → (cond {A = ℕ}
 set_reports b byte true e = (λ h. eqb-true b byte e, λ h. refl)
 set_reports b byte false e = (λ h. absurd (omega (arith, h)), λ h. absurd (true≢false (sym (eq-eqb b byte h) ∙ e)))
 
--- what a bit of the mask of the first bytes says
-pub reported : (byte : ℕ) → 0 < byte → (bytes : List ℕ) (m : ℕ) → 16 ≤ length bytes → m ≡ mask_l (map (λ b. eqb b byte) (take 16 bytes)) → (k : ℕ) → (bit_at m k ≡ 1) ↔ ((k < 16) × (get_or bytes k 0 ≡ byte))
-reported byte some bytes m long is k =
-    let lanes = take 16 bytes in
-    let no : eqb 0 byte ≡ false = ne_eqb 0 byte (λ e. absurd (omega (arith, some, e))) in
-    let bit : bit_at m k ≡ cond (eqb (get_or lanes k 0) byte) 1 0 =
-    ap (λ n. bit_at n k) is ∙ bit_mask_l (map (λ b. eqb b byte) lanes) k ∙ ap (λ (d : Bool). cond {A = ℕ} (get_or (map (λ b. eqb b byte) lanes) k d) 1 0) (sym no) ∙ ap (λ (t : Bool). cond {A = ℕ} t 1 0) (get_or-map (λ b. eqb b byte) lanes k 0) in
-    let reports = set_reports (get_or lanes k 0) byte _ refl in (
-      λ h.
-          let here = reports.0 (sym bit ∙ h) in
-          let low : k < 16 = omega (arith, within byte some lanes k here, length-take-le 16 bytes long) in
-          (low, sym (get_or-take 16 bytes k 0 low) ∙ here),
-      λ both. bit ∙ reports.1 (get_or-take 16 bytes k 0 both.0 ∙ both.1),
-    )
+-- what a bit of the mask of a row of bytes says
+pub reported : (byte at size : ℕ) (bytes : List ℕ) (m : ℕ) → at + size ≤ length bytes → m ≡ mask_l (map (λ b. eqb b byte) (chunk at size bytes)) → (k : ℕ) → (bit_at m k ≡ 1) ↔ ((k < size) × (get_or bytes (at + k) 0 ≡ byte))
+reported byte at size bytes m long is k = ⊎_elim inside past (cases_lt k size)
+  where
+    bits : List Bool
+    bits = map (λ b. eqb b byte) (chunk at size bytes)
 
-pub mask_bound : (byte : ℕ) (bytes : List ℕ) (m : ℕ) → 16 ≤ length bytes → m ≡ mask_l (map (λ b. eqb b byte) (take 16 bytes)) → m < 2 ^ 16
-mask_bound byte bytes m long is =
-    let lanes = map (λ b. eqb b byte) (take 16 bytes) in
-    let count : length lanes ≡ 16 = length-map (take 16 bytes) (λ b. eqb b byte) ∙ length-take-le 16 bytes long in
-    let low : mask_l lanes < 2 ^ 16 = subst (λ n. mask_l lanes < 2 ^ n) count (mask_l-lt lanes) in
-    omega (arith, is, low)
+    bit : bit_at m k ≡ cond (get_or bits k false) 1 0
+    bit = ap (λ n. bit_at n k) is ∙ bit_mask_l bits k
+
+    inside : k < size → (bit_at m k ≡ 1) ↔ ((k < size) × (get_or bytes (at + k) 0 ≡ byte))
+    inside low =
+        let here : get_or bits k false ≡ eqb (get_or bytes (at + k) 0) byte =
+        get_or-map (λ b. eqb b byte) (chunk at size bytes) k 0 false (omega (arith, low, length-chunk at size bytes long)) ∙ ap (λ b. eqb b byte) (get_or-chunk at size bytes k 0 low) in
+        let set = bit ∙ ap (λ (t : Bool). cond {A = ℕ} t 1 0) here in
+        let reports = set_reports (get_or bytes (at + k) 0) byte _ refl in
+        (λ h. (low, reports.0 (sym set ∙ h)), λ both. set ∙ reports.1 both.1)
+
+    past : size ≤ k → (bit_at m k ≡ 1) ↔ ((k < size) × (get_or bytes (at + k) 0 ≡ byte))
+    past high =
+        let none : get_or bits k false ≡ false = get_or_past bits k false (omega (arith, high, length-map (chunk at size bytes) (λ b. eqb b byte), length-chunk at size bytes long)) in
+        let zero = bit ∙ ap (λ (t : Bool). cond {A = ℕ} t 1 0) none in
+        (λ h. absurd (omega (arith, h, zero)), λ both. absurd (omega (arith, high, both.0)))
+
+-- bits of which only the first 16 may be set are not all that a number has
+pub not_all : (m : ℕ) → m < 2 ^ 64 → ((k : ℕ) → bit_at m k ≡ 1 → k < 16) → m + 1 < 2 ^ 64
+not_all m fits few = ⊎_elim (λ low. low) (λ high.
+    let all : m ≡ 2 ^ 64 - 1 = omega (arith, fits, high) in
+    absurd (omega (arith, few 63 (subst (λ n. bit_at n 63 ≡ 1) (sym all) refl)))) (cases_lt (m + 1) (2 ^ 64))
 
 -- where the first bytes are all this one, there are so many
 pub all_within : (byte : ℕ) → 0 < byte → (bytes : List ℕ) (count : ℕ) → ((k : ℕ) → k < count → get_or bytes k 0 ≡ byte) → count ≤ length bytes

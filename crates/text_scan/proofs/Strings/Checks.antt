@@ -46,9 +46,6 @@ decoded_utf8 mode bytes utf8 = by_items (items_within (length bytes) mode bytes)
 
 -- ---- steps of the check
 
-pub up_to_start : (mode : Mode) (bytes : List ℕ) → IsDecodedUpTo mode bytes bytes
-up_to_start mode bytes = record { text = []; decodes = record { items = []; each = tt; encoded = refl; meant = λ tail h. refl; short = omega arith } }
-
 pub up_to_then : (mode : Mode) (a b c : List ℕ) → IsDecodedUpTo mode a b → IsDecodedUpTo mode b c → IsDecodedUpTo mode a c
 up_to_then mode a b c p q = record { text = p.text ++ q.text; decodes = decoded_then mode a b c p.text q.text p.decodes q.decodes }
 

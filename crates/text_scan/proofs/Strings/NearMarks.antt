@@ -1,60 +1,35 @@
--- The bits of a mask: where a quote, a backslash or the end of a comment is among 16 bytes.
-use Rattle.std.proofs.Common.{◌≡◌, ◌≢◌, ◌⊎◌, ◌↔◌, ℕ, ◌+◌, ◌-◌, ◌<◌, ◌≤◌, inl, inr, true, false, cond, List, [], ◌∷◌, zero, suc, bit_and, bit_or, eqb, eqb-true, eq-eqb, length, get_or, refl, sym, ap, ap₂, subst, ◌∙◌, arith}
+-- The bits of a mask: where a quote or a backslash is among 32 bytes.
+use Rattle.std.proofs.Common.{◌≡◌, ◌≢◌, ◌⊎◌, ◌↔◌, ℕ, ◌+◌, ◌-◌, ◌<◌, ◌≤◌, ⊎_elim, inl, inr, List, bit_or, length, get_or, sym, subst, ◌∙◌, arith}
 use Rattle.std.specs.Int.{bit_at}
-use Rattle.std.proofs.lemmas.Nat.Bits.{bit_at-zero}
-use Rattle.memchr.specs.Lanes.{HasLanes}
+use Rattle.std.proofs.lemmas.Bool.{cases_lt}
+use Rattle.std.proofs.lemmas.Nat.Bits.{bit_at-lt, bit_at-zero, bit_at_or}
 use Rattle.text_scan.specs.QuotedString.{KnowsMarks, ReportsMarks}
 
 -- the byte is the quote or a backslash
 abbrev pub IsMark : ℕ → ℕ → Type 0
 IsMark quote b = (b ≡ quote) ⊎ (b ≡ 92)
 
-abbrev pub lane : ℕ → ℕ → ℕ
-lane quote b = bit_or (cond (eqb b quote) 255 0) (cond (eqb b 92) 255 0)
-
-lane-mark : (quote b : ℕ) → IsMark quote b → 128 ≤ lane quote b
-lane-mark quote b (inl e) =
-    subst (λ t. 128 ≤ bit_or (cond t 255 0) (cond (eqb b 92) 255 0)) (sym (eq-eqb b quote e)) (elim (eqb b 92) as (λ t. 128 ≤ bit_or 255 (cond t 255 0)) [
-      | true ↦ omega arith
-      | false ↦ omega arith
-    ])
-lane-mark quote b (inr e) =
-    subst (λ t. 128 ≤ bit_or (cond (eqb b quote) 255 0) (cond t 255 0)) (sym (eq-eqb b 92 e)) (elim (eqb b quote) as (λ t. 128 ≤ bit_or (cond t 255 0) 255) [
-      | true ↦ omega arith
-      | false ↦ omega arith
-    ])
-
-mark-lane : (quote b : ℕ) → 128 ≤ lane quote b → IsMark quote b
-mark-lane quote b h =
-    elim (eqb b quote) as (λ t. eqb b quote ≡ t → 128 ≤ bit_or (cond t 255 0) (cond (eqb b 92) 255 0) → IsMark quote b) [
-      | true ↦ λ e g. inl (eqb-true b quote e)
-      | false ↦ λ e g. elim (eqb b 92) as (λ t. eqb b 92 ≡ t → 128 ≤ bit_or 0 (cond t 255 0) → IsMark quote b) [
-        | true ↦ λ f k. inr (eqb-true b 92 f)
-        | false ↦ λ f k. absurd (let none : 128 ≤ 0 = k in omega arith)
-      ] refl g
-    ] refl h
-
--- a lane that is not 0 is among the lanes
-past : (o : List ℕ) (k n : ℕ) → length o ≡ n → 128 ≤ get_or o k 0 → k < n
-past [] k n e h = absurd (omega arith)
-past (x ∷ o) zero n e h = omega (arith, e)
-past (x ∷ o) (suc k) n e h = let below = past o k (length o) refl h in omega (arith, e, below)
-
-pub reports : (quote i m : ℕ) (bytes v a b o : List ℕ) → i + 32 ≤ length bytes → HasLanes v (λ k. get_or bytes (i + k) 0) → HasLanes a (λ k. cond (eqb (get_or v k 0) quote) 255 0)
-    → HasLanes b (λ k. cond (eqb (get_or v k 0) 92) 255 0) → HasLanes o (λ k. bit_or (get_or a k 0) (get_or b k 0)) → ((k : ℕ) → (bit_at m k ≡ 1) ↔ (128 ≤ get_or o k 0)) → ReportsMarks quote bytes i (i + 32) m
-reports quote i m bytes v a b o within hv ha hb ho top =
+pub reports : (quote at a b : ℕ) (bytes : List ℕ) → at + 32 ≤ length bytes → ((k : ℕ) → (bit_at a k ≡ 1) ↔ ((k < 32) × (get_or bytes (at + k) 0 ≡ quote))) → ((k : ℕ) → (bit_at b k ≡ 1) ↔ ((k < 32) × (get_or bytes (at + k) 0 ≡ 92)))
+    → ReportsMarks quote bytes at (at + 32) (bit_or a b)
+reports quote at a b bytes within quotes backslashes =
     record {
       within = within;
-      set = λ k l mark. (top k).1 (subst (λ x. 128 ≤ x) (sym (is k (omega (arith, l)))) (lane-mark quote (get_or bytes (i + k) 0) mark));
-      marked = λ k bit. mark-lane quote (get_or bytes (i + k) 0) (subst (λ x. 128 ≤ x) (is k (few k bit)) ((top k).0 bit));
-      short = λ k bit. omega (arith, few k bit);
+      set = λ k low mark. ⊎_elim
+          (λ is. either k (inl ((quotes k).1 (omega (arith, low), is))))
+          (λ is. either k (inr ((backslashes k).1 (omega (arith, low), is)))) mark;
+      marked = λ k bit. ⊎_elim (λ set. inl ((quotes k).0 set).1) (λ set. inr ((backslashes k).0 set).1) (each k bit);
+      short = λ k bit. ⊎_elim (λ set. omega (arith, ((quotes k).0 set).0)) (λ set. omega (arith, ((backslashes k).0 set).0)) (each k bit);
     }
   where
-    few : (k : ℕ) → bit_at m k ≡ 1 → k < 32
-    few k bit = past o k 32 ho.long ((top k).0 bit)
+    either : (k : ℕ) → (bit_at a k ≡ 1) ⊎ (bit_at b k ≡ 1) → bit_at (bit_or a b) k ≡ 1
+    either k (inl set) = omega (arith, set, bit_at_or a b k, bit_at-lt b k)
+    either k (inr set) = omega (arith, set, bit_at_or a b k, bit_at-lt a k)
 
-    is : (k : ℕ) → k < 32 → get_or o k 0 ≡ lane quote (get_or bytes (i + k) 0)
-    is k l = ho.each k l ∙ ap₂ (λ x y. bit_or x y) (ha.each k l ∙ ap (λ x. cond (eqb x quote) 255 0) (hv.each k l)) (hb.each k l ∙ ap (λ x. cond (eqb x 92) 255 0) (hv.each k l))
+    each : (k : ℕ) → bit_at (bit_or a b) k ≡ 1 → (bit_at a k ≡ 1) ⊎ (bit_at b k ≡ 1)
+    each k set = ⊎_elim
+        (λ none. inr (omega (arith, none, set, bit_at_or a b k, bit_at-lt b k)))
+        (λ some. inl (omega (arith, some, bit_at-lt a k)))
+        (cases_lt (bit_at a k) 1)
 
 -- ---- what the bits say of a run of bytes
 
@@ -102,35 +77,3 @@ knows_later quote at by later bits new bytes is sum (end, t) = (
   where
     offset : (k : ℕ) → later + k ≡ at + (by + k)
     offset k = omega (arith, sum)
-
--- ---- the ends of block comments
-
-end_lane : (b c : ℕ) → 128 ≤ bit_and (cond (eqb b 42) 255 0) (cond (eqb c 47) 255 0) → (b ≡ 42) × (c ≡ 47)
-end_lane b c h =
-    elim (eqb b 42) as (λ t. eqb b 42 ≡ t → 128 ≤ bit_and (cond t 255 0) (cond (eqb c 47) 255 0) → (b ≡ 42) × (c ≡ 47)) [
-      | true ↦ λ e g. elim (eqb c 47) as (λ t. eqb c 47 ≡ t → 128 ≤ bit_and 255 (cond t 255 0) → (b ≡ 42) × (c ≡ 47)) [
-        | true ↦ λ f k. (eqb-true b 42 e, eqb-true c 47 f)
-        | false ↦ λ f k. absurd (let none : 128 ≤ 0 = k in omega arith)
-      ] refl g
-      | false ↦ λ e g. elim (eqb c 47) as (λ t. 128 ≤ bit_and 0 (cond t 255 0) → (b ≡ 42) × (c ≡ 47)) [
-        | true ↦ λ k. absurd (let none : 128 ≤ 0 = k in omega arith)
-        | false ↦ λ k. absurd (let none : 128 ≤ 0 = k in omega arith)
-      ] g
-    ] refl h
-
-lane_end : (b c : ℕ) → b ≡ 42 → c ≡ 47 → 128 ≤ bit_and (cond (eqb b 42) 255 0) (cond (eqb c 47) 255 0)
-lane_end b c e f = subst (λ t. 128 ≤ bit_and (cond t 255 0) (cond (eqb c 47) 255 0)) (sym (eq-eqb b 42 e)) (subst (λ t. 128 ≤ bit_and 255 (cond t 255 0)) (sym (eq-eqb c 47 f)) (omega arith))
-
-pub ends_reported : (at m : ℕ) (bytes v w a b o : List ℕ) → HasLanes v (λ k. get_or bytes (at + k) 0) → HasLanes w (λ k. get_or bytes (at + 1 + k) 0) → HasLanes a (λ k. cond (eqb (get_or v k 0) 42) 255 0)
-    → HasLanes b (λ k. cond (eqb (get_or w k 0) 47) 255 0) → HasLanes o (λ k. bit_and (get_or a k 0) (get_or b k 0)) → ((k : ℕ) → (bit_at m k ≡ 1) ↔ (128 ≤ get_or o k 0))
-    → (k : ℕ) → (bit_at m k ≡ 1) ↔ ((k < 32) × (get_or bytes (at + k) 0 ≡ 42) × (get_or bytes (at + 1 + k) 0 ≡ 47))
-ends_reported at m bytes v w a b o hv hw ha hb ho top k = (
-  λ bit.
-      let low = past o k 32 ho.long ((top k).0 bit) in
-      let both = end_lane (get_or bytes (at + k) 0) (get_or bytes (at + 1 + k) 0) (subst (λ x. 128 ≤ x) (is low) ((top k).0 bit)) in
-      (low, both.0, both.1),
-  λ t. (top k).1 (subst (λ x. 128 ≤ x) (sym (is t.0)) (lane_end (get_or bytes (at + k) 0) (get_or bytes (at + 1 + k) 0) t.1 t.2)),
-)
-  where
-    is : k < 32 → get_or o k 0 ≡ bit_and (cond (eqb (get_or bytes (at + k) 0) 42) 255 0) (cond (eqb (get_or bytes (at + 1 + k) 0) 47) 255 0)
-    is l = ho.each k l ∙ ap₂ (λ x y. bit_and x y) (ha.each k l ∙ ap (λ x. cond (eqb x 42) 255 0) (hv.each k l)) (hb.each k l ∙ ap (λ x. cond (eqb x 47) 255 0) (hw.each k l))

@@ -1,6 +1,6 @@
 -- Where comments end.
 use Rattle.std.proofs.Common.{◌≡◌, ℕ, zero, suc, ◌+◌, ◌<◌, ◌≤◌, ◌≢◌, Bool, true, false, true≢false, cond, ◌||◌, ◌&&◌, ◌⊎◌, ⊎_elim, inl, inr, List, [], ◌∷◌, ◌++◌, length, drop, get_or, refl, sym, ap, ap₂, ◌∙◌, arith, eqb, eqb-true, ne_eqb, eq-eqb}
-use Rattle.std.proofs.lemmas.Bool.{cases_Bool, cases_eq, cond-false, cond-true, or_cases, and_parts}
+use Rattle.std.proofs.lemmas.Bool.{cases_Bool, cases_eq, cases_lt, cond-false, cond-true, or_cases, and_parts}
 use Rattle.std.proofs.lemmas.List.{drop_more, length-drop}
 use Rattle.memchr.specs.Find.{is_byte2}
 use Rattle.jsonb_spec.specs.Grammar.Whitespace.{EndsLine, IsOneLine, LacksCommentEnd}
@@ -202,20 +202,6 @@ unfolding block_length
 block_at bytes at within star slash =
     ap block_length (drop_more bytes at 0 (omega (arith, within)) ∙ ap (λ (u : List ℕ). get_or bytes at 0 ∷ u) (drop_more bytes (at + 1) 0 within) ∙ ap₂ (λ (b c : ℕ). b ∷ c ∷ drop (at + 1 + 1) bytes) star slash)
 
-pub block_past : (bytes : List ℕ) (at : ℕ) → at + 1 < length bytes → (get_or bytes at 0 ≢ 42) ⊎ (get_or bytes (at + 1) 0 ≢ 47) → block_length (drop at bytes) ≡ longer_by 1 (block_length (drop (at + 1) bytes))
-unfolding block_length
-block_past bytes at within other =
-    let b = get_or bytes at 0 in
-    let c = get_or bytes (at + 1) 0 in
-    let later : drop (at + 1) bytes ≡ c ∷ drop (at + 1 + 1) bytes = drop_more bytes (at + 1) 0 within in
-    let none : (eqb b 42 && begins 47 (drop (at + 1) bytes)) ≡ false = ap (λ (u : List ℕ). eqb b 42 && begins 47 u) later ∙ ⊎_elim (λ n. ap (λ (t : Bool). t && begins 47 (c ∷ drop (at + 1 + 1) bytes)) (ne_eqb b 42 n))
-    (λ n. ap (λ (t : Bool). eqb b 42 && cond t true false) (ne_eqb c 47 n) ∙ and_false (eqb b 42)) other in
-    ap block_length (drop_more bytes at 0 (omega (arith, within))) ∙ cond-false (eqb b 42 && begins 47 (drop (at + 1) bytes)) 2 (longer_by 1 (block_length (drop (at + 1) bytes))) none
-  where
-    and_false : (t : Bool) → (t && false) ≡ false
-    and_false true = refl
-    and_false false = refl
-
 pub block_none : (bytes : List ℕ) (at : ℕ) → length bytes ≤ at + 1 → block_length (drop at bytes) ≡ 0
 unfolding block_length
 block_none bytes at past = short (drop at bytes) (omega (arith, past, length-drop at bytes))
@@ -229,21 +215,39 @@ block_none bytes at past = short (drop at bytes) (omega (arith, past, length-dro
         and_no false = refl
     short (b ∷ c ∷ u) h = absurd (omega (arith, h))
 
+pub block_past : (bytes : List ℕ) (at : ℕ) → (get_or bytes at 0 ≢ 42) ⊎ (get_or bytes (at + 1) 0 ≢ 47) → block_length (drop at bytes) ≡ longer_by 1 (block_length (drop (at + 1) bytes))
+unfolding block_length
+block_past bytes at other = ⊎_elim before
+    (λ past. block_none bytes at past ∙ sym (ap (longer_by 1) (block_none bytes (at + 1) (omega (arith, past))))) (cases_lt (at + 1) (length bytes))
+  where
+    and_false : (t : Bool) → (t && false) ≡ false
+    and_false true = refl
+    and_false false = refl
+
+    before : at + 1 < length bytes → block_length (drop at bytes) ≡ longer_by 1 (block_length (drop (at + 1) bytes))
+    before within =
+        let b = get_or bytes at 0 in
+        let c = get_or bytes (at + 1) 0 in
+        let later : drop (at + 1) bytes ≡ c ∷ drop (at + 1 + 1) bytes = drop_more bytes (at + 1) 0 within in
+        let none : (eqb b 42 && begins 47 (drop (at + 1) bytes)) ≡ false = ap (λ (u : List ℕ). eqb b 42 && begins 47 u) later ∙ ⊎_elim (λ n. ap (λ (t : Bool). t && begins 47 (c ∷ drop (at + 1 + 1) bytes)) (ne_eqb b 42 n))
+        (λ n. ap (λ (t : Bool). eqb b 42 && cond t true false) (ne_eqb c 47 n) ∙ and_false (eqb b 42)) other in
+        ap block_length (drop_more bytes at 0 (omega (arith, within))) ∙ cond-false (eqb b 42 && begins 47 (drop (at + 1) bytes)) 2 (longer_by 1 (block_length (drop (at + 1) bytes))) none
+
 -- past bytes at which no comment ends
-pub block_far : (bytes : List ℕ) (at count : ℕ) → at + count < length bytes → ((k : ℕ) → k < count → get_or bytes (at + k) 0 ≡ 42 → get_or bytes (at + 1 + k) 0 ≢ 47) → block_length (drop at bytes) ≡ longer_by count (block_length (drop (at + count) bytes))
-block_far bytes at zero within none = sym (longer-zero (block_length (drop (at + 0) bytes)) ∙ ap (λ n. block_length (drop n bytes)) (let same : at + 0 ≡ at = omega arith in same))
-block_far bytes at (suc count) within none =
+pub block_far : (bytes : List ℕ) (at count : ℕ) → ((k : ℕ) → k < count → get_or bytes (at + k) 0 ≡ 42 → get_or bytes (at + 1 + k) 0 ≢ 47) → block_length (drop at bytes) ≡ longer_by count (block_length (drop (at + count) bytes))
+block_far bytes at zero none = sym (longer-zero (block_length (drop (at + 0) bytes)) ∙ ap (λ n. block_length (drop n bytes)) (let same : at + 0 ≡ at = omega arith in same))
+block_far bytes at (suc count) none =
     let here : at + 0 ≡ at = omega arith in
     let next : at + 1 + 0 ≡ at + 1 = omega arith in
     let other : (get_or bytes at 0 ≢ 42) ⊎ (get_or bytes (at + 1) 0 ≢ 47) = elim (cases_eq (get_or bytes at 0) 42) [
       | inl star ↦ inr (λ slash. none 0 (omega arith) (ap (λ n. get_or bytes n 0) here ∙ star) (ap (λ n. get_or bytes n 0) next ∙ slash))
       | inr no_star ↦ inl no_star
     ] in
-    let later = block_far bytes (at + 1) count (omega (arith, within)) (λ k low star slash.
+    let later = block_far bytes (at + 1) count (λ k low star slash.
     let one : at + suc k ≡ at + 1 + k = omega arith in
     let two : at + 1 + suc k ≡ at + 1 + 1 + k = omega arith in
     none (suc k) (omega (arith, low)) (ap (λ n. get_or bytes n 0) one ∙ star) (ap (λ n. get_or bytes n 0) two ∙ slash)) in
-    block_past bytes at (omega (arith, within)) other ∙ ap (longer_by 1) later ∙ longer-longer 1 count (block_length (drop (at + 1 + count) bytes))
+    block_past bytes at other ∙ ap (longer_by 1) later ∙ longer-longer 1 count (block_length (drop (at + 1 + count) bytes))
     ∙ ap₂ (λ m n. longer_by m (block_length (drop n bytes))) (let one : 1 + count ≡ suc count = omega arith in one) (let same : at + 1 + count ≡ at + suc count = omega arith in same)
 
 pub line_at : (bytes : List ℕ) (n : ℕ) → n < length bytes → is_byte2 10 13 (get_or bytes n 0) ≡ true → ((k : ℕ) → k < n → ¬ (is_byte2 10 13 (get_or bytes k 0) ≡ true)) → line_length bytes ≡ n + 1

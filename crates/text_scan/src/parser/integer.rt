@@ -1,7 +1,8 @@
 //! Integers of standard texts that are serialized as they are.
-ghost use Rattle.std.specs.Prelude.{◌≡◌, ◌⊎◌, MatchBool, ◌+◌, ◌≤◌, ◌<◌, ℕ, IfSome, drop, if◌then◌else◌, ◌==◌, length, slice_index, true};
+ghost use Rattle.std.specs.Prelude.{◌≡◌, ◌⊎◌, MatchBool, ◌+◌, ◌≤◌, ◌<◌, ℕ, IfSome, drop, if◌then◌else◌, ◌==◌, length, slice_index, take, true};
 ghost use Rattle.std.specs.Char.{is_ascii_digit};
 ghost use Rattle.std.specs.Int.{w64, trailing_zeros};
+ghost use Rattle.std.specs.Str.Parse.{digits_value};
 ghost use Rattle.text_scan.specs.Parsing.Number.{digits_length, is_number_start};
 ghost use Rattle.text_scan.specs.ShortInteger.{IsVerbatimInteger};
 ghost use Rattle.jsonb_spec.specs.Ascii as ascii;
@@ -22,26 +23,15 @@ fn near_digits(bytes: &[u8]) -> usize
     first_set(others.to_bitmask(), 16)
 }
 
-// How many digits the bytes begin with, or 3 where they are more.
-#[inline(always)]
-fn few_digits(bytes: &[u8]) -> usize
-    ensures few { result ≤ 3 }
-    ensures within { result ≤ length bytes.now }
-    ensures digits { digits_length bytes.now ≡ result + digits_length (drop result bytes.now) }
-{
-    let (len, _value) = digits_within(bytes, bytes.len().min(3));
-    len
-}
-
-// How many digits the bytes begin with, where few bytes are left, or 19 where they are more.
+// At most 19 digits that the bytes begin with, and their number, by a call.
 #[inline(never)]
-fn digits_by_bytes(bytes: &[u8]) -> usize
-    ensures few { result ≤ 19 }
-    ensures within { result ≤ length bytes.now }
-    ensures digits { digits_length bytes.now ≡ result + digits_length (drop result bytes.now) }
+pub(super) fn digits_by_bytes(bytes: &[u8]) -> (usize, u64)
+    ensures few { result.0 ≤ 19 }
+    ensures within { result.0 ≤ length bytes.now }
+    ensures digits { digits_length bytes.now ≡ result.0 + digits_length (drop result.0 bytes.now) }
+    ensures value { result.1 ≡ digits_value 10 (take result.0 bytes.now) }
 {
-    let (len, _value) = short_digits(bytes);
-    len
+    short_digits(bytes)
 }
 
 // How many digits the bytes begin with, or 19 where they are more.
@@ -52,13 +42,15 @@ pub(super) fn digits_len(bytes: &[u8]) -> usize
     ensures digits { digits_length bytes.now ≡ result + digits_length (drop result bytes.now) }
 {
     if bytes.len() < 16 {
-        return digits_by_bytes(bytes);
+        let (len, _value) = digits_by_bytes(bytes);
+        return len;
     }
     let near = near_digits(bytes);
     if near < 16 {
         return near;
     }
-    16 + few_digits(&bytes[16..])
+    let (more, _value) = digits_within(&bytes[16..], (bytes.len() - 16).min(3));
+    16 + more
 }
 
 // Whether an integer of so many bytes, with its sign, may have this first digit.

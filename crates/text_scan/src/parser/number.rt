@@ -9,17 +9,18 @@ ghost use Rattle.jsonb_value.specs.View.{number_view};
 ghost use Rattle.text_scan.specs.ShortInteger.{short_view};
 ghost use Rattle.text_scan.specs.Parsing.Number.{ContinuesAfterInteger, ContinuesNumber, is_number_start, standard_number_at, digits_length, digits_from, sign_end, exponent_from, fraction_from, whole_start, then_from, integer_of};
 
+use crate::util::digit;
 use jsonb_value::error::Result;
 use jsonb_value::number::Number;
 
 // 64 bits hold each number of so many digits.
 pub(super) const SAFE_DIGITS: usize = 19;
 
-/// Digits: how many, and their number, where 64 bits hold it.
+/// Digits: how many, and their number, where 128 bits hold it.
 #[derive(Clone, Copy)]
 pub struct Digits {
     pub len: usize,
-    pub value: Option<u64>,
+    pub value: Option<u128>,
 }
 
 /// The byte at an index, or 0 past the end.
@@ -42,24 +43,25 @@ pub(super) fn digits_end(bytes: &[u8], start: usize) -> usize
     end
 }
 
-// The number with one digit more, where 64 bits hold it.
-fn with_digit(number: u64, digit: u8) -> Option<u64>
-    requires { IsAsciiDigit digit }
-    ensures { SomeIff result (number * 10 + digit_value digit < 2 ^ 64) (number * 10 + digit_value digit) }
+// The number that digits of this base write, where 128 bits hold it.
+pub(super) fn number_of(digits: &[u8], base: u128) -> Option<u128>
+    requires { 0 < base }
+    ensures { SomeIff result (digits_value base digits.now < 2 ^ 128) (digits_value base digits.now) }
 {
-    number.checked_mul(10)?.checked_add(u64::from(digit - b'0'))
-}
-
-// The number that digits write, where 64 bits hold it.
-fn digits_number(digits: &[u8]) -> Option<u64>
-    requires { AllDigits 10 digits.now }
-    ensures { SomeIff result (digits_value 10 digits.now < 2 ^ 64) (digits_value 10 digits.now) }
-{
-    let mut number = 0u64;
-    for digit in digits {
-        number = with_digit(number, *digit)?;
+    let mut number = 0u128;
+    for byte in digits {
+        number = with_digit(number, base, *byte)?;
     }
     Some(number)
+}
+
+// The number with one digit more, where 128 bits hold it.
+fn with_digit(number: u128, base: u128, byte: u8) -> Option<u128>
+    ensures { SomeIff result (number * base + digit_value byte < 2 ^ 128) (number * base + digit_value byte) }
+{
+    number
+        .checked_mul(base)?
+        .checked_add(u128::from(digit(byte)))
 }
 
 /// The digits that the bytes begin with.
@@ -68,13 +70,13 @@ pub fn leading_digits(bytes: &[u8]) -> Digits
     ensures len { result.len ≡ digits_length bytes.now }
     ensures within { result.len ≤ length bytes.now }
     ensures value { SomeIff result.value
-        (digits_value 10 (take (digits_length bytes.now) bytes.now) < 2 ^ 64)
+        (digits_value 10 (take (digits_length bytes.now) bytes.now) < 2 ^ 128)
         (digits_value 10 (take (digits_length bytes.now) bytes.now)) }
 {
     let len = digits_end(bytes, 0);
     Digits {
         len,
-        value: digits_number(&bytes[..len]),
+        value: number_of(&bytes[..len], 10),
     }
 }
 
@@ -137,12 +139,14 @@ pub fn after_minus(bytes: &[u8]) -> &[u8]
 }
 
 /// An integer with its sign, where its type holds it.
-pub fn integer(negative: bool, digits: Option<u64>) -> Option<Number>
-    ensures { (value : ℕ) → SomeIff digits (value < 2 ^ 64) value
+pub fn integer(negative: bool, digits: Option<u128>) -> Option<Number>
+    ensures { (value : ℕ) → SomeIff digits (value < 2 ^ 128) value
         → MatchOption result (integer_of negative value ≡ None)
         (λ n. integer_of negative value ≡ Some (number_view n)) }
 {
-    let magnitude = digits?;
+    let Ok(magnitude) = u64::try_from(digits?) else {
+        return None;
+    };
     if !negative {
         return Some(Number::UInt64(magnitude));
     }

@@ -8,13 +8,12 @@ ghost use Rattle.text_scan.specs.QuotedString.{EndsString, IsClear, IsQuoteOrBac
 ghost use Rattle.text_scan.specs.Parsing.String.{body_of};
 
 use super::Mode;
-use super::vector::{either, equal_to, load, lowest, shifted_down, top_bits};
+use super::vector::{equal_bits, lowest, shifted_down};
 use crate::util::unescape;
 use jsonb_value::error::{Error, ParseErrorCode, Result};
 use memchr::memchr2;
 use std::alloc::Global;
 use std::borrow::CowStr;
-use std::simd::prelude::*;
 
 /// Where the search for the end of a string stops, counted from the byte after the opening quote.
 #[derive(Clone, Copy)]
@@ -37,23 +36,6 @@ fn step_after_backslash(bytes: &[u8]) -> usize
         [b'u', ..] => 5,
         _ => 1,
     }
-}
-
-/// The index of the first quote or backslash from `at` on, or the length of the bytes. It is often near.
-#[inline(always)]
-pub fn next_mark(bytes: &[u8], quote: u8, at: usize) -> usize
-    requires { at ≤ length bytes.now }
-    ensures bounds { (at ≤ result) × (result ≤ length bytes.now) }
-    ensures before { IsClear quote bytes.now at result }
-    ensures here { result < length bytes.now → IsQuoteOrBackslash quote (slice_index bytes.now result) }
-{
-    if bytes.len() - at < 32 {
-        return short_mark(bytes, quote, at);
-    }
-    if let Some(near) = near_mark(bytes, quote, at) {
-        return near;
-    }
-    far_mark(bytes, quote, at + 32)
 }
 
 // The index of the first quote or backslash from `at` on, byte by byte, where few are left.
@@ -91,33 +73,15 @@ fn far_mark(bytes: &[u8], quote: u8, at: usize) -> usize
     }
 }
 
-// The index of the first quote or backslash among the next 32 bytes.
-#[inline(always)]
-fn near_mark(bytes: &[u8], quote: u8, at: usize) -> Option<usize>
-    requires { at + 32 ≤ length bytes.now }
-    ensures bounds { IfSome result (λ i. (at ≤ i) × (i < at + 32)) }
-    ensures before { IfSome result (λ i. IsClear quote bytes.now at i) }
-    ensures here { IfSome result (λ i. IsQuoteOrBackslash quote (slice_index bytes.now i)) }
-    ensures none { IfNone result (IsClear quote bytes.now at (at + 32)) }
-{
-    let marks = load_marks(bytes, quote, at);
-    if marks == 0 {
-        return None;
-    }
-    Some(at + lowest(marks))
-}
-
 // Bit k is set where byte `at + k` is a quote or a backslash, among the next 32 bytes.
 #[inline(always)]
 fn load_marks(bytes: &[u8], quote: u8, at: usize) -> u64
     requires { at + 32 ≤ length bytes.now }
     ensures { ReportsMarks quote bytes.now at (at + 32) result }
 {
-    let lanes = load(bytes, at);
-    let quotes = equal_to(lanes, quote);
-    let backslashes = equal_to(lanes, b'\\');
-    let found = either(quotes, backslashes);
-    top_bits(found)
+    let quotes = equal_bits(bytes, at, quote);
+    let backslashes = equal_bits(bytes, at, b'\\');
+    quotes | backslashes
 }
 
 // The index of the first quote or backslash from `at` on, or the length of the bytes, and the marks from there on,
@@ -132,15 +96,16 @@ fn first_mark(bytes: &[u8], quote: u8, at: usize, marks: u64) -> (usize, u64)
     ensures known { KnowsMarks quote bytes.now result.0 result.1 }
 {
     if marks == 0 {
-        return later_mark(bytes, quote, at);
+        return next_mark(bytes, quote, at);
     }
     let count = lowest(marks);
     (at + count, shifted_down(marks, count))
 }
 
-// The index of the first quote or backslash from `at` on, and the marks from there on, where no mark is known.
+/// The index of the first quote or backslash from `at` on, or the length of the bytes, and the marks from there on,
+/// as far as they are known. It is often near.
 #[inline(always)]
-fn later_mark(bytes: &[u8], quote: u8, at: usize) -> (usize, u64)
+pub fn next_mark(bytes: &[u8], quote: u8, at: usize) -> (usize, u64)
     requires { at ≤ length bytes.now }
     ensures bounds { (at ≤ result.0) × (result.0 ≤ length bytes.now) }
     ensures before { IsClear quote bytes.now at result.0 }
@@ -148,11 +113,11 @@ fn later_mark(bytes: &[u8], quote: u8, at: usize) -> (usize, u64)
     ensures known { KnowsMarks quote bytes.now result.0 result.1 }
 {
     if bytes.len() - at < 32 {
-        return (far_mark(bytes, quote, at), 0);
+        return (short_mark(bytes, quote, at), 0);
     }
     let marks = load_marks(bytes, quote, at);
     if marks == 0 {
-        return (far_mark(bytes, quote, at), 0);
+        return (far_mark(bytes, quote, at + 32), 0);
     }
     let count = lowest(marks);
     (at + count, shifted_down(marks, count))

@@ -7,8 +7,8 @@ ghost use Rattle.text_scan.specs.ShortInteger.{IsVerbatimInteger};
 ghost use Rattle.text_scan.specs.VerbatimNumber.{IsDecimalBody, IsVerbatimDecimal};
 ghost use Rattle.jsonb_spec.specs.Ascii as ascii;
 
-use super::integer::{digits_len, may_begin};
-use super::number::{after_minus, byte_at, short_digits};
+use super::integer::{digits_by_bytes, digits_len, may_begin};
+use super::number::{after_minus, byte_at};
 
 /// A number that is written by the same bytes again: the index after it, and whether it has a point.
 #[derive(Clone, Copy)]
@@ -29,15 +29,6 @@ fn is_separator(byte: u8) -> bool
     matches!(byte, b',' | b']' | b'}' | b' ' | b'\n' | b'\r' | b'\t')
 }
 
-// Whether at most 19 digits are all zeros.
-#[inline(never)]
-fn are_zeros(digits: &[u8]) -> bool
-    ensures { MatchBool result (Unit {0}) (0 < digits_value 10 digits.now) }
-{
-    let (_len, value) = short_digits(digits);
-    value == 0
-}
-
 // Whether a minus may be before digits of which this is the first, and these are behind the point: no zero has one.
 #[inline(always)]
 fn may_have_sign(negative: bool, first: u8, behind: &[u8]) -> bool
@@ -50,7 +41,8 @@ fn may_have_sign(negative: bool, first: u8, behind: &[u8]) -> bool
     if first != b'0' {
         return true;
     }
-    !are_zeros(behind)
+    let (_len, value) = digits_by_bytes(behind);
+    value != 0
 }
 
 // The length of the decimal that the bytes begin with, behind its sign, where a separator is behind it and it is

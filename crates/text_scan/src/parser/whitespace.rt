@@ -6,24 +6,9 @@ ghost use Rattle.text_scan.specs.Parsing.Whitespace.{block_length, line_length, 
 ghost use Rattle.jsonb_spec.specs.Ascii as ascii;
 
 use super::Mode;
-use super::vector::{both, equal_to, load, lowest, top_bits};
-use memchr::memchr2;
-use std::simd::prelude::*;
-
-// Bit k is set where a star and a slash are from byte `at + k` on, among the next 32 bytes.
-#[inline(always)]
-fn block_ends(bytes: &[u8], at: usize) -> u64
-    requires { at + 33 ≤ length bytes.now }
-    ensures { (k : ℕ) → (bit_at result k ≡ 1) ↔ ((k < 32) × (slice_index bytes.now (at + k) ≡ ascii.star)
-        × (slice_index bytes.now (at + 1 + k) ≡ ascii.slash)) }
-{
-    let here = load(bytes, at);
-    let stars = equal_to(here, b'*');
-    let next = load(bytes, at + 1);
-    let slashes = equal_to(next, b'/');
-    let ends = both(stars, slashes);
-    top_bits(ends)
-}
+use super::number::byte_at;
+use super::vector::near_bits;
+use memchr::{memchr, memchr2};
 
 // How many bytes there are up to and with the first star and slash, or 0 where there are none.
 fn block_len(bytes: &[u8]) -> usize
@@ -31,28 +16,14 @@ fn block_len(bytes: &[u8]) -> usize
     ensures within { result ≤ length bytes.now }
 {
     let mut at = 0;
-    'vectors: while bytes.len() - at > 32 {
-        let ends = block_ends(bytes, at);
-        if ends != 0 {
-            return at + lowest(ends) + 2;
+    'stars: while at < bytes.len() {
+        let Some(count) = memchr(b'*', &bytes[at..]) else {
+            return 0;
+        };
+        at += count + 1;
+        if byte_at(bytes, at) == b'/' {
+            return at + 1;
         }
-        at += 32;
-    }
-    let len = short_block_len(&bytes[at..]);
-    if len == 0 { 0 } else { at + len }
-}
-
-// How many bytes there are up to and with the first star and slash, or 0 where there are none, byte by byte.
-fn short_block_len(bytes: &[u8]) -> usize
-    ensures value { result ≡ block_length bytes.now }
-    ensures within { result ≤ length bytes.now }
-{
-    let mut at = 0;
-    'bytes: while at + 1 < bytes.len() {
-        if bytes[at] == b'*' && bytes[at + 1] == b'/' {
-            return at + 2;
-        }
-        at += 1;
     }
     0
 }
@@ -98,18 +69,6 @@ pub fn piece_len(bytes: &[u8], mode: Mode) -> usize
     }
 }
 
-// Bit k is set where byte k is a space, among the first 16.
-#[inline(always)]
-fn space_bits(bytes: &[u8]) -> u64
-    requires { 16 ≤ length bytes.now }
-    ensures spaces { (k : ℕ) → bit_at result k ≡ 1 → slice_index bytes.now k ≡ ascii.space }
-    ensures bound { result < 2 ^ 16 }
-{
-    u8x16::from_slice(bytes)
-        .simd_eq(u8x16::splat(b' '))
-        .to_bitmask()
-}
-
 /// How many of the first 16 bytes are spaces before any other byte. Where there are fewer bytes, none is looked at.
 #[inline(always)]
 pub fn near_spaces(bytes: &[u8]) -> usize
@@ -119,5 +78,5 @@ pub fn near_spaces(bytes: &[u8]) -> usize
     if bytes.len() < 16 {
         return 0;
     }
-    space_bits(bytes).trailing_ones() as usize
+    near_bits(bytes, b' ').trailing_ones() as usize
 }

@@ -20,6 +20,7 @@ use jsonb_value::error::{Error, ParseErrorCode, Result};
 use run::copy_run;
 use space::{give_back, write_byte};
 use std::alloc::Global;
+pub(crate) use unit::digit;
 use unit::units;
 
 // What prevents bytes from being decoded, and how many of them are left then.

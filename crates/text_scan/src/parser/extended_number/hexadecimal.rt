@@ -9,23 +9,12 @@ ghost use Rattle.text_scan.specs.ScannedNumber.{number_views, scanned_view};
 
 use super::form::with_sign;
 use super::{MOST_DIGITS, NumberFault, NumberText, invalid};
-use crate::parser::number::byte_at;
+use crate::parser::number::{byte_at, number_of};
+use crate::util::digit;
 use jsonb_value::number::{Decimal128, Number};
 
 // What is above every number of 38 digits.
 const PAST_38_DIGITS: u128 = 100_000_000_000_000_000_000_000_000_000_000_000_000;
-
-// The value of a hexadecimal digit, and at least 16 for any other byte.
-fn digit(byte: u8) -> u8
-    ensures { result ≡ digit_value byte }
-{
-    match byte {
-        b'0'..=b'9' => byte - b'0',
-        b'A'..=b'Z' => byte - b'A' + 10,
-        b'a'..=b'z' => byte - b'a' + 10,
-        _ => 36,
-    }
-}
 
 // The number of hexadecimal digits that the bytes begin with.
 fn hexadecimal_length(bytes: &[u8]) -> usize
@@ -37,26 +26,6 @@ fn hexadecimal_length(bytes: &[u8]) -> usize
         end += 1;
     }
     end
-}
-
-// The number with one digit more, where 128 bits hold it.
-fn with_digit(number: u128, byte: u8) -> Option<u128>
-    requires { digit_value byte < 16 }
-    ensures { SomeIff result (number * 16 + digit_value byte < 2 ^ 128) (number * 16 + digit_value byte) }
-{
-    number.checked_mul(16)?.checked_add(u128::from(digit(byte)))
-}
-
-// The number that digits write, where 128 bits hold it.
-fn hexadecimal_value(digits: &[u8]) -> Option<u128>
-    requires { AllDigits 16 digits.now }
-    ensures { SomeIff result (digits_value 16 digits.now < 2 ^ 128) (digits_value 16 digits.now) }
-{
-    let mut number = 0u128;
-    for byte in digits {
-        number = with_digit(number, *byte)?;
-    }
-    Some(number)
 }
 
 // The number of a sign and a magnitude, where a form holds it.
@@ -95,7 +64,7 @@ fn scan_fraction(
         return invalid(offset);
     }
     let end = offset + len;
-    let fraction = hexadecimal_value(&bytes[..len]);
+    let fraction = number_of(&bytes[..len], 16);
     if !whole_fits || fraction.is_none() {
         return invalid(end);
     }
@@ -119,7 +88,7 @@ pub(super) fn scan_hexadecimal(
         return invalid(offset);
     }
     let end = offset + len;
-    let whole = hexadecimal_value(&bytes[..len]);
+    let whole = number_of(&bytes[..len], 16);
     if byte_at(bytes, len) == b'.' {
         let fits = whole.is_some();
         return scan_fraction(&bytes[len + 1..], end + 1, fits);

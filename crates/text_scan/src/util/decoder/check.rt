@@ -9,36 +9,10 @@ ghost use Rattle.text_scan.specs.QuotedString.{ChecksContents, decoded_text};
 ghost use Rattle.text_scan.specs.Parsing.String.{body_of};
 
 use super::run::near_backslash;
-use super::unit::pass_units;
-use super::{DecodingFault, escaped_byte};
+use super::{DecodingFault, escape};
 use crate::parser::Mode;
 use jsonb_value::error::{Error, ParseErrorCode, Result};
 use memchr::memchr;
-
-// The index of the first backslash, or how many bytes there are, byte by byte.
-#[inline(always)]
-fn short_search(bytes: &[u8]) -> usize
-    ensures within { result ≤ length bytes.now }
-    ensures before { SeesNoBackslash bytes.now result }
-    ensures here { result < length bytes.now → slice_index bytes.now result ≡ ascii.backslash }
-{
-    'bytes: for (i, byte) in bytes.iter().enumerate() {
-        if *byte == b'\\' {
-            return i;
-        }
-    }
-    bytes.len()
-}
-
-// The index of the first backslash, or how many bytes there are, by a search of all of them.
-#[inline(never)]
-fn far_search(bytes: &[u8]) -> usize
-    ensures within { result ≤ length bytes.now }
-    ensures before { SeesNoBackslash bytes.now result }
-    ensures here { result < length bytes.now → slice_index bytes.now result ≡ ascii.backslash }
-{
-    memchr(b'\\', bytes).unwrap_or(bytes.len())
-}
 
 // The index of the first backslash, or how many bytes there are. It is often near.
 #[inline(always)]
@@ -47,39 +21,24 @@ fn next_backslash(bytes: &[u8]) -> usize
     ensures before { SeesNoBackslash bytes.now result }
     ensures here { result < length bytes.now → slice_index bytes.now result ≡ ascii.backslash }
 {
-    if bytes.len() < 16 {
-        return short_search(bytes);
+    if bytes.len() >= 16 {
+        if let Some(near) = near_backslash(bytes) {
+            return near;
+        }
     }
-    if let Some(near) = near_backslash(bytes) {
-        return near;
-    }
-    far_search(bytes)
+    memchr(b'\\', bytes).unwrap_or(bytes.len())
 }
 
 // Passes the escape whose backslash is before the bytes, and returns what follows.
-#[inline(always)]
+#[inline(never)]
 fn pass_escape(bytes: &[u8], mode: Mode) -> std::result::Result<&[u8], DecodingFault>
     ensures ok { IfOk result (λ rest. IsDecodedUpTo (mode_of mode) (ascii.backslash ∷ bytes.now) rest.now) }
     ensures shorter { IfOk result (λ rest. length rest.now ≤ length bytes.now) }
     ensures err { IfErr result (λ fault. StopsAtEscape (mode_of mode) (ascii.backslash ∷ bytes.now) (code_of fault.code)
         fault.left) }
 {
-    let Some((letter, rest)) = bytes.split_first() else {
-        return Err(DecodingFault {
-            code: ParseErrorCode::UnexpectedEndOfHexEscape,
-            left: 0,
-        });
-    };
-    if *letter == b'u' {
-        return pass_units(rest);
-    }
-    let Some(_) = escaped_byte(*letter, mode) else {
-        return Err(DecodingFault {
-            code: ParseErrorCode::InvalidEscaped(*letter),
-            left: rest.len(),
-        });
-    };
-    Ok(rest)
+    let done = escape(bytes, mode, &mut [0; 12], 0)?;
+    Ok(done.rest)
 }
 
 // Whether the bytes begin with an escape of one letter, other than a single quote.

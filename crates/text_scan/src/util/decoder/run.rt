@@ -6,19 +6,9 @@ ghost use Rattle.jsonb_spec.specs.Ascii as ascii;
 
 use super::Decoded;
 use super::space::{write_all, write_byte};
+use crate::parser::vector::{lowest, near_bits};
 use memchr::memchr;
 use std::simd::prelude::*;
-
-// Bit k is set where byte k is a backslash, among the first 16.
-#[inline(always)]
-fn backslashes(bytes: &[u8]) -> u64
-    requires { 16 ≤ length bytes.now }
-    ensures { (k : ℕ) → (bit_at result k ≡ 1) ↔ ((k < 16) × (slice_index bytes.now k ≡ ascii.backslash)) }
-{
-    u8x16::from_slice(bytes)
-        .simd_eq(u8x16::splat(b'\\'))
-        .to_bitmask()
-}
 
 // The index of the first backslash among the first 16 bytes.
 #[inline(always)]
@@ -29,11 +19,11 @@ pub(super) fn near_backslash(bytes: &[u8]) -> Option<usize>
     ensures here { IfSome result (λ i. slice_index bytes.now i ≡ ascii.backslash) }
     ensures none { IfNone result (SeesNoBackslash bytes.now 16) }
 {
-    let marks = backslashes(bytes);
+    let marks = near_bits(bytes, b'\\');
     if marks == 0 {
         return None;
     }
-    Some(marks.trailing_zeros() as usize)
+    Some(lowest(marks))
 }
 
 // Writes the first 16 bytes by one load and one store.

@@ -8,7 +8,7 @@ ghost use Rattle.jsonb_spec.specs.Mode.{Mode as GrammarMode};
 ghost use Rattle.jsonb_value.specs.Error.CodeView.{code_of};
 ghost use Rattle.jsonb_spec.specs.Grammar.StringBody.{IsHexDigit, unit, encoding, alone, together};
 ghost use Rattle.jsonb_spec.specs.Grammar.StringFault.{IsUnitCut, IsFirstNonDigit};
-ghost use Rattle.text_scan.specs.Decoding.{SplitsUnit, ParsesUnit, Adds, IsDecodedUpTo, StopsInUnit, StopsAtEscape};
+ghost use Rattle.text_scan.specs.Decoding.{SplitsUnit, ParsesUnit, Adds, StopsInUnit, StopsAtEscape};
 
 use super::space::write_all;
 use super::{Decoded, DecodingFault};
@@ -23,7 +23,7 @@ struct HexUnit<'a> {
 }
 
 // The value of a hexadecimal digit, and 36 for any other byte that is no letter.
-fn digit(byte: u8) -> u32
+pub(crate) fn digit(byte: u8) -> u32
     ensures { result ≡ digit_value byte }
 {
     match byte {
@@ -186,21 +186,6 @@ fn push_together(text: &mut [u8], len: usize, high: &HexUnit<'_>, next: &HexUnit
     }
 }
 
-// What follows the `\u` that the bytes begin with.
-fn after_unit_mark(bytes: &[u8]) -> Option<&[u8]>
-    ensures some { IfSome result (λ rest. bytes.now ≡ ascii.backslash ∷ ascii.lower_u ∷ rest.now) }
-    ensures len { IfSome result (λ rest. length rest.now + 2 ≡ length bytes.now) }
-    ensures none { IfNone result ((rest : List ℕ) → bytes.now ≢ ascii.backslash ∷ ascii.lower_u ∷ rest) }
-{
-    let (first, rest) = bytes.split_first()?;
-    let (second, rest) = rest.split_first()?;
-    if *first == b'\\' && *second == b'u' {
-        Some(rest)
-    } else {
-        None
-    }
-}
-
 // What follows the next `\u`, where it is right after a high unit.
 fn after_next_mark<'a>(unit: &HexUnit<'a>) -> Option<&'a [u8]>
     ensures some { IfSome result (λ rest. (is_high_surrogate unit.now.value ≡ true)
@@ -209,10 +194,12 @@ fn after_next_mark<'a>(unit: &HexUnit<'a>) -> Option<&'a [u8]>
     ensures none { IfNone result ((is_high_surrogate unit.now.value ≡ false)
         ⊎ ((rest : List ℕ) → unit.now.rest.now ≢ ascii.backslash ∷ ascii.lower_u ∷ rest)) }
 {
-    if is_surrogate_high(unit.value) {
-        after_unit_mark(unit.rest)
-    } else {
-        None
+    if !is_surrogate_high(unit.value) {
+        return None;
+    }
+    match unit.rest {
+        [b'\\', b'u', after @ ..] => Some(after),
+        _ => None,
     }
 }
 
@@ -248,22 +235,4 @@ pub(super) fn units<'a>(
         rest: next.rest,
         len,
     })
-}
-
-// Passes the unit whose `\u` is before the bytes, with the next one where the two are taken together, and returns
-// what follows.
-#[inline(never)]
-pub(super) fn pass_units(bytes: &[u8]) -> std::result::Result<&[u8], DecodingFault>
-    ensures ok { IfOk result (λ rest. (mode : GrammarMode) → IsDecodedUpTo mode
-        (ascii.backslash ∷ ascii.lower_u ∷ bytes.now) rest.now) }
-    ensures shorter { IfOk result (λ rest. length rest.now ≤ length bytes.now) }
-    ensures err { IfErr result (λ fault. (mode : GrammarMode) → StopsAtEscape mode
-        (ascii.backslash ∷ ascii.lower_u ∷ bytes.now) (code_of fault.code) fault.left) }
-{
-    let first = read_unit(bytes)?;
-    let Some(after) = after_next_mark(&first) else {
-        return Ok(first.rest);
-    };
-    let next = read_unit(after)?;
-    Ok(next.rest)
 }

@@ -2,19 +2,16 @@ use Rattle.std.proofs.Common.{sym, ap, ◌∙◌, take, ◌+◌}
 use Rattle.std.proofs.lemmas.List.{take_rest}
 use Rattle.text_scan.specs.Parsing.ExtendedNumber.{fraction_scan}
 use Rattle.text_scan.specs.ScannedNumber.{number_views}
-use Rattle.text_scan.proofs.Numbers.HexadecimalAnswers.{digits_of_length, fits_is, hexadecimal_without_digits, hexadecimal_with_point, hexadecimal_past, hexadecimal_whole_at}
+use Rattle.text_scan.proofs.Numbers.HexadecimalAnswers.{fits_is, hexadecimal_without_digits, hexadecimal_with_point, hexadecimal_past, hexadecimal_whole_at}
 use Rattle.text_scan.proofs.parser.extended_number.hexadecimal.scan_hexadecimal.Goals as goal
 
 pub returns-then-len-eq0-clause-scan : goal.returns-then-len-eq0-clause-scan
 returns-then-len-eq0-clause-scan c = c.invalid.ensures.scan ∙ hexadecimal_without_digits c.args.offset c.hexadecimal_length-len.result c.args.negative c.args.bytes.now c.hexadecimal_length-len.ensures.value c.if-len-eq0.true
 
-pub hexadecimal_value-whole-requires : goal.hexadecimal_value-whole-requires
-hexadecimal_value-whole-requires c = digits_of_length c.args.bytes.now c.hexadecimal_length-len.result c.hexadecimal_length-len.ensures.value
-
 pub returns-then-byte_at-eq46-clause-scan : goal.returns-then-byte_at-eq46-clause-scan
 returns-then-byte_at-eq46-clause-scan c =
     c.scan_fraction.ensures.scan ∙ (ap (fraction_scan (c.args.offset + c.hexadecimal_length-len.result + 1) c.is_some-fits.result) (take_rest c.args.bytes.now (c.hexadecimal_length-len.result + 1))
-    ∙ hexadecimal_with_point c.args.offset c.hexadecimal_length-len.result c.args.negative c.is_some-fits.result c.args.bytes.now c.hexadecimal_length-len.ensures.value c.if-len-eq0.false (sym c.byte_at.ensures ∙ c.if-byte_at-eq46.true) (c.is_some-fits.ensures ∙ fits_is c.hexadecimal_value-whole.result (take c.hexadecimal_length-len.result c.args.bytes.now) c.hexadecimal_value-whole.ensures))
+    ∙ hexadecimal_with_point c.args.offset c.hexadecimal_length-len.result c.args.negative c.is_some-fits.result c.args.bytes.now c.hexadecimal_length-len.ensures.value c.if-len-eq0.false (sym c.byte_at.ensures ∙ c.if-byte_at-eq46.true) (c.is_some-fits.ensures ∙ fits_is c.number_of-whole.result (take c.hexadecimal_length-len.result c.args.bytes.now) c.number_of-whole.ensures))
 
 pub returns-in-None-clause-scan : goal.returns-in-None-clause-scan
 returns-in-None-clause-scan c =
