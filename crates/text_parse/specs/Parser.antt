@@ -1,5 +1,6 @@
 -- The remaining input of a parser, and what a call of it leaves; `Answer` of `text_scan` again.
 use Rattle.std.specs.Prelude.{◌≡◌, ◌≢◌, ℕ, ◌+◌, ◌-◌, ◌<◌, ◌≤◌, Bool, true, List, ◌∷◌, ◌++◌, length, drop, take, slice_index, Contains, Option, IfNone, IfSome, MatchBool, MatchOption, Result, Err, Ok}
+use Rattle.std.specs.Str.{IsUtf8}
 use Rattle.jsonb_spec.specs.Ascii as ascii
 use Rattle.jsonb_spec.specs.Mode.{Mode}
 use Rattle.jsonb_spec.specs.Tree.{Mark, Num, number}
@@ -155,6 +156,13 @@ pub record CutsString {X : Type 0} (body_of : X → List ℕ) (quote : ℕ) (res
   pub stays : IfNone result (new ≡ old)
   -- the parser has gone on in its input
   pub advances : Advances old new
+
+-- So many bytes were cut out of the text, and the byte behind them was passed too.
+pub record CutsTo (len : ℕ) (old new : Parser) (body : List ℕ) : Type 0 where
+  pub is : body ≡ take len (rest_of old)
+  pub utf8 : IsUtf8 body
+  pub offset : new.offset ≡ old.offset + len + 1
+  pub rest : rest_of new ≡ drop (len + 1) (rest_of old)
 
 -- The contents of a string in these quotes were passed, and its closing quote, and a backslash is among them.
 pub record PassesContents (quote : ℕ) (old new : Parser) (body : List ℕ) : Type 0 where

@@ -20,6 +20,12 @@ text_view (texts.Plain t) = (plain, t.now)
 text_view (texts.Borrowed t) = (plain, t.now)
 text_view (texts.Decoded t) = (mark_view t, cow_str_bytes t)
 
+-- It was cut out of the text, and none of its bytes is written as an escape where that is reported.
+abbrev pub IsCut : Text → Type 0
+IsCut (texts.Plain t) = ArePlain t.now
+IsCut (texts.Borrowed t) = Unit {0}
+IsCut (texts.Decoded t) = ⊥
+
 -- What is made of a scalar is of its source; or is held, where integers are.
 abbrev pub SeesScalar : {V : Type 0} → (V → Source → Type 0) → (Verbatim → V → Type 0) → Bool → V → Scalar → Type 0
 SeesScalar Sees IsVerbatim preserves v scalars.Null = Sees v null_source

@@ -1,5 +1,5 @@
 -- The parser's stack parses as the open containers do.
-use Rattle.std.proofs.Common.{◌≡◌, inl, inr, ℕ, zero, suc, ◌+◌, ◌-◌, ◌≤◌, Bool, true, false, cond, List, [], ◌∷◌, ◌++◌, length, take, get_or, set, Option, Result, Ok, Err, IfErr, refl, sym, ap, ap₂, subst, ◌∙◌, arith, length-append, length-drop, drop, drop-drop, eqb, true≢false, reverse, IfOk, MatchBool}
+use Rattle.std.proofs.Common.{◌≡◌, ◌<◌, inl, inr, ℕ, zero, suc, ◌+◌, ◌-◌, ◌≤◌, Bool, true, false, cond, List, [], ◌∷◌, ◌++◌, length, take, get_or, set, Option, Result, Ok, Err, IfErr, refl, sym, ap, ap₂, subst, ◌∙◌, arith, length-append, length-drop, drop, drop-drop, eqb, true≢false, reverse, IfOk, MatchBool}
 use Rattle.std.proofs.lemmas.Bool.{eqb-true}
 use Rattle.std.proofs.lemmas.List.{reverse-append}
 use Rattle.jsonb_spec.specs.Code.{Code}
@@ -14,7 +14,7 @@ use Rattle.text_parse.specs.declared.parser.Parser.{Parser}
 use Rattle.text_parse.specs.declared.parser.frame.Frame.{Frame}
 use Rattle.text_parse.specs.declared.parser.frame.OpenObject.{OpenObject}
 use Rattle.text_parse.specs.declared.parser.frame.Frame.TheVariants as variants
-use Rattle.text_parse.specs.Handler.{AsScalar, Builds, ElseFails, Misses}
+use Rattle.text_parse.specs.Handler.{Builds, ElseFails, Misses}
 use Rattle.text_parse.specs.Frames.{AllFit, AtPart, BeforeValue, IsParsedToEnd, OpensContainer, ParsesParts, depth_within, finish_container, resume_part, resume_stack, resume_value, scalar_or_null}
 use Rattle.text_parse.specs.Slots.{Fits, IsArray, IsObject}
 use Rattle.text_scan.specs.Answer.{MayAllocate, mode_of}
@@ -252,6 +252,10 @@ pub outermost_due : {I M K : Type 0} (Holds : Bool → List (Frame I M K) → Li
 outermost_due Holds p fs e held =
     subst (λ gs. BeforeValue Holds (value_at (size_of p) (mode_of p.mode) max_depth (rest_of p)) p gs) (sym e)
     (record { opens = []; fit = tt; held = held; parses = sym (resume-none (size_of p) (mode_of p.mode) max_depth (value_at (size_of p) (mode_of p.mode) max_depth (rest_of p))) })
+
+pub opens_within : (p : Parser) → OpensContainer (rest_of p) → p.offset < size_of p
+opens_within p (inl e) = omega (arith, ap length (next_found 91 p e), length-drop p.offset p.buf.now)
+opens_within p (inr e) = omega (arith, ap length (next_found 123 p e), length-drop p.offset p.buf.now)
 
 -- as many are open as may be
 pub too_many : {I M K : Type 0} (Holds : Bool → List (Frame I M K) → List Open → Type 0) (p : Parser) (fs : List (Frame I M K)) (whole : Parse Source) → length fs ≡ max_depth → OpensContainer (rest_of p) → BeforeValue Holds whole p fs → whole ≡ Err (record { code = depth_limit_exceeded; offset = p.offset + 1 })

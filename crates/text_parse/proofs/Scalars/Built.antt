@@ -13,29 +13,36 @@ use Rattle.text_scan.specs.Answer.{Fails, mode_of}
 use Rattle.text_scan.specs.Parsing.{Fault, Parse, begins, ◌>>=◌}
 use Rattle.text_scan.specs.Parsing.ExtendedNumber.{extended_number_at}
 use Rattle.text_scan.specs.Parsing.Number.{is_number_start, standard_number_at}
-use Rattle.text_scan.specs.Parsing.Scalar.{begins_number, letters_at, null_at, number_at, number_value_at, or_else, other_scalar_at, quoted_at, scalar_at}
+use Rattle.text_scan.specs.Parsing.Scalar.{begins_number, letters_at, null_at, number_value_at, or_else, other_scalar_at, quoted_at, scalar_at}
 use Rattle.text_scan.specs.Parsing.String.{string_at}
 use Rattle.text_scan.specs.Open.{Open}
 use Rattle.jsonb_spec.specs.Source.{Source, number_source, source_alone}
 use Rattle.jsonb_spec.specs.Grammar.StandardNumber.{IsStandardNumber}
-use Rattle.text_scan.specs.Encoded.{IsEncoded, IsEncodedAt}
+use Rattle.text_scan.specs.Encoded.{IsEncoded, IsEncodedAt, KeyHoldsAt}
+use Rattle.jsonb_spec.specs.Source.{string_source}
+use Rattle.jsonb_spec.specs.Tree.Mark.{plain}
+use Rattle.text_common.specs.declared.verbatim.Verbatim.{Verbatim}
+use Rattle.text_parse.specs.Scalars.{IsCut, IsKeyAt, SeesScalar, text_view}
+use Rattle.text_parse.specs.declared.parser.text.Scalar.TheVariants as scalars
+use Rattle.text_parse.specs.declared.parser.text.Text.{Text}
+use Rattle.text_parse.specs.declared.parser.text.Text.TheVariants as texts
 use Rattle.text_parse.specs.Literals.{literal_text, literal_tree}
 use Rattle.text_parse.specs.declared.parser.scalar.Literal.{Literal}
 use Rattle.text_parse.specs.declared.parser.scalar.Literal.TheVariants as literals
 use Rattle.text_parse.specs.declared.parser.frame.Frame.{Frame}
-use Rattle.text_parse.specs.Handler.{AsKey, AsNumber, AsScalar, Builds, IsUnreported}
+use Rattle.text_parse.specs.Handler.{AsKey, Builds, IsUnreported}
 use Rattle.text_parse.specs.Frames.{IsPut}
 use Rattle.text_parse.specs.Slots.{Takes}
 use Rattle.text_parse.specs.Parser.{Advances, IsBehind, rest_of, size_of}
 use Rattle.jsonb_spec.specs.Text.{in_quotes}
 use Rattle.jsonb_spec.specs.Text.NumberText.{number_text}
 use Rattle.std.proofs.lemmas.List.{drop_more}
-use Rattle.text_common.specs.VerbatimScalar.{IsIntegerAt, IsVerbatimAt}
+use Rattle.text_common.specs.VerbatimScalar.{IsIntegerAt}
 use Rattle.text_common.specs.declared.verbatim.Verbatim.{Verbatim}
 use Rattle.text_parse.proofs.Scalars.FirstBytes.{extended_number, standard_number}
 use Rattle.text_scan.proofs.Containers.JoinedParts.{on_byte-none}
-use Rattle.text_parse.proofs.Steps.Failures.{memory_misses, misses_through, unreported_misses}
-use Rattle.text_parse.proofs.Steps.Outcomes.{same_size, scalar_quoted}
+use Rattle.text_parse.proofs.Steps.Failures.{memory_misses, unreported_misses}
+use Rattle.text_parse.proofs.Steps.Outcomes.{same_size}
 
 -- ---- strings
 
@@ -135,6 +142,23 @@ pub key_same : {K F : Type 0} (silent : Bool) (reported : Option Error) (Names :
     → Builds silent reported (AsKey Names size rest) result read rest → Builds silent reported (AsKey Names other_size rest) result other rest
 key_same silent reported Names result size other_size read other rest sizes same h =
     subst (λ n. Builds silent reported (AsKey Names n rest) result other rest) (sym sizes) (subst (λ q. Builds silent reported (AsKey Names size rest) result q rest) (sym same) h)
+
+-- a string or a key that was cut out of the text
+
+pub cut_view : (t : Text) → IsCut t → (plain, (text_view t).1) ≡ text_view t
+cut_view (texts.Plain t) cut = refl
+cut_view (texts.Borrowed t) cut = refl
+cut_view (texts.Decoded t) cut = absurd cut
+
+pub cut_seen : {V : Type 0} (Sees : V → Source → Type 0) (IsVerbatim : Verbatim → V → Type 0) (preserves : Bool) (v : V) (t : Text) → IsCut t → SeesScalar Sees IsVerbatim preserves v (scalars.String t) → Sees v (string_source plain (text_view t).1)
+cut_seen Sees IsVerbatim preserves v (texts.Plain t) cut sees = sees cut
+cut_seen Sees IsVerbatim preserves v (texts.Borrowed t) cut sees = sees
+cut_seen Sees IsVerbatim preserves v (texts.Decoded t) cut sees = absurd cut
+
+pub cut_key : (bytes : List ℕ) (t : Text) (from after : ℕ) → IsCut t → KeyHoldsAt bytes (text_view t).1 from after → IsKeyAt bytes t from after
+cut_key bytes (texts.Plain t) from after cut holds = (holds, cut)
+cut_key bytes (texts.Borrowed t) from after cut holds = holds
+cut_key bytes (texts.Decoded t) from after cut holds = tt
 
 -- ---- what is parsed at once
 

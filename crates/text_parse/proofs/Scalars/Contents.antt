@@ -1,23 +1,44 @@
--- A string with escapes, by its contents.
-use Rattle.std.proofs.Common.{◌≡◌, ◌+◌, ◌-◌, ◌<◌, ℕ, List, ◌∷◌, ◌++◌, length, take, drop, get_or, Contains, Option, Some, Ok, Err, sym, ap, ◌∙◌, subst, arith, length-drop}
+-- A string by its contents.
+use Rattle.std.proofs.Common.{◌≡◌, ◌+◌, ◌-◌, ◌<◌, ℕ, List, ◌∷◌, ◌++◌, length, take, drop, get_or, Contains, Option, Some, Ok, Err, false, sym, ap, ap₂, ◌∙◌, subst, arith, length-drop}
 use Rattle.std.proofs.Math.Seq.{get_or-append_seam}
-use Rattle.std.proofs.lemmas.List.{get_or-take, length-take-le}
+use Rattle.std.proofs.lemmas.List.{drop_more, get_or-take, length-take-le, take-append-drop}
+use Rattle.std.specs.Str.{IsUtf8}
 use Rattle.jsonb_value.specs.declared.error.Error.{Error}
 use Rattle.jsonb_value.specs.declared.error.Error.TheVariants.{Syntax, OutOfMemory}
 use Rattle.jsonb_spec.specs.Tree.{Mark, string}
+use Rattle.jsonb_spec.specs.Tree.Mark.{plain}
 use Rattle.text_scan.specs.Answer.{Fails, mode_of}
-use Rattle.text_scan.specs.Decoding.{SeesBackslash}
-use Rattle.text_scan.specs.QuotedString.{DecodesContents}
+use Rattle.text_scan.specs.Decoding.{ReportsBackslash, SeesBackslash}
+use Rattle.text_scan.specs.QuotedString.{DecodesContents, IsClear}
 use Rattle.text_scan.specs.Parsing.Scalar.{quoted_at}
 use Rattle.text_scan.specs.Parsing.String.{Body, body_of, quote_end, string_at}
 use Rattle.jsonb_spec.specs.Source.{Source}
-use Rattle.text_scan.proofs.Strings.Bodies.{body_fails, contains_after, string-closed}
+use Rattle.text_scan.proofs.Strings.Bodies.{body-raw, body_fails, contains_after, found_end, reports_taken, search_start, search_to, string-closed}
 use Rattle.text_scan.proofs.Strings.Ends.{quote_split, quote_within}
 use Rattle.text_parse.specs.declared.parser.Parser.{Parser}
 use Rattle.text_parse.specs.Handler.{Misses, SeesContents}
-use Rattle.text_parse.specs.Parser.{PassesContents, rest_of, size_of}
+use Rattle.text_parse.specs.Parser.{CutsTo, PassesContents, rest_of, size_of}
 use Rattle.text_parse.proofs.Scalars.Built.{string_read}
 use Rattle.text_parse.proofs.Steps.Failures.{misses_through}
+
+-- ---- a string without escapes, whose bytes were cut out
+
+module _ (p q : Parser) (quote len : ℕ) (body : List ℕ) (within : len < length (rest_of p)) (closed : get_or (rest_of p) len 0 ≡ quote) (cut : CutsTo len p q body) where
+  pub cut_parsed : IsClear quote (rest_of p) 0 len → string_at (size_of p) (mode_of p.mode) quote (rest_of p) ≡ Ok ((plain, body), rest_of q)
+  cut_parsed before =
+      let rest = rest_of p in
+      let mode = mode_of p.mode in
+      let found : quote_end quote rest ≡ Ok len = found_end quote rest len within closed (search_to quote rest 0 len (omega arith) (omega (arith, within)) before (search_start quote rest)) in
+      let clear : ReportsBackslash (take len rest) (length (take len rest)) false = reports_taken rest len false (omega (arith, within)) (λ k high. (before k (omega arith) high).1) in
+      string-closed (size_of p) mode quote rest len (plain, take len rest) found (body-raw mode (take len rest) clear (subst IsUtf8 cut.is cut.utf8))
+      ∙ ap₂ (λ (s u : List ℕ). Ok ((plain, s), u)) (sym cut.is) (sym cut.rest)
+
+  pub cut_encoded : rest_of p ≡ body ++ quote ∷ rest_of q
+  cut_encoded =
+      sym (take-append-drop len (rest_of p)) ∙ ap₂ (λ (u v : List ℕ). u ++ v) (sym cut.is)
+      (drop_more (rest_of p) len 0 within ∙ ap₂ (λ (b : ℕ) (u : List ℕ). b ∷ u) closed (sym cut.rest))
+
+-- ---- one with escapes
 
 -- the closing quote is there
 pub quote_there : (quote : ℕ) (bytes : List ℕ) (end : ℕ) → quote_end quote bytes ≡ Ok end → get_or bytes end 0 ≡ quote

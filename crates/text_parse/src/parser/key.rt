@@ -64,13 +64,7 @@ impl<'a> Parser<'a> {
         }
         let from = self.offset;
         if let Some(cut) = self.cut_string(V::wants().plain, text) {
-            if cut.is_plain {
-                let text = Text::Plain(cut.body);
-                let key = V::key(sink, object, self.alloc, text, from, self.offset);
-                return self.or_out_of_memory(key);
-            }
-            let text = Text::Borrowed(cut.body);
-            let key = V::key(sink, object, self.alloc, text, from, self.offset);
+            let key = V::key(sink, object, self.alloc, cut, from, self.offset);
             return self.or_out_of_memory(key);
         }
         self.escaped_key::<V>(sink, object)

@@ -7,10 +7,6 @@ ghost use Rattle.text_scan.specs.Answer.{mode_of, Gives};
 ghost use Rattle.text_parse.specs.Scalars.{IsGiven};
 ghost use Rattle.text_parse.specs.Literals.{literal_text, literal_tree};
 ghost use Rattle.jsonb_spec.specs.Tree.{boolean, int64};
-ghost use Rattle.jsonb_spec.specs.Tree.Mark.{plain};
-ghost use Rattle.jsonb_spec.specs.Source.{string_source};
-ghost use Rattle.text_scan.specs.Encoded.{IsEncodedAt};
-ghost use Rattle.jsonb_spec.specs.Text.StringText.{ArePlain};
 ghost use Rattle.text_parse.specs.Parser.{Advances, Finds, IsAfterQuote, IsBehind, IsTextOf, ParsesAtOffset, TakesByte, rest_of, size_of};
 ghost use Rattle.text_scan.specs.Parsing.{begins};
 ghost use Rattle.text_scan.specs.Parsing.Scalar.{number_value_at, begins_letter, begins_single_quote, fold_letter, letters_at, null_at, number_at, quoted_at, scalar_at, word_at};
@@ -19,7 +15,6 @@ ghost use Rattle.text_parse.specs.Steps.{MakesScalar, Puts, PutsIn};
 use super::handler::{Failed, Handler};
 use super::slot::Slot;
 use super::start::Start;
-use super::string::Cut;
 use super::text::{Scalar, Text};
 use super::{Mode, Parser};
 use jsonb_value::error::{Error, ParseErrorCode};
@@ -79,29 +74,6 @@ impl<'a> Parser<'a> {
         self.put_result(put)
     }
 
-    // Puts in a string that was cut out of the text.
-    #[inline(always)]
-    fn put_cut<V: Handler<'a>, S: Slot<'a, V>>(
-        &mut self,
-        sink: &mut V::Sink,
-        container: &mut S::Container,
-        slot: S,
-        cut: Cut<'a>,
-        from: usize,
-    ) -> Result<(), Failed>
-        requires plain { cut.is_plain ≡ true → ArePlain cut.body.now }
-        ensures { PutsIn V.Handler
-            (λ text s. (s ≡ string_source plain cut.entry.body.now) × IsEncodedAt text from self.old.offset s)
-            result self.old self.new sink.old sink.new (S.before container.old slot) (S.after container.new) }
-    {
-        if cut.is_plain {
-            let string = Scalar::String(Text::Plain(cut.body));
-            return self.put::<V, S>(sink, container, slot, V::scalar(string), from);
-        }
-        let string = Scalar::String(Text::Borrowed(cut.body));
-        self.put::<V, S>(sink, container, slot, V::scalar(string), from)
-    }
-
     // Puts in a string in double quotes, from the byte after its opening quote on.
     #[inline(always)]
     pub(super) fn put_quoted<V: Handler<'a>, S: Slot<'a, V>>(
@@ -118,7 +90,8 @@ impl<'a> Parser<'a> {
     {
         let from = self.offset - 1;
         if let Some(cut) = self.cut_string(V::wants().plain, text) {
-            return self.put_cut::<V, S>(sink, container, slot, cut, from);
+            let string = V::scalar(Scalar::String(cut));
+            return self.put::<V, S>(sink, container, slot, string, from);
         }
         self.put_escaped::<V, S>(sink, container, slot, text)
     }
@@ -167,8 +140,8 @@ impl<'a> Parser<'a> {
         }
     }
 
-    // Puts in a scalar of a standard text that is no string. Many are integers that are written by the same bytes
-    // again.
+    // Puts in a scalar of a standard text that is no string. Most numbers are integers of few digits, and many are
+    // written by the same bytes again.
     #[inline(always)]
     fn put_standard_value<V: Handler<'a>, S: Slot<'a, V>>(
         &mut self,
@@ -192,7 +165,15 @@ impl<'a> Parser<'a> {
                 from,
             );
         }
-        self.put_standard_scalar::<V, S>(sink, container, slot, text)
+        if let Some(read) = self.short_integer() {
+            if read.negative {
+                let number = Scalar::Number(negative_number(read.magnitude));
+                return self.put::<V, S>(sink, container, slot, V::scalar(number), from);
+            }
+            let number = Scalar::Number(Number::UInt64(read.magnitude));
+            return self.put::<V, S>(sink, container, slot, V::scalar(number), from);
+        }
+        self.put_word::<V, S>(sink, container, slot, text)
     }
 
     // Puts in a scalar of an extended text that is no string in double quotes.
@@ -214,36 +195,11 @@ impl<'a> Parser<'a> {
             let number = V::scalar(Scalar::Verbatim(verbatim));
             return self.put::<V, S>(sink, container, slot, number, from);
         }
-        if self.may_begin_word() {
+        // Where a small letter comes next, it is worth while to look for a literal.
+        if matches!(self.peek(), Some(b'a'..=b'z')) {
             return self.put_word::<V, S>(sink, container, slot, text);
         }
         self.put_other_scalar::<V, S>(sink, container, slot, text)
-    }
-
-    // Puts in a scalar of a standard text that is no string. Most numbers are integers of few digits.
-    #[inline(always)]
-    fn put_standard_scalar<V: Handler<'a>, S: Slot<'a, V>>(
-        &mut self,
-        sink: &mut V::Sink,
-        container: &mut S::Container,
-        slot: S,
-        text: &'a str,
-    ) -> Result<(), Failed>
-        requires mode { mode_of self.old.mode ≡ standard }
-        requires same { IsTextOf text.now self.old }
-        ensures { Puts V.Handler scalar_at result self.old self.new sink.old sink.new (S.before container.old slot)
-            (S.after container.new) }
-    {
-        let from = self.offset;
-        if let Some(read) = self.short_integer() {
-            if read.negative {
-                let number = Scalar::Number(negative_number(read.magnitude));
-                return self.put::<V, S>(sink, container, slot, V::scalar(number), from);
-            }
-            let number = Scalar::Number(Number::UInt64(read.magnitude));
-            return self.put::<V, S>(sink, container, slot, V::scalar(number), from);
-        }
-        self.put_word::<V, S>(sink, container, slot, text)
     }
 
     // Puts in a scalar that is no string in double quotes. Most words are in small letters.
@@ -432,12 +388,6 @@ impl<'a> Parser<'a> {
             Mode::Standard => false,
             Mode::Extended => self.take_byte(b'\''),
         }
-    }
-
-    // Whether the next byte is a small letter, so that it is worth while to look for a literal.
-    #[inline(always)]
-    fn may_begin_word(&self) -> bool {
-        matches!(self.peek(), Some(b'a'..=b'z'))
     }
 
     // Parses a literal in small letters, if one comes next.

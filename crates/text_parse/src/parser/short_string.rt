@@ -70,14 +70,7 @@ impl<'a> Parser<'a> {
             return None;
         }
         let found = short_end(self.rest())?;
-        let after = self.offset + found.end;
-        if after > text.len() {
-            return None;
-        }
-        let body = &text[self.offset..after];
-        // Reports that the body is UTF-8.
-        let _bytes = body.as_bytes();
-        self.offset = after + 1;
+        let _body = self.cut(found.end, b'"', text)?;
         if found.is_same {
             return Some(Verbatim::Same);
         }

@@ -1,27 +1,19 @@
 //! Quoted strings.
-ghost use Rattle.std.specs.Prelude.{◌≡◌, ◌≢◌, ◌+◌, ◌<◌, Err, IfNone, IfSome, true};
+ghost use Rattle.std.specs.Prelude.{◌≡◌, ◌≢◌, ◌+◌, ◌<◌, Err, IfNone, IfSome, length, slice_index};
 ghost use Rattle.std.specs.Cow.{cow_str_bytes};
 ghost use Rattle.jsonb_spec.specs.Ascii as ascii;
 ghost use Rattle.jsonb_value.specs.View.{mark_view};
 ghost use Rattle.jsonb_spec.specs.Tree.Mark.{plain};
-ghost use Rattle.text_parse.specs.Parser.{Advances, CutsString, IsAfterQuote, IsBehind, IsTextOf, PassesContents, ParsesString};
+ghost use Rattle.text_parse.specs.Parser.{Advances, CutsString, CutsTo, IsAfterQuote, IsBehind, IsTextOf, PassesContents, ParsesString, rest_of};
+ghost use Rattle.text_parse.specs.Scalars.{IsCut, text_view};
 ghost use Rattle.text_scan.specs.Parsing.String.{string_at};
-ghost use Rattle.jsonb_spec.specs.Text.StringText.{ArePlain};
 
 use super::Parser;
+use super::text::Text;
 use jsonb_value::error::{Error, ParseErrorCode, Result};
 use jsonb_value::plain::plain_len;
 use std::borrow::CowStr;
-use std::simd::prelude::*;
 use text_scan::parser::string::{StringEnd, decode_contents, find_end, next_mark};
-
-// A string without escapes that was cut out of the text, and whether it is known that none of its bytes is written as
-// an escape.
-#[derive(Clone, Copy)]
-pub(super) struct Cut<'a> {
-    pub(super) body: &'a str,
-    pub(super) is_plain: bool,
-}
 
 impl<'a> Parser<'a> {
     // Parses a string from the byte after its opening quote on. It is borrowed where no backslash is in it.
@@ -61,8 +53,30 @@ impl<'a> Parser<'a> {
         self.parse_quoted(quote)
     }
 
-    // A string without escapes, from the byte after its opening quote on. No character crosses a quote, so that the
-    // text is cut at both without a look at the bytes there.
+    // The next bytes as text, up to a quote that is passed too. No character crosses a quote, so that the text is cut
+    // at both without a look at the bytes there.
+    #[inline(always)]
+    pub(super) fn cut(&mut self, len: usize, quote: u8, text: &'a str) -> Option<&'a str>
+        requires quote { IsAfterQuote quote self.old }
+        requires same { IsTextOf text.now self.old }
+        requires inside { len < length (rest_of self.old) }
+        requires closed { slice_index (rest_of self.old) len ≡ quote }
+        ensures cuts { IfSome result (λ body. CutsTo len self.old self.new body.now) }
+        ensures stays { IfNone result (self.new ≡ self.old) }
+        ensures advances { Advances self.old self.new }
+    {
+        let after = self.offset + len;
+        if after > text.len() {
+            return None;
+        }
+        let body = &text[self.offset..after];
+        // Reports that the body is UTF-8.
+        let _bytes = body.as_bytes();
+        self.offset = after + 1;
+        Some(body)
+    }
+
+    // A string without escapes, from the byte after its opening quote on.
     #[inline(always)]
     pub(super) fn borrowed_string(&mut self, quote: u8, text: &'a str) -> Option<&'a str>
         requires quote { IsAfterQuote quote self.old }
@@ -77,19 +91,11 @@ impl<'a> Parser<'a> {
         if rest[end] != quote {
             return None;
         }
-        let after = self.offset + end;
-        if after > text.len() {
-            return None;
-        }
-        let body = &text[self.offset..after];
-        // Reports that the body is UTF-8.
-        let _bytes = body.as_bytes();
-        self.offset = after + 1;
+        let body = self.cut(end, quote, text)?;
         Some(body)
     }
 
-    // The contents of a string that has escapes, from the byte after its opening quote on. No character crosses a
-    // quote, so that they are cut out of the text as above.
+    // The contents of a string that has escapes, from the byte after its opening quote on.
     #[inline(always)]
     pub(super) fn escaped_contents(&mut self, quote: u8, text: &'a str) -> Option<&'a str>
         requires quote { IsAfterQuote quote self.old }
@@ -98,30 +104,29 @@ impl<'a> Parser<'a> {
         ensures stays { IfNone result (self.new ≡ self.old) }
         ensures advances { Advances self.old self.new }
     {
-        let rest = self.rest();
-        let StringEnd::Closed { end, escaped } = find_end(rest, quote) else {
+        let StringEnd::Closed { end, escaped } = find_end(self.rest(), quote) else {
             return None;
         };
         if !escaped {
             return None;
         }
-        let close = self.offset + end;
-        if close > text.len() {
-            return None;
-        }
-        let body = &text[self.offset..close];
-        self.offset = close + 1;
+        let body = self.cut(end, quote, text)?;
         Some(body)
     }
 
-    // A string none of whose bytes is written as an escape, from the byte after its opening double quote on.
+    // A string that can be cut out of the text, from the byte after its opening double quote on. Where that is asked,
+    // it is one none of whose bytes is written as an escape.
     #[inline(always)]
-    fn plain_string(&mut self, text: &'a str) -> Option<&'a str>
+    pub(super) fn cut_string(&mut self, reports_plain: bool, text: &'a str) -> Option<Text<'a>>
         requires opened { IsBehind ascii.quote self.old }
         requires same { IsTextOf text.now self.old }
-        ensures cuts { CutsString (λ s. s.now) ascii.quote result self.old self.new }
-        ensures plain { IfSome result (λ s. ArePlain s.now) }
+        ensures cuts { CutsString (λ text. (text_view text).1) ascii.quote result self.old self.new }
+        ensures cut { IfSome result IsCut }
     {
+        if !reports_plain {
+            let body = self.borrowed_string(b'"', text)?;
+            return Some(Text::Borrowed(body));
+        }
         let rest = self.rest();
         let end = plain_len(rest);
         if end == rest.len() {
@@ -130,36 +135,7 @@ impl<'a> Parser<'a> {
         if rest[end] != b'"' {
             return None;
         }
-        let after = self.offset + end;
-        if after > text.len() {
-            return None;
-        }
-        let body = &text[self.offset..after];
-        // Reports that the body is UTF-8.
-        let _bytes = body.as_bytes();
-        self.offset += end + 1;
-        Some(body)
-    }
-
-    // A string that can be cut out of the text, from the byte after its opening double quote on.
-    #[inline(always)]
-    pub(super) fn cut_string(&mut self, reports_plain: bool, text: &'a str) -> Option<Cut<'a>>
-        requires opened { IsBehind ascii.quote self.old }
-        requires same { IsTextOf text.now self.old }
-        ensures cuts { CutsString (λ cut. cut.body.now) ascii.quote result self.old self.new }
-        ensures plain { IfSome result (λ cut. cut.is_plain ≡ true → ArePlain cut.body.now) }
-    {
-        if reports_plain {
-            let body = self.plain_string(text)?;
-            return Some(Cut {
-                body,
-                is_plain: true,
-            });
-        }
-        let body = self.borrowed_string(b'"', text)?;
-        Some(Cut {
-            body,
-            is_plain: false,
-        })
+        let body = self.cut(end, b'"', text)?;
+        Some(Text::Plain(body))
     }
 }

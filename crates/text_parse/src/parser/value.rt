@@ -1,10 +1,8 @@
 //! Values with all that is in them, by a loop over the arrays and objects that are open.
 ghost use Rattle.std.specs.Prelude.{◌≡◌, ◌+◌, ◌<◌, ◌≤◌, ℕ, false, true, length, List, MatchBool, OnOk, IfErr, MatchResult, None, Ok, Some, [], ◌∷◌, if◌then◌else◌};
 ghost use Rattle.jsonb_spec.specs.Ascii as ascii;
-ghost use Rattle.jsonb_spec.specs.Code.Code.{expected_array_comma_or_end, expected_object_comma_or_end};
 ghost use Rattle.jsonb_spec.specs.Grammar.{max_depth};
-ghost use Rattle.jsonb_value.specs.declared.error.Error.TheVariants.{Syntax};
-ghost use Rattle.jsonb_value.specs.declared.error.ParseErrorCode.TheVariants.{DepthLimitExceeded};
+ghost use Rattle.jsonb_value.specs.Error.CodeView.{code_of};
 ghost use Rattle.text_parse.specs.declared.parser.frame.Frame.{Frame};
 ghost use Rattle.text_parse.specs.declared.parser.frame.Frame.TheVariants.{Array, Object};
 ghost use Rattle.text_parse.specs.Handler.{ElseFails, Builds};
@@ -116,7 +114,7 @@ impl<'a> Parser<'a> {
             stack.new.items }
     {
         if stack.len() == MAX_DEPTH {
-            let error = self.too_deep();
+            let error = self.fault_at_next(ParseErrorCode::DepthLimitExceeded, 1);
             return Err(self.fail(error));
         }
         let at = self.offset;
@@ -139,15 +137,6 @@ impl<'a> Parser<'a> {
         };
         self.skip_whitespace();
         Ok(self.take_byte(b'}'))
-    }
-
-    // The fault of a container inside of as many as may be.
-    #[cold]
-    fn too_deep(&self) -> Error
-        requires { self.now.offset < size_of self.now }
-        ensures { result ≡ Syntax DepthLimitExceeded (self.now.offset + 1) }
-    {
-        Error::Syntax(ParseErrorCode::DepthLimitExceeded, self.offset + 1)
     }
 
     // Parses parts of the innermost container, up to its end, or up to a part that is a container and opens that one.
@@ -214,7 +203,7 @@ impl<'a> Parser<'a> {
                 };
                 return Ok(false);
             }
-            if self.end_element()? {
+            if self.end_part(b']', ParseErrorCode::ExpectedArrayCommaOrEnd)? {
                 return Ok(true);
             }
         }
@@ -290,7 +279,7 @@ impl<'a> Parser<'a> {
             if self.put_member::<V>(sink, object, key, text)? {
                 return Ok(false);
             }
-            if self.end_member()? {
+            if self.end_part(b'}', ParseErrorCode::ExpectedObjectCommaOrEnd)? {
                 return Ok(true);
             }
         }
@@ -322,49 +311,28 @@ impl<'a> Parser<'a> {
         Ok(false)
     }
 
-    // Passes the comma or the bracket after an element. True where it is the bracket. Most often no whitespace is
-    // before it.
+    // Passes the comma or the closing byte after a part of a container, and else fails with the code. True where it is
+    // the closing byte. Most often no whitespace is before it.
     #[inline(always)]
-    fn end_element(&mut self) -> Result<bool, Failed>
-        ensures { EndsPart expected_array_comma_or_end ascii.close_bracket result self.old self.new }
+    fn end_part(&mut self, close: u8, code: ParseErrorCode) -> Result<bool, Failed>
+        requires stop { is_whitespace_start close ≡ false }
+        requires other { begins ascii.comma (close ∷ []) ≡ false }
+        ensures { EndsPart (code_of code) close result self.old self.new }
     {
         if self.take_byte(b',') {
             return Ok(false);
         }
-        if self.take_byte(b']') {
+        if self.take_byte(close) {
             return Ok(true);
         }
         self.skip_whitespace();
         if self.take_byte(b',') {
             return Ok(false);
         }
-        if self.take_byte(b']') {
+        if self.take_byte(close) {
             return Ok(true);
         }
-        let error = self.fault_at_next(ParseErrorCode::ExpectedArrayCommaOrEnd, 0);
-        Err(self.fail(error))
-    }
-
-    // Passes the comma or the brace after a member. True where it is the brace. Most often no whitespace is before
-    // it.
-    #[inline(always)]
-    fn end_member(&mut self) -> Result<bool, Failed>
-        ensures { EndsPart expected_object_comma_or_end ascii.close_brace result self.old self.new }
-    {
-        if self.take_byte(b',') {
-            return Ok(false);
-        }
-        if self.take_byte(b'}') {
-            return Ok(true);
-        }
-        self.skip_whitespace();
-        if self.take_byte(b',') {
-            return Ok(false);
-        }
-        if self.take_byte(b'}') {
-            return Ok(true);
-        }
-        let error = self.fault_at_next(ParseErrorCode::ExpectedObjectCommaOrEnd, 0);
+        let error = self.fault_at_next(code, 0);
         Err(self.fail(error))
     }
 
@@ -411,12 +379,12 @@ impl<'a> Parser<'a> {
                 let Ok(()) = V::push_inner(sink, items, value, self.next_is(b']')) else {
                     return Err(self.out_of_memory());
                 };
-                self.end_element()
+                self.end_part(b']', ParseErrorCode::ExpectedArrayCommaOrEnd)
             }
             Frame::Object(object) => {
                 let inserted = V::insert_inner(sink, object, self.alloc, value);
                 self.put_result(inserted)?;
-                self.end_member()
+                self.end_part(b'}', ParseErrorCode::ExpectedObjectCommaOrEnd)
             }
         }
     }

@@ -126,19 +126,13 @@ impl Parser<'_> {
     fn skip_spaces(&mut self)
         ensures { SkipsSome skip_closed_whitespace self.old self.new }
     {
-        let count = near_spaces(self.rest());
-        self.offset += count;
-        if count == NEAR {
-            self.skip_more_spaces();
+        'rows: loop {
+            let count = near_spaces(self.rest());
+            self.offset += count;
+            if count < NEAR {
+                return;
+            }
         }
-    }
-
-    // Passes spaces one by one, behind those that `near_spaces` saw.
-    #[inline(never)]
-    fn skip_more_spaces(&mut self)
-        ensures { SkipsSome skip_closed_whitespace self.old self.new }
-    {
-        'spaces: while self.take_byte(b' ') {}
     }
 
     // Whether a comment begins here. After the whitespace, this is one that never ends.

@@ -337,8 +337,8 @@ found_needless bs start count first found many byte zero_byte =
     whole_needless bs (omega (arith, found.count_is, many)) (sym (byte ∙ ap (slice_index bs) found.start_is) ∙ zero_byte) ∙ ap (λ i. Err (i + 2)) (sym found.start_is)
 
 -- what its digits' value is
-pub found_value : (bs ds : List ℕ) (v : Option ℕ) → ds ≡ drop (whole_start bs) bs → SomeIff v (digits_value 10 (take (digits_length ds) ds) < 2 ^ 64) (digits_value 10 (take (digits_length ds) ds)) → SomeIff v (digits_value 10 (whole_digits bs) < 2 ^ 64) (digits_value 10 (whole_digits bs))
-found_value bs ds v after value = subst (λ xs. SomeIff v (digits_value 10 (take (digits_length xs) xs) < 2 ^ 64) (digits_value 10 (take (digits_length xs) xs))) after value
+pub found_value : (bs ds : List ℕ) (v : Option ℕ) → ds ≡ drop (whole_start bs) bs → SomeIff v (digits_value 10 (take (digits_length ds) ds) < 2 ^ 128) (digits_value 10 (take (digits_length ds) ds)) → SomeIff v (digits_value 10 (whole_digits bs) < 2 ^ 128) (digits_value 10 (whole_digits bs))
+found_value bs ds v after value = subst (λ xs. SomeIff v (digits_value 10 (take (digits_length xs) xs) < 2 ^ 128) (digits_value 10 (take (digits_length xs) xs))) after value
 
 -- a whole part whose value no type holds
 pub integer_missing : (idx end : ℕ) (buf bs : List ℕ) → idx ≤ length buf → bs ≡ drop idx buf → HasWhole bs → end ≡ whole_end bs → ¬ ContinuesAfterInteger (slice_index bs end) → integer_of (has_minus bs) (digits_value 10 (whole_digits bs)) ≡ None → standard_number_at (length buf) (drop idx buf) ≡ Err (record { code = number_not_carried; offset = idx + end })

@@ -1,10 +1,12 @@
-use Rattle.std.proofs.Common.{◌≡◌, subst, ◌+◌, ◌∷◌, [], refl, ap, sym, ◌∙◌, arith, drop, length, length-drop, reverse, rules}
-use Rattle.text_scan.specs.Answer.{Fails}
+use Rattle.std.proofs.Common.{◌≡◌, Err, ◌+◌, ◌∷◌, [], refl, ap, sym, ◌∙◌, arith, drop, length, length-drop, reverse, rules}
+use Rattle.jsonb_spec.specs.Code.Code.{depth_limit_exceeded}
+use Rattle.text_scan.specs.Parsing.{Fault}
 use Rattle.jsonb_spec.specs.Tree.Mark.{plain}
 use Rattle.text_parse.specs.declared.parser.Parser.{Parser}
 use Rattle.text_parse.specs.Parser.{Advances, size_of}
-use Rattle.text_parse.proofs.Containers.Frames.{after_brace, array_opened, object_opened, too_many}
-use Rattle.text_parse.proofs.Steps.Advancing.{goes_on}
+use Rattle.text_parse.proofs.Containers.Frames.{after_brace, array_opened, object_opened, opens_within, too_many}
+use Rattle.text_parse.proofs.Steps.Advancing.{fails, goes_on}
+use Rattle.text_parse.proofs.Steps.Cursors.{fault_at-inside}
 use Rattle.text_parse.proofs.Steps.Failures.{reports_fault}
 use Rattle.text_parse.proofs.parser.Parser.open_container.Goals as goal
 
@@ -13,8 +15,10 @@ returns-then-len-eq-MAX_DEPTH g c =
     record {
       parses = λ whole due.
           let p = c.args.self.now in
-          reports_fault g.V.Handler.silent c.fail.new.self.reported c.too_deep-error.result whole c.fail.ensures.reported
-          (subst (λ e. Fails e whole) (sym c.too_deep-error.ensures) (too_many (g.V.Handler.holds p.buf.now c.args.sink.now) p c.args.stack.now.items whole (omega arith) c.requires.opens due));
+          let error = c.fault_at_next-error in
+          let within = opens_within p c.requires.opens in
+          reports_fault g.V.Handler.silent c.fail.new.self.reported error.result whole c.fail.ensures.reported
+          (fails error.result _ whole error.ensures (too_many (g.V.Handler.holds p.buf.now c.args.sink.now) p c.args.stack.now.items whole (omega arith) c.requires.opens due ∙ ap (λ (f : Fault). Err f) (sym (fault_at-inside p.buf.now p.offset depth_limit_exceeded 1 within))));
       onward = search rules;
       depth = search rules;
       some = search rules;

@@ -61,8 +61,8 @@ returns-in_err-put_next g c =
       advances = search rules;
     }
 
-pub returns-in_err-end_element : goal.returns-in_err-end_element
-returns-in_err-end_element g c =
+pub returns-in_err-end_part : goal.returns-in_err-end_part
+returns-in_err-end_part g c =
     record {
       parses = λ depth o fs cs fits held.
           let p = c.args.self.now in
@@ -74,15 +74,15 @@ returns-in_err-end_element g c =
           let i = c.elements.invariant in
           let so_far = i.parses depth o fs cs fits held in
           let silent = g.V.Handler.silent in
-          let t = c.end_element.new.self.reported in
+          let t = c.end_part.new.self.reported in
           let on = goes_on p l q i.advances c.put_next.ensures.advances.parser in
           let ends = part_end (size_of q) expected_array_comma_or_end 93 (skip_whitespace (mode_of q.mode) (rest_of q)) in
-          let residual = err_from_is_err_and c.from_residual-in_err-end_element.result c.from_residual-in_err-end_element.ensures.1 in
+          let residual = err_from_is_err_and c.from_residual-in_err-end_part.result c.from_residual-in_err-end_part.ensures.1 in
           rw (residual.1) (misses_same silent t (ends >>= λ y. resume_part (size_of p) (mode_of p.mode) depth y.0 (elements_so_far (so_far.0 ++ source_alone put.tree ∷ [])) y.1) (next_part_at (size_of p) (mode_of p.mode) depth o (rest_of p))
           (so_far.2 ∙ element_turn p l s depth so_far.0 i.advances n.skips.advances n.skips.rest put.none_opens.0 put.none_opens.1
           ∙ ap (λ r. r >>= after_element p depth so_far.0) put.parses
           ∙ ap (λ r. r >>= λ y. resume_part (size_of p) (mode_of p.mode) depth y.0 (elements_so_far (so_far.0 ++ source_alone put.tree ∷ [])) y.1) (sym (same_end p q expected_array_comma_or_end 93 on)))
-          (misses_through silent t ends (λ y. resume_part (size_of p) (mode_of p.mode) depth y.0 (elements_so_far (so_far.0 ++ source_alone put.tree ∷ [])) y.1) (reports_always silent t ends c.in_err-end_element.ensures.parses)));
+          (misses_through silent t ends (λ y. resume_part (size_of p) (mode_of p.mode) depth y.0 (elements_so_far (so_far.0 ++ source_alone put.tree ∷ [])) y.1) (reports_always silent t ends c.in_err-end_part.ensures.parses)));
       onward = search rules;
       opens = search rules;
       advances = search rules;
@@ -98,10 +98,10 @@ returns-then-branch-2 g c =
           let s = n.start in
           let put = puts_if _ _ _ c.if-branch.false n.element.puts in
           let q = c.put_next.new.self in
-          let r = c.end_element.new.self in
+          let r = c.end_part.new.self in
           let i = c.elements.invariant in
           let so_far = i.parses depth o fs cs fits held in
-          let ended = c.in_ok-end_element.ensures.parses in
+          let ended = c.in_ok-end_part.ensures.parses in
           let more = elements_so_far (so_far.0 ++ source_alone put.tree ∷ []) in
           let h = g.V.Handler in
           let before = goes_on p l s i.advances n.skips.advances in
@@ -138,13 +138,13 @@ elements-preserved g c =
     let s = n.start in
     let put = puts_if _ _ _ c.if-branch.false n.element.puts in
     let q = c.put_next.new.self in
-    let r = c.end_element.new.self in
+    let r = c.end_part.new.self in
     let i = c.elements.invariant in
-    let ended = c.in_ok-end_element.ensures.parses in
+    let ended = c.in_ok-end_part.ensures.parses in
     let h = g.V.Handler in
     let before = goes_on p l s i.advances n.skips.advances in
     let on = goes_on p l q i.advances c.put_next.ensures.advances.parser in
-    let onto = goes_on p q r on c.end_element.ensures.advances in
+    let onto = goes_on p q r on c.end_part.ensures.advances in
     record {
       advances = onto;
       base = c.put_next.ensures.advances.base ∙ i.base;

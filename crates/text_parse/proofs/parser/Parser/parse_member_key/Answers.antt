@@ -1,13 +1,12 @@
 use Rattle.jsonb_spec.specs.Tree.{Mark}
-use Rattle.std.proofs.Common.{ℕ, List, ◌∷◌, ap, subst, sym, ◌∙◌, rules}
-use Rattle.jsonb_spec.specs.Tree.Mark.{plain}
+use Rattle.std.proofs.Common.{ℕ, List, ◌∷◌, Ok, ap, subst, sym, ◌∙◌, rules}
 use Rattle.text_scan.specs.Answer.{mode_of}
 use Rattle.text_scan.specs.Parsing.String.{string_at}
 use Rattle.text_parse.specs.Handler.{AsKey, Begins, Builds}
 use Rattle.text_parse.specs.Parser.{Advances, rest_of, size_of}
 use Rattle.text_scan.specs.Encoded.{KeyHoldsAt}
-use Rattle.jsonb_spec.specs.Text.StringText.{ArePlain}
-use Rattle.text_parse.proofs.Scalars.Built.{key_begun, key_retained, key_same, key_holds}
+use Rattle.text_parse.specs.Scalars.{IsKeyAt, text_view}
+use Rattle.text_parse.proofs.Scalars.Built.{cut_key, cut_view, key_begun, key_retained, key_same, key_holds}
 use Rattle.text_parse.proofs.Steps.Advancing.{goes_on}
 use Rattle.text_parse.proofs.Steps.Outcomes.{key_quoted, same_size}
 use Rattle.text_parse.proofs.parser.Parser.parse_member_key.Goals as goal
@@ -21,26 +20,12 @@ returns-in-Some g c =
           let r = c.cut_string.new.self in
           let on = c.take_after_whitespace.ensures.advances in
           let all = goes_on p q r on c.cut_string.ensures.cuts.advances in
-          let body = c.in-Some.cut.body.now in
-          let holds : KeyHoldsAt p.buf.now body q.offset r.offset = λ some. key_holds p q r body some on c.cut_string.ensures.cuts.advances c.if-not-take_after_whitespace.ensures.behind c.in-Some.ensures.cuts.encoded in
-          key_retained g.V.Handler.silent (Begins (g.V.Handler.holds p.buf.now) c.args.sink.now c.args.object.now c.key-key-in-Some.new.sink c.key-key-in-Some.new.object) c.key-key-in-Some.result c.or_out_of_memory-in-Some.result (size_of p) r c.or_out_of_memory-in-Some.new.self (plain, c.in-Some.cut.body.now) _ (sym (same_size p r all)) (key_begun (λ bytes. KeyHoldsAt bytes body q.offset r.offset) (λ bytes key. Begins (g.V.Handler.holds bytes) c.args.sink.now c.args.object.now c.key-key-in-Some.new.sink c.key-key-in-Some.new.object key (plain, body) r.offset) c.key-key-in-Some.result c.key-key-in-Some.ensures.begun p.buf.now holds) c.or_out_of_memory-in-Some.ensures.same c.or_out_of_memory-in-Some.ensures.memory
-          (key_quoted p q on c.if-not-take_after_whitespace.ensures.rest ∙ c.in-Some.ensures.cuts.parses);
-      advances = search rules;
-    }
-
-pub returns-then-cut : goal.returns-then-cut
-returns-then-cut g c =
-    record {
-      parses =
-          let p = c.args.self.now in
-          let q = c.take_after_whitespace.new.self in
-          let r = c.cut_string.new.self in
-          let on = c.take_after_whitespace.ensures.advances in
-          let all = goes_on p q r on c.cut_string.ensures.cuts.advances in
-          let body = c.in-Some.cut.body.now in
-          let holds : KeyHoldsAt p.buf.now body q.offset r.offset = λ some. key_holds p q r body some on c.cut_string.ensures.cuts.advances c.if-not-take_after_whitespace.ensures.behind c.in-Some.ensures.cuts.encoded in
-          key_retained g.V.Handler.silent (Begins (g.V.Handler.holds p.buf.now) c.args.sink.now c.args.object.now c.key-key.new.sink c.key-key.new.object) c.key-key.result c.or_out_of_memory.result (size_of p) r c.or_out_of_memory.new.self (plain, c.in-Some.cut.body.now) _ (sym (same_size p r all)) (key_begun (λ bytes. KeyHoldsAt bytes body q.offset r.offset × ArePlain body) (λ bytes key. Begins (g.V.Handler.holds bytes) c.args.sink.now c.args.object.now c.key-key.new.sink c.key-key.new.object key (plain, body) r.offset) c.key-key.result c.key-key.ensures.begun p.buf.now (holds, c.in-Some.ensures.plain c.if-cut.true)) c.or_out_of_memory.ensures.same c.or_out_of_memory.ensures.memory
-          (key_quoted p q on c.if-not-take_after_whitespace.ensures.rest ∙ c.in-Some.ensures.cuts.parses);
+          let cut = c.in-Some in
+          let k = text_view cut.cut in
+          let holds : KeyHoldsAt p.buf.now k.1 q.offset r.offset = λ some. key_holds p q r k.1 some on c.cut_string.ensures.cuts.advances c.if-not-take_after_whitespace.ensures.behind cut.ensures.cuts.encoded in
+          key_retained g.V.Handler.silent (Begins (g.V.Handler.holds p.buf.now) c.args.sink.now c.args.object.now c.key-key.new.sink c.key-key.new.object) c.key-key.result c.or_out_of_memory.result (size_of p) r c.or_out_of_memory.new.self k _ (sym (same_size p r all))
+          (key_begun (λ bytes. IsKeyAt bytes cut.cut q.offset r.offset) (λ bytes key. Begins (g.V.Handler.holds bytes) c.args.sink.now c.args.object.now c.key-key.new.sink c.key-key.new.object key k r.offset) c.key-key.result c.key-key.ensures.begun p.buf.now (cut_key p.buf.now cut.cut q.offset r.offset cut.ensures.cut holds)) c.or_out_of_memory.ensures.same c.or_out_of_memory.ensures.memory
+          (key_quoted p q on c.if-not-take_after_whitespace.ensures.rest ∙ cut.ensures.cuts.parses ∙ ap (λ x. Ok (x, rest_of r)) (cut_view cut.cut cut.ensures.cut));
       advances = search rules;
     }
 

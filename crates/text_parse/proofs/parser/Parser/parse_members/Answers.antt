@@ -89,8 +89,8 @@ returns-in_err-put_member g c =
       advances = search rules;
     }
 
-pub returns-in_err-end_member : goal.returns-in_err-end_member
-returns-in_err-end_member g c =
+pub returns-in_err-end_part : goal.returns-in_err-end_part
+returns-in_err-end_part g c =
     record {
       parses = λ depth o fs cs fits held.
           let p = c.args.self.now in
@@ -102,17 +102,17 @@ returns-in_err-end_member g c =
           let key = c.in_ok-key.ensures.parses in
           let put = puts_if _ _ _ c.if-branch.false c.in_ok-put_member.ensures.puts.puts in
           let silent = g.V.Handler.silent in
-          let t = c.end_member.new.self.reported in
+          let t = c.end_part.new.self.reported in
           let on = goes_on p l s i.advances c.begin_member.ensures.advances.parser in
           let more = members_so_far (so_far.0 ++ found_member key.0.0 (source_alone put.tree) key.0.1 ∷ []) (plain, []) 0 in
           let ends = part_end (size_of q) expected_object_comma_or_end 125 (skip_whitespace (mode_of q.mode) (rest_of q)) in
-          let residual = err_from_is_err_and c.from_residual-in_err-end_member.result c.from_residual-in_err-end_member.ensures.1 in
+          let residual = err_from_is_err_and c.from_residual-in_err-end_part.result c.from_residual-in_err-end_part.ensures.1 in
           rw (residual.1) (misses_same silent t (ends >>= λ y. resume_part (size_of p) (mode_of p.mode) depth y.0 more y.1) (next_part_at (size_of p) (mode_of p.mode) depth o (rest_of p))
           (so_far.4 ∙ member_due p l depth so_far.0 i.advances ∙ ap (λ x. x >>= waits p depth so_far.0) key.2
           ∙ member_turn p s depth so_far.0 key.0.0 key.0.1 on put.none_opens.0 put.none_opens.1
           ∙ ap (λ x. x >>= after_member p depth so_far.0 key.0.0 key.0.1) put.parses
           ∙ ap (λ x. x >>= λ y. resume_part (size_of p) (mode_of p.mode) depth y.0 more y.1) (sym (same_end p q expected_object_comma_or_end 125 (goes_on p s q on c.put_member.ensures.advances.parser))))
-          (misses_through silent t ends (λ y. resume_part (size_of p) (mode_of p.mode) depth y.0 more y.1) (reports_always silent t ends c.in_err-end_member.ensures.parses)));
+          (misses_through silent t ends (λ y. resume_part (size_of p) (mode_of p.mode) depth y.0 more y.1) (reports_always silent t ends c.in_err-end_part.ensures.parses)));
       onward = search rules;
       opens = search rules;
       advances = search rules;
@@ -126,13 +126,13 @@ returns-then-branch-2 g c =
           let l = c.members.self in
           let s = c.begin_member.new.self in
           let q = c.put_member.new.self in
-          let r = c.end_member.new.self in
+          let r = c.end_part.new.self in
           let i = c.members.invariant in
           let so_far = i.parses depth o fs cs fits held in
           let key = c.in_ok-key.ensures.parses in
           let begun = subst (λ b. Begins (g.V.Handler.holds b.now) c.members.sink c.members.object c.begin_member.new.sink c.begin_member.new.object c.in_ok-key.key key.0.0 key.0.1) c.members.invariant.advances.buf key.1 in
           let put = puts_if _ _ _ c.if-branch.false c.in_ok-put_member.ensures.puts.puts in
-          let ended = c.in_ok-end_member.ensures.parses in
+          let ended = c.in_ok-end_part.ensures.parses in
           let on = goes_on p l s i.advances c.begin_member.ensures.advances.parser in
           let all = so_far.0 ++ found_member key.0.0 (source_alone put.tree) key.0.1 ∷ [] in
           let more = members_so_far all (plain, []) 0 in
@@ -174,14 +174,14 @@ members-preserved g c =
     let l = c.members.self in
     let s = c.begin_member.new.self in
     let q = c.put_member.new.self in
-    let r = c.end_member.new.self in
+    let r = c.end_part.new.self in
     let i = c.members.invariant in
     let key = c.in_ok-key.ensures.parses in
     let begun = subst (λ b. Begins (g.V.Handler.holds b.now) c.members.sink c.members.object c.begin_member.new.sink c.begin_member.new.object c.in_ok-key.key key.0.0 key.0.1) c.members.invariant.advances.buf key.1 in
     let put = puts_if _ _ _ c.if-branch.false c.in_ok-put_member.ensures.puts.puts in
-    let ended = c.in_ok-end_member.ensures.parses in
+    let ended = c.in_ok-end_part.ensures.parses in
     let on = goes_on p l s i.advances c.begin_member.ensures.advances.parser in
-    let onto = goes_on p q r (goes_on p s q on c.put_member.ensures.advances.parser) c.end_member.ensures.advances in
+    let onto = goes_on p q r (goes_on p s q on c.put_member.ensures.advances.parser) c.end_part.ensures.advances in
     record {
       advances = onto;
       base = c.put_member.ensures.advances.base ∙ c.begin_member.ensures.advances.base ∙ i.base;

@@ -1,4 +1,4 @@
-use Rattle.std.proofs.Common.{◌-◌, ◌∙◌, inr, sym, rules}
+use Rattle.std.proofs.Common.{◌∙◌, inr, sym, rules}
 use Rattle.jsonb_spec.specs.Tree.{string}
 use Rattle.text_parse.proofs.Scalars.Built.{put_so}
 use Rattle.text_parse.proofs.parser.Parser.put_escaped.Goals as goal

@@ -1,9 +1,10 @@
-use Rattle.std.proofs.Common.{refl, rules}
+use Rattle.std.proofs.Common.{inl, rules}
 use Rattle.jsonb_spec.specs.Tree.{string}
 use Rattle.jsonb_spec.specs.Tree.Mark.{plain}
 use Rattle.text_scan.specs.Answer.{mode_of}
 use Rattle.text_parse.specs.Parser.{rest_of, size_of}
-use Rattle.text_parse.proofs.Scalars.Built.{key_holds, put_so, string_read}
+use Rattle.text_parse.specs.Scalars.{text_view}
+use Rattle.text_parse.proofs.Scalars.Built.{cut_seen, key_holds, put_so, string_read}
 use Rattle.text_parse.proofs.Steps.Advancing.{stays}
 use Rattle.text_parse.proofs.parser.Parser.put_quoted.Goals as goal
 
@@ -14,9 +15,10 @@ returns-in-Some g c =
           let p = c.args.self.now in
           let q = c.cut_string.new.self in
           let h = g.V.Handler in
-          let body = c.in-Some.cut.body.now in
-          put_so h.silent h.holds _ p.buf.now q c.put_cut.new.self c.args.sink.now c.put_cut.new.sink c.put_cut.result (g.S.Slot.before c.args.container.now c.args.slot) (string plain body) _ (g.S.Slot.after c.put_cut.new.container) c.put_cut.ensures.put c.put_cut.ensures.same c.put_cut.ensures.reported
-          (refl, λ some. key_holds p p q body c.requires.opened.0 (stays p) c.cut_string.ensures.cuts.advances c.requires.opened c.in-Some.ensures.cuts.encoded)
-          (string_read (size_of p) (mode_of p.mode) 34 (rest_of p) (plain, body) _ c.in-Some.ensures.cuts.parses);
+          let cut = c.in-Some in
+          let body = (text_view cut.cut).1 in
+          put_so h.silent h.holds _ p.buf.now q c.put.new.self c.args.sink.now c.put.new.sink c.put.result (g.S.Slot.before c.args.container.now c.args.slot) (string plain body) _ (g.S.Slot.after c.put.new.container) c.put.ensures.put c.put.ensures.same c.put.ensures.reported
+          (inl (cut_seen h.sees h.is_verbatim h.preserves c.scalar-string.result cut.cut cut.ensures.cut c.scalar-string.ensures, λ some. key_holds p p q body c.requires.opened.0 (stays p) c.cut_string.ensures.cuts.advances c.requires.opened cut.ensures.cuts.encoded))
+          (string_read (size_of p) (mode_of p.mode) 34 (rest_of p) (plain, body) _ cut.ensures.cuts.parses);
       advances = search rules;
     }

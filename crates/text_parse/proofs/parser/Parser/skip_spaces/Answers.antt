@@ -1,10 +1,11 @@
-use Rattle.std.proofs.Common.{◌≡◌, ℕ, ◌+◌, ◌<◌, ◌≤◌, List, ap, sym, ◌∙◌, arith, drop, drop-drop, get_or, length, rules}
+use Rattle.std.proofs.Common.{◌≡◌, ℕ, ◌+◌, ◌<◌, ◌≤◌, List, ap, sym, ◌∙◌, arith, drop, drop-drop, get_or, length, refl}
 use Rattle.jsonb_spec.specs.Mode.{Mode}
 use Rattle.text_scan.specs.Parsing.Whitespace.{skip_closed_whitespace}
 use Rattle.text_scan.specs.Answer.{mode_of}
 use Rattle.text_parse.specs.Parser.{rest_of}
 use Rattle.text_parse.specs.declared.parser.Parser.{Parser}
 use Rattle.text_scan.proofs.Text.Whitespace.{pass-spaces}
+use Rattle.text_parse.proofs.Steps.Advancing.{goes_on}
 use Rattle.text_parse.proofs.parser.Parser.skip_spaces.Goals as goal
 
 -- So many spaces are passed, as these bytes from the index on show.
@@ -15,18 +16,24 @@ passed p rest count same within spaces =
     let are : (k : ℕ) → k < count → get_or (rest_of p) k 0 ≡ 32 = λ k low. sym (ap (λ u. get_or u k 0) same) ∙ spaces k low in
     sym (ap (skip_closed_whitespace mode) (drop-drop count p.offset p.buf.now)) ∙ pass-spaces mode count (rest_of p) fits are
 
-pub returns-then-count-eq-NEAR : goal.returns-then-count-eq-NEAR
-returns-then-count-eq-NEAR c =
+pub returns-then-count-lt-NEAR : goal.returns-then-count-lt-NEAR
+returns-then-count-lt-NEAR c =
+    let before = c.rows.invariant in
+    let near = c.near_spaces-count in
+    let mode = ap mode_of before.1.mode in
     record {
       rest =
-          c.skip_more_spaces.ensures.rest ∙ passed c.args.self.now c.rest.result.now c.near_spaces-count.result c.rest.ensures c.near_spaces-count.ensures.within c.near_spaces-count.ensures.spaces;
-      advances = search rules;
+          ap (λ m. skip_closed_whitespace m (drop (c.rows.self.offset + near.result) c.rows.self.buf.now)) (sym mode) ∙ passed c.rows.self c.rest.result.now near.result c.rest.ensures near.ensures.within near.ensures.spaces
+          ∙ ap (λ m. skip_closed_whitespace m (rest_of c.rows.self)) mode ∙ before.0;
+      advances = goes_on c.args.self.now c.rows.self _ before.1 (record { buf = refl; mode = refl; onward = omega arith });
     }
 
-pub returns-else-count-eq-NEAR : goal.returns-else-count-eq-NEAR
-returns-else-count-eq-NEAR c =
-    record {
-      rest =
-          passed c.args.self.now c.rest.result.now c.near_spaces-count.result c.rest.ensures c.near_spaces-count.ensures.within c.near_spaces-count.ensures.spaces;
-      advances = search rules;
-    }
+pub rows-preserved : goal.rows-preserved
+rows-preserved c =
+    let before = c.rows.invariant in
+    let near = c.near_spaces-count in
+    let mode = ap mode_of before.1.mode in (
+      ap (λ m. skip_closed_whitespace m (drop (c.rows.self.offset + near.result) c.rows.self.buf.now)) (sym mode) ∙ passed c.rows.self c.rest.result.now near.result c.rest.ensures near.ensures.within near.ensures.spaces
+          ∙ ap (λ m. skip_closed_whitespace m (rest_of c.rows.self)) mode ∙ before.0,
+      goes_on c.args.self.now c.rows.self _ before.1 (record { buf = refl; mode = refl; onward = omega arith }),
+    )
