@@ -3,4 +3,6 @@
 mod decoder;
 
 pub(crate) use decoder::{digit, unescape};
-pub use decoder::{check_contents, decode_behind, decode_escape, parse_string};
+pub use decoder::{
+    check_contents, decode_behind, decode_escape, near_backslash, parse_string, write_sixteen,
+};

@@ -1,7 +1,6 @@
 //! Strings whose escapes are of one letter, written from where they are in the text: each run is looked at and
 //! copied at once.
-ghost use Rattle.std.specs.Int.{bit_at};
-ghost use Rattle.std.specs.Prelude.{◌≡◌, ◌+◌, ◌-◌, ◌≤◌, ◌<◌, ◌++◌, ◌∷◌, ◌↔◌, [], ℕ, List, true, false, length, take, slice_index, slice_range, IfNone, IfOk, IfSome, MatchBool, OnOk};
+ghost use Rattle.std.specs.Prelude.{◌≡◌, ◌+◌, ◌-◌, ◌≤◌, ◌<◌, ◌++◌, ◌∷◌, [], ℕ, List, true, false, length, take, slice_index, slice_range, IfNone, IfOk, IfSome, MatchBool, OnOk};
 ghost use Rattle.jsonb_spec.specs.Ascii as ascii;
 ghost use Rattle.jsonb_spec.specs.Source.{Source};
 ghost use Rattle.jsonb_spec.specs.Text.Appending.{Extends};
@@ -22,8 +21,8 @@ use crate::written::Written;
 use jsonb_value::plain::{append_byte, run_of_few, run_of_sixteen};
 use jsonb_value::sort_key::kind;
 use std::alloc::AllocError;
-use std::simd::prelude::*;
 use text_common::verbatim::short_byte;
+use text_scan::util::{near_backslash, write_sixteen};
 
 // How many of the first bytes are written as they are, or as many of them as are looked at.
 #[inline(always)]
@@ -131,17 +130,6 @@ fn put_item(bytes: &[u8], as_text: bool, row: &mut [u8], at: usize) -> Option<(u
     Some((end, 2))
 }
 
-// Puts the first 16 bytes into a row by one store.
-#[inline(always)]
-fn store_sixteen(row: &mut [u8], at: usize, bytes: &[u8])
-    requires enough { 16 ≤ length bytes.now }
-    requires space { at + 16 ≤ length row.old }
-    ensures put { take (at + 16) row.new ≡ take at row.old ++ take 16 bytes.now }
-    ensures size { length row.new ≡ length row.old }
-{
-    u8x16::from_slice(bytes).copy_to_slice(&mut row[at..]);
-}
-
 // Puts 16 bytes into a row so, where there is space for them.
 #[inline(always)]
 fn put_sixteen(row: &mut [u8], at: usize, chunk: &[u8; 16]) -> bool
@@ -152,7 +140,7 @@ fn put_sixteen(row: &mut [u8], at: usize, chunk: &[u8; 16]) -> bool
     if row.len() < 16 || at > row.len() - 16 {
         return false;
     }
-    store_sixteen(row, at, chunk);
+    write_sixteen(row, at, chunk);
     true
 }
 
@@ -192,17 +180,6 @@ fn put_short(
     Some(end)
 }
 
-// Bit k is set where byte k is a backslash, among the first 16.
-#[inline(always)]
-fn backslashes(bytes: &[u8]) -> u64
-    requires { 16 ≤ length bytes.now }
-    ensures { (k : ℕ) → (bit_at result k ≡ 1) ↔ ((k < 16) × (slice_index bytes.now k ≡ ascii.backslash)) }
-{
-    u8x16::from_slice(bytes)
-        .simd_eq(u8x16::splat(b'\\'))
-        .to_bitmask()
-}
-
 // How many of the first 16 bytes are before a backslash.
 #[inline(always)]
 fn run_before_backslash(bytes: &[u8]) -> usize
@@ -211,11 +188,7 @@ fn run_before_backslash(bytes: &[u8]) -> usize
     ensures before { SeesNoBackslash bytes.now result }
     ensures here { result < 16 → slice_index bytes.now result ≡ ascii.backslash }
 {
-    let marks = backslashes(bytes);
-    if marks == 0 {
-        return 16;
-    }
-    marks.trailing_zeros() as usize
+    near_backslash(bytes).unwrap_or(16)
 }
 
 // Puts what contents mean into a row, from an index on, and returns where that ends there. The contents are the first
@@ -233,7 +206,7 @@ fn put_meaning(bytes: &[u8], count: usize, row: &mut [u8], start: usize) -> Opti
     let mut end = start;
     'items: while at < count {
         let run = run_before_backslash(&bytes[at..]);
-        store_sixteen(row, end, &bytes[at..]);
+        write_sixteen(row, end, &bytes[at..]);
         if run >= count - at {
             return Some(end + (count - at));
         }

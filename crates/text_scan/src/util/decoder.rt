@@ -18,6 +18,7 @@ use crate::parser::Mode;
 pub use check::check_contents;
 use jsonb_value::error::{Error, ParseErrorCode, Result};
 use run::copy_run;
+pub use run::{near_backslash, write_sixteen};
 use space::{give_back, write_byte};
 use std::alloc::Global;
 pub(crate) use unit::digit;

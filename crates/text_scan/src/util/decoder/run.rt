@@ -10,9 +10,9 @@ use crate::parser::vector::{lowest, near_bits};
 use memchr::memchr;
 use std::simd::prelude::*;
 
-// The index of the first backslash among the first 16 bytes.
+/// The index of the first backslash among the first 16 bytes.
 #[inline(always)]
-pub(super) fn near_backslash(bytes: &[u8]) -> Option<usize>
+pub fn near_backslash(bytes: &[u8]) -> Option<usize>
     requires { 16 ≤ length bytes.now }
     ensures within { IfSome result (λ i. i < 16) }
     ensures before { IfSome result (λ i. SeesNoBackslash bytes.now i) }
@@ -26,9 +26,9 @@ pub(super) fn near_backslash(bytes: &[u8]) -> Option<usize>
     Some(lowest(marks))
 }
 
-// Writes the first 16 bytes by one load and one store.
+/// Writes the first 16 bytes behind the first `len` of a text, by one load and one store.
 #[inline(always)]
-fn write_sixteen(text: &mut [u8], len: usize, bytes: &[u8])
+pub fn write_sixteen(text: &mut [u8], len: usize, bytes: &[u8])
     requires enough { 16 ≤ length bytes.now }
     requires space { len + 16 ≤ length text.old }
     ensures written { take (len + 16) text.new ≡ take len text.old ++ take 16 bytes.now }

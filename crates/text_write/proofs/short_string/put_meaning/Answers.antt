@@ -14,7 +14,7 @@ returns-then-run-count-clause-put c = λ text short.
     let row = c.items.row in
     let old = take c.args.start c.args.row.now in
     let run = c.run_before_backslash-run.result in
-    let put = c.store_sixteen.new.row in
+    let put = c.write_sixteen.new.text in
     let inv = c.items.invariant in
     let space : end + 16 ≤ length row = omega (arith, inv.behind.1, inv.size, c.requires.space, c.items-test.true) in
     let clear = subst (λ xs. SeesNoBackslash xs run) (take_rest bytes at) c.run_before_backslash-run.ensures.before in
@@ -22,7 +22,7 @@ returns-then-run-count-clause-put c = λ text short.
     let few : left ≤ 16 = omega (arith, c.if-run-count.true, c.run_before_backslash-run.ensures.within) in
     let wrote : WritesSome false bytes count old (take (end + left) put) (at + left) =
     some_clear bytes count at run left old (take end row) (take (end + left) put) (omega (arith, c.items-test.true)) (omega (arith, c.requires.inside)) inv.writes clear c.if-run-count.true (omega arith)
-    (run_put bytes row put at end left (omega (arith, c.requires.inside, c.items-test.true)) space c.store_sixteen.ensures.size c.store_sixteen.ensures.put few) in
+    (run_put bytes row put at end left (omega (arith, c.requires.inside, c.items-test.true)) space c.write_sixteen.ensures.size c.write_sixteen.ensures.written few) in
     some_all false bytes count (at + left) old (take (end + left) put) text (omega (arith, c.requires.inside)) (omega (arith, c.items-test.true)) wrote short
 
 pub returns-then-run-count-clause-front : goal.returns-then-run-count-clause-front
@@ -34,10 +34,10 @@ returns-then-run-count-clause-front c =
     let row = c.items.row in
     let old = take c.args.start c.args.row.now in
     let run = c.run_before_backslash-run.result in
-    let put = c.store_sixteen.new.row in
+    let put = c.write_sixteen.new.text in
     let inv = c.items.invariant in
     let space : end + 16 ≤ length row = omega (arith, inv.behind.1, inv.size, c.requires.space, c.items-test.true) in
-    front_of row put _ end (end + 16) c.args.start c.store_sixteen.ensures.put inv.behind.0 (omega arith) (omega (arith, space)) ∙ inv.front
+    front_of row put _ end (end + 16) c.args.start c.write_sixteen.ensures.written inv.behind.0 (omega arith) (omega (arith, space)) ∙ inv.front
 
 pub returns-in_err-row-clause-front : goal.returns-in_err-row-clause-front
 returns-in_err-row-clause-front c =
@@ -48,10 +48,10 @@ returns-in_err-row-clause-front c =
     let row = c.items.row in
     let old = take c.args.start c.args.row.now in
     let run = c.run_before_backslash-run.result in
-    let put = c.store_sixteen.new.row in
+    let put = c.write_sixteen.new.text in
     let inv = c.items.invariant in
     let space : end + 16 ≤ length row = omega (arith, inv.behind.1, inv.size, c.requires.space, c.items-test.true) in
-    front_of row put _ end (end + 16) c.args.start c.store_sixteen.ensures.put inv.behind.0 (omega arith) (omega (arith, space)) ∙ inv.front
+    front_of row put _ end (end + 16) c.args.start c.write_sixteen.ensures.written inv.behind.0 (omega arith) (omega (arith, space)) ∙ inv.front
 
 pub items-preserved-then-run-lt16 : goal.items-preserved-then-run-lt16
 items-preserved-then-run-lt16 c =
@@ -62,22 +62,22 @@ items-preserved-then-run-lt16 c =
     let row = c.items.row in
     let old = take c.args.start c.args.row.now in
     let run = c.run_before_backslash-run.result in
-    let put = c.store_sixteen.new.row in
+    let put = c.write_sixteen.new.text in
     let inv = c.items.invariant in
     let space : end + 16 ≤ length row = omega (arith, inv.behind.1, inv.size, c.requires.space, c.items-test.true) in
     let clear = subst (λ xs. SeesNoBackslash xs run) (take_rest bytes at) c.run_before_backslash-run.ensures.before in
     let wrote : WritesSome false bytes count old (take (end + run) put) (at + run) =
     some_clear bytes count at run run old (take end row) (take (end + run) put) (omega (arith, c.items-test.true)) (omega (arith, c.requires.inside)) inv.writes clear (omega arith) (omega (arith, c.if-run-count.false))
-    (run_put bytes row put at end run (omega (arith, c.requires.inside, c.items-test.true)) space c.store_sixteen.ensures.size c.store_sixteen.ensures.put c.run_before_backslash-run.ensures.within) in
+    (run_put bytes row put at end run (omega (arith, c.requires.inside, c.items-test.true)) space c.write_sixteen.ensures.size c.write_sixteen.ensures.written c.run_before_backslash-run.ensures.within) in
     let byte = c.in_ok-row.field-0 in
     let here : get_or bytes (at + run) 0 ≡ 92 = sym (get_or-drop at bytes run 0) ∙ ap (λ xs. get_or xs run 0) (sym (take_rest bytes at)) ∙ c.run_before_backslash-run.ensures.here c.if-run-lt16.true in
-    let placed = take-set_at put (end + run) (end + run + 1) byte (omega arith) (omega (arith, space, c.store_sixteen.ensures.size, c.if-run-lt16.true)) in
+    let placed = take-set_at put (end + run) (end + run + 1) byte (omega arith) (omega (arith, space, c.write_sixteen.ensures.size, c.if-run-lt16.true)) in
     record {
       within = omega (arith, c.if-run-count.false);
       behind = (omega (arith, inv.behind.0), omega (arith, inv.behind.1));
-      size = length-set put (end + run) byte ∙ c.store_sixteen.ensures.size ∙ inv.size;
+      size = length-set put (end + run) byte ∙ c.write_sixteen.ensures.size ∙ inv.size;
       writes = some_escape bytes count (at + run) byte old (take (end + run) put) _ (omega (arith, c.if-run-count.false)) wrote here (sym c.short_byte.ensures ∙ c.in_ok-row.was) (omega (arith, c.requires.inside)) placed;
-      front = take-set-le c.args.start put (end + run) byte (omega (arith, inv.behind.0)) ∙ front_of row put _ end (end + 16) c.args.start c.store_sixteen.ensures.put inv.behind.0 (omega arith) (omega (arith, space)) ∙ inv.front;
+      front = take-set-le c.args.start put (end + run) byte (omega (arith, inv.behind.0)) ∙ front_of row put _ end (end + 16) c.args.start c.write_sixteen.ensures.written inv.behind.0 (omega arith) (omega (arith, space)) ∙ inv.front;
     }
 
 pub items-preserved : goal.items-preserved
@@ -89,19 +89,19 @@ items-preserved c =
     let row = c.items.row in
     let old = take c.args.start c.args.row.now in
     let run = c.run_before_backslash-run.result in
-    let put = c.store_sixteen.new.row in
+    let put = c.write_sixteen.new.text in
     let inv = c.items.invariant in
     let space : end + 16 ≤ length row = omega (arith, inv.behind.1, inv.size, c.requires.space, c.items-test.true) in
     let clear = subst (λ xs. SeesNoBackslash xs run) (take_rest bytes at) c.run_before_backslash-run.ensures.before in
     let wrote : WritesSome false bytes count old (take (end + run) put) (at + run) =
     some_clear bytes count at run run old (take end row) (take (end + run) put) (omega (arith, c.items-test.true)) (omega (arith, c.requires.inside)) inv.writes clear (omega arith) (omega (arith, c.if-run-count.false))
-    (run_put bytes row put at end run (omega (arith, c.requires.inside, c.items-test.true)) space c.store_sixteen.ensures.size c.store_sixteen.ensures.put c.run_before_backslash-run.ensures.within) in
+    (run_put bytes row put at end run (omega (arith, c.requires.inside, c.items-test.true)) space c.write_sixteen.ensures.size c.write_sixteen.ensures.written c.run_before_backslash-run.ensures.within) in
     record {
       within = omega (arith, c.if-run-count.false);
       behind = (omega (arith, inv.behind.0), omega (arith, inv.behind.1));
-      size = c.store_sixteen.ensures.size ∙ inv.size;
+      size = c.write_sixteen.ensures.size ∙ inv.size;
       writes = wrote;
-      front = front_of row put _ end (end + 16) c.args.start c.store_sixteen.ensures.put inv.behind.0 (omega arith) (omega (arith, space)) ∙ inv.front;
+      front = front_of row put _ end (end + 16) c.args.start c.write_sixteen.ensures.written inv.behind.0 (omega arith) (omega (arith, space)) ∙ inv.front;
     }
 
 pub returns-clause-put : goal.returns-clause-put

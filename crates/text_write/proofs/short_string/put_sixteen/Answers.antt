@@ -7,7 +7,7 @@ pub returns-clause-put : goal.returns-clause-put
 returns-clause-put c =
     let chunk = c.args.chunk.now in
     let long : length chunk ≡ 16 = search rules in
-    c.store_sixteen.ensures.put ∙ ap (λ xs. take c.args.at c.args.row.now ++ xs) (ap (λ n. take n chunk) (sym long) ∙ take-length chunk)
+    c.write_sixteen.ensures.written ∙ ap (λ xs. take c.args.at c.args.row.now ++ xs) (ap (λ n. take n chunk) (sym long) ∙ take-length chunk)
 
 pub returns-clause-front : goal.returns-clause-front
-returns-clause-front c = λ n low. front_of c.args.row.now c.store_sixteen.new.row (take 16 c.args.chunk.now) c.args.at (c.args.at + 16) n c.store_sixteen.ensures.put low (omega arith) (omega arith)
+returns-clause-front c = λ n low. front_of c.args.row.now c.write_sixteen.new.text (take 16 c.args.chunk.now) c.args.at (c.args.at + 16) n c.write_sixteen.ensures.written low (omega arith) (omega arith)
