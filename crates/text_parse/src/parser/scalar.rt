@@ -367,7 +367,7 @@ impl<'a> Parser<'a> {
     {
         let from = self.offset;
         let Some(body) = self.escaped_contents(quote, text) else {
-            return match self.parse_escaped(quote) {
+            return match self.parse_quoted(quote) {
                 Ok(string) => Ok(V::scalar(Scalar::String(Text::Decoded(string)))),
                 Err(error) => Err(self.fail(error)),
             };

@@ -16,8 +16,9 @@ use std::borrow::CowStr;
 use text_scan::parser::string::{StringEnd, decode_contents, find_end, next_mark};
 
 impl<'a> Parser<'a> {
-    // Parses a string from the byte after its opening quote on. It is borrowed where no backslash is in it.
-    #[inline(always)]
+    // Parses a string from the byte after its opening quote on. It is borrowed where no backslash is in it. Most strings
+    // are cut out of the text in place of it.
+    #[inline(never)]
     pub(super) fn parse_quoted(&mut self, quote: u8) -> Result<CowStr<'a>>
         requires no_backslash { quote ≢ ascii.backslash }
         ensures { ParsesString (λ s. (mark_view s, cow_str_bytes s)) (λ size mode. string_at size mode quote) result
@@ -40,17 +41,6 @@ impl<'a> Parser<'a> {
                 Ok(text)
             }
         }
-    }
-
-    // A string of a text that isn't UTF-8, or one that is rejected.
-    #[cold]
-    #[inline(never)]
-    pub(super) fn parse_escaped(&mut self, quote: u8) -> Result<CowStr<'a>>
-        requires no_backslash { quote ≢ ascii.backslash }
-        ensures { ParsesString (λ s. (mark_view s, cow_str_bytes s)) (λ size mode. string_at size mode quote) result
-            self.old self.new }
-    {
-        self.parse_quoted(quote)
     }
 
     // The next bytes as text, up to a quote that is passed too. No character crosses a quote, so that the text is cut
