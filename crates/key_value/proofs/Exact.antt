@@ -22,7 +22,7 @@ use Rattle.std.specs.declared.cmp.Ordering.TheVariants.{Equal}
 use Rattle.std.proofs.lemmas.Map.Lookups.{exact_bytes}
 use Rattle.jsonb_value.proofs.Trees.Runs.{heads}
 use Rattle.key_value.proofs.Numbers.{turned_twice, far_exponent, near_exponent}
-use Rattle.key_value.specs.Reading.{IsLastPair}
+use Rattle.key_value.specs.Reading.{DigitsRead, IsLastPair}
 
 -- what holds of the value holds of it in another form
 pub if_some : {A : Type 0} {P Q : A → Type 0} (o : Option A) → IfSome o P → ((a : A) → P a → Q a) → IfSome o Q
@@ -45,13 +45,6 @@ near_exact negative first byte bytes rest small is high e =
     e ∙ ap (λ b. b ∷ rest) (back ∙ ap (invert_if negative) (sym moved)) ∙ ap (λ key. map (invert_if negative) key ++ rest) (sym (near_exponent (byte + 95) (omega (arith, high))))
 
 -- ---- digits
-
--- These digits were read: whatever digits are behind them, the key of all begins with the bytes before the rest.
-pub record DigitsRead (negative : Bool) (bytes : List ℕ) (digits count : ℕ) (rest : List ℕ) : Type 0 where
-  pub front : List ℕ
-  pub below : digits < 10 ^ count
-  pub begins : (C M : ℕ) → 0 < M → M < 10 ^ C → map (invert_if negative) (digits_key (count + C) (digits * 10 ^ C + M)) ≡ front ++ map (invert_if negative) (digits_key C M)
-  pub occurs : bytes ≡ front ++ rest
 
 pub none_read : (negative : Bool) (bytes : List ℕ) → DigitsRead negative bytes 0 0 bytes
 none_read negative bytes = record {

@@ -1,13 +1,25 @@
--- Numbers of one key are one integer, or none is one.
-use Rattle.std.proofs.Common.{◌≡◌, ◌^◌, ℤ, pos, ◌*ℤ◌, sym, ap, ◌∙◌}
+-- Numbers of one key are one integer, or none is one; which integer few digits are.
+use Rattle.std.proofs.Common.{◌≡◌, ◌≢◌, ◌+◌, ◌-◌, ◌*◌, ◌/◌, ◌%◌, ◌^◌, ◌≤◌, ◌++◌, ◌∷◌, ℕ, List, Bool, ℤ, pos, ◌*ℤ◌, map, unsigned_abs, refl, sym, ap, ◌∙◌, arith}
 use Rattle.std.specs.FinMap.{int_cmp-IsAntisymmetric}
 use Rattle.std.specs.Ordering.{int_cmp}
 use Rattle.std.specs.declared.cmp.Ordering.TheVariants.{Equal}
 use Rattle.std.proofs.lemmas.Cmp.{int_cmp_total, tied_itself}
 use Rattle.jsonb_spec.specs.Number.Cast.{HasValue}
 use Rattle.jsonb_spec.specs.Order.{num_cmp}
-use Rattle.jsonb_spec.specs.Tree.{Num}
+use Rattle.jsonb_spec.specs.Tree.{Num, int64}
+use Rattle.std.specs.Bool.{nat_lt}
+use Rattle.std.specs.Int.{is_negative}
+use Rattle.std.proofs.lemmas.Int.{ints}
+use borrow.Author.Differences.{product_is}
+use Rattle.jsonb_spec.specs.Number.Signed.{signed_by}
+use Rattle.jsonb_spec.specs.Proper.{IsProperNumber}
+use Rattle.jsonb_spec.specs.SortKey.{digits_key, invert_if, number_key}
 use Rattle.jsonb_value.proofs.Numbers.Quotients.{ten_positive}
+use Rattle.key_value.specs.Reading.{exponent_of, read_as, IsLastPair, ReadsDigits}
+use Rattle.key_value.proofs.Numbers.{exponent_read, last_some}
+use Rattle.key_value.proofs.Signs.{parts_of, signed_read}
+use Rattle.key_value.proofs.Texts.{some_pair}
+use Rattle.key_value.proofs.Wholes.{most, same_number, up_same}
 use Rattle.jsonb_value.specs.Order.NumberLaws.{int_cmp-scaled, scaled_swapped}
 
 pub same_integer : (m n : Num) (v : ℤ) → num_cmp m n ≡ Equal → HasValue m v → HasValue n v
@@ -18,3 +30,34 @@ same_integer m n v e is =
     (int_cmp-scaled n.whole (v *ℤ pos (10 ^ n.scale)) (10 ^ m.scale) (ten_positive m.scale)
     ∙ ap (λ w. int_cmp w (v *ℤ pos (10 ^ n.scale) *ℤ pos (10 ^ m.scale))) equal
     ∙ tied_itself int_cmp_total (v *ℤ pos (10 ^ n.scale) *ℤ pos (10 ^ m.scale)))
+
+-- a number is one integer at most
+pub same_value : (n : Num) (a b : ℤ) → HasValue n a → HasValue n b → a ≡ b
+same_value n a b p q =
+    let power = 10 ^ n.scale in
+    int_cmp-IsAntisymmetric a b
+    (int_cmp-scaled a b power (ten_positive n.scale)
+    ∙ ap (λ w. int_cmp w (b *ℤ pos power)) (sym p ∙ q)
+    ∙ tied_itself int_cmp_total (b *ℤ pos power))
+
+-- the integer of this sign and magnitude
+pub signed_value : (n : Num) (sign : Bool) (magnitude : ℕ) (v : ℤ) → is_negative n.whole ≡ sign → magnitude * 10 ^ n.scale ≡ unsigned_abs n.whole → v ≡ signed_by sign magnitude → HasValue n v
+signed_value n sign magnitude v negative whole is =
+    let x : Num = record { form = int64; scale = 0; whole = v } in
+    same_integer x n v (same_number x n sign 0 magnitude refl is negative (omega (arith, whole))) (omega (arith, ints, product_is v (pos 1)))
+
+-- The digits in front of the last pair and that pair are the number's, without its sign.
+pub few_digits : (n : Num) → IsProperNumber n → (first : ℕ) (others bytes more : List ℕ) → bytes ≡ first ∷ others → first ≢ 128 → bytes ≡ number_key n ++ more
+    → (exponent : ℕ) (digits : List ℕ) → read_as exponent digits ≡ exponent_of (nat_lt first 128) bytes
+    → (front count : ℕ) (rest : List ℕ) → ReadsDigits (nat_lt first 128) digits front count rest
+    → (byte : ℕ) (behind : List ℕ) (b : ℕ) → rest ≡ byte ∷ behind → b ≡ invert_if (nat_lt first 128) byte → b % 2 ≡ 0
+    → (all last : ℕ) → IsLastPair front (b / 2) all last → 255 + (count + last) ≤ exponent
+    → (is_negative n.whole ≡ nat_lt first 128) × (all * 10 ^ (exponent - (255 + (count + last))) * 10 ^ n.scale ≡ unsigned_abs n.whole)
+few_digits n proper first others bytes more e other occurs exponent digits is_exponent front count rest reads byte behind b is_rest is_b even all last is_last high =
+    let sign = nat_lt first 128 in
+    let s = signed_read n proper first others bytes more e other occurs in
+    let key = map (invert_if sign) (digits_key s.count (unsigned_abs n.whole)) ++ more in
+    let at = some_pair exponent s.exponent digits key (is_exponent ∙ ap (exponent_of sign) s.occurs ∙ exponent_read sign s.exponent key s.low) in
+    let are = last_some sign digits front count rest byte behind b reads is_rest is_b s.count (unsigned_abs n.whole) s.below s.some (most n proper) s.few more at.1 even (b / 2) all last refl is_last in
+    let parts = parts_of n sign bytes more s exponent all (count + last) at.0 are.0 in
+    (s.is_sign, up_same n exponent all (count + last) proper parts high)

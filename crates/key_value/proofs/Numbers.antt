@@ -7,7 +7,7 @@ use Rattle.std.specs.Bool.{nat_lt}
 use Rattle.jsonb_spec.specs.SortKey.{invert_if, exponent_key, digits_key}
 use Rattle.jsonb_value.proofs.SortKeys.Digits.{ten, hundred, mul-pos, last_pair, more_pairs}
 use Rattle.jsonb_value.proofs.Trees.Runs.{heads, tails}
-use Rattle.key_value.specs.Reading.{exponent_of, read_as, IsDigits, IsLastPair, IsNoLastPair}
+use Rattle.key_value.specs.Reading.{exponent_of, read_as, DigitsLeft, ReadsDigits, IsDigits, IsLastPair, IsNoLastPair}
 
 -- ---- the exponent
 
@@ -45,19 +45,6 @@ exponent_read negative exponent more high = elim (cases_lt exponent 225) [
 ]
 
 -- ---- digits
-
--- Of a number with C digits, `read` of which were read, some are left, and their key is first in the rest.
-pub record DigitsLeft (negative : Bool) (C M digits read : ℕ) (rest more : List ℕ) : Type 0 where
-  pub left : ℕ
-  pub tail : ℕ
-  pub counted : read + left ≡ C
-  pub whole : M ≡ digits * 10 ^ left + tail
-  pub below : tail < 10 ^ left
-  pub some : 0 < tail
-  pub occurs : rest ≡ map (invert_if negative) (digits_key left tail) ++ more
-
-abbrev pub ReadsDigits : Bool → List ℕ → ℕ → ℕ → List ℕ → Type 0
-ReadsDigits negative bytes digits read rest = (C M : ℕ) → M < 10 ^ C → 0 < M → M ≤ 2 ^ 127 → C ≤ 39 → (more : List ℕ) → bytes ≡ map (invert_if negative) (digits_key C M) ++ more → DigitsLeft negative C M digits read rest more
 
 pub digits_begun : (negative : Bool) (bytes : List ℕ) → ReadsDigits negative bytes 0 0 bytes
 digits_begun negative bytes = λ C M below some high few more e. record { left = C; tail = M; counted = omega arith; whole = omega arith; below = below; some = some; occurs = e }

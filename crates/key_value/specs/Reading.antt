@@ -105,6 +105,26 @@ pub record HasParts (n : Num) (exponent digits read : ℕ) : Type 0 where
 abbrev pub read_as : ℕ → List ℕ → Option (ℕ × List ℕ)
 read_as n rest = Some (n, rest)
 
+-- Of a number with C digits, `read` of which were read, some are left, and their key is first in the rest.
+pub record DigitsLeft (negative : Bool) (C M digits read : ℕ) (rest more : List ℕ) : Type 0 where
+  pub left : ℕ
+  pub tail : ℕ
+  pub counted : read + left ≡ C
+  pub whole : M ≡ digits * 10 ^ left + tail
+  pub below : tail < 10 ^ left
+  pub some : 0 < tail
+  pub occurs : rest ≡ map (invert_if negative) (digits_key left tail) ++ more
+
+abbrev pub ReadsDigits : Bool → List ℕ → ℕ → ℕ → List ℕ → Type 0
+ReadsDigits negative bytes digits read rest = (C M : ℕ) → M < 10 ^ C → 0 < M → M ≤ 2 ^ 127 → C ≤ 39 → (more : List ℕ) → bytes ≡ map (invert_if negative) (digits_key C M) ++ more → DigitsLeft negative C M digits read rest more
+
+-- These digits were read: whatever digits are behind them, the key of all begins with the bytes before the rest.
+pub record DigitsRead (negative : Bool) (bytes : List ℕ) (digits count : ℕ) (rest : List ℕ) : Type 0 where
+  pub front : List ℕ
+  pub below : digits < 10 ^ count
+  pub begins : (C M : ℕ) → 0 < M → M < 10 ^ C → map (invert_if negative) (digits_key (count + C) (digits * 10 ^ C + M)) ≡ front ++ map (invert_if negative) (digits_key C M)
+  pub occurs : bytes ≡ front ++ rest
+
 -- The digits with the pair behind them, of which `read` are taken: one digit where the second is 0.
 pub record IsLastPair (digits pair with_pair read : ℕ) : Type 0 where
   pub below : pair < 100

@@ -1,6 +1,6 @@
 //! The numbers of sort keys.
 
-ghost use Rattle.std.specs.Prelude.{◌≡◌, ◌^◌, ◌<◌, ◌≤◌, ◌++◌, ◌∷◌, ◌↔◌, List, ℕ, ℤ, map, ◌⊎◌, false, Some, FitsSigned, IfSome, IsTrue, IsFalse, MatchOption, option_map};
+ghost use Rattle.std.specs.Prelude.{◌≡◌, ◌^◌, ◌<◌, ◌≤◌, ◌++◌, ◌∷◌, ◌↔◌, List, ℕ, ℤ, length, map, ◌⊎◌, false, Some, FitsSigned, IfSome, IsTrue, IsFalse, MatchOption, option_map};
 ghost use Rattle.std.specs.Int.{is_negative, w64};
 ghost use Rattle.jsonb_spec.specs.Number.Cast.{HasValue};
 ghost use Rattle.jsonb_spec.specs.Number.Signed.{signed_by};
@@ -10,7 +10,7 @@ ghost use Rattle.jsonb_spec.specs.Proper.{IsProperNumber};
 ghost use Rattle.jsonb_spec.specs.SortKey.{number_key, digits_key, invert_if};
 ghost use Rattle.jsonb_spec.specs.Tree.{Num};
 ghost use Rattle.jsonb_value.specs.View.{number_view};
-ghost use Rattle.key_value.specs.Reading.{exponent_of, second_of, AreDigits, BeginsWithDigit, BeginsWithNoDigit, DigitsOccur, HasParts, IsDigits, IsLastPair, IsNoLastPair, IsNumberOf, NumberOccurs, ExponentOccurs};
+ghost use Rattle.key_value.specs.Reading.{exponent_of, second_of, AreDigits, BeginsWithDigit, BeginsWithNoDigit, DigitsOccur, DigitsRead, HasParts, IsDigits, IsLastPair, IsNoLastPair, IsNumberOf, NumberOccurs, ExponentOccurs, ReadsDigits};
 
 use jsonb_value::number::{Decimal64, Decimal128, Number};
 use jsonb_value::sort_key::kind;
@@ -82,6 +82,33 @@ fn begins_with_digit(negative: bool, bytes: &[u8]) -> bool
     }
 }
 
+// How many digits `read_front` reads at most.
+const MAX_FRONT: u32 = 16;
+
+// The first digits, of which others follow, as a number, how many they are, and the bytes after them.
+#[inline(always)]
+fn read_front(negative: bool, bytes: &[u8]) -> (u64, u32, &[u8])
+    ensures reads { ReadsDigits negative bytes.now result.0 result.1 result.2.now }
+    ensures read { DigitsRead negative bytes.now result.0 result.1 result.2.now }
+    ensures few { result.1 ≤ 16 }
+    ensures shorter { length result.2.now ≤ length bytes.now }
+{
+    let mut digits: u64 = 0;
+    let mut count: u32 = 0;
+    let mut rest = bytes;
+    'pairs: while let Some((byte, others)) = rest.split_first() {
+        let byte = invert_if(negative, *byte);
+        let pair = byte / 2;
+        if byte % 2 == 0 || pair > 99 || count + 2 > MAX_FRONT {
+            break;
+        }
+        digits = digits * 100 + u64::from(pair);
+        count += 2;
+        rest = others;
+    }
+    (digits, count, rest)
+}
+
 // The digits as a number, how many they are, and the bytes after them. A zero at the end is left out.
 fn read_digits(negative: bool, bytes: &[u8]) -> Option<(u128, u32, &[u8])>
     ensures found { (count magnitude : ℕ) → magnitude < 10 ^ count → 0 < magnitude → magnitude ≤ 2 ^ 127 → count ≤ 39
@@ -89,9 +116,8 @@ fn read_digits(negative: bool, bytes: &[u8]) -> Option<(u128, u32, &[u8])>
         → MatchOption result ⊥ (λ r. IsDigits count magnitude r.0 r.1 × (r.2.now ≡ more)) }
     ensures read { IfSome result (λ r. DigitsOccur negative bytes.now r.0 r.1 r.2.now) }
 {
-    let mut digits: u128 = 0;
-    let mut count: u32 = 0;
-    let mut rest = bytes;
+    let (front, mut count, mut rest) = read_front(negative, bytes);
+    let mut digits = u128::from(front);
     'pairs: while let Some((byte, others)) = rest.split_first() {
         let byte = invert_if(negative, *byte);
         let pair = byte / 2;
@@ -114,6 +140,7 @@ fn read_digits(negative: bool, bytes: &[u8]) -> Option<(u128, u32, &[u8])>
 
 // The digits with the last pair of them, and how many digits of the pair are no zeros at the end. A pair of zeros is
 // no last pair, nor is one past 99.
+#[inline(always)]
 fn last_pair(digits: u128, pair: u8) -> Option<(u128, u32)>
     ensures { MatchOption result (IsNoLastPair digits pair) (λ r. IsLastPair digits pair r.0 r.1) }
 {
@@ -195,6 +222,48 @@ pub fn integer_of(bytes: &[u8]) -> Option<i64>
     ensures { (n : Num) → IsProperNumber n → (more : List ℕ) → bytes.now ≡ number_key n ++ more
         → (v : ℤ) → (result ≡ Some v) ↔ (HasValue n v × FitsSigned w64 v) }
 {
+    if let Some(integer) = short_integer(bytes) {
+        return Some(integer);
+    }
     let (number, _) = read_number(bytes)?;
     number.as_i64()
+}
+
+// The integer whose key the bytes begin with, if it has at most 18 digits without zeros at the end.
+#[inline(always)]
+fn short_integer(bytes: &[u8]) -> Option<i64>
+    ensures { (n : Num) → IsProperNumber n → (more : List ℕ) → bytes.now ≡ number_key n ++ more
+        → IfSome result (λ v. HasValue n v) }
+{
+    let (first, _) = bytes.split_first()?;
+    if *first == kind::ZERO {
+        return None;
+    }
+    let negative = *first < kind::ZERO;
+    let (exponent, digits) = read_exponent(negative, bytes)?;
+    let (front, count, rest) = read_front(negative, digits);
+    let (byte, _) = rest.split_first()?;
+    let byte = invert_if(negative, *byte);
+    if byte % 2 != 0 {
+        return None;
+    }
+    let (digits, last) = last_pair(u128::from(front), byte / 2)?;
+    let unit = 255 + count + last;
+    if exponent < unit {
+        return None;
+    }
+    let power = 10u64.checked_pow(exponent - unit)?;
+    let magnitude = u64::try_from(digits).ok()?.checked_mul(power)?;
+    with_short_sign(negative, magnitude)
+}
+
+// The integer of this sign, of fewer than 64 bits.
+fn with_short_sign(negative: bool, magnitude: u64) -> Option<i64>
+    ensures { IfSome result (λ v. v ≡ signed_by negative magnitude) }
+{
+    let whole = i64::try_from(magnitude).ok()?;
+    if negative {
+        return Some(-whole);
+    }
+    Some(whole)
 }

@@ -13,9 +13,9 @@ use Rattle.std.specs.Prelude.{FitsSigned}
 use Rattle.std.specs.Ordering.{ordering_then}
 use Rattle.std.specs.declared.cmp.Ordering.{Ordering}
 use Rattle.std.specs.declared.cmp.Ordering.TheVariants.{Less, Equal, Greater}
-use Rattle.key_value.specs.Reading.{IsLastPair, exponent_of}
-use Rattle.key_value.proofs.Exact.{DigitsRead, none_read, one_pair_read, last_pair_read, first_digit, digit_there, up_key, down_key}
-use Rattle.key_value.proofs.Numbers.{ReadsDigits, digits_begun, last_none, last_some, pair_read, pair_small, not_over, exponent_read}
+use Rattle.key_value.specs.Reading.{DigitsRead, IsLastPair, ReadsDigits, exponent_of}
+use Rattle.key_value.proofs.Exact.{none_read, one_pair_read, last_pair_read, first_digit, digit_there, up_key, down_key}
+use Rattle.key_value.proofs.Numbers.{digits_begun, last_none, last_some, pair_read, pair_small, not_over, exponent_read}
 use Rattle.key_value.proofs.Signs.{IsSigned, signed_read}
 use Rattle.key_walk.specs.Frames.{NumberFirst, DigitsFirst}
 use Rattle.jsonb_spec.specs.Number.Signed.{signed_by}

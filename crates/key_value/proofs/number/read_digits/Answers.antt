@@ -1,6 +1,7 @@
-use Rattle.std.proofs.Common.{◌+◌, ◌/◌, arith, refl, rules}
-use Rattle.key_value.proofs.Numbers.{digits_begun, last_none, last_some, pair_within, pair_small, pair_read, not_over}
-use Rattle.key_value.proofs.Exact.{none_read, one_pair_read, last_pair_read}
+use Rattle.std.proofs.Common.{◌+◌, ◌/◌, arith, refl, rules, subst, sym}
+use Rattle.key_value.specs.Reading.{DigitsRead, ReadsDigits}
+use Rattle.key_value.proofs.Numbers.{last_none, last_some, pair_within, pair_small, pair_read, not_over}
+use Rattle.key_value.proofs.Exact.{one_pair_read, last_pair_read}
 use Rattle.key_value.proofs.number.read_digits.Goals as goal
 
 pub returns-in_err-digits-clause-found : goal.returns-in_err-digits-clause-found
@@ -51,9 +52,11 @@ returns-then-pair-gt99-clause-found c = λ C M below some high few more e.
     absurd (omega (arith, small, c.if-pair-gt99.true))
 
 pub pairs-init : goal.pairs-init
-pairs-init c = record {
-  reads = digits_begun c.args.negative c.args.bytes.now;
-  read = none_read c.args.negative c.args.bytes.now;
-  within = omega arith;
-  few = omega arith;
-}
+pairs-init c =
+    let front = c.read_front-front.result in
+    record {
+      reads = subst (λ d. ReadsDigits c.args.negative c.args.bytes.now d front.1 front.2.now) (sym c.from-digits.ensures) c.read_front-front.ensures.reads;
+      read = subst (λ d. DigitsRead c.args.negative c.args.bytes.now d front.1 front.2.now) (sym c.from-digits.ensures) c.read_front-front.ensures.read;
+      within = c.read_front-front.ensures.shorter;
+      few = omega (arith, c.read_front-front.ensures.few);
+    }

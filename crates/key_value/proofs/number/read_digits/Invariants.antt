@@ -1,6 +1,5 @@
 use Rattle.std.proofs.Common.{◌≤◌, length}
-use Rattle.key_value.proofs.Numbers.{ReadsDigits}
-use Rattle.key_value.proofs.Exact.{DigitsRead}
+use Rattle.key_value.specs.Reading.{DigitsRead, ReadsDigits}
 use Rattle.key_value.proofs.number.read_digits.Given as goal
 
 -- what was read is before what is left
