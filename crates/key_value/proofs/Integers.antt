@@ -14,12 +14,14 @@ use borrow.Author.Differences.{product_is}
 use Rattle.jsonb_spec.specs.Number.Signed.{signed_by}
 use Rattle.jsonb_spec.specs.Proper.{IsProperNumber}
 use Rattle.jsonb_spec.specs.SortKey.{digits_key, invert_if, number_key}
+use Rattle.std.proofs.lemmas.Nat.{pow-add}
+use Rattle.jsonb_value.proofs.SortKeys.Digits.{ten}
 use Rattle.jsonb_value.proofs.Numbers.Quotients.{ten_positive}
-use Rattle.key_value.specs.Reading.{exponent_of, read_as, IsLastPair, ReadsDigits}
-use Rattle.key_value.proofs.Numbers.{exponent_read, last_some}
-use Rattle.key_value.proofs.Signs.{parts_of, signed_read}
+use Rattle.key_value.specs.Reading.{exponent_of, read_as, ReadsDigits}
+use Rattle.key_value.proofs.Numbers.{all_with_last, cancel, exponent_read}
+use Rattle.key_value.proofs.Signs.{signed_read}
 use Rattle.key_value.proofs.Texts.{some_pair}
-use Rattle.key_value.proofs.Wholes.{most, same_number, up_same}
+use Rattle.key_value.proofs.Wholes.{most, same_number}
 use Rattle.jsonb_value.specs.Order.NumberLaws.{int_cmp-scaled, scaled_swapped}
 
 pub same_integer : (m n : Num) (v : ℤ) → num_cmp m n ≡ Equal → HasValue m v → HasValue n v
@@ -48,16 +50,25 @@ signed_value n sign magnitude v negative whole is =
 
 -- The digits in front of the last pair and that pair are the number's, without its sign.
 pub few_digits : (n : Num) → IsProperNumber n → (first : ℕ) (others bytes more : List ℕ) → bytes ≡ first ∷ others → first ≢ 128 → bytes ≡ number_key n ++ more
-    → (exponent : ℕ) (digits : List ℕ) → read_as exponent digits ≡ exponent_of (nat_lt first 128) bytes
+    → (exponent : ℕ) (digits : List ℕ) → read_as exponent digits ≡ exponent_of (nat_lt first 128) bytes → 255 ≤ exponent
     → (front count : ℕ) (rest : List ℕ) → ReadsDigits (nat_lt first 128) digits front count rest
     → (byte : ℕ) (behind : List ℕ) (b : ℕ) → rest ≡ byte ∷ behind → b ≡ invert_if (nat_lt first 128) byte → b % 2 ≡ 0
-    → (all last : ℕ) → IsLastPair front (b / 2) all last → 255 + (count + last) ≤ exponent
-    → (is_negative n.whole ≡ nat_lt first 128) × (all * 10 ^ (exponent - (255 + (count + last))) * 10 ^ n.scale ≡ unsigned_abs n.whole)
-few_digits n proper first others bytes more e other occurs exponent digits is_exponent front count rest reads byte behind b is_rest is_b even all last is_last high =
+    → (whole : ℕ) → whole * 10 ^ (count + 2) ≡ (front * 100 + b / 2) * 10 ^ (exponent - 255)
+    → (is_negative n.whole ≡ nat_lt first 128) × (whole * 10 ^ n.scale ≡ unsigned_abs n.whole)
+few_digits n proper first others bytes more e other occurs exponent digits is_exponent high front count rest reads byte behind b is_rest is_b even whole is_whole =
     let sign = nat_lt first 128 in
     let s = signed_read n proper first others bytes more e other occurs in
-    let key = map (invert_if sign) (digits_key s.count (unsigned_abs n.whole)) ++ more in
+    let M = unsigned_abs n.whole in
+    let key = map (invert_if sign) (digits_key s.count M) ++ more in
     let at = some_pair exponent s.exponent digits key (is_exponent ∙ ap (exponent_of sign) s.occurs ∙ exponent_read sign s.exponent key s.low) in
-    let are = last_some sign digits front count rest byte behind b reads is_rest is_b s.count (unsigned_abs n.whole) s.below s.some (most n proper) s.few more at.1 even (b / 2) all last refl is_last in
-    let parts = parts_of n sign bytes more s exponent all (count + last) at.0 are.0 in
-    (s.is_sign, up_same n exponent all (count + last) proper parts high)
+    let last = all_with_last sign digits front count rest byte behind b reads is_rest is_b s.count M s.below s.some (most n proper) s.few more at.1 even in
+    let all = front * 100 + b / 2 in
+    let before = exponent - 255 in
+    let S = 10 ^ n.scale in
+    let R = 10 ^ count in
+    let sum : before + n.scale ≡ last.0 + count = omega (arith, high, at.0, s.is_exponent_key, last.1) in
+    let powers : 10 ^ before * S ≡ 10 ^ last.0 * R = sym (pow-add 10 before n.scale) ∙ ap (λ k. 10 ^ k) sum ∙ pow-add 10 last.0 count in
+    let hundred : 10 ^ (count + 2) ≡ R * 100 = pow-add 10 count 2 in
+    let same : whole * S * 10 ^ (count + 2) ≡ M * 10 ^ (count + 2) =
+    omega (arith, ap (λ x. x * S) is_whole, ap (λ x. all * x) powers, ap (λ x. x * R) last.2, ap (λ x. M * x) hundred) in
+    (s.is_sign, cancel (whole * S) M (10 ^ (count + 2)) (ten (count + 2)) same)

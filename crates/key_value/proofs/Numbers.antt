@@ -236,6 +236,12 @@ module _ (negative : Bool) (bytes : List ℕ) (digits read : ℕ) (rest : List �
         x.occurs,
       )
 
+  -- all digits with the last pair of them, of which the second may be a zero behind the last digit
+  pub all_with_last : b % 2 ≡ 0 → (left : ℕ) × (read + left ≡ C) × ((digits * 100 + b / 2) * 10 ^ left ≡ M * 100)
+  all_with_last even =
+      let x = at_end even cases in
+      (here.left, here.counted, omega (arith, here.whole, x.whole))
+
   pub pair_small : b % 2 ≢ 0 → (pair : ℕ) → pair ≡ b / 2 → pair < 100
   pair_small odd pair half =
       let y = going_on odd cases in

@@ -1,6 +1,6 @@
 //! The numbers of sort keys.
 
-ghost use Rattle.std.specs.Prelude.{◌≡◌, ◌^◌, ◌<◌, ◌≤◌, ◌++◌, ◌∷◌, ◌↔◌, List, ℕ, ℤ, length, map, ◌⊎◌, false, Some, FitsSigned, IfSome, IsTrue, IsFalse, MatchOption, option_map};
+ghost use Rattle.std.specs.Prelude.{◌≡◌, ◌*◌, ◌^◌, ◌<◌, ◌≤◌, ◌++◌, ◌∷◌, ◌↔◌, List, ℕ, ℤ, length, map, ◌⊎◌, false, Some, FitsSigned, IfSome, IsTrue, IsFalse, MatchOption, option_map};
 ghost use Rattle.std.specs.Int.{is_negative, w64};
 ghost use Rattle.jsonb_spec.specs.Number.Cast.{HasValue};
 ghost use Rattle.jsonb_spec.specs.Number.Signed.{signed_by};
@@ -140,7 +140,6 @@ fn read_digits(negative: bool, bytes: &[u8]) -> Option<(u128, u32, &[u8])>
 
 // The digits with the last pair of them, and how many digits of the pair are no zeros at the end. A pair of zeros is
 // no last pair, nor is one past 99.
-#[inline(always)]
 fn last_pair(digits: u128, pair: u8) -> Option<(u128, u32)>
     ensures { MatchOption result (IsNoLastPair digits pair) (λ r. IsLastPair digits pair r.0 r.1) }
 {
@@ -222,9 +221,18 @@ pub fn integer_of(bytes: &[u8]) -> Option<i64>
     ensures { (n : Num) → IsProperNumber n → (more : List ℕ) → bytes.now ≡ number_key n ++ more
         → (v : ℤ) → (result ≡ Some v) ↔ (HasValue n v × FitsSigned w64 v) }
 {
-    if let Some(integer) = short_integer(bytes) {
-        return Some(integer);
+    match short_integer(bytes) {
+        Some(integer) => Some(integer),
+        None => any_integer(bytes),
     }
+}
+
+// Does so for any number, in a function of its own, which is called less often.
+#[inline(never)]
+fn any_integer(bytes: &[u8]) -> Option<i64>
+    ensures { (n : Num) → IsProperNumber n → (more : List ℕ) → bytes.now ≡ number_key n ++ more
+        → (v : ℤ) → (result ≡ Some v) ↔ (HasValue n v × FitsSigned w64 v) }
+{
     let (number, _) = read_number(bytes)?;
     number.as_i64()
 }
@@ -241,23 +249,42 @@ fn short_integer(bytes: &[u8]) -> Option<i64>
     }
     let negative = *first < kind::ZERO;
     let (exponent, digits) = read_exponent(negative, bytes)?;
+    if exponent < 256 {
+        return None;
+    }
     let (front, count, rest) = read_front(negative, digits);
     let (byte, _) = rest.split_first()?;
     let byte = invert_if(negative, *byte);
     if byte % 2 != 0 {
         return None;
     }
-    let (digits, last) = last_pair(u128::from(front), byte / 2)?;
-    let unit = 255 + count + last;
-    if exponent < unit {
-        return None;
-    }
-    let power = 10u64.checked_pow(exponent - unit)?;
-    let magnitude = u64::try_from(digits).ok()?.checked_mul(power)?;
+    let digits = front * 100 + u64::from(byte / 2);
+    let magnitude = whole_of(digits, count + 2, exponent - 255)?;
     with_short_sign(negative, magnitude)
 }
 
+// The whole number of so many digits, of which these are before the point.
+#[inline(always)]
+fn whole_of(digits: u64, count: u32, before: u32) -> Option<u64>
+    requires few { count ≤ 18 }
+    ensures { IfSome result (λ whole. whole * 10 ^ count ≡ digits * 10 ^ before) }
+{
+    if before == count {
+        return Some(digits);
+    }
+    if before > count {
+        let power = 10u64.checked_pow(before - count)?;
+        let whole = digits.checked_mul(power)?;
+        return Some(whole);
+    }
+    if before + 1 < count || digits % 10 != 0 {
+        return None;
+    }
+    Some(digits / 10)
+}
+
 // The integer of this sign, of fewer than 64 bits.
+#[inline(always)]
 fn with_short_sign(negative: bool, magnitude: u64) -> Option<i64>
     ensures { IfSome result (λ v. v ≡ signed_by negative magnitude) }
 {
