@@ -37,8 +37,7 @@
 /* The jsonpath of the last call. */
 typedef struct
 {
-	MemoryContext context;
-	struct varlena *path;
+	VjsonKept	path;
 	VjsonWanted wanted;
 	bool		wants_all;		/* whether it looks at members of any name */
 	int			steps;			/* that lead to its parts; NO_STEPS where none does */
@@ -259,47 +258,29 @@ note_first_bytes(VjsonWanted *wanted)
 	}
 }
 
-/* Keep the jsonpath, and which members it looks at. */
+/* Keep which members the jsonpath looks at. */
 static void
-know_path(KnownPath *known, const struct varlena *path, bool answers_parts)
+know_path(VjsonKept *kept, struct varlena *path, bool answers_parts)
 {
-	MemoryContext caller = MemoryContextSwitchTo(known->context);
-	JsonPath   *copy;
+	KnownPath  *known = (KnownPath *) kept;
+	JsonPath   *whole = (JsonPath *) path;
 	JsonPathItem item;
 
-	known->path = NULL;
-	MemoryContextReset(known->context);
-	copy = palloc(VARSIZE(path));
-	memcpy(copy, path, VARSIZE(path));
-	jspInit(&item, copy);
+	jspInit(&item, whole);
 	known->wanted.count = 0;
 	known->wants_all = !add_names(&known->wanted, item);
 	note_first_bytes(&known->wanted);
 	if (!know_steps(known, item) || known->steps == 0)
 		known->wants_all |= answers_parts;
 	known->wanted.steps = answers_parts ? known->steps : NO_STEPS;
-	known->is_lax = (copy->header & JSONPATH_LAX) != 0;
-	known->path = (struct varlena *) copy;
-	MemoryContextSwitchTo(caller);
+	known->is_lax = (whole->header & JSONPATH_LAX) != 0;
 }
 
-/* The jsonpath that is the second argument. It is kept for the next calls. */
+/* What is known of the jsonpath that is the second argument. */
 static const KnownPath *
 known_path(FunctionCallInfo fcinfo, bool answers_parts)
 {
-	struct varlena *path = PG_GETARG_VARLENA_P(1);
-	KnownPath  *known = fcinfo->flinfo->fn_extra;
-
-	if (known == NULL)
-	{
-		known = MemoryContextAllocZero(fcinfo->flinfo->fn_mcxt, sizeof(KnownPath));
-		known->context = AllocSetContextCreate(fcinfo->flinfo->fn_mcxt, "a jsonpath", ALLOCSET_SMALL_SIZES);
-		fcinfo->flinfo->fn_extra = known;
-	}
-	if (known->path == NULL || VARSIZE(known->path) != VARSIZE(path) ||
-		memcmp(known->path, path, VARSIZE(path)) != 0)
-		know_path(known, path, answers_parts);
-	return known;
+	return vjson_keep(fcinfo, PG_GETARG_VARLENA_P(1), sizeof(KnownPath), know_path, answers_parts);
 }
 
 /* Which members it looks at. NULL for all. */

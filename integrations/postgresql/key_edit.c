@@ -171,53 +171,32 @@ object_of_names(const Datum *words, const bool *nulls, int count)
 	return get_document(vjson_of_text(utf8, strlen(utf8)));
 }
 
-/* The names that a function was passed, and the object that has them, which are kept for its next calls. */
+/* The names that a function was passed, and the object that has them. */
 typedef struct
 {
-	MemoryContext context;
-	struct varlena *names;		/* NULL where there are none yet */
+	VjsonKept	names;
 	Document	object;
 } KnownNames;
 
-/* Keep the names: a text, or an array of texts. */
+/* Keep the object of the names: a text, or an array of texts. */
 static void
-know_names(KnownNames *known, const struct varlena *names, bool is_array)
+know_names(VjsonKept *kept, struct varlena *names, bool is_array)
 {
-	MemoryContext caller = MemoryContextSwitchTo(known->context);
-	struct varlena *copy;
-	Datum		name;
+	Datum		name = PointerGetDatum(names);
 	Datum	   *words = &name;
 	bool	   *nulls = NULL;
 	int			count = 1;
 
-	known->names = NULL;
-	MemoryContextReset(known->context);
-	copy = palloc(VARSIZE_ANY(names));
-	memcpy(copy, names, VARSIZE_ANY(names));
-	name = PointerGetDatum(copy);
 	if (is_array)
-		deconstruct_array((ArrayType *) copy, TEXTOID, -1, false, TYPALIGN_INT, &words, &nulls, &count);
-	known->object = object_of_names(words, nulls, count);
-	known->names = copy;
-	MemoryContextSwitchTo(caller);
+		deconstruct_array((ArrayType *) names, TEXTOID, -1, false, TYPALIGN_INT, &words, &nulls, &count);
+	((KnownNames *) kept)->object = object_of_names(words, nulls, count);
 }
 
 /* The object that has the names of an argument. It is made where they aren't those of the call before. */
 static Document
 object_of_argument(FunctionCallInfo fcinfo, const struct varlena *names, bool is_array)
 {
-	KnownNames *known = fcinfo->flinfo->fn_extra;
-
-	if (known == NULL)
-	{
-		known = MemoryContextAllocZero(fcinfo->flinfo->fn_mcxt, sizeof(KnownNames));
-		known->context = AllocSetContextCreate(fcinfo->flinfo->fn_mcxt, "names of a vjson", ALLOCSET_SMALL_SIZES);
-		fcinfo->flinfo->fn_extra = known;
-	}
-	if (known->names == NULL || VARSIZE_ANY(known->names) != VARSIZE_ANY(names) ||
-		memcmp(known->names, names, VARSIZE_ANY(names)) != 0)
-		know_names(known, names, is_array);
-	return known->object;
+	return ((KnownNames *) vjson_keep(fcinfo, names, sizeof(KnownNames), know_names, is_array))->object;
 }
 
 Datum

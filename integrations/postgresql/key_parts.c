@@ -99,6 +99,34 @@ vjson_words_of_call(FunctionCallInfo fcinfo)
 	return words;
 }
 
+void *
+vjson_keep(FunctionCallInfo fcinfo, const struct varlena *argument, size_t size, Makes make, bool how)
+{
+	VjsonKept  *kept = fcinfo->flinfo->fn_extra;
+
+	if (kept == NULL)
+	{
+		kept = MemoryContextAllocZero(fcinfo->flinfo->fn_mcxt, size);
+		kept->context = AllocSetContextCreate(fcinfo->flinfo->fn_mcxt, "an argument of a vjson", ALLOCSET_SMALL_SIZES);
+		fcinfo->flinfo->fn_extra = kept;
+	}
+	if (kept->argument == NULL || VARSIZE_ANY(kept->argument) != VARSIZE_ANY(argument) ||
+		memcmp(kept->argument, argument, VARSIZE_ANY(argument)) != 0)
+	{
+		MemoryContext caller = MemoryContextSwitchTo(kept->context);
+		struct varlena *copy;
+
+		kept->argument = NULL;
+		MemoryContextReset(kept->context);
+		copy = palloc(VARSIZE_ANY(argument));
+		memcpy(copy, argument, VARSIZE_ANY(argument));
+		make(kept, copy, how);
+		kept->argument = copy;
+		MemoryContextSwitchTo(caller);
+	}
+	return kept;
+}
+
 
 /*
  * Members and items

@@ -139,6 +139,22 @@ extern struct varlena *vjson_of_input(const char *text, size_t size);
 /* That, but NULL if the text is rejected, and then *why says why. */
 extern struct varlena *vjson_try_input(const char *text, size_t size, VjsonRejection *why);
 
+/*
+ * An argument of a function, which is kept for its next calls: the beginning of
+ * a structure that has what was made of it.
+ */
+typedef struct
+{
+	MemoryContext context;		/* of the argument, and of what was made of it */
+	struct varlena *argument;	/* NULL where there is none yet */
+} VjsonKept;
+
+/* Makes the rest of the structure, of a copy of the argument that is kept with it. */
+typedef void (*Makes) (VjsonKept *kept, struct varlena *argument, bool how);
+
+/* The structure of this size, which is made anew where the argument isn't that of the call before. */
+extern void *vjson_keep(FunctionCallInfo fcinfo, const struct varlena *argument, size_t size, Makes make, bool how);
+
 /* Names in a jsonpath up to which the members of others are left out, and steps. */
 #define MOST_NAMES		16
 #define NO_STEPS		(-2)
