@@ -6,9 +6,20 @@ ghost use Rattle.text_scan.specs.Parsing.Whitespace.{block_length, line_length, 
 ghost use Rattle.jsonb_spec.specs.Ascii as ascii;
 
 use super::Mode;
-use super::number::byte_at;
-use super::vector::near_bits;
-use memchr::{memchr, memchr2};
+use super::vector::{equal_bits, lowest, near_bits};
+use memchr::memchr2;
+
+// Bit k is set where a star and a slash are from byte `at + k` on, among the next 32 bytes.
+#[inline(always)]
+fn block_ends(bytes: &[u8], at: usize) -> u64
+    requires { at + 33 ≤ length bytes.now }
+    ensures { (k : ℕ) → (bit_at result k ≡ 1) ↔ ((k < 32) × (slice_index bytes.now (at + k) ≡ ascii.star)
+        × (slice_index bytes.now (at + 1 + k) ≡ ascii.slash)) }
+{
+    let stars = equal_bits(bytes, at, b'*');
+    let slashes = equal_bits(bytes, at + 1, b'/');
+    stars & slashes
+}
 
 // How many bytes there are up to and with the first star and slash, or 0 where there are none.
 fn block_len(bytes: &[u8]) -> usize
@@ -16,14 +27,28 @@ fn block_len(bytes: &[u8]) -> usize
     ensures within { result ≤ length bytes.now }
 {
     let mut at = 0;
-    'stars: while at < bytes.len() {
-        let Some(count) = memchr(b'*', &bytes[at..]) else {
-            return 0;
-        };
-        at += count + 1;
-        if byte_at(bytes, at) == b'/' {
-            return at + 1;
+    'vectors: while bytes.len() - at > 32 {
+        let ends = block_ends(bytes, at);
+        if ends != 0 {
+            return at + lowest(ends) + 2;
         }
+        at += 32;
+    }
+    let len = short_block_len(&bytes[at..]);
+    if len == 0 { 0 } else { at + len }
+}
+
+// How many bytes there are up to and with the first star and slash, or 0 where there are none, byte by byte.
+fn short_block_len(bytes: &[u8]) -> usize
+    ensures value { result ≡ block_length bytes.now }
+    ensures within { result ≤ length bytes.now }
+{
+    let mut at = 0;
+    'bytes: while at + 1 < bytes.len() {
+        if bytes[at] == b'*' && bytes[at + 1] == b'/' {
+            return at + 2;
+        }
+        at += 1;
     }
     0
 }

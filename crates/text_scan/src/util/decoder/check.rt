@@ -9,7 +9,8 @@ ghost use Rattle.text_scan.specs.QuotedString.{ChecksContents, decoded_text};
 ghost use Rattle.text_scan.specs.Parsing.String.{body_of};
 
 use super::run::near_backslash;
-use super::{DecodingFault, escape};
+use super::unit::pass_units;
+use super::{DecodingFault, escaped_byte};
 use crate::parser::Mode;
 use jsonb_value::error::{Error, ParseErrorCode, Result};
 use memchr::memchr;
@@ -30,15 +31,29 @@ fn next_backslash(bytes: &[u8]) -> usize
 }
 
 // Passes the escape whose backslash is before the bytes, and returns what follows.
-#[inline(never)]
+#[inline(always)]
 fn pass_escape(bytes: &[u8], mode: Mode) -> std::result::Result<&[u8], DecodingFault>
     ensures ok { IfOk result (λ rest. IsDecodedUpTo (mode_of mode) (ascii.backslash ∷ bytes.now) rest.now) }
     ensures shorter { IfOk result (λ rest. length rest.now ≤ length bytes.now) }
     ensures err { IfErr result (λ fault. StopsAtEscape (mode_of mode) (ascii.backslash ∷ bytes.now) (code_of fault.code)
         fault.left) }
 {
-    let done = escape(bytes, mode, &mut [0; 12], 0)?;
-    Ok(done.rest)
+    let Some((letter, rest)) = bytes.split_first() else {
+        return Err(DecodingFault {
+            code: ParseErrorCode::UnexpectedEndOfHexEscape,
+            left: 0,
+        });
+    };
+    if *letter == b'u' {
+        return pass_units(rest);
+    }
+    let Some(_) = escaped_byte(*letter, mode) else {
+        return Err(DecodingFault {
+            code: ParseErrorCode::InvalidEscaped(*letter),
+            left: rest.len(),
+        });
+    };
+    Ok(rest)
 }
 
 // Whether the bytes begin with an escape of one letter, other than a single quote.

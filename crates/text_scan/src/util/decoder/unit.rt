@@ -8,7 +8,7 @@ ghost use Rattle.jsonb_spec.specs.Mode.{Mode as GrammarMode};
 ghost use Rattle.jsonb_value.specs.Error.CodeView.{code_of};
 ghost use Rattle.jsonb_spec.specs.Grammar.StringBody.{IsHexDigit, unit, encoding, alone, together};
 ghost use Rattle.jsonb_spec.specs.Grammar.StringFault.{IsUnitCut, IsFirstNonDigit};
-ghost use Rattle.text_scan.specs.Decoding.{SplitsUnit, ParsesUnit, Adds, StopsInUnit, StopsAtEscape};
+ghost use Rattle.text_scan.specs.Decoding.{SplitsUnit, ParsesUnit, Adds, IsDecodedUpTo, StopsInUnit, StopsAtEscape};
 
 use super::space::write_all;
 use super::{Decoded, DecodingFault};
@@ -235,4 +235,22 @@ pub(super) fn units<'a>(
         rest: next.rest,
         len,
     })
+}
+
+// Passes the unit whose `\u` is before the bytes, with the next one where the two are taken together, and returns
+// what follows.
+#[inline(never)]
+pub(super) fn pass_units(bytes: &[u8]) -> std::result::Result<&[u8], DecodingFault>
+    ensures ok { IfOk result (λ rest. (mode : GrammarMode) → IsDecodedUpTo mode
+        (ascii.backslash ∷ ascii.lower_u ∷ bytes.now) rest.now) }
+    ensures shorter { IfOk result (λ rest. length rest.now ≤ length bytes.now) }
+    ensures err { IfErr result (λ fault. (mode : GrammarMode) → StopsAtEscape mode
+        (ascii.backslash ∷ ascii.lower_u ∷ bytes.now) (code_of fault.code) fault.left) }
+{
+    let first = read_unit(bytes)?;
+    let Some(after) = after_next_mark(&first) else {
+        return Ok(first.rest);
+    };
+    let next = read_unit(after)?;
+    Ok(next.rest)
 }

@@ -2,8 +2,8 @@ use Rattle.std.proofs.Common.{◌≡◌, ◌-◌, ◌≤◌, drop, length}
 use Rattle.text_scan.specs.Parsing.Whitespace.{block_length, longer_by}
 use Rattle.text_scan.proofs.parser.whitespace.block_len.Given as goal
 
-abbrev pub invariant-stars : goal.invariant-stars
-invariant-stars l = (block_length l.bytes ≡ longer_by l.at (block_length (drop l.at l.bytes))) × (l.at ≤ length l.bytes)
+abbrev pub invariant-vectors : goal.invariant-vectors
+invariant-vectors l = (block_length l.bytes ≡ longer_by l.at (block_length (drop l.at l.bytes))) × (l.at ≤ length l.bytes)
 
-abbrev pub decreases-stars : goal.decreases-stars
-decreases-stars l = length l.bytes - l.at
+abbrev pub decreases-vectors : goal.decreases-vectors
+decreases-vectors l = length l.bytes - l.at
