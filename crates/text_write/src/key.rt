@@ -6,7 +6,7 @@ use crate::contents::Contents;
 use crate::escaped_key::append_escaped_key;
 use crate::key_text::{append_key_text, append_with_kind};
 use crate::object::Site;
-use crate::open_members::{OpenMembers, Repeat};
+use crate::open_members::{OpenMembers, Repeat, Unsettled};
 use crate::sink::Sink;
 use crate::text::Part;
 use jsonb_value::error::Error;
@@ -162,7 +162,7 @@ impl<'a> KeySink<'a> {
     // Puts the members from an index on in the order of their keys. Where a key comes twice, it returns the member where
     // the least such key comes the second time.
     #[inline(always)]
-    fn settle(&mut self, first: usize) -> Result<Option<Repeat>, AllocError>
+    fn settle(&mut self, first: usize) -> Result<Option<Repeat>, Unsettled>
         ensures same { OnOk result (PreservesMembers self.old self.new) }
         ensures repeat { IfOk result (λ repeat. (text : List ℕ) → (held : List Held) → (fs : List Found)
             → (key : Mark × List ℕ) → (offset : ℕ) → (cs : List Open)
@@ -324,7 +324,7 @@ impl<'a> Sink<'a> for KeySink<'a> {
     fn insert_inner(&mut self, first: &usize) {}
 
     #[inline(always)]
-    fn end_object(&mut self, first: &usize, at: usize) -> Result<Option<Repeat>, AllocError> {
+    fn end_object(&mut self, first: &usize, at: usize) -> Result<Option<Repeat>, Unsettled> {
         let repeat = self.settle(*first)?;
         if repeat.is_some() {
             return Ok(repeat);

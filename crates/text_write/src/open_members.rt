@@ -10,7 +10,7 @@ use crate::members::{
 use crate::object::{Keys, Site};
 use std::alloc::{AllocError, Global};
 
-// How many times the bytes of the text may be moved.
+// So many times the bytes of the text may be moved, and a little more.
 const MOST_MOVED: usize = 8;
 
 /// Where a key comes twice in an object: the index of its first member among those that are open, and the index behind
@@ -19,6 +19,25 @@ const MOST_MOVED: usize = 8;
 pub struct Repeat {
     pub first: usize,
     pub index: usize,
+}
+
+/// Why the members of an object aren't put in order.
+#[derive(Clone, Copy)]
+pub enum Unsettled {
+    /// No memory could be had.
+    OutOfMemory,
+    /// So many bytes of members were moved before, several times those of the text, that another way takes less time.
+    MovedMuch,
+}
+
+impl From<AllocError> for Unsettled {
+    ghost use Rattle.text_write.specs.declared.open_members.Unsettled.TheVariants.{OutOfMemory};
+
+    ghost from_gives = { λ _ e. e ≡ OutOfMemory };
+
+    fn from(_: AllocError) -> Unsettled {
+        Unsettled::OutOfMemory
+    }
 }
 
 /// The members of the objects that are open, those of the outermost first. A key that isn't in the text is
@@ -84,12 +103,6 @@ impl<'a> OpenMembers<'a> {
     {
         let last = to.wrapping_sub(1);
         from <= last && last < self.text.len()
-    }
-
-    /// Whether so many bytes of members were moved that another way takes less time: several times those of the text.
-    #[inline(always)]
-    pub fn moved_much(&self) -> bool {
-        self.spare.total / MOST_MOVED > self.text.len()
     }
 
     // Stores what is known of a member.
@@ -169,7 +182,8 @@ impl<'a> OpenMembers<'a> {
     }
 
     /// Puts the bytes of the members from an index on, which end what is written, in the order of their keys. Reports the
-    /// member where the least key that comes twice comes the second time. The first `floor` bytes stay.
+    /// member where the least key that comes twice comes the second time. The first `floor` bytes stay. Nothing is done
+    /// where much was moved before.
     #[cold]
     #[inline(never)]
     pub(crate) fn put_in_order(
@@ -177,13 +191,16 @@ impl<'a> OpenMembers<'a> {
         first: usize,
         out: &mut Vec<u8>,
         site: &Site<'_>,
-    ) -> Result<Option<Repeat>, AllocError>
+    ) -> Result<Option<Repeat>, Unsettled>
         requires { WasCopied site.now out.old.items }
         ensures same { AreSame self.old self.new }
         ensures retained { Extends (take site.now.floor out.old.items) out.new.items }
         ensures order { IfOk result (PutsInOrder site.now.commas site.now.floor self.old self.new first
             out.old.items out.new.items) }
     {
+        if self.spare.total / MOST_MOVED > self.text.len() {
+            return Err(Unsettled::MovedMuch);
+        }
         let members = members_from(&self.entries, first);
         let keys = Keys::new(self.text, &self.decoded, members);
         let found = put_in_order(out, &keys, &mut self.spare, site)?;

@@ -4,7 +4,7 @@ ghost use Rattle.std.specs.Option.{option_and_then, option_map, unwrap_or};
 
 use crate::check::CheckSink;
 use crate::contents::Contents;
-use crate::open_members::{OpenMembers, Repeat};
+use crate::open_members::{OpenMembers, Repeat, Unsettled};
 use crate::sink::Sink;
 use crate::text::{Part, TextSink};
 use jsonb_path::index_of;
@@ -416,9 +416,10 @@ impl<'a> Sink<'a> for PartSink<'a> {
         &mut self,
         members: &PartMembers,
         at: usize,
-    ) -> Result<Option<Repeat>, AllocError> {
+    ) -> Result<Option<Repeat>, Unsettled> {
         if self.inside == 0 {
-            return self.check.end_object(members.first);
+            let around = self.check.end_object(members.first)?;
+            return Ok(around);
         }
         let repeat = self.text.end_object(&members.first, at)?;
         if repeat.is_none() {

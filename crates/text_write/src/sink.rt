@@ -16,7 +16,7 @@ ghost use Rattle.text_write.specs.declared.open_members.OpenMembers.{OpenMembers
 ghost use Rattle.text_common.specs.VerbatimScalar.{IsVerbatimAt};
 
 use crate::contents::Contents;
-use crate::open_members::{OpenMembers, Repeat};
+use crate::open_members::{OpenMembers, Repeat, Unsettled};
 use crate::text::Part;
 use jsonb_value::error::Error;
 use std::alloc::AllocError;
@@ -163,7 +163,7 @@ pub trait Sink<'a>: Drop + Sized {
         &mut self,
         members: &Self::Members,
         at: usize,
-    ) -> Result<Option<Repeat>, AllocError>
+    ) -> Result<Option<Repeat>, Unsettled>
         ensures holds { IfOk result (λ repeat. (text : List ℕ) → (held : List Held) → (fs : List Found)
             → (key : Mark × List ℕ) → (offset : ℕ) → (cs : List Open)
             → holds text self.old false (object members.now ∷ held) (members_so_far fs key offset ∷ cs)

@@ -4,7 +4,7 @@ ghost use Rattle.std.specs.Option.{is_some};
 ghost use Rattle.text_common.specs.EncodedNumber.{StaysEncoded};
 
 use crate::contents::Contents;
-use crate::open_members::{OpenMembers, Repeat};
+use crate::open_members::{OpenMembers, Repeat, Unsettled};
 use crate::sink::Sink;
 use crate::written::Written;
 use jsonb_value::error::Error;
@@ -219,7 +219,7 @@ impl<'a> TextSink<'a> {
     // Puts the members from an index on in the order of their keys. Where a key comes twice, it returns the member where
     // the least such key comes the second time.
     #[inline(always)]
-    fn settle(&mut self, first: usize) -> Result<Option<Repeat>, AllocError>
+    fn settle(&mut self, first: usize) -> Result<Option<Repeat>, Unsettled>
         ensures same { OnOk result (PreservesMembers self.old self.new) }
         ensures repeat { IfOk result (λ repeat. (text : List ℕ) → (held : List Held) → (fs : List Found)
             → (key : Mark × List ℕ) → (offset : ℕ) → (cs : List Open)
@@ -385,7 +385,7 @@ impl<'a> Sink<'a> for TextSink<'a> {
     fn insert_inner(&mut self, first: &usize) {}
 
     #[inline(always)]
-    fn end_object(&mut self, first: &usize, at: usize) -> Result<Option<Repeat>, AllocError> {
+    fn end_object(&mut self, first: &usize, at: usize) -> Result<Option<Repeat>, Unsettled> {
         let repeat = self.settle(*first)?;
         if repeat.is_some() {
             return Ok(repeat);

@@ -5,7 +5,7 @@ ghost use Rattle.std.specs.Prelude.{◌≡◌, ◌+◌, ◌<◌, ◌≤◌, ◌+
 use crate::contents::Contents;
 use crate::escaped::append_contents;
 use crate::object::Site;
-use crate::open_members::{OpenMembers, Repeat};
+use crate::open_members::{OpenMembers, Repeat, Unsettled};
 use crate::short::append_first;
 use jsonb_value::number::Number;
 use jsonb_value::parts::{append_number, append_string};
@@ -206,7 +206,7 @@ impl<'a> Written<'a> {
         members: &mut OpenMembers<'_>,
         first: usize,
         floor: usize,
-    ) -> Result<Option<Repeat>, AllocError>
+    ) -> Result<Option<Repeat>, Unsettled>
         ensures same { AreSame members.old members.new }
         ensures order { IfOk result (PutsInOrder true floor members.old members.new first (bytes_of self.old)
             (bytes_of self.new)) }

@@ -13,6 +13,7 @@ use std::alloc::{AllocError, Global};
 use std::borrow::CowStr;
 use std::marker::PhantomData;
 use text_parse::{Failed, Handler, OpenObject, Scalar, Text, Verbatim, Wants};
+use text_write::open_members::Unsettled;
 use text_write::sink::Sink;
 use text_write::text::Part;
 
@@ -233,18 +234,18 @@ impl<'a, S: Sink<'a>> Handler<'a> for SinkPart<'a, S> {
         reported: &mut Option<Error>,
         at: usize,
     ) -> Result<(), Failed> {
-        if sink.open_members().moved_much() {
-            *reported = None;
-            return Err(Failed);
-        }
         match sink.end_object(members, at) {
             Ok(None) => Ok(()),
             Ok(Some(repeat)) => {
                 report_repeat(sink.open_members(), alloc, &repeat, reported);
                 Err(Failed)
             }
-            Err(_) => {
+            Err(Unsettled::OutOfMemory) => {
                 *reported = Some(Error::OutOfMemory);
+                Err(Failed)
+            }
+            Err(Unsettled::MovedMuch) => {
+                *reported = None;
                 Err(Failed)
             }
         }

@@ -1,8 +1,14 @@
-use Rattle.std.proofs.Common.{◌≡◌, List, ℕ, ◌≤◌, map, length, refl, ap, subst, sym, ◌∙◌}
+use Rattle.std.proofs.Common.{◌≡◌, List, ℕ, ◌≤◌, drop, map, length, refl, ap, subst, sym, ◌∙◌}
+use Rattle.std.proofs.lemmas.List.{take-append-drop}
 use Rattle.text_write.specs.Members.{AreInOrder, AreKeyed, AreWritten, Piece, ReportsRepeat, bytes_of_pieces, spot_in, spots_of_pieces}
 use Rattle.text_write.specs.OpenMembers.{PutsInOrder}
 use Rattle.text_write.proofs.OpenMembers.{put}
 use Rattle.text_write.proofs.open_members.OpenMembers.put_in_order.Goals as goal
+
+pub returns-then-self-clause-retained : goal.returns-then-self-clause-retained
+returns-then-self-clause-retained c =
+    let old = c.args.out.now.items in
+    record { more = drop c.args.site.now.floor old; extended = sym (take-append-drop c.args.site.now.floor old) }
 
 pub returns-clause-order : goal.returns-clause-order
 returns-clause-order c =

@@ -8,8 +8,8 @@ use Rattle.text_write.proofs.part.PartSinkSink.end_object.Goals as goal
 
 pub returns-then-self-eq0-clause-holds : goal.returns-then-self-eq0-clause-holds
 returns-then-self-eq0-clause-holds c =
-    if_ok c.end_object.result c.end_object.ensures.holds (λ reported reports text held fs key offset cs sink.
-    reported_around c.end_object.new.self reported c.args.members.now fs key offset c.if-self-eq0.true (λ holds_so. reports text (map check_held held) fs key offset cs holds_so) sink)
+    λ text held fs key offset cs sink.
+    reported_around c.end_object.new.self c.in_ok-around.around c.args.members.now fs key offset c.if-self-eq0.true (λ holds_so. c.in_ok-around.ensures.holds text (map check_held held) fs key offset cs holds_so) sink
 
 pub returns-in_ok-end_inner-clause-holds : goal.returns-in_ok-end_inner-clause-holds
 returns-in_ok-end_inner-clause-holds c =
