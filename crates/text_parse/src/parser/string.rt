@@ -18,7 +18,7 @@ use text_scan::parser::string::{StringEnd, decode_contents, find_end, next_mark}
 impl<'a> Parser<'a> {
     // Parses a string from the byte after its opening quote on. It is borrowed where no backslash is in it. Most strings
     // are cut out of the text in place of it.
-    #[inline(never)]
+    #[inline(always)]
     pub(super) fn parse_quoted(&mut self, quote: u8) -> Result<CowStr<'a>>
         requires no_backslash { quote ≢ ascii.backslash }
         ensures { ParsesString (λ s. (mark_view s, cow_str_bytes s)) (λ size mode. string_at size mode quote) result

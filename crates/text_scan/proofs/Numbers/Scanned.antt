@@ -206,7 +206,7 @@ representable bytes e end minus w m n are last few front back sign number =
     let behind : slice_range bytes e.point_end e.behind_end ≡ slice_range bytes (point_end bytes) (behind_end bytes) = ap (λ i. slice_range bytes i e.behind_end) are.point ∙ ap (slice_range bytes (point_end bytes)) are.behind in
     let value : m ≡ digits_value 10 (all_digits bytes) =
     back ∙ (ap (λ v. digits_value_after 10 v (slice_range bytes e.point_end e.behind_end)) first ∙ (ap (digits_value_after 10 (digits_value 10 (slice_range bytes (zeros_end bytes) (front_end bytes)))) behind
-    ∙ (sym (value_after-append 0 (slice_range bytes (zeros_end bytes) (front_end bytes)) (slice_range bytes (point_end bytes) (behind_end bytes))) ∙ digits_value_same bytes (Some (slice_range bytes (point_end bytes) (behind_end bytes))) refl))) in
+    ∙ (sym (value_after-append 10 0 (slice_range bytes (zeros_end bytes) (front_end bytes)) (slice_range bytes (point_end bytes) (behind_end bytes))) ∙ digits_value_same bytes (Some (slice_range bytes (point_end bytes) (behind_end bytes))) refl))) in
     let same : n ≡ decimal_number (scale_at bytes) (precision_at bytes) (signed_by (starts_with_minus bytes) (digits_value 10 (all_digits bytes))) =
     number ∙ (ap (λ s. decimal_number s (e.front_end - e.zeros_end + (e.behind_end - e.point_end)) (signed_by (minus == 45) m)) scale
     ∙ (ap (λ q. decimal_number (scale_at bytes) q (signed_by (minus == 45) m)) precise

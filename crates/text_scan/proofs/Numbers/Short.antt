@@ -184,7 +184,7 @@ behind_read bytes ds start len value total all next f byte point same long is =
       front = f;
       point = sym byte ∙ point;
       total_is = omega (arith, long, counted, scale);
-      all_is = is ∙ (ap (λ v. digits_value_after 10 v (take (digits_length ds) ds)) f.value_is ∙ (ap (digits_value_after 10 (digits_value 10 (slice_range bytes (core_start bytes) (front_end bytes)))) back ∙ sym (value_after-append 0 (slice_range bytes (core_start bytes) (front_end bytes)) (slice_range bytes (point_end bytes) (behind_end bytes)))));
+      all_is = is ∙ (ap (λ v. digits_value_after 10 v (take (digits_length ds) ds)) f.value_is ∙ (ap (digits_value_after 10 (digits_value 10 (slice_range bytes (core_start bytes) (front_end bytes)))) back ∙ sym (value_after-append 10 0 (slice_range bytes (core_start bytes) (front_end bytes)) (slice_range bytes (point_end bytes) (behind_end bytes)))));
       point_at = omega (arith, ends, one);
       end_at = omega (arith, ends, one, scale);
     }

@@ -3,7 +3,7 @@ ghost use Rattle.std.specs.Prelude.{◌≡◌, ℕ, ◌+◌, ◌*◌, ◌≤◌,
 ghost use Rattle.std.specs.Char.{IsAsciiDigit, digit_value, is_ascii_digit};
 ghost use Rattle.std.specs.Bool.{MatchBool};
 ghost use Rattle.std.specs.Option.{SomeIff};
-ghost use Rattle.std.specs.Str.Parse.{AllDigits, digits_value};
+ghost use Rattle.std.specs.Str.Parse.{AllDigits, digits_value, digits_value_after};
 ghost use Rattle.jsonb_spec.specs.Ascii as ascii;
 ghost use Rattle.jsonb_value.specs.View.{number_view};
 ghost use Rattle.text_scan.specs.ShortInteger.{short_view};
@@ -43,12 +43,13 @@ pub(super) fn digits_end(bytes: &[u8], start: usize) -> usize
     end
 }
 
-// The number that digits of this base write, where 128 bits hold it.
-pub(super) fn number_of(digits: &[u8], base: u128) -> Option<u128>
+// The number that digits of this base write behind those of a number, where 128 bits hold it.
+pub(super) fn number_after(front: u128, digits: &[u8], base: u128) -> Option<u128>
     requires { 0 < base }
-    ensures { SomeIff result (digits_value base digits.now < 2 ^ 128) (digits_value base digits.now) }
+    ensures { SomeIff result (digits_value_after base front digits.now < 2 ^ 128)
+        (digits_value_after base front digits.now) }
 {
-    let mut number = 0u128;
+    let mut number = front;
     for byte in digits {
         number = with_digit(number, base, *byte)?;
     }
@@ -73,10 +74,11 @@ pub fn leading_digits(bytes: &[u8]) -> Digits
         (digits_value 10 (take (digits_length bytes.now) bytes.now) < 2 ^ 128)
         (digits_value 10 (take (digits_length bytes.now) bytes.now)) }
 {
-    let len = digits_end(bytes, 0);
+    let (few, front) = short_digits(bytes);
+    let len = digits_end(bytes, few);
     Digits {
         len,
-        value: number_of(&bytes[..len], 10),
+        value: number_after(u128::from(front), &bytes[few..len], 10),
     }
 }
 

@@ -9,7 +9,7 @@ ghost use Rattle.text_scan.specs.ScannedNumber.{number_views, scanned_view};
 
 use super::form::with_sign;
 use super::{MOST_DIGITS, NumberFault, NumberText, invalid};
-use crate::parser::number::{byte_at, number_of};
+use crate::parser::number::{byte_at, number_after};
 use crate::util::digit;
 use jsonb_value::number::{Decimal128, Number};
 
@@ -64,7 +64,7 @@ fn scan_fraction(
         return invalid(offset);
     }
     let end = offset + len;
-    let fraction = number_of(&bytes[..len], 16);
+    let fraction = number_after(0, &bytes[..len], 16);
     if !whole_fits || fraction.is_none() {
         return invalid(end);
     }
@@ -88,7 +88,7 @@ pub(super) fn scan_hexadecimal(
         return invalid(offset);
     }
     let end = offset + len;
-    let whole = number_of(&bytes[..len], 16);
+    let whole = number_after(0, &bytes[..len], 16);
     if byte_at(bytes, len) == b'.' {
         let fits = whole.is_some();
         return scan_fraction(&bytes[len + 1..], end + 1, fits);

@@ -21,7 +21,7 @@ overflow_add-all c =
 pub loop-digit-preserved : goal.loop-digit-preserved
 loop-digit-preserved c =
     let digit = digit_at c.args.digits.now c.loop-digit.digit-index c.requires.are_digits (omega arith) in
-    omega (arith, c.from.ensures, digit_value_digit _ digit, digit, c.loop-digit.invariant, value_after_more c.args.number c.args.digits.now c.loop-digit.digit-index (omega arith))
+    omega (arith, c.from.ensures, digit_value_digit _ digit, digit, c.loop-digit.invariant, value_after_more 10 c.args.number c.args.digits.now c.loop-digit.digit-index (omega arith))
 
 pub returns-clause-bound : goal.returns-clause-bound
 returns-clause-bound c =

@@ -11,7 +11,7 @@ returns-then-len-eq0-clause-scan c = c.invalid.ensures.scan ∙ hexadecimal_with
 pub returns-then-byte_at-eq46-clause-scan : goal.returns-then-byte_at-eq46-clause-scan
 returns-then-byte_at-eq46-clause-scan c =
     c.scan_fraction.ensures.scan ∙ (ap (fraction_scan (c.args.offset + c.hexadecimal_length-len.result + 1) c.is_some-fits.result) (take_rest c.args.bytes.now (c.hexadecimal_length-len.result + 1))
-    ∙ hexadecimal_with_point c.args.offset c.hexadecimal_length-len.result c.args.negative c.is_some-fits.result c.args.bytes.now c.hexadecimal_length-len.ensures.value c.if-len-eq0.false (sym c.byte_at.ensures ∙ c.if-byte_at-eq46.true) (c.is_some-fits.ensures ∙ fits_is c.number_of-whole.result (take c.hexadecimal_length-len.result c.args.bytes.now) c.number_of-whole.ensures))
+    ∙ hexadecimal_with_point c.args.offset c.hexadecimal_length-len.result c.args.negative c.is_some-fits.result c.args.bytes.now c.hexadecimal_length-len.ensures.value c.if-len-eq0.false (sym c.byte_at.ensures ∙ c.if-byte_at-eq46.true) (c.is_some-fits.ensures ∙ fits_is c.number_after-whole.result (take c.hexadecimal_length-len.result c.args.bytes.now) c.number_after-whole.ensures))
 
 pub returns-in-None-clause-scan : goal.returns-in-None-clause-scan
 returns-in-None-clause-scan c =
