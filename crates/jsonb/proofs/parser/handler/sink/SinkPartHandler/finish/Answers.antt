@@ -19,5 +19,5 @@ returns-in-Ok-Some-clause-ended g c = λ text front key k offset fs cs rest hold
     let sink = c.end_object.new.self in
     let held = map (held_by g.S.Sink.array g.S.Sink.object) fs in
     let repeat = subst (λ o. MatchOption o (EndsObject (g.S.Sink.filled text) sink front held cs) (ReportsRepeatOf (g.S.Sink.opened sink) front)) c.in-Ok-Some.field-0-is (c.in-Ok-Some.ensures.holds text held front k offset cs holds) in
-    let there = subst (λ ms. ReportsRepeatOf ms front c.in-Ok-Some.repeat) (sym c.open_members-in-Ok-Some.ensures) repeat in
+    let there = subst (λ ms. ReportsRepeatOf ms front c.in-Ok-Some.repeat) (sym c.open_members.ensures) repeat in
     reports_always true c.report_repeat.new.reported (object_or_fault (first_repeat (map spot_of front)) front rest) (c.report_repeat.ensures front rest there)
