@@ -13,7 +13,7 @@ ghost use Rattle.text_write.specs.Contents.{text_of_contents};
 ghost use Rattle.text_write.specs.Escaped.{IsVerbatimLetter, WritesItems};
 
 use crate::contents::Contents;
-use crate::short::append_first;
+use crate::short::{append_first, append_part};
 use jsonb_value::plain::{append_byte, run_of_few, run_of_sixteen};
 use std::alloc::AllocError;
 use text_scan::parser::Mode;
@@ -85,15 +85,17 @@ fn verbatim_tail(bytes: &[u8]) -> usize
     len
 }
 
-// Appends bytes of the text, with the escapes that they need.
-fn append_bytes(bytes: &[u8], out: &mut Vec<u8>) -> Result<(), AllocError>
-    ensures ok { OnOk result (out.new.items ≡ out.old.items ++ flat_map byte_text bytes.now) }
+// Appends the first bytes of a row of the text, with the escapes that they need.
+#[inline(always)]
+fn append_bytes(row: [u8; 16], len: usize, out: &mut Vec<u8>) -> Result<(), AllocError>
+    requires { len ≤ 16 }
+    ensures ok { OnOk result (out.new.items ≡ out.old.items ++ flat_map byte_text (take len row)) }
     ensures retained { Extends out.old.items out.new.items }
 {
-    if run_of_few(bytes) == bytes.len() {
-        return out.extend_from_slice(bytes);
+    if run_of_sixteen(&row) >= len {
+        return append_part(row, len, out);
     }
-    'bytes: for byte in bytes {
+    'bytes: for byte in &row[..len] {
         append_byte(*byte, out)?;
     }
     Ok(())
@@ -114,11 +116,11 @@ fn append_item<'a>(bytes: &'a [u8], mode: Mode, out: &mut Vec<u8>) -> Result<&'a
         append_byte(*byte, out)?;
         return Ok(rest);
     }
-    let mut text = [0; 12];
-    let Some((len, rest)) = decode_escape(rest, mode, &mut text) else {
+    let mut row = [0; 16];
+    let Some((len, rest)) = decode_escape(rest, mode, &mut row) else {
         unreachable!();
     };
-    append_bytes(&text[..len], out)?;
+    append_bytes(row, len, out)?;
     Ok(rest)
 }
 
@@ -176,7 +178,9 @@ fn append_rest(body: &[u8], from: usize, mode: Mode, out: &mut Vec<u8>) -> Resul
     'parts: while !rest.is_empty() {
         let others = append_next(rest, mode, out)?;
         let count = entry_len(others);
-        append_first(others, count, out)?;
+        if count > 0 {
+            append_first(others, count, out)?;
+        }
         rest = &others[count..];
     }
     Ok(())

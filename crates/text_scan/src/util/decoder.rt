@@ -124,6 +124,7 @@ fn decode(
 
 /// Decodes the escape whose backslash is before the bytes, and returns how many bytes of the text it is, and what
 /// follows it. There is none where no escape of this mode begins the bytes; contents of a string have no such offset.
+#[inline(always)]
 pub fn decode_escape<'a>(bytes: &'a [u8], mode: Mode, text: &mut [u8]) -> Option<(usize, &'a [u8])>
     requires { 12 ≤ length text.old }
     ensures some { IfSome result (λ done. DecodesUpTo (mode_of mode) (ascii.backslash ∷ bytes.now) done.1.now

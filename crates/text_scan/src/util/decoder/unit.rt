@@ -1,5 +1,5 @@
 //! `\u` escapes: UTF-16 code units of four hexadecimal digits.
-ghost use Rattle.std.specs.Prelude.{List, ◌≡◌, ◌≢◌, ℕ, ◌+◌, ◌*◌, ◌^◌, ◌≤◌, ◌<◌, ◌++◌, ◌∷◌, length, take, min, All, ◌||◌, IfOk, IfErr, OnErr, IfSome, IfNone, Some, None, true, false, ◌⊎◌};
+ghost use Rattle.std.specs.Prelude.{List, ◌≡◌, ◌≢◌, ℕ, ◌+◌, ◌*◌, ◌%◌, ◌^◌, ◌≤◌, ◌<◌, ◌++◌, ◌∷◌, length, take, min, All, ◌||◌, IfOk, IfErr, OnErr, IfSome, IfNone, Some, None, true, false, ◌⊎◌};
 ghost use Rattle.std.specs.Char.{digit_value, encode_utf8, InScalarRange};
 ghost use Rattle.std.specs.Char.Utf16.{is_high_surrogate, is_low_surrogate};
 ghost use Rattle.std.specs.Str.Parse.{digits_value};
@@ -10,7 +10,7 @@ ghost use Rattle.jsonb_spec.specs.Grammar.StringBody.{IsHexDigit, unit, encoding
 ghost use Rattle.jsonb_spec.specs.Grammar.StringFault.{IsUnitCut, IsFirstNonDigit};
 ghost use Rattle.text_scan.specs.Decoding.{SplitsUnit, ParsesUnit, Adds, IsDecodedUpTo, StopsInUnit, StopsAtEscape};
 
-use super::space::write_all;
+use super::space::{write_all, write_byte};
 use super::{Decoded, DecodingFault};
 use jsonb_value::error::ParseErrorCode;
 
@@ -22,39 +22,59 @@ struct HexUnit<'a> {
     rest: &'a [u8],
 }
 
-// The value of a hexadecimal digit, and 36 for any other byte that is no letter.
+// What each byte is as a digit or a letter: 0 to 9, 10 to 35, and 36 for any other.
+static DIGITS: [u8; 256] = [
+    36, 36, 36, 36, 36, 36, 36, 36, 36, 36, 36, 36, 36, 36, 36, 36, 36, 36, 36, 36, 36, 36, 36, 36,
+    36, 36, 36, 36, 36, 36, 36, 36, 36, 36, 36, 36, 36, 36, 36, 36, 36, 36, 36, 36, 36, 36, 36, 36,
+    0, 1, 2, 3, 4, 5, 6, 7, 8, 9, 36, 36, 36, 36, 36, 36, 36, 10, 11, 12, 13, 14, 15, 16, 17, 18,
+    19, 20, 21, 22, 23, 24, 25, 26, 27, 28, 29, 30, 31, 32, 33, 34, 35, 36, 36, 36, 36, 36, 36, 10,
+    11, 12, 13, 14, 15, 16, 17, 18, 19, 20, 21, 22, 23, 24, 25, 26, 27, 28, 29, 30, 31, 32, 33, 34,
+    35, 36, 36, 36, 36, 36, 36, 36, 36, 36, 36, 36, 36, 36, 36, 36, 36, 36, 36, 36, 36, 36, 36, 36,
+    36, 36, 36, 36, 36, 36, 36, 36, 36, 36, 36, 36, 36, 36, 36, 36, 36, 36, 36, 36, 36, 36, 36, 36,
+    36, 36, 36, 36, 36, 36, 36, 36, 36, 36, 36, 36, 36, 36, 36, 36, 36, 36, 36, 36, 36, 36, 36, 36,
+    36, 36, 36, 36, 36, 36, 36, 36, 36, 36, 36, 36, 36, 36, 36, 36, 36, 36, 36, 36, 36, 36, 36, 36,
+    36, 36, 36, 36, 36, 36, 36, 36, 36, 36, 36, 36, 36, 36, 36, 36, 36, 36, 36, 36, 36, 36, 36, 36,
+    36, 36, 36, 36, 36, 36, 36, 36, 36, 36, 36, 36, 36, 36,
+];
+
+// The value of a hexadecimal digit, and 16 or more for any other byte.
+#[inline(always)]
 pub(crate) fn digit(byte: u8) -> u32
     ensures { result ≡ digit_value byte }
 {
-    match byte {
-        b'0'..=b'9' => u32::from(byte - b'0'),
-        b'A'..=b'Z' => u32::from(byte - b'A') + 10,
-        b'a'..=b'z' => u32::from(byte - b'a') + 10,
-        _ => 36,
-    }
+    u32::from(DIGITS[usize::from(byte)])
 }
 
-#[inline(always)]
-fn first_non_digit(bytes: &[u8]) -> Option<u8>
-    ensures some { IfSome result (IsFirstNonDigit bytes.now) }
-    ensures none { IfNone result (All IsHexDigit bytes.now) }
+// The first of the bytes that is no hexadecimal digit.
+#[cold]
+#[inline(never)]
+fn first_non_digit(bytes: &[u8]) -> u8
+    requires { ¬ (All IsHexDigit bytes.now) }
+    ensures { IsFirstNonDigit bytes.now result }
 {
     for byte in bytes {
         if digit(*byte) >= 16 {
-            return Some(*byte);
+            return *byte;
         }
     }
-    None
+    unreachable!()
 }
 
+// The number that four digits write. There is none where one of them isn't hexadecimal.
 #[inline(always)]
-fn value_of(digits: &[u8]) -> u32
+fn value_of(digits: &[u8]) -> Option<u32>
     requires four { length digits.now ≡ 4 }
-    requires each { All IsHexDigit digits.now }
-    ensures value { result ≡ digits_value 16 digits.now }
-    ensures range { result < 2 ^ 16 }
+    ensures each { IfSome result (λ value. All IsHexDigit digits.now) }
+    ensures value { IfSome result (λ value. value ≡ digits_value 16 digits.now) }
+    ensures range { IfSome result (λ value. value < 2 ^ 16) }
+    ensures none { IfNone result (¬ (All IsHexDigit digits.now)) }
 {
-    digit(digits[0]) * 4096 + digit(digits[1]) * 256 + digit(digits[2]) * 16 + digit(digits[3])
+    let (first, second) = (digit(digits[0]), digit(digits[1]));
+    let (third, fourth) = (digit(digits[2]), digit(digits[3]));
+    if first >= 16 || second >= 16 || third >= 16 || fourth >= 16 {
+        return None;
+    }
+    Some(first * 4096 + second * 256 + third * 16 + fourth)
 }
 
 // The four bytes after `\u`, in braces or not, and what follows them.
@@ -89,13 +109,12 @@ fn read_unit(bytes: &[u8]) -> std::result::Result<HexUnit<'_>, DecodingFault>
             left: bytes.len(),
         });
     };
-    if let Some(byte) = first_non_digit(digits) {
+    let Some(value) = value_of(digits) else {
         return Err(DecodingFault {
-            code: ParseErrorCode::InvalidHex(byte),
+            code: ParseErrorCode::InvalidHex(first_non_digit(digits)),
             left: rest.len(),
         });
-    }
-    let value = value_of(digits);
+    };
     Ok(HexUnit {
         digits,
         value,
@@ -121,6 +140,15 @@ fn is_surrogate(value: u32) -> bool
     is_surrogate_high(value) || is_surrogate_low(value)
 }
 
+// A byte of a character behind its first one, which holds the last six bits.
+#[inline(always)]
+fn next_byte(bits: u32) -> u8
+    ensures { result ≡ 128 + bits % 64 }
+{
+    128 + (bits % 64) as u8
+}
+
+// Writes a character as UTF-8.
 #[inline(always)]
 fn push_char(text: &mut [u8], len: usize, value: u32) -> usize
     requires scalar { InScalarRange value }
@@ -129,9 +157,23 @@ fn push_char(text: &mut [u8], len: usize, value: u32) -> usize
     ensures len { result ≤ len + 4 }
     ensures size { length text.new ≡ length text.old }
 {
-    let character = char::from_u32(value).unwrap();
-    let mut buffer = [0; 4];
-    write_all(text, len, character.encode_utf8(&mut buffer).as_bytes())
+    let last = next_byte(value);
+    if value < 0x80 {
+        return write_byte(text, len, value as u8);
+    }
+    if value < 0x800 {
+        return write_all(text, len, &[0xC0 + (value / 64) as u8, last]);
+    }
+    let third = next_byte(value / 64);
+    if value < 0x10000 {
+        return write_all(text, len, &[0xE0 + (value / 4096) as u8, third, last]);
+    }
+    let second = next_byte(value / 4096);
+    write_all(
+        text,
+        len,
+        &[0xF0 + (value / 262144) as u8, second, third, last],
+    )
 }
 
 fn push_verbatim(text: &mut [u8], len: usize, digits: &[u8]) -> usize
