@@ -13,7 +13,7 @@ use super::text::Text;
 use jsonb_value::error::{Error, ParseErrorCode, Result};
 use jsonb_value::plain::plain_len;
 use std::borrow::CowStr;
-use text_scan::parser::string::{StringEnd, decode_contents, find_end, next_mark};
+use text_scan::parser::string::{StringEnd, decode_contents, find_end, near_mark};
 
 impl<'a> Parser<'a> {
     // Parses a string from the byte after its opening quote on. It is borrowed where no backslash is in it. Most strings
@@ -74,7 +74,7 @@ impl<'a> Parser<'a> {
         ensures { CutsString (λ s. s.now) quote result self.old self.new }
     {
         let rest = self.rest();
-        let (end, _marks) = next_mark(rest, quote, 0);
+        let end = near_mark(rest, quote);
         if end == rest.len() {
             return None;
         }

@@ -18,7 +18,7 @@ use Rattle.text_scan.proofs.Numbers.TextParts.{IsStandardUnrepresentable}
 
 -- ---- the whole part
 
-whole_start_within : (bs : List ℕ) → whole_start bs ≤ length bs
+pub whole_start_within : (bs : List ℕ) → whole_start bs ≤ length bs
 whole_start_within bs =
     ⊎_elim
     (λ minus. let byte : slice_index bs 0 ≡ 45 = grind (arith, nat_tests) in rw minus (omega (arith, inside_of bs 0 (omega (arith, byte)))))

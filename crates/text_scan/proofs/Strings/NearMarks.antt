@@ -9,9 +9,9 @@ use Rattle.text_scan.specs.QuotedString.{KnowsMarks, ReportsMarks}
 abbrev pub IsMark : ℕ → ℕ → Type 0
 IsMark quote b = (b ≡ quote) ⊎ (b ≡ 92)
 
-pub reports : (quote at a b : ℕ) (bytes : List ℕ) → at + 32 ≤ length bytes → ((k : ℕ) → (bit_at a k ≡ 1) ↔ ((k < 32) × (get_or bytes (at + k) 0 ≡ quote))) → ((k : ℕ) → (bit_at b k ≡ 1) ↔ ((k < 32) × (get_or bytes (at + k) 0 ≡ 92)))
-    → ReportsMarks quote bytes at (at + 32) (bit_or a b)
-reports quote at a b bytes within quotes backslashes =
+pub reports : (quote size at a b : ℕ) (bytes : List ℕ) → at + size ≤ length bytes → ((k : ℕ) → (bit_at a k ≡ 1) ↔ ((k < size) × (get_or bytes (at + k) 0 ≡ quote))) → ((k : ℕ) → (bit_at b k ≡ 1) ↔ ((k < size) × (get_or bytes (at + k) 0 ≡ 92)))
+    → ReportsMarks quote bytes at (at + size) (bit_or a b)
+reports quote size at a b bytes within quotes backslashes =
     record {
       within = within;
       set = λ k low mark. ⊎_elim

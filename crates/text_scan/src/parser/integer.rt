@@ -77,7 +77,7 @@ pub fn verbatim_integer(bytes: &[u8]) -> Option<usize>
     if len == 0 {
         return None;
     }
-    let start = usize::from(byte_at(bytes, 0) == b'-');
+    let start = bytes.len() - digits.len();
     if start + len > 19 || !may_begin(digits[0], start + len) {
         return None;
     }

@@ -162,7 +162,8 @@ pub fn integer(negative: bool, digits: Option<u128>) -> Option<Number>
 pub(super) fn continues_number(byte: u8) -> bool
     ensures { MatchBool result (ContinuesNumber byte) (¬ ContinuesNumber byte) }
 {
-    matches!(byte, b'0'..=b'9' | b'.' | b'e' | b'E')
+    // Most bytes behind a number are below a point.
+    byte >= b'.' && matches!(byte, b'0'..=b'9' | b'.' | b'e' | b'E')
 }
 
 /// An integer in its parts, and the index after its text.

@@ -8,7 +8,7 @@ ghost use Rattle.text_scan.specs.QuotedString.{EndsString, IsClear, IsQuoteOrBac
 ghost use Rattle.text_scan.specs.Parsing.String.{body_of};
 
 use super::Mode;
-use super::vector::{equal_bits, lowest, shifted_down};
+use super::vector::{equal_bits, lowest, near_bits, shifted_down};
 use crate::util::unescape;
 use jsonb_value::error::{Error, ParseErrorCode, Result};
 use memchr::memchr2;
@@ -102,10 +102,10 @@ fn first_mark(bytes: &[u8], quote: u8, at: usize, marks: u64) -> (usize, u64)
     (at + count, shifted_down(marks, count))
 }
 
-/// The index of the first quote or backslash from `at` on, or the length of the bytes, and the marks from there on,
-/// as far as they are known. It is often near.
+// The index of the first quote or backslash from `at` on, or the length of the bytes, and the marks from there on, as
+// far as they are known. It is often near.
 #[inline(always)]
-pub fn next_mark(bytes: &[u8], quote: u8, at: usize) -> (usize, u64)
+fn next_mark(bytes: &[u8], quote: u8, at: usize) -> (usize, u64)
     requires { at ≤ length bytes.now }
     ensures bounds { (at ≤ result.0) × (result.0 ≤ length bytes.now) }
     ensures before { IsClear quote bytes.now at result.0 }
@@ -121,6 +121,26 @@ pub fn next_mark(bytes: &[u8], quote: u8, at: usize) -> (usize, u64)
     }
     let count = lowest(marks);
     (at + count, shifted_down(marks, count))
+}
+
+/// The index of the first quote or backslash, or the length of the bytes. It is mostly among the first 16 bytes.
+#[inline(always)]
+pub fn near_mark(bytes: &[u8], quote: u8) -> usize
+    ensures within { result ≤ length bytes.now }
+    ensures before { IsClear quote bytes.now 0 result }
+    ensures here { result < length bytes.now → IsQuoteOrBackslash quote (slice_index bytes.now result) }
+{
+    if bytes.len() < 16 {
+        return short_mark(bytes, quote, 0);
+    }
+    let quotes = near_bits(bytes, quote);
+    let backslashes = near_bits(bytes, b'\\');
+    let marks = quotes | backslashes;
+    if marks != 0 {
+        return lowest(marks);
+    }
+    let (end, _marks) = next_mark(bytes, quote, 16);
+    end
 }
 
 /// Looks for the quote that ends a string. An escape is stepped over by its first bytes, without a look at the others.
