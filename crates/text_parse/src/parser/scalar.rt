@@ -165,13 +165,15 @@ impl<'a> Parser<'a> {
                 from,
             );
         }
-        if let Some(read) = self.short_integer() {
-            if read.negative {
-                let number = Scalar::Number(negative_number(read.magnitude));
+        if !matches!(self.peek(), Some(b'a'..=b'z')) {
+            if let Some(read) = self.short_integer() {
+                if read.negative {
+                    let number = Scalar::Number(negative_number(read.magnitude));
+                    return self.put::<V, S>(sink, container, slot, V::scalar(number), from);
+                }
+                let number = Scalar::Number(Number::UInt64(read.magnitude));
                 return self.put::<V, S>(sink, container, slot, V::scalar(number), from);
             }
-            let number = Scalar::Number(Number::UInt64(read.magnitude));
-            return self.put::<V, S>(sink, container, slot, V::scalar(number), from);
         }
         self.put_word::<V, S>(sink, container, slot, text)
     }

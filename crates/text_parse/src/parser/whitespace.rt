@@ -46,12 +46,13 @@ impl Parser<'_> {
         ensures { Skips skip_whitespace self.old self.new }
     {
         'lines: loop {
-            if !self.take_plain_whitespace() {
-                return self.skip_other_whitespace();
-            }
+            self.skip_line_feed();
             self.skip_spaces();
             if !self.may_begin_whitespace() {
                 return;
+            }
+            if !self.take_plain_whitespace() {
+                return self.skip_other_whitespace();
             }
         }
     }
@@ -111,6 +112,14 @@ impl Parser<'_> {
             return true;
         }
         false
+    }
+
+    // Passes one line feed, where one comes next.
+    #[inline(always)]
+    fn skip_line_feed(&mut self)
+        ensures { SkipsSome skip_closed_whitespace self.old self.new }
+    {
+        let _found = self.take_byte(b'\n');
     }
 
     // Passes one space, where one comes next.

@@ -8,12 +8,12 @@ pub returns : goal.returns
 returns c =
     let p = c.args.self.now in
     let quote = c.args.quote in
-    let end = c.next_mark-end.result.0 in
+    let end = c.near_mark-end.result in
     let is = c.rest-rest.ensures in
     let closed = ap (λ u. get_or u end 0) (sym is) ∙ c.if-rest-end.false in
     let within : end < length (rest_of p) = omega (arith, ap length is) in
     record {
-      parses = cut_parsed p _ quote end _ within closed c.in_ok-body.ensures.cuts (subst (λ u. IsClear quote u 0 end) is c.next_mark-end.ensures.before);
+      parses = cut_parsed p _ quote end _ within closed c.in_ok-body.ensures.cuts (subst (λ u. IsClear quote u 0 end) is c.near_mark-end.ensures.before);
       encoded = cut_encoded p _ quote end _ within closed c.in_ok-body.ensures.cuts;
       stays = search rules;
       advances = search rules;

@@ -8,6 +8,7 @@ use Rattle.text_common.specs.declared.verbatim.Verbatim.TheVariants.{Integer}
 use Rattle.text_parse.proofs.Scalars.Built.{integer_holds, negative_of, positive_of, put_so, scalar_still}
 use Rattle.text_parse.proofs.Steps.Failures.{puts_same}
 use Rattle.text_parse.proofs.parser.Parser.put_standard_value.Goals as goal
+use Rattle.text_parse.proofs.parser.Parser.put_standard_value.Goals.{then-not-matches+in_default-short_integer, else-not-matches}
 
 pub returns-then-verbatim_integer : goal.returns-then-verbatim_integer
 returns-then-verbatim_integer g c =
@@ -26,8 +27,12 @@ returns g c =
     record {
       parses =
           let h = g.V.Handler in
-          let stays = c.in_default.ensures.finds.stays ∙ c.if-verbatim_integer.ensures.passes in
-          puts_same h.silent c.put_word.new.self.reported h.holds c.put_word.result _ _ (sym (ap (λ o. o.buf.now) stays)) _ _ _ _ _ _ _ (scalar_still c.args.self.now c.short_integer.new.self stays) c.put_word.ensures.parses;
+          let p = c.if-not-matches.self in
+          let stays : p ≡ c.args.self.now = elim c.if-not-matches.branch [
+            | then-not-matches+in_default-short_integer w ↦ w.self-is ∙ w.in_default-short_integer.ensures.finds.stays ∙ c.if-verbatim_integer.ensures.passes
+            | else-not-matches w ↦ w.self-is ∙ c.if-verbatim_integer.ensures.passes
+          ] in
+          puts_same h.silent c.put_word.new.self.reported h.holds c.put_word.result _ _ (sym (ap (λ o. o.buf.now) stays)) _ _ _ _ _ _ _ (scalar_still c.args.self.now p stays) c.put_word.ensures.parses;
       advances = search rules;
     }
 
