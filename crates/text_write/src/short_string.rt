@@ -334,7 +334,7 @@ impl<'a> KeySink<'a> {
             return Ok(());
         };
         self.out.try_reserve(count + 35)?;
-        self.out.extend_from_slice(&[kind::STRING])?;
+        self.out.push_reserved(kind::STRING);
         append_row(&self.members.text[from + 1..], count, false, &mut self.out)?;
         self.out
             .extend_from_slice(&[kind::TERMINATOR, kind::TEXT_END])?;

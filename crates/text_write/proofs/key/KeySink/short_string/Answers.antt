@@ -17,5 +17,5 @@ returns-clause-bytes c = λ s at.
     let short = short_there text s c.args.from c.args.to c.in-Some.count found.0 found.1 at in
     let meant = c.in_ok-append_row.ensures.bytes at.meaning (subst (λ xs. IsShort (take c.in-Some.count xs) at.meaning) (sym (take_rest text (c.args.from + 1))) short) in
     wrote refl (opened.same r.members)
-    (key_written r.out.items c.extend_from_slice.new.self.items c.append_row.new.out.items _ at.meaning _ (c.in_ok-extend_from_slice.ensures.items ∙ ap (λ xs. xs ++ 208 ∷ []) c.in_ok-try_reserve.ensures.items) meant c.in_ok-extend_from_slice-2.ensures.items
+    (key_written r.out.items c.push_reserved.new.self.items c.append_row.new.out.items _ at.meaning _ (c.push_reserved.ensures.items ∙ ap (λ xs. xs ++ 208 ∷ []) c.in_ok-try_reserve.ensures.items) meant c.in_ok-extend_from_slice.ensures.items
     (short_key text s c.args.from c.args.to at))
