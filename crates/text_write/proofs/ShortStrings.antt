@@ -1,7 +1,7 @@
 -- Strings whose escapes are of one letter, written from the left.
 use Rattle.std.proofs.Common.{◌≡◌, ◌≢◌, ℕ, zero, suc, ◌+◌, ◌-◌, ◌<◌, ◌≤◌, Bool, true, false, List, [], ◌∷◌, ◌++◌, length, take, drop, get_or, Option, Some, None, ⊎_elim, refl, sym, ap, ap₂, subst, ◌∙◌, arith, append_assoc, append-nil, drop-drop, length-drop, length-append, map, slice_range, ◌==◌}
 use Rattle.std.specs.List.{flat_map, AllByRecursion}
-use Rattle.std.proofs.lemmas.List.{get_or-take, get_or-drop, drop_more, drop-take, drop_all, length-take-le, take-append-drop, take-append-le, take-take, take_rest}
+use Rattle.std.proofs.lemmas.List.{get_or-take, get_or-drop, get_or-append-add, drop_more, drop-take, drop_all, length-take-le, take-append-drop, take-append-le, take-take, take_rest}
 use Rattle.std.proofs.lemmas.List.Concat.{flat_map-append}
 use Rattle.jsonb_spec.specs.Grammar.StringBody.{Item, raw, escape, unit, encoding, standard_escape}
 use Rattle.std.specs.Bool.{if◌then◌else◌}
@@ -11,7 +11,6 @@ use Rattle.jsonb_spec.specs.SortKey.{byte_key}
 use Rattle.jsonb_spec.specs.Source.{Source}
 use Rattle.jsonb_spec.specs.Text.{in_quotes}
 use Rattle.jsonb_spec.specs.Text.StringText.{ArePlain, byte_text}
-use Rattle.text_write.specs.Escaped.{IsVerbatimLetter}
 use Rattle.text_write.specs.Members.{source_key}
 use Rattle.text_common.specs.VerbatimScalar.{IsShortAt}
 use Rattle.text_common.specs.SourceText.{source_text}
@@ -108,28 +107,19 @@ writes_escape as_text (b ∷ c ∷ bs) text old new byte some first is w short =
     let same : s.byte ≡ byte = some_same s.byte byte (sym s.holds ∙ is) in
     record { left = s.left; within = omega arith; short = s.short; written = one_written as_text byte old new s.left text w (s.is ∙ ap (λ x. x ∷ s.left) same) }
 
--- an escape that is written as it is
-pub verbatim_text : (letter byte : ℕ) → IsVerbatimLetter letter → standard_escape letter ≡ Some byte → byte_text byte ≡ 92 ∷ letter ∷ []
-verbatim_text letter byte is holds =
-    ⊎_elim (λ e. at 34 34 e refl refl) (λ is2. ⊎_elim (λ e. at 92 92 e refl refl) (λ is3. ⊎_elim (λ e. at 110 10 e refl refl) (λ is4. ⊎_elim (λ e. at 114 13 e refl refl) (λ e. at 116 9 e refl refl) is4) is3) is2) is
-  where
-    at : (n m : ℕ) → letter ≡ n → standard_escape n ≡ Some m → byte_text m ≡ 92 ∷ n ∷ [] → byte_text byte ≡ 92 ∷ letter ∷ []
-    at n m e one text =
-        let same : byte ≡ m = some_same byte m (sym holds ∙ ap standard_escape e ∙ one) in
-        ap byte_text same ∙ text ∙ ap (λ l. 92 ∷ l ∷ []) (sym e)
-
 record StripsRun (bytes text : List ℕ) (run : ℕ) : Type 0 where
   left : List ℕ
   short : IsShort (drop run bytes) left
   is : text ≡ take run bytes ++ left
+  plain : ArePlain (take run bytes)
 
 strip_run : (run : ℕ) (bytes text : List ℕ) → run ≤ length bytes → SeesNoBackslash bytes run → IsShort bytes text → StripsRun bytes text run
-strip_run zero bytes text within clear short = record { left = text; short = short; is = refl }
+strip_run zero bytes text within clear short = record { left = text; short = short; is = refl; plain = refl }
 strip_run (suc run) [] text within clear short = absurd (omega (arith, within))
 strip_run (suc run) (b ∷ bs) text within clear short =
     let s = strip_raw b bs text short (clear 0 (omega arith)) in
     let rest = strip_run run bs s.left (omega (arith, within)) (λ k l. clear (suc k) (omega arith)) s.short in
-    record { left = rest.left; short = rest.short; is = s.is ∙ ap (λ xs. b ∷ xs) rest.is }
+    record { left = rest.left; short = rest.short; is = s.is ∙ ap (λ xs. b ∷ xs) rest.is; plain = ap₂ (λ xs ys. xs ++ ys) s.plain rest.plain }
 
 plain_clear : (run : ℕ) (bytes : List ℕ) → run ≤ length bytes → ArePlain (take run bytes) → SeesNoBackslash bytes run
 plain_clear zero bytes within plain k l = absurd (omega (arith, l))
@@ -149,11 +139,11 @@ run_written : (as_text : Bool) (bytes : List ℕ) → ArePlain bytes → written
 run_written true bytes h = with_escapes bytes ∙ h
 run_written false bytes h = as_they_are bytes
 
-writes_run : (as_text : Bool) (run : ℕ) (bytes text old new : List ℕ) → run ≤ length bytes → SeesNoBackslash bytes run → written_bytes as_text (take run bytes) ≡ take run bytes → new ≡ old ++ take run bytes → IsShort bytes text
-    → WritesFront as_text bytes text old new run
-writes_run as_text run bytes text old new within clear same w short =
+writes_run : (as_text : Bool) (run : ℕ) (bytes text old new : List ℕ) → run ≤ length bytes → SeesNoBackslash bytes run → new ≡ old ++ take run bytes → IsShort bytes text → WritesFront as_text bytes text old new run
+writes_run as_text run bytes text old new within clear w short =
     let s = strip_run run bytes text within clear short in
     let front = take run bytes in
+    let same = run_written as_text front s.plain in
     record {
       left = s.left;
       within = within;
@@ -182,27 +172,27 @@ left_is bytes count at within = ap (λ n. drop at (take n bytes)) {x = count} {y
 
 -- the bytes so far, and then a run of these
 some_front : (as_text : Bool) (bytes : List ℕ) (count at run : ℕ) (old middle new : List ℕ) → at ≤ count → count ≤ length bytes → WritesSome as_text bytes count old middle at → run ≤ count - at → SeesNoBackslash (drop at bytes) run
-    → written_bytes as_text (take run (drop at bytes)) ≡ take run (drop at bytes) → new ≡ middle ++ take run (drop at bytes) → WritesSome as_text bytes count old new (at + run)
-some_front as_text bytes count at run old middle new within inside f few clear same w text short =
+    → new ≡ middle ++ take run (drop at bytes) → WritesSome as_text bytes count old new (at + run)
+some_front as_text bytes count at run old middle new within inside f few clear w text short =
     let front = f text short in
     let left = left_is bytes count at within in
     let taken : take run (drop at (take count bytes)) ≡ take run (drop at bytes) = ap (take run) left ∙ take-take run (count - at) (drop at bytes) few in
     let long : length (drop at (take count bytes)) ≡ count - at = ap length left ∙ length-take-le (count - at) (drop at bytes) (omega (arith, length-drop at bytes, inside, within)) in
     let none : SeesNoBackslash (drop at (take count bytes)) run = λ k l z. clear k l (sym (get_or-take (count - at) (drop at bytes) k 0 (omega (arith, l, few))) ∙ ap (λ xs. get_or xs k 0) (sym left) ∙ z) in
     writes_then as_text (take count bytes) text old middle new at run front
-    (writes_run as_text run (drop at (take count bytes)) front.left middle new (omega (arith, long, few)) none (ap (written_bytes as_text) taken ∙ same ∙ sym taken) (w ∙ ap (λ xs. middle ++ xs) (sym taken)) front.short)
+    (writes_run as_text run (drop at (take count bytes)) front.left middle new (omega (arith, long, few)) none (w ∙ ap (λ xs. middle ++ xs) (sym taken)) front.short)
 
 pub some_run : (as_text : Bool) (bytes : List ℕ) (count at near run : ℕ) (old middle new : List ℕ) → at ≤ count → count ≤ length bytes → WritesSome as_text bytes count old middle at → ArePlain (take near (drop at bytes))
     → run ≤ near → run ≤ count - at → new ≡ middle ++ take run (drop at bytes) → WritesSome as_text bytes count old new (at + run)
 some_run as_text bytes count at near run old middle new within inside f plain less few w =
     let all = fewer_plain (drop at bytes) near run plain less in
-    some_front as_text bytes count at run old middle new within inside f few (plain_clear run (drop at bytes) (omega (arith, few, length-drop at bytes, inside, within)) all) (run_written as_text (take run (drop at bytes)) all) w
+    some_front as_text bytes count at run old middle new within inside f few (plain_clear run (drop at bytes) (omega (arith, few, length-drop at bytes, inside, within)) all) w
 
--- as many bytes before a backslash, which are written as they are in a sort key
-pub some_clear : (bytes : List ℕ) (count at near run : ℕ) (old middle new : List ℕ) → at ≤ count → count ≤ length bytes → WritesSome false bytes count old middle at → SeesNoBackslash (drop at bytes) near → run ≤ near → run ≤ count - at
-    → new ≡ middle ++ take run (drop at bytes) → WritesSome false bytes count old new (at + run)
-some_clear bytes count at near run old middle new within inside f clear less few w =
-    some_front false bytes count at run old middle new within inside f few (λ k l. clear k (omega (arith, l, less))) (as_they_are (take run (drop at bytes))) w
+-- as many bytes before a backslash, which are written as they are
+pub some_clear : (as_text : Bool) (bytes : List ℕ) (count at near run : ℕ) (old middle new : List ℕ) → at ≤ count → count ≤ length bytes → WritesSome as_text bytes count old middle at → SeesNoBackslash (drop at bytes) near → run ≤ near → run ≤ count - at
+    → new ≡ middle ++ take run (drop at bytes) → WritesSome as_text bytes count old new (at + run)
+some_clear as_text bytes count at near run old middle new within inside f clear less few w =
+    some_front as_text bytes count at run old middle new within inside f few (λ k l. clear k (omega (arith, l, less))) w
 
 pub some_item : (as_text : Bool) (bytes item : List ℕ) (count at size : ℕ) (old middle new : List ℕ) → at ≤ count → WritesSome as_text bytes count old middle at → item ≡ take (count - at) (drop at bytes)
     → ((text : List ℕ) → IsShort item text → WritesFront as_text item text middle new size) → WritesSome as_text bytes count old new (at + size)
@@ -213,16 +203,17 @@ some_item as_text bytes item count at size old middle new within f is g text sho
     (subst (λ xs. WritesFront as_text xs front.left middle new size) (sym same) (g front.left (subst (λ xs. IsShort xs front.left) same front.short)))
 
 -- an escape behind so many bytes
-pub some_escape : (bytes : List ℕ) (count at byte : ℕ) (old middle new : List ℕ) → at < count → WritesSome false bytes count old middle at → get_or bytes at 0 ≡ 92 → standard_escape (get_or bytes (at + 1) 0) ≡ Some byte → count ≤ length bytes → new ≡ middle ++ byte ∷ []
-    → WritesSome false bytes count old new (at + 2)
-some_escape bytes count at byte old middle new within f here is inside w =
+pub some_escape : (as_text : Bool) (bytes : List ℕ) (count at : ℕ) (old middle new : List ℕ) → at < count → WritesSome as_text bytes count old middle at → get_or bytes at 0 ≡ 92 → count ≤ length bytes
+    → ((byte : ℕ) → standard_escape (get_or bytes (at + 1) 0) ≡ Some byte → new ≡ middle ++ written_byte as_text byte) → WritesSome as_text bytes count old new (at + 2)
+some_escape as_text bytes count at old middle new within f here inside w =
     let item = take (count - at) (drop at bytes) in
     let long : length item ≡ count - at = length-take-le (count - at) (drop at bytes) (omega (arith, length-drop at bytes, inside, within)) in
     let first : get_or item 0 0 ≡ 92 = get_or-take (count - at) (drop at bytes) 0 0 (omega (arith, within)) ∙ get_or-drop at bytes 0 0 ∙ ap (λ n. get_or bytes n 0) {x = at + 0} {y = at} (omega arith) ∙ here in
-    some_item false bytes item count at 2 old middle new (omega (arith, within)) f refl (λ text short.
+    some_item as_text bytes item count at 2 old middle new (omega (arith, within)) f refl (λ text short.
     let s = strip_escape item text (omega (arith, long, within)) first short in
     let second : get_or item 1 0 ≡ get_or bytes (at + 1) 0 = get_or-take (count - at) (drop at bytes) 1 0 (omega (arith, s.some, length-drop 1 item, long)) ∙ get_or-drop at bytes 1 0 in
-    writes_escape false item text middle new byte (omega (arith, long, within)) first (ap standard_escape second ∙ is) w short)
+    let holds : standard_escape (get_or item 1 0) ≡ Some s.byte = ap standard_escape (sym (get_or-drop 1 item 0 0)) ∙ s.holds in
+    writes_escape as_text item text middle new s.byte (omega (arith, long, within)) first holds (w s.byte (ap standard_escape (sym second) ∙ holds)) short)
 
 pub some_all : (as_text : Bool) (bytes : List ℕ) (count at : ℕ) (old new text : List ℕ) → count ≤ length bytes → count ≤ at → WritesSome as_text bytes count old new at → IsShort (take count bytes) text → new ≡ old ++ written_bytes as_text text
 some_all as_text bytes count at old new text inside over f short =
@@ -255,6 +246,21 @@ run_put bytes row put at end run inside space size is few =
     let long : length chunk ≡ 16 = length-take-le 16 (drop at bytes) (omega (arith, length-drop at bytes, inside)) in
     (put_some row put chunk end (end + 16) run (omega (arith, long, few)) (omega (arith, space)) (omega (arith, space, size)) (is ∙ ap (λ xs. take end row ++ take 16 xs) (take_rest bytes at))).0
     ∙ ap (λ xs. take end row ++ xs) (take-take run 16 (drop at bytes) few)
+
+-- one of 16 bytes that were put so
+pub byte_put : (bytes row put : List ℕ) (at end run : ℕ) → at + 16 ≤ length bytes → end + 16 ≤ length row → length put ≡ length row → take (end + 16) put ≡ take end row ++ take 16 (take (length bytes - at) (drop at bytes)) → run < 16
+    → get_or put (end + run) 0 ≡ get_or bytes (at + run) 0
+byte_put bytes row put at end run inside space size is few =
+    let chunk = take (run + 1) (drop at bytes) in
+    let long : length (take end row) ≡ end = length-take-le end row (omega (arith, space)) in
+    sym (get_or-take (end + (run + 1)) put (end + run) 0 (omega arith))
+    ∙ ap (λ xs. get_or xs (end + run) 0) (run_put bytes row put at end (run + 1) inside space size is (omega (arith, few)))
+    ∙ ap (λ n. get_or (take end row ++ chunk) (n + run) 0) (sym long) ∙ get_or-append-add (take end row) chunk run 0
+    ∙ get_or-take (run + 1) (drop at bytes) run 0 (omega arith) ∙ get_or-drop at bytes run 0
+
+-- fewer of the first bytes, which are the same
+pub fewer_same : (n m : ℕ) (xs ys : List ℕ) → n ≤ m → take m xs ≡ take m ys → take n xs ≡ take n ys
+fewer_same n m xs ys few same = sym (take-take n m xs few) ∙ ap (take n) same ∙ take-take n m ys few
 
 -- what is taken of a buffer behind whose old bytes a row was written
 pub row_taken : (old added ext row back : List ℕ) (start end len : ℕ) → ext ≡ old ++ added → start ≡ length old → take start row ≡ take start ext → start ≤ end → len ≡ length ext

@@ -1,6 +1,6 @@
 //! Strings whose escapes are of one letter, written from where they are in the text: each run is looked at and
 //! copied at once.
-ghost use Rattle.std.specs.Prelude.{◌≡◌, ◌+◌, ◌-◌, ◌≤◌, ◌<◌, ◌++◌, ◌∷◌, [], ℕ, List, true, false, length, take, slice_index, slice_range, IfNone, IfOk, IfSome, MatchBool, OnOk};
+ghost use Rattle.std.specs.Prelude.{◌≡◌, ◌+◌, ◌-◌, ◌≤◌, ◌<◌, ◌++◌, ◌∷◌, [], ℕ, List, Some, length, take, slice_index, slice_range, IfNone, IfOk, IfSome, OnOk};
 ghost use Rattle.jsonb_spec.specs.Ascii as ascii;
 ghost use Rattle.jsonb_spec.specs.Source.{Source};
 ghost use Rattle.jsonb_spec.specs.Text.Appending.{Extends};
@@ -9,6 +9,7 @@ ghost use Rattle.text_write.specs.ShortString.{WritesFront, written_byte, writte
 ghost use Rattle.text_common.specs.VerbatimScalar.{IsShortAt};
 ghost use Rattle.jsonb_spec.specs.Text.StringText.{ArePlain};
 ghost use Rattle.text_common.specs.ShortString.{IsShort};
+ghost use Rattle.jsonb_spec.specs.Grammar.StringBody.{standard_escape};
 ghost use Rattle.text_common.specs.SourceText.{source_text};
 ghost use Rattle.text_scan.specs.Decoding.{SeesNoBackslash};
 
@@ -96,132 +97,32 @@ fn append_short(
     Ok(())
 }
 
-// Puts what the first item means into a row, and returns where it ends there, and how many bytes the item has. Nothing
-// where that has more bytes than the item.
+// Puts the escape of this letter into a row, in place of what it means where a sort key is written, and returns where it
+// ends there. Its backslash is there. Nothing where a text needs another escape.
 #[inline(always)]
-fn put_item(bytes: &[u8], as_text: bool, row: &mut [u8], at: usize) -> Option<(usize, usize)>
-    requires { 0 < length bytes.now }
-    ensures item { IfSome result (λ r. (text : List ℕ) → IsShort bytes.now text
-        → WritesFront as_text bytes.now text (take at row.old) (take r.0 row.new) r.1) }
-    ensures onward { IfSome result (λ r. (0 < r.1) × (r.1 ≤ length bytes.now)) }
-    ensures within { IfSome result (λ r. (at ≤ r.0) × (r.0 ≤ length row.new)) }
-    ensures front { (n : ℕ) → n ≤ at → take n row.new ≡ take n row.old }
+fn put_escape(letter: u8, as_text: bool, row: &mut [u8], at: usize) -> Option<usize>
+    requires space { at + 2 ≤ length row.old }
+    requires here { slice_index row.old at ≡ ascii.backslash }
+    ensures put { IfSome result (λ end. (byte : ℕ) → standard_escape letter ≡ Some byte
+        → take end row.new ≡ take at row.old ++ written_byte as_text byte) }
+    ensures within { IfSome result (λ end. (at ≤ end) × (end ≤ at + 2)) }
+    ensures front { take at row.new ≡ take at row.old }
+    ensures size { length row.new ≡ length row.old }
 {
-    if bytes[0] != b'\\' {
-        let end = put_at(row, at, &[bytes[0]])?;
-        return Some((end, 1));
+    if as_text && is_verbatim_letter(letter) {
+        row[at + 1] = letter;
+        return Some(at + 2);
     }
-    if bytes.len() == 1 {
+    if as_text && letter != b'/' {
         return None;
     }
-    let byte = short_byte(bytes[1])?;
-    if !as_text {
-        let end = put_at(row, at, &[byte])?;
-        return Some((end, 2));
-    }
-    if byte == b'/' {
-        let end = put_at(row, at, b"/")?;
-        return Some((end, 2));
-    }
-    if !is_verbatim_letter(bytes[1]) {
-        return None;
-    }
-    let end = put_at(row, at, &[b'\\', bytes[1]])?;
-    Some((end, 2))
+    row[at] = short_byte(letter)?;
+    Some(at + 1)
 }
 
-// Puts 16 bytes into a row so, where there is space for them.
-#[inline(always)]
-fn put_sixteen(row: &mut [u8], at: usize, chunk: &[u8; 16]) -> bool
-    ensures within { MatchBool result (at + 16 ≤ length row.new) (Unit {0}) }
-    ensures put { MatchBool result (take (at + 16) row.new ≡ take at row.old ++ chunk.now) (Unit {0}) }
-    ensures front { (n : ℕ) → n ≤ at → take n row.new ≡ take n row.old }
-{
-    if row.len() < 16 || at > row.len() - 16 {
-        return false;
-    }
-    write_sixteen(row, at, chunk);
-    true
-}
-
-// Puts contents into a row, from an index on, and returns where they end there. They are the first bytes. Nothing
-// where they are near the end of the bytes or of the row, or may need more bytes there.
-#[inline(always)]
-fn put_short(
-    bytes: &[u8],
-    count: usize,
-    as_text: bool,
-    row: &mut [u8],
-    start: usize,
-) -> Option<usize>
-    requires inside { count ≤ length bytes.now }
-    requires space { start ≤ length row.old }
-    ensures put { IfSome result (λ end. (text : List ℕ) → IsShort (take count bytes.now) text
-        → take end row.new ≡ take start row.old ++ written_bytes as_text text) }
-    ensures within { IfSome result (λ end. (start ≤ end) × (end ≤ length row.new)) }
-    ensures front { take start row.new ≡ take start row.old }
-{
-    let mut at = 0;
-    let mut end = start;
-    'items: while at < count {
-        let chunk = bytes[at..].first_chunk::<16>()?;
-        let run = run_of_sixteen(chunk).min(count - at);
-        if !put_sixteen(row, end, chunk) {
-            return None;
-        }
-        at += run;
-        end += run;
-        if run < 16 && at < count {
-            let (next, size) = put_item(&bytes[at..count], as_text, row, end)?;
-            end = next;
-            at += size;
-        }
-    }
-    Some(end)
-}
-
-// How many of the first 16 bytes are before a backslash.
-#[inline(always)]
-fn run_before_backslash(bytes: &[u8]) -> usize
-    requires { 16 ≤ length bytes.now }
-    ensures within { result ≤ 16 }
-    ensures before { SeesNoBackslash bytes.now result }
-    ensures here { result < 16 → slice_index bytes.now result ≡ ascii.backslash }
-{
-    near_backslash(bytes).unwrap_or(16)
-}
-
-// Puts what contents mean into a row, from an index on, and returns where that ends there. The contents are the first
-// bytes, and 16 more are behind them and behind the space for them. Nothing where an escape isn't of one letter.
-#[inline(always)]
-fn put_meaning(bytes: &[u8], count: usize, row: &mut [u8], start: usize) -> Option<usize>
-    requires inside { count + 16 ≤ length bytes.now }
-    requires space { start + count + 16 ≤ length row.old }
-    ensures put { IfSome result (λ end. (text : List ℕ) → IsShort (take count bytes.now) text
-        → take end row.new ≡ take start row.old ++ written_bytes false text) }
-    ensures within { IfSome result (λ end. (start ≤ end) × (end ≤ length row.new)) }
-    ensures front { take start row.new ≡ take start row.old }
-{
-    let mut at = 0;
-    let mut end = start;
-    'items: while at < count {
-        let run = run_before_backslash(&bytes[at..]);
-        write_sixteen(row, end, &bytes[at..]);
-        if run >= count - at {
-            return Some(end + (count - at));
-        }
-        at += run;
-        end += run;
-        if run < 16 {
-            row[end] = short_byte(bytes[at + 1])?;
-            at += 2;
-            end += 1;
-        }
-    }
-    Some(end)
-}
-
-// Puts contents into a row so, for a text or a sort key.
+// Puts contents into a row, from an index on, and returns where they end there. The contents are the first bytes, and 16
+// more are behind them and behind the space for them. Nothing where an escape isn't of one letter, or a text needs
+// another one.
 #[inline(always)]
 fn put_contents(
     bytes: &[u8],
@@ -237,10 +138,23 @@ fn put_contents(
     ensures within { IfSome result (λ end. (start ≤ end) × (end ≤ length row.new)) }
     ensures front { take start row.new ≡ take start row.old }
 {
-    if as_text {
-        return put_short(bytes, count, true, row, start);
+    let mut at = 0;
+    let mut end = start;
+    'items: while at < count {
+        let near = near_backslash(&bytes[at..]);
+        write_sixteen(row, end, &bytes[at..]);
+        let run = near.unwrap_or(16);
+        if run >= count - at {
+            return Some(end + (count - at));
+        }
+        at += run;
+        end += run;
+        if near.is_some() {
+            end = put_escape(bytes[at + 1], as_text, row, end)?;
+            at += 2;
+        }
     }
-    put_meaning(bytes, count, row, start)
+    Some(end)
 }
 
 // Appends contents, which are the first bytes. A row of their length is there before, so that they are put into it with
