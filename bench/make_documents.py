@@ -96,6 +96,12 @@ def documents_with_exponents():
                                                            random.choice(WORDS)) for _ in range(12500))]
 
 
+def documents_of_escaped_letters():
+    """About 1 MB of strings of Cyrillic and Japanese letters, as json.dumps writes them: each letter is an escape."""
+    letters = "абвгдежзийклмнопрстуфхцчшщыьэюя東京都の駅から歩く    "
+    yield "unicode", [json.dumps([string_of(letters, 20, 100) for _ in range(3000)], separators=(",", ":"))]
+
+
 def identity():
     return random.randrange(10**17, 10**18)
 
@@ -325,6 +331,8 @@ def main():
         write_standard(folder, name, texts)
     for name, texts in documents_with_exponents():
         write(os.path.join(folder, name + ".exponents"), texts)
+    for name, texts in documents_of_escaped_letters():
+        write_standard(folder, name, texts)
 
 
 main()
