@@ -156,7 +156,7 @@ whole_number p n zeros old new w b few up beyond short zeros_are items c =
     let ds = (p.whole ++ p.behind) ++ zs in
     let are : zeros ≡ zs = zeros_are ∙ take-replicate k 19 48 (omega (arith, short)) in
     let long : length ds ≡ length p.whole + n = omega (arith, length-append (p.whole ++ p.behind) zs, length-append p.whole p.behind, length-replicate {A = ℕ} k 48, beyond) in
-    let value : digits_value 10 ds ≡ digits_value 10 (p.whole ++ p.behind) * 10 ^ k = value_after-append 0 (p.whole ++ p.behind) zs ∙ zeros_after k (digits_value 10 (p.whole ++ p.behind)) in
+    let value : digits_value 10 ds ≡ digits_value 10 (p.whole ++ p.behind) * 10 ^ k = value_after-append 10 0 (p.whole ++ p.behind) zs ∙ zeros_after k (digits_value 10 (p.whole ++ p.behind)) in
     let first = first_stays (p.whole ++ p.behind) zs (first_stays p.whole p.behind few.first) in
     let joined : ds ≡ p.whole ++ (p.behind ++ zeros) = append_assoc p.whole p.behind zs ∙ ap (λ t. p.whole ++ (p.behind ++ t)) (sym are) in
     written p 0 ds (p.whole ++ (p.behind ++ zeros)) old new

@@ -81,10 +81,10 @@ whole_all digits e = subst (AllDigits 10) (take_all (digits_length digits) digit
 -- ---- their values
 
 pub value_behind : (front back : List ℕ) (a b : ℕ) → a ≡ digits_value_after 10 0 front → b ≡ digits_value_after 10 a back → b ≡ digits_value 10 (front ++ back)
-value_behind front back a b p q = q ∙ ap (λ (n : ℕ). digits_value_after 10 n back) p ∙ sym (value_after-append 0 front back)
+value_behind front back a b p q = q ∙ ap (λ (n : ℕ). digits_value_after 10 n back) p ∙ sym (value_after-append 10 0 front back)
 
 pub more_behind : (front back : List ℕ) → digits_value_after 10 0 front ≤ digits_value 10 (front ++ back)
-more_behind front back = omega (arith, value_after-append 0 front back, value_after-take_le (digits_value_after 10 0 front) back 0)
+more_behind front back = omega (arith, value_after-append 10 0 front back, value_after-take_le 10 (digits_value_after 10 0 front) (omega arith) back 0)
 
 pub clamped : (r : Option ℕ) (n : ℕ) → SomeIff r (n < 2 ^ 128) n → IsClamped (unwrap_or r (2 ^ 100)) n
 clamped None n h = inr (omega arith, ⊎_elim (λ (small : n < 2 ^ 128). absurd (h small)) (λ large. omega (arith, large)) (cases_lt n (2 ^ 128)))

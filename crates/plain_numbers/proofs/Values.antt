@@ -11,7 +11,7 @@ use Rattle.text_scan.proofs.Numbers.DigitValues.{value_after_more, value_after-t
 
 pub after_none : (r : Option ℕ) (number : ℕ) (ds : List ℕ) (i n : ℕ) → i < length ds → n ≡ digits_value_after 10 number (take i ds) → (n * 10 + digit_value (get_or ds i 0) < 2 ^ 128 → ⊥) → r ≡ None → SomeIff r (digits_value_after 10 number ds < 2 ^ 128) (digits_value_after 10 number ds)
 after_none (Some v) number ds i n inside front past none = absurd (cc)
-after_none None number ds i n inside front past none = λ small. past (omega (arith, small, front, value_after_more number ds i inside, value_after-take_le number ds (i + 1)))
+after_none None number ds i n inside front past none = λ small. past (omega (arith, small, front, value_after_more 10 number ds i inside, value_after-take_le 10 number (omega arith) ds (i + 1)))
 
 pub after_all : (number : ℕ) (ds : List ℕ) (i n : ℕ) → length ds ≤ i → n ≡ digits_value_after 10 number (take i ds) → n < 2 ^ 128 → (digits_value_after 10 number ds < 2 ^ 128) × (n ≡ digits_value_after 10 number ds)
 after_all number ds i n end front small =

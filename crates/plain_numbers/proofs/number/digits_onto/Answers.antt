@@ -13,7 +13,7 @@ returns-in_err-all c =
 
 pub loop-digit-preserved : goal.loop-digit-preserved
 loop-digit-preserved c = record {
-  value = omega (arith, c.in_ok-all.ensures, c.loop-digit.invariant.value, value_after_more c.args.number c.args.digits.now c.loop-digit.digit-index (omega arith));
+  value = omega (arith, c.in_ok-all.ensures, c.loop-digit.invariant.value, value_after_more 10 c.args.number c.args.digits.now c.loop-digit.digit-index (omega arith));
   below = omega (arith, c.in_ok-all.ensures);
 }
 
