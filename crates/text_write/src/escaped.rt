@@ -51,6 +51,9 @@ pub(crate) fn entry_len(bytes: &[u8]) -> usize
     ensures retained { (mode : GrammarMode)
         → WritesItems mode bytes.now (drop result bytes.now) [] (take result bytes.now) }
 {
+    if matches!(bytes, [b'\\', b'u', ..]) {
+        return 0;
+    }
     let mut len = 0;
     'parts: while bytes.len() - len >= 18 {
         let run = run_of_sixteen(&bytes[len..]);

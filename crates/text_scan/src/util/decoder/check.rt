@@ -9,7 +9,7 @@ ghost use Rattle.text_scan.specs.QuotedString.{ChecksContents, decoded_text};
 ghost use Rattle.text_scan.specs.Parsing.String.{body_of};
 
 use super::run::near_backslash;
-use super::unit::pass_units;
+use super::unit::{after_unit_mark, pass_units};
 use super::{DecodingFault, escaped_byte};
 use crate::parser::Mode;
 use jsonb_value::error::{Error, ParseErrorCode, Result};
@@ -111,6 +111,11 @@ fn check(bytes: &[u8], mode: Mode, from: usize) -> std::result::Result<(), Decod
 {
     let mut rest = &bytes[from..];
     'items: while !rest.is_empty() {
+        // Units come one after another, where all letters of a text are escaped.
+        if let Some(digits) = after_unit_mark(rest) {
+            rest = pass_units(digits)?;
+            continue;
+        }
         let count = short_len(rest);
         let found = &rest[count..];
         let Some((_, after)) = found.split_first() else {

@@ -228,6 +228,19 @@ fn push_together(text: &mut [u8], len: usize, high: &HexUnit<'_>, next: &HexUnit
     }
 }
 
+// What follows the `\u` that the bytes begin with.
+#[inline(always)]
+pub(super) fn after_unit_mark(bytes: &[u8]) -> Option<&[u8]>
+    ensures some { IfSome result (λ rest. bytes.now ≡ ascii.backslash ∷ ascii.lower_u ∷ rest.now) }
+    ensures len { IfSome result (λ rest. length rest.now + 2 ≡ length bytes.now) }
+    ensures none { IfNone result ((rest : List ℕ) → bytes.now ≢ ascii.backslash ∷ ascii.lower_u ∷ rest) }
+{
+    match bytes {
+        [b'\\', b'u', rest @ ..] => Some(rest),
+        _ => None,
+    }
+}
+
 // What follows the next `\u`, where it is right after a high unit.
 fn after_next_mark<'a>(unit: &HexUnit<'a>) -> Option<&'a [u8]>
     ensures some { IfSome result (λ rest. (is_high_surrogate unit.now.value ≡ true)
@@ -239,10 +252,7 @@ fn after_next_mark<'a>(unit: &HexUnit<'a>) -> Option<&'a [u8]>
     if !is_surrogate_high(unit.value) {
         return None;
     }
-    match unit.rest {
-        [b'\\', b'u', after @ ..] => Some(after),
-        _ => None,
-    }
+    after_unit_mark(unit.rest)
 }
 
 // Decodes the unit whose `\u` is before the bytes, with the next one where the two are taken together.

@@ -1,4 +1,4 @@
-use Rattle.std.proofs.Common.{◌≡◌, ◌<◌, ap, get_or, inl, inr, subst, sym, arith, ◌∙◌}
+use Rattle.std.proofs.Common.{◌<◌, ap, get_or, inl, inr, subst, arith}
 use Rattle.std.specs.Char.{digit_value}
 use Rattle.std.proofs.lemmas.Bool.{cases_eq}
 use Rattle.std.proofs.lemmas.List.{get_or_default}
