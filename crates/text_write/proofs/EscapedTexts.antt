@@ -1,8 +1,8 @@
 -- What is written of the contents of a string with escapes, step by step.
-use Rattle.std.proofs.Common.{Bool, true, false, MatchBool, List, [], ◌∷◌, ◌≡◌, ◌≢◌, ℕ, zero, suc, ◌+◌, ◌≤◌, ◌++◌, length, take, drop, get_or, ⊎_elim, Some, sym, ap, ap₂, ◌∙◌, subst, arith, refl, length-append}
-use Rattle.std.proofs.lemmas.List.{append_assoc, append-nil, take-append-drop, take-take, drop-drop}
+use Rattle.std.proofs.Common.{Bool, true, false, MatchBool, List, [], ◌∷◌, ◌≡◌, ◌≢◌, ℕ, zero, suc, ◌+◌, ◌≤◌, ◌++◌, length, take, drop, get_or, ⊎_elim, Some, sym, ap, ◌∙◌, subst, arith, refl, length-append}
+use Rattle.std.proofs.lemmas.List.{append_assoc, append-nil, take-append-drop, drop-drop}
 use Rattle.std.proofs.lemmas.List.Concat.{flat_map-append}
-use Rattle.std.proofs.Math.Seq.{take-add, take-append_seam, drop-append_seam}
+use Rattle.std.proofs.Math.Seq.{take-add, drop-append_seam}
 use Rattle.std.specs.List.{flat_map}
 use Rattle.jsonb_spec.specs.Mode.{Mode, standard, extended}
 use Rattle.jsonb_spec.specs.Grammar.StringBody.{escaped_byte}
@@ -45,21 +45,6 @@ plain_rest b bytes h =
       λ e. absurd (omega (arith, one, ap (λ (n : ℕ). length (byte_text n)) e)),
       sym (drop-append_seam (byte_text b) others) ∙ ap (λ (n : ℕ). drop n (byte_text b ++ others)) one ∙ ap (drop 1) h,
     )
-
-plain_byte : (b : ℕ) (bytes : List ℕ) → ArePlain (b ∷ bytes) → byte_text b ≡ b ∷ []
-plain_byte b bytes h =
-    let others = flat_map byte_text bytes in
-    let one : length (byte_text b) ≡ 1 = omega (arith, ap length h, length-append (byte_text b) others, byte_some b, no_shorter bytes) in
-    sym (take-append_seam (byte_text b) others) ∙ ap (λ (n : ℕ). take n (byte_text b ++ others)) one ∙ ap (take 1) h
-
--- the first of such bytes
-plain_front : (n : ℕ) (bytes : List ℕ) → ArePlain bytes → ArePlain (take n bytes)
-plain_front zero bytes h = refl
-plain_front (suc n) [] h = refl
-plain_front (suc n) (b ∷ bytes) h = ap₂ (λ (xs ys : List ℕ). xs ++ ys) (plain_byte b bytes h) (plain_front n bytes (plain_rest b bytes h).1)
-
-pub fewer_plain : (few run : ℕ) (bytes : List ℕ) → few ≤ run → ArePlain (take run bytes) → ArePlain (take few bytes)
-fewer_plain few run bytes fewer h = subst ArePlain (take-take few run bytes fewer) (plain_front few (take run bytes) h)
 
 plain_clear : (bytes : List ℕ) → ArePlain bytes → SeesNoBackslash bytes (length bytes)
 plain_clear [] h k low = absurd (omega (arith, low))

@@ -51,6 +51,7 @@ pub(crate) fn entry_len(bytes: &[u8]) -> usize
     ensures retained { (mode : GrammarMode)
         → WritesItems mode bytes.now (drop result bytes.now) [] (take result bytes.now) }
 {
+    // One unit often follows another.
     if matches!(bytes, [b'\\', b'u', ..]) {
         return 0;
     }

@@ -11,11 +11,9 @@ ghost use Rattle.jsonb_spec.specs.Text.StringText.{ArePlain};
 ghost use Rattle.text_common.specs.ShortString.{IsShort};
 ghost use Rattle.jsonb_spec.specs.Grammar.StringBody.{standard_escape};
 ghost use Rattle.text_common.specs.SourceText.{source_text};
-ghost use Rattle.text_scan.specs.Decoding.{SeesNoBackslash};
 
 use crate::escaped::is_verbatim_letter;
 use crate::key::KeySink;
-use crate::members::put_at;
 use crate::short::append_first;
 use crate::text::TextSink;
 use crate::written::Written;

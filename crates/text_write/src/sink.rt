@@ -158,7 +158,7 @@ pub trait Sink<'a>: Drop + Sized {
         ensures base { base self.new ≡ base self.old };
 
     /// The end of an object. Its brace is in the text at an index. Where a key comes twice, what is returned is the
-    /// member where the least such key comes the second time.
+    /// member where the least such key comes the second time. An error is want of memory, or that much was moved before.
     fn end_object(
         &mut self,
         members: &Self::Members,

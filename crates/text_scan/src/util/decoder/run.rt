@@ -150,6 +150,7 @@ pub(super) fn copy_run<'a>(bytes: &'a [u8], text: &mut [u8], len: usize) -> Deco
     ensures len { result.len + length result.rest.now ≡ len + length bytes.now }
     ensures size { length text.new ≡ length text.old }
 {
+    // One escape often follows another.
     if matches!(bytes, [b'\\', ..]) {
         return Decoded { rest: bytes, len };
     }
