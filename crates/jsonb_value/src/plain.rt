@@ -1,5 +1,5 @@
 //! Which bytes of a string are written as they are, and how the others are.
-ghost use Rattle.std.specs.Prelude.{◌≡◌, ◌<◌, ◌≤◌, ◌==◌, if◌then◌else◌, MatchBool, length, take};
+ghost use Rattle.std.specs.Prelude.{◌≡◌, ◌<◌, ◌≤◌, ◌==◌, if◌then◌else◌, IfSome, MatchBool, MatchOption, length, take};
 ghost use Rattle.std.specs.Char.{digit_char};
 ghost use Rattle.std.specs.Int.{w64, trailing_zeros};
 ghost use Rattle.jsonb_spec.specs.Text.Appending.{Appends};
@@ -26,11 +26,10 @@ pub fn plain_len(bytes: &[u8]) -> usize
     if bytes.len() < 16 {
         return long_run(bytes);
     }
-    let run = run_of_sixteen(bytes);
-    if run < 16 {
-        return run;
+    match near_escaped(bytes) {
+        Some(run) => run,
+        None => long_run(bytes),
     }
-    long_run(bytes)
 }
 
 // Does so without being inlined.
@@ -101,10 +100,24 @@ pub fn run_of_sixteen(bytes: &[u8]) -> usize
     ensures within { result ≤ 16 }
     ensures plain { ArePlain (take result bytes.now) }
 {
+    near_escaped(bytes).unwrap_or(16)
+}
+
+// The index of the first byte that isn't written as it is, among the first 16.
+#[inline(always)]
+fn near_escaped(bytes: &[u8]) -> Option<usize>
+    requires { 16 ≤ length bytes.now }
+    ensures within { IfSome result (λ index. index ≤ 16) }
+    ensures plain { MatchOption result (ArePlain (take 16 bytes.now)) (λ index. ArePlain (take index bytes.now)) }
+{
     let lanes = u8x16::from_slice(bytes);
     let below = lanes.simd_lt(u8x16::splat(b' '));
     let marks = below | lanes.simd_eq(u8x16::splat(b'"')) | lanes.simd_eq(u8x16::splat(b'\\'));
-    first_set(marks.to_bitmask(), 16)
+    let mask = marks.to_bitmask();
+    if mask == 0 {
+        return None;
+    }
+    Some(mask.trailing_zeros() as usize)
 }
 
 // How many of the first 8 bytes, up to the first that is not, are written as they are.

@@ -75,10 +75,12 @@ impl PartItems {
         ensures ahead { ahead_of self.new ≡ less (ahead_of self.old) }
         ensures level { level_of self.new ≡ level_of self.old }
     {
-        if self.ahead == 0 {
-            self.is_ahead = false;
-        } else {
-            self.ahead -= 1;
+        if self.is_ahead {
+            if self.ahead == 0 {
+                self.is_ahead = false;
+            } else {
+                self.ahead -= 1;
+            }
         }
     }
 }
