@@ -69,11 +69,22 @@ fn of_key(alloc: Global, text: &str) -> Result<String, AllocError> {
 // The sort key of a text's value, and whether the key is decoded as an equal value and is appended straight too.
 fn sort_key(alloc: Global, text: &[u8]) -> jsonb::Result<(Vec<u8>, bool)> {
     let value = jsonb::parse_value(alloc, text)?;
+    let key = key_of_value(alloc, &value)?;
+    let agrees = decodes(alloc, &key, &value)?
+        && straight::gives_key(alloc, Mode::Extended, text, &key)?;
+    Ok((key, agrees))
+}
+
+fn key_of_value(alloc: Global, value: &Value<'_>) -> jsonb::Result<Vec<u8>> {
     let mut key = Vec::new(alloc);
     value.write_sort_key(&mut key)?;
-    let decodes = is_key_of(alloc, &key, &value.to_owned_value(alloc)?);
-    let agrees = decodes && straight::gives_key(alloc, Mode::Extended, text, &key)?;
-    Ok((key, agrees))
+    Ok(key)
+}
+
+// Whether the key is decoded as a value that is equal to an owned copy of this one.
+fn decodes(alloc: Global, key: &[u8], value: &Value<'_>) -> jsonb::Result<bool> {
+    let owned = value.to_owned_value(alloc)?;
+    Ok(is_key_of(alloc, key, &owned))
 }
 
 // Whether the key is decoded as an equal value.
@@ -152,11 +163,9 @@ fn read(alloc: Global, mode: Mode, text: &[u8]) -> jsonb::Result<Value<'_>> {
 
 // The order of two texts' values, or `None` where that of their sort keys is another.
 fn order(alloc: Global, mode: Mode, left: &[u8], right: &[u8]) -> jsonb::Result<Option<Ordering>> {
-    let order = read(alloc, mode, left)?.cmp(&read(alloc, mode, right)?);
-    let mut first = Vec::new(alloc);
-    jsonb::append_sort_key(alloc, left, mode, &mut first)?;
-    let mut second = Vec::new(alloc);
-    jsonb::append_sort_key(alloc, right, mode, &mut second)?;
+    let order = order_of_values(alloc, mode, left, right)?;
+    let first = straight::key(alloc, mode, left)?;
+    let second = straight::key(alloc, mode, right)?;
     Ok(if first[..].cmp(&second[..]) == order {
         Some(order)
     } else {
@@ -164,39 +173,82 @@ fn order(alloc: Global, mode: Mode, left: &[u8], right: &[u8]) -> jsonb::Result<
     })
 }
 
+fn order_of_values(
+    alloc: Global,
+    mode: Mode,
+    left: &[u8],
+    right: &[u8],
+) -> jsonb::Result<Ordering> {
+    let left = read(alloc, mode, left)?;
+    let right = read(alloc, mode, right)?;
+    Ok(left.cmp(&right))
+}
+
 // The answer to a text that is read.
 fn describe(alloc: Global, mode: Mode, text: &[u8]) -> jsonb::Result<String> {
-    let tree = tree::describe(alloc, &JsonAst::parse(alloc, text, mode)?)?;
+    let tree = tree_of(alloc, mode, text)?;
+    let form = form_of(alloc, mode, text)?;
+    Ok(format!(in alloc; "ok {tree} {form}")?)
+}
+
+fn tree_of(alloc: Global, mode: Mode, text: &[u8]) -> jsonb::Result<String> {
+    let tree = JsonAst::parse(alloc, text, mode)?;
+    Ok(tree::describe(alloc, &tree)?)
+}
+
+// The serialized form, and whether all agrees with it.
+fn form_of(alloc: Global, mode: Mode, text: &[u8]) -> jsonb::Result<String> {
     let written = text_of(alloc, mode, text)?;
     let word = if agree(alloc, mode, text, &written)? {
         "same"
     } else {
         "differs"
     };
-    let written = hex::encode(alloc, &written[..])?;
-    Ok(format!(in alloc; "ok {tree} {written} {word}")?)
+    let digits = hex::encode(alloc, &written[..])?;
+    Ok(format!(in alloc; "{digits} {word}")?)
 }
 
 fn text_of(alloc: Global, mode: Mode, text: &[u8]) -> jsonb::Result<Vec<u8>> {
+    text_of_value(alloc, &read(alloc, mode, text)?)
+}
+
+fn text_of_value(alloc: Global, value: &Value<'_>) -> jsonb::Result<Vec<u8>> {
     let mut written = Vec::new(alloc);
-    read(alloc, mode, text)?.write_text(&mut written)?;
+    value.write_text(&mut written)?;
     Ok(written)
 }
 
 // Whether the value is that of the tree, what its text reads back as is equal to it, and the text is written again.
 fn agree<'a>(alloc: Global, mode: Mode, text: &'a [u8], written: &'a [u8]) -> jsonb::Result<bool> {
     let value = read(alloc, mode, text)?;
-    let again = read(alloc, mode, written)?;
-    let mut written_again = Vec::new(alloc);
-    again.write_text(&mut written_again)?;
-    let converted = JsonAst::parse(alloc, text, mode)?.into_value(alloc)?;
     Ok(
-        are_same(&converted, &value)
-            && again == value
-            && &written_again[..] == written
+        is_of_tree(alloc, mode, text, &value)?
+            && is_read_back(alloc, mode, written, &value)?
             && straight::gives_text(alloc, mode, text, written)?
             && straight_key_agrees(alloc, mode, text, &value)?,
     )
+}
+
+// Whether the value is that of the tree.
+fn is_of_tree<'a>(
+    alloc: Global,
+    mode: Mode,
+    text: &'a [u8],
+    value: &Value<'a>,
+) -> jsonb::Result<bool> {
+    let converted = JsonAst::parse(alloc, text, mode)?.into_value(alloc)?;
+    Ok(are_same(&converted, value))
+}
+
+// Whether the serialized form is read as an equal value, and written again.
+fn is_read_back<'a>(
+    alloc: Global,
+    mode: Mode,
+    written: &'a [u8],
+    value: &Value<'a>,
+) -> jsonb::Result<bool> {
+    let again = read(alloc, mode, written)?;
+    Ok(again == *value && text_of_value(alloc, &again)?.as_slice() == written)
 }
 
 // Whether the key that is appended straight is the value's.
@@ -206,7 +258,6 @@ fn straight_key_agrees(
     text: &[u8],
     value: &Value<'_>,
 ) -> jsonb::Result<bool> {
-    let mut key = Vec::new(alloc);
-    value.write_sort_key(&mut key)?;
+    let key = key_of_value(alloc, value)?;
     straight::gives_key(alloc, mode, text, &key)
 }

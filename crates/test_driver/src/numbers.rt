@@ -41,20 +41,29 @@ fn number(word: &str) -> Option<Number> {
 // Its text, its exact and its rounded casts, its opposite and its sort key.
 fn of_one(alloc: Global, number: Number) -> Result<String, AllocError> {
     let mut out = format!(in alloc; "{number}")?;
-    put_cast(&mut out, number.as_i128())?;
-    put_cast(&mut out, number.as_i64().map(i128::from))?;
-    put_cast(&mut out, number.as_u64().map(i128::from))?;
-    put_cast(&mut out, number.to_i128())?;
-    put_cast(&mut out, number.to_i64().map(i128::from))?;
-    put_cast(&mut out, number.to_u64().map(i128::from))?;
+    put_casts(&mut out, &number)?;
     put_result(alloc, &mut out, number.neg(alloc))?;
+    put_key(alloc, &mut out, number)?;
+    Ok(out)
+}
+
+fn put_casts(out: &mut String, number: &Number) -> Result<(), AllocError> {
+    put_cast(out, number.as_i128())?;
+    put_cast(out, number.as_i64().map(i128::from))?;
+    put_cast(out, number.as_u64().map(i128::from))?;
+    put_cast(out, number.to_i128())?;
+    put_cast(out, number.to_i64().map(i128::from))?;
+    put_cast(out, number.to_u64().map(i128::from))
+}
+
+// Puts the sort key in hexadecimal.
+fn put_key(alloc: Global, out: &mut String, number: Number) -> Result<(), AllocError> {
     let mut key = Vec::new(alloc);
     if Value::Number(number).write_sort_key(&mut key).is_err() {
         return Err(AllocError);
     }
     let key = hex::encode(alloc, &key[..])?;
-    write!(out, " {key}")?;
-    Ok(out)
+    write!(out, " {key}")
 }
 
 // Their order, and what the four operations answer.
@@ -65,11 +74,21 @@ fn of_two(alloc: Global, left: Number, right: Number) -> Result<String, AllocErr
         Ordering::Greater => "greater",
     };
     let mut out = String::from_str(alloc, order)?;
-    put_result(alloc, &mut out, left.add(alloc, right.clone()?))?;
-    put_result(alloc, &mut out, left.sub(alloc, right.clone()?))?;
-    put_result(alloc, &mut out, left.mul(alloc, right.clone()?))?;
-    put_result(alloc, &mut out, left.rem(alloc, right))?;
+    put_results(alloc, &mut out, left, right)?;
     Ok(out)
+}
+
+// Puts what the four operations answer.
+fn put_results(
+    alloc: Global,
+    out: &mut String,
+    left: Number,
+    right: Number,
+) -> Result<(), AllocError> {
+    put_result(alloc, out, left.add(alloc, right.clone()?))?;
+    put_result(alloc, out, left.sub(alloc, right.clone()?))?;
+    put_result(alloc, out, left.mul(alloc, right.clone()?))?;
+    put_result(alloc, out, left.rem(alloc, right))
 }
 
 fn put_cast(out: &mut String, cast: Option<i128>) -> Result<(), AllocError> {

@@ -57,11 +57,14 @@ fn are_same_strings(left: &CowStr, right: &CowStr) -> bool {
 
 // Whether the two are one variant, with one scale and integer.
 fn are_same_numbers(left: &Number, right: &Number) -> bool {
-    match (left, right) {
-        (Number::Int64(m), Number::Int64(n)) => m == n,
-        (Number::UInt64(m), Number::UInt64(n)) => m == n,
-        (Number::Decimal64(m), Number::Decimal64(n)) => m.scale == n.scale && m.value == n.value,
-        (Number::Decimal128(m), Number::Decimal128(n)) => m.scale == n.scale && m.value == n.value,
-        _ => false,
+    match left {
+        Number::Int64(m) => matches!(right, Number::Int64(n) if m == n),
+        Number::UInt64(m) => matches!(right, Number::UInt64(n) if m == n),
+        Number::Decimal64(m) => {
+            matches!(right, Number::Decimal64(n) if m.scale == n.scale && m.value == n.value)
+        }
+        Number::Decimal128(m) => {
+            matches!(right, Number::Decimal128(n) if m.scale == n.scale && m.value == n.value)
+        }
     }
 }

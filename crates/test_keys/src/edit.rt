@@ -1,4 +1,4 @@
-use jsonb::parse_value;
+use jsonb::{Error, parse_value};
 use jsonb_path::read_keys;
 use jsonb_value::sort_key::kind;
 use key_edit::{
@@ -7,38 +7,38 @@ use key_edit::{
 };
 use key_text::write_text_of_key;
 use key_walk::is_sort_key;
-use std::alloc::Global;
+use std::alloc::{AllocError, Global};
 use std::process::Abort;
 use std::test::Fail;
 
 // The sort key of a text.
-fn key_of(rt: &(impl AllocGlobal + Abort), text: &[u8]) -> Result<Vec<u8>, Fail> {
-    let mut key = Vec::new(rt.alloc());
-    parse_value(rt.alloc(), text)?.write_sort_key(&mut key)?;
+fn key_of(alloc: Global, text: &[u8]) -> Result<Vec<u8>, Error> {
+    let mut key = Vec::new(alloc);
+    parse_value(alloc, text)?.write_sort_key(&mut key)?;
     Ok(key)
 }
 
 // The names of a path.
-fn names_of(rt: &(impl AllocGlobal + Abort), path: &[u8]) -> Result<Vec<String>, Fail> {
+fn names_of(rt: &(impl AllocGlobal + Abort), path: &[u8]) -> Result<Vec<String>, AllocError> {
     Ok(read_keys(rt.alloc(), path)?.expect(rt, "no path"))
 }
 
-// The text of a key that was appended behind a byte, and is one; or none, where nothing was.
-fn text_behind(
-    rt: &(impl AllocGlobal + Abort),
+// Whether a key was appended behind a byte, and is one, and has this text; or nothing was, where none is wanted.
+fn is_behind(
+    alloc: Global,
     reported: Result<bool, EditError>,
     out: &[u8],
-) -> Result<Option<Vec<u8>>, Fail> {
-    let (first, key) = out.split_first().expect(rt, "what was there is gone");
-    assert_eq!(rt; *first, b'x');
+    wanted: Option<&[u8]>,
+) -> Result<bool, Fail> {
+    let Some(key) = out.strip_prefix(b"x") else {
+        return Ok(false);
+    };
     if !reported? {
-        assert!(rt; key.is_empty());
-        return Ok(None);
+        return Ok(key.is_empty() && wanted.is_none());
     }
-    assert!(rt; is_sort_key(key));
-    let mut text = Vec::new(rt.alloc());
+    let mut text = Vec::new(alloc);
     write_text_of_key(key, &mut text)?;
-    Ok(Some(text))
+    Ok(is_sort_key(key) && wanted == Some(&text[..]))
 }
 
 // Cuts a word off a row of a table.
@@ -83,16 +83,26 @@ const REMOVED: &str = r#"{"a":1,"b":{"c":[1,2,3]}} /a {"b":{"c":[1,2,3]}}
 [] /0 -
 {} /a -"#;
 
+// Whether what is left without the part at the path is what is wanted.
+fn removes(
+    rt: &(impl AllocGlobal + Abort),
+    document: &str,
+    path: &str,
+    wanted: &str,
+) -> Result<bool, Fail> {
+    let key = key_of(rt.alloc(), document.as_bytes())?;
+    let names = names_of(rt, path.as_bytes())?;
+    let mut out = Vec::from_slice(rt.alloc(), b"x")?;
+    let reported = append_without_part(&mut out, &key, &names);
+    is_behind(rt.alloc(), reported, &out, expected_text(wanted))
+}
+
 #[test]
 fn parts_are_removed_as_in_jsonb(rt: HostRuntime) -> Result<(), Fail> {
     for row in REMOVED.lines() {
         let (document, words) = cut(&rt, row);
         let (path, text) = cut(&rt, words);
-        let mut out = Vec::from_slice(rt.alloc(), b"x")?;
-        let key = key_of(&rt, document.as_bytes())?;
-        let reported = append_without_part(&mut out, &key, &names_of(&rt, path.as_bytes())?);
-        let found = text_behind(&rt, reported, &out)?;
-        assert_eq!(rt; found.as_deref(), expected_text(text), "{row}");
+        assert!(rt; removes(&rt, document, path, text)?, "{row}");
     }
     Ok(())
 }
@@ -123,20 +133,20 @@ const SET: &str =
 {} /k {"k":{"n":[null]}} -
 "s" /k - -"#;
 
-// Compares what is set at a path with what is wanted.
-fn expect_set(
+// Whether what is set at the path is what is wanted.
+fn sets(
     rt: &(impl AllocGlobal + Abort),
-    key: &[u8],
-    names: &[String],
+    document: &str,
+    path: &str,
     create: bool,
-    text: &str,
-) -> Result<(), Fail> {
+    wanted: &str,
+) -> Result<bool, Fail> {
+    let key = key_of(rt.alloc(), document.as_bytes())?;
+    let names = names_of(rt, path.as_bytes())?;
+    let part = key_of(rt.alloc(), b"{\"n\":[null]}")?;
     let mut out = Vec::from_slice(rt.alloc(), b"x")?;
-    let part = key_of(rt, b"{\"n\":[null]}")?;
-    let reported = append_with_part(&mut out, key, names, &part, create);
-    let found = text_behind(rt, reported, &out)?;
-    assert_eq!(rt; found.as_deref(), expected_text(text), "{create} {text}");
-    Ok(())
+    let reported = append_with_part(&mut out, &key, &names, &part, create);
+    is_behind(rt.alloc(), reported, &out, expected_text(wanted))
 }
 
 #[test]
@@ -145,10 +155,8 @@ fn parts_are_set_as_in_jsonb(rt: HostRuntime) -> Result<(), Fail> {
         let (document, words) = cut(&rt, row);
         let (path, texts) = cut(&rt, words);
         let (created, unasked) = cut(&rt, texts);
-        let key = key_of(&rt, document.as_bytes())?;
-        let names = names_of(&rt, path.as_bytes())?;
-        expect_set(&rt, &key, &names, true, created)?;
-        expect_set(&rt, &key, &names, false, unasked)?;
+        assert!(rt; sets(&rt, document, path, true, created)?, "{row}");
+        assert!(rt; sets(&rt, document, path, false, unasked)?, "{row}");
     }
     Ok(())
 }
@@ -175,20 +183,13 @@ true {"a":1} [true,{"a":1}]
 [] {} [{}]
 {"a":1,"aa":2,"b":3} {"":0,"aa":[],"ab":1,"c":2} {"":0,"a":1,"aa":[],"ab":1,"b":3,"c":2}"#;
 
-// Compares what is merged of two documents with what is wanted.
-fn expect_merged(
-    rt: &(impl AllocGlobal + Abort),
-    left: &str,
-    right: &str,
-    text: &str,
-) -> Result<(), Fail> {
-    let mut out = Vec::from_slice(rt.alloc(), b"x")?;
-    let key = key_of(rt, left.as_bytes())?;
-    let other = key_of(rt, right.as_bytes())?;
+// Whether what is merged of two documents is what is wanted.
+fn merges(alloc: Global, left: &str, right: &str, wanted: &str) -> Result<bool, Fail> {
+    let key = key_of(alloc, left.as_bytes())?;
+    let other = key_of(alloc, right.as_bytes())?;
+    let mut out = Vec::from_slice(alloc, b"x")?;
     append_merged(&mut out, &key, &other)?;
-    let found = text_behind(rt, Ok(true), &out)?;
-    assert_eq!(rt; found.as_deref(), Some(text.as_bytes()), "{left} {right}");
-    Ok(())
+    is_behind(alloc, Ok(true), &out, Some(wanted.as_bytes()))
 }
 
 #[test]
@@ -196,15 +197,25 @@ fn values_are_merged_as_in_jsonb(rt: HostRuntime) -> Result<(), Fail> {
     for row in MERGED.lines() {
         let (left, words) = cut(&rt, row);
         let (right, text) = cut(&rt, words);
-        expect_merged(&rt, left, right, text)?;
+        assert!(rt; merges(rt.alloc(), left, right, text)?, "{row}");
     }
     Ok(())
 }
 
-// What is behind the first byte.
-fn behind_first(rt: &(impl AllocGlobal + Abort), out: &[u8]) -> Result<Vec<u8>, Fail> {
-    let (_, key) = out.split_first().expect(rt, "what was there is gone");
-    Ok(Vec::from_slice(rt.alloc(), key)?)
+// The key that was appended behind a byte, where it has this text.
+fn key_behind(
+    alloc: Global,
+    reported: Result<bool, EditError>,
+    out: &[u8],
+    wanted: &str,
+) -> Result<Option<Vec<u8>>, Fail> {
+    if !is_behind(alloc, reported, out, Some(wanted.as_bytes()))? {
+        return Ok(None);
+    }
+    match out.split_first() {
+        Some((_, key)) => Ok(Some(Vec::from_slice(alloc, key)?)),
+        None => Ok(None),
+    }
 }
 
 // What PostgreSQL 15 gives for `jsonb_build_object('b', 1, 'a', '[2]'::jsonb, 'b', 'x', '', null)`: a name, a value,
@@ -214,17 +225,28 @@ a [2] {"a":[2],"b":1}
 b "x" {"a":[2],"b":"x"}
  null {"":null,"a":[2],"b":"x"}"#;
 
+// The object's key with the member, where that has the text that is wanted.
+fn with_member(
+    alloc: Global,
+    object: &[u8],
+    name: &str,
+    value: &str,
+    wanted: &str,
+) -> Result<Option<Vec<u8>>, Fail> {
+    let part = key_of(alloc, value.as_bytes())?;
+    let mut out = Vec::from_slice(alloc, b"x")?;
+    let reported = append_with_member(&mut out, object, name, &part);
+    key_behind(alloc, reported, &out, wanted)
+}
+
 #[test]
 fn objects_are_built_as_in_jsonb(rt: HostRuntime) -> Result<(), Fail> {
     let mut object = Vec::from_slice(rt.alloc(), &EMPTY_OBJECT)?;
     for row in MEMBERS.lines() {
         let (name, words) = cut(&rt, row);
         let (value, text) = cut(&rt, words);
-        let mut out = Vec::from_slice(rt.alloc(), b"x")?;
-        let reported = append_with_member(&mut out, &object, name, &key_of(&rt, value.as_bytes())?);
-        let found = text_behind(&rt, reported, &out)?;
-        assert_eq!(rt; found.as_deref(), Some(text.as_bytes()), "{row}");
-        object = behind_first(&rt, &out)?;
+        let made = with_member(rt.alloc(), &object, name, value, text)?;
+        object = made.expect(&rt, row);
     }
     Ok(())
 }
@@ -234,35 +256,56 @@ const ITEMS: &str = r#"1 [1]
 {"a":1} [1,{"a":1}]
 "x" [1,{"a":1},"x"]"#;
 
+// The array's key with the item, where that has the text that is wanted.
+fn with_item(
+    alloc: Global,
+    array: &[u8],
+    item: &str,
+    wanted: &str,
+) -> Result<Option<Vec<u8>>, Fail> {
+    let part = key_of(alloc, item.as_bytes())?;
+    let mut out = Vec::from_slice(alloc, b"x")?;
+    let reported = append_with_item(&mut out, array, &part);
+    key_behind(alloc, reported, &out, wanted)
+}
+
 #[test]
 fn arrays_are_built_as_in_jsonb(rt: HostRuntime) -> Result<(), Fail> {
     let mut array = Vec::from_slice(rt.alloc(), &EMPTY_ARRAY)?;
     for row in ITEMS.lines() {
         let (item, text) = cut(&rt, row);
-        let mut out = Vec::from_slice(rt.alloc(), b"x")?;
-        let reported = append_with_item(&mut out, &array, &key_of(&rt, item.as_bytes())?);
-        let found = text_behind(&rt, reported, &out)?;
-        assert_eq!(rt; found.as_deref(), Some(text.as_bytes()), "{row}");
-        array = behind_first(&rt, &out)?;
+        let made = with_item(rt.alloc(), &array, item, text)?;
+        array = made.expect(&rt, row);
     }
     Ok(())
 }
 
+// Whether the array takes no member.
+fn takes_no_member(alloc: Global, array: &[u8]) -> Result<bool, Fail> {
+    let key = key_of(alloc, array)?;
+    let mut out = Vec::from_slice(alloc, b"x")?;
+    let reported = append_with_member(&mut out, &key, "a", &EMPTY_ARRAY);
+    is_behind(alloc, reported, &out, None)
+}
+
+// Whether the object takes no item.
+fn takes_no_item(alloc: Global, object: &[u8]) -> Result<bool, Fail> {
+    let key = key_of(alloc, object)?;
+    let mut out = Vec::from_slice(alloc, b"x")?;
+    let reported = append_with_item(&mut out, &key, &EMPTY_ARRAY);
+    is_behind(alloc, reported, &out, None)
+}
+
 #[test]
 fn arrays_take_no_members_and_objects_no_items(rt: HostRuntime) -> Result<(), Fail> {
-    let mut out = Vec::from_slice(rt.alloc(), b"x")?;
-    let array = key_of(&rt, b"[1]")?;
-    let reported = append_with_member(&mut out, &array, "a", &EMPTY_ARRAY);
-    assert_eq!(rt; text_behind(&rt, reported, &out)?, None);
-    let object = key_of(&rt, b"{\"a\":1}")?;
-    let reported = append_with_item(&mut out, &object, &EMPTY_ARRAY);
-    assert_eq!(rt; text_behind(&rt, reported, &out)?, None);
+    assert!(rt; takes_no_member(rt.alloc(), b"[1]")?);
+    assert!(rt; takes_no_item(rt.alloc(), b"{\"a\":1}")?);
     Ok(())
 }
 
 // The key of so many arrays in one another.
-fn nested_arrays(rt: &(impl AllocGlobal + Abort), levels: usize) -> Result<Vec<u8>, Fail> {
-    let mut key = Vec::new(rt.alloc());
+fn nested_arrays(alloc: Global, levels: usize) -> Result<Vec<u8>, AllocError> {
+    let mut key = Vec::new(alloc);
     for _ in 0..levels {
         key.push(kind::ARRAY)?;
     }
@@ -272,8 +315,27 @@ fn nested_arrays(rt: &(impl AllocGlobal + Abort), levels: usize) -> Result<Vec<u
     Ok(key)
 }
 
+// Whether this is reported of an array of so many levels with an item of so many, and both are there or neither.
+fn takes_levels(
+    alloc: Global,
+    levels: usize,
+    more: usize,
+    wanted: Result<bool, EditError>,
+) -> Result<bool, AllocError> {
+    let key = nested_arrays(alloc, levels)?;
+    let item = nested_arrays(alloc, more)?;
+    let mut out = Vec::from_slice(alloc, b"x")?;
+    let reported = append_with_item(&mut out, &key, &item);
+    let appended = if wanted.is_ok() {
+        key.len() + item.len()
+    } else {
+        0
+    };
+    Ok(reported == wanted && out.len() == 1 + appended)
+}
+
 #[test]
-fn at_most_512_levels_are_made(rt: HostRuntime) -> Result<(), Fail> {
+fn at_most_512_levels_are_made(rt: HostRuntime) {
     for (levels, more, reported) in [
         (1, 511, Ok(true)),
         (511, 1, Ok(true)),
@@ -281,22 +343,22 @@ fn at_most_512_levels_are_made(rt: HostRuntime) -> Result<(), Fail> {
         (1, 512, Err(EditError::TooDeep)),
         (512, 512, Err(EditError::TooDeep)),
     ] {
-        let mut out = Vec::from_slice(rt.alloc(), b"x")?;
-        let key = nested_arrays(&rt, levels)?;
-        let item = nested_arrays(&rt, more)?;
-        assert_eq!(rt;
-            append_with_item(&mut out, &key, &item),
-            reported,
-            "{levels} {more}"
-        );
-        let len = if reported.is_ok() {
-            1 + key.len() + item.len()
-        } else {
-            1
-        };
-        assert_eq!(rt; out.len(), len);
+        let is_so = takes_levels(rt.alloc(), levels, more, reported) == Ok(true);
+        assert!(rt; is_so, "{levels} {more}");
     }
-    Ok(())
+}
+
+// Whether the bytes begin with no key for a part to be removed or set.
+fn are_no_key(out: &mut Vec<u8>, bytes: &[u8], names: &[String]) -> bool {
+    append_without_part(out, bytes, names) == Err(EditError::NoKey)
+        && append_with_part(out, bytes, names, b"\xD3", true) == Err(EditError::NoKey)
+}
+
+// Whether no bytes are no key, on either side.
+fn no_bytes_are_no_key(out: &mut Vec<u8>) -> bool {
+    append_with_item(out, &EMPTY_ARRAY, b"") == Err(EditError::NoKey)
+        && append_merged(out, b"", &EMPTY_ARRAY) == Err(EditError::NoKey)
+        && append_merged(out, &EMPTY_ARRAY, b"") == Err(EditError::NoKey)
 }
 
 // Bytes that begin with no key, on either side.
@@ -305,21 +367,9 @@ fn what_is_no_key_is_rejected(rt: HostRuntime) -> Result<(), Fail> {
     let names = names_of(&rt, b"/a")?;
     let mut out = Vec::from_slice(rt.alloc(), b"x")?;
     for bytes in [b"" as &[u8], b"\xD1", b"\xD1a", b"\xD1a\x00\x01", b"\x10"] {
-        let reported = append_without_part(&mut out, bytes, &names);
-        assert_eq!(rt; reported, Err(EditError::NoKey), "{bytes:?}");
-        let reported = append_with_part(&mut out, bytes, &names, b"\xD3", true);
-        assert_eq!(rt; reported, Err(EditError::NoKey), "{bytes:?}");
+        assert!(rt; are_no_key(&mut out, bytes, &names), "{bytes:?}");
     }
-    let reported = append_with_item(&mut out, &EMPTY_ARRAY, b"");
-    assert_eq!(rt; reported, Err(EditError::NoKey));
-    assert_eq!(rt;
-        append_merged(&mut out, b"", &EMPTY_ARRAY),
-        Err(EditError::NoKey)
-    );
-    assert_eq!(rt;
-        append_merged(&mut out, &EMPTY_ARRAY, b""),
-        Err(EditError::NoKey)
-    );
+    assert!(rt; no_bytes_are_no_key(&mut out));
     assert_eq!(rt; out.len(), 1);
     Ok(())
 }

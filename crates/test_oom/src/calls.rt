@@ -12,7 +12,11 @@ use std::io::Write;
 use text_pretty::write_text_indented;
 
 /// Writes a line with what a call answered.
-pub fn say<W: Write>(out: &mut W, name: &str, answer: &Result<Vec<u8>>) -> io::Result<()> {
+pub fn say<W: Write>(out: &mut W, name: &str, answer: Result<Vec<u8>>) -> io::Result<()> {
+    put_line(out, name, &answer)
+}
+
+fn put_line<W: Write>(out: &mut W, name: &str, answer: &Result<Vec<u8>>) -> io::Result<()> {
     write!(out, "{name} ")?;
     match answer {
         Ok(text) => out.write_all(text)?,
@@ -35,25 +39,30 @@ pub fn report<W: Write>(alloc: Global, line: &str, out: &mut W) -> io::Result<()
     let Ok(text) = hex::decode(alloc, text) else {
         return Err(io::Error::from(io::ErrorKind::InvalidInput));
     };
-    say(out, "reads", &reads(alloc, mode, &text))?;
-    say(out, "checks", &checks(alloc, mode, &text))?;
-    say(out, "value", &value(alloc, mode, &text))?;
-    say(out, "tree", &tree(alloc, mode, &text))?;
-    say(out, "clone", &clone(alloc, mode, &text))?;
-    say(out, "owned", &text_of_owned(alloc, mode, &text))?;
-    say(out, "tree_clone", &tree_clone(alloc, mode, &text))?;
-    say(out, "straight", &straight(alloc, mode, &text))?;
-    say(out, "straight_key", &straight_key(alloc, mode, &text))?;
-    say(out, "decoded", &text_of_key(alloc, mode, &text))?;
-    say(out, "cut_key", &cut_key(alloc, mode, &text))?;
-    say(out, "indented", &indented_text(alloc, mode, &text))?;
-    say(out, "part", &part(alloc, mode, &text, b"/1/a"))?;
-    say(out, "other_part", &part(alloc, mode, &text, b"/c~1/0"))?;
-    say(out, "no_path", &part(alloc, mode, &text, b"/~"))?;
-    say(out, "keys", &keys(alloc, mode, &text))?;
-    say(out, "without_room", &without_capacity(alloc, mode, &text))?;
-    say(out, "with_room", &with_capacity(alloc, mode, &text))?;
-    say(out, "body", &body(alloc, &text))
+    report_text(alloc, mode, &text, out)
+}
+
+// Writes a line for each call on the text.
+fn report_text<W: Write>(alloc: Global, mode: Mode, text: &[u8], out: &mut W) -> io::Result<()> {
+    say(out, "reads", reads(alloc, mode, text))?;
+    say(out, "checks", checks(alloc, mode, text))?;
+    say(out, "value", value(alloc, mode, text))?;
+    say(out, "tree", tree(alloc, mode, text))?;
+    say(out, "clone", clone(alloc, mode, text))?;
+    say(out, "owned", text_of_owned(alloc, mode, text))?;
+    say(out, "tree_clone", tree_clone(alloc, mode, text))?;
+    say(out, "straight", straight(alloc, mode, text))?;
+    say(out, "straight_key", straight_key(alloc, mode, text))?;
+    say(out, "decoded", text_of_key(alloc, mode, text))?;
+    say(out, "cut_key", cut_key(alloc, mode, text))?;
+    say(out, "indented", indented_text(alloc, mode, text))?;
+    say(out, "part", part(alloc, mode, text, b"/1/a"))?;
+    say(out, "other_part", part(alloc, mode, text, b"/c~1/0"))?;
+    say(out, "no_path", part(alloc, mode, text, b"/~"))?;
+    say(out, "keys", keys(alloc, mode, text))?;
+    say(out, "without_room", without_capacity(alloc, mode, text))?;
+    say(out, "with_room", with_capacity(alloc, mode, text))?;
+    say(out, "body", body(alloc, text))
 }
 
 fn read(alloc: Global, mode: Mode, text: &[u8]) -> Result<Value<'_>> {

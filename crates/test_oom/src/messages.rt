@@ -12,10 +12,10 @@ use std::io::Write;
 pub fn report<W: Write>(alloc: Global, out: &mut W) -> io::Result<()> {
     report_integers(alloc, out)?;
     report_decimals(alloc, out)?;
-    say(out, "code_clone", &code_clone(alloc))?;
-    say(out, "message_clone", &message_clone(alloc))?;
-    say(out, "interval", &interval_value(alloc))?;
-    say(out, "interval_alone", &interval_alone(alloc))
+    say(out, "code_clone", code_clone(alloc))?;
+    say(out, "message_clone", message_clone(alloc))?;
+    say(out, "interval", interval_value(alloc))?;
+    say(out, "interval_alone", interval_alone(alloc))
 }
 
 // The messages of arithmetic on integers.
@@ -25,29 +25,29 @@ fn report_integers<W: Write>(alloc: Global, out: &mut W) -> io::Result<()> {
     say(
         out,
         "add",
-        &message_of(alloc, greatest.add(alloc, Number::UInt64(1))),
+        message_of(alloc, greatest.add(alloc, Number::UInt64(1))),
     )?;
     say(
         out,
         "sub",
-        &message_of(alloc, greatest.sub(alloc, Number::UInt64(0))),
+        message_of(alloc, greatest.sub(alloc, Number::UInt64(0))),
     )?;
     say(
         out,
         "mul",
-        &message_of(alloc, least.mul(alloc, Number::Int64(2))),
+        message_of(alloc, least.mul(alloc, Number::Int64(2))),
     )?;
     say(
         out,
         "rem",
-        &message_of(alloc, least.rem(alloc, Number::Int64(-1))),
+        message_of(alloc, least.rem(alloc, Number::Int64(-1))),
     )?;
     say(
         out,
         "rem_zero",
-        &message_of(alloc, greatest.rem(alloc, Number::UInt64(0))),
+        message_of(alloc, greatest.rem(alloc, Number::UInt64(0))),
     )?;
-    say(out, "neg", &message_of(alloc, least.neg(alloc)))
+    say(out, "neg", message_of(alloc, least.neg(alloc)))
 }
 
 // The messages of arithmetic on decimals.
@@ -56,12 +56,12 @@ fn report_decimals<W: Write>(alloc: Global, out: &mut W) -> io::Result<()> {
         scale: 1,
         value: i64::MIN,
     });
-    say(out, "neg_decimal64", &message_of(alloc, short.neg(alloc)))?;
+    say(out, "neg_decimal64", message_of(alloc, short.neg(alloc)))?;
     let long = Number::Decimal128(Decimal128 {
         scale: 1,
         value: i128::MIN,
     });
-    say(out, "neg_decimal128", &message_of(alloc, long.neg(alloc)))
+    say(out, "neg_decimal128", message_of(alloc, long.neg(alloc)))
 }
 
 // A number as its text.

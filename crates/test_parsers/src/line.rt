@@ -1,6 +1,7 @@
 // Answers against worked examples.
 use jsonb::{Error, JsonAst, Mode, ParseErrorCode, fault_index, line_and_column};
 use std::alloc::Global;
+use std::process::Abort;
 
 #[test]
 fn lines_and_columns(rt: HostRuntime) {
@@ -27,6 +28,10 @@ fn fault_offset(alloc: Global, mode: Mode, text: &[u8]) -> Option<usize> {
         Err(Error::Syntax(code, position)) => Some(fault_index(text, &code, position)),
         _ => None,
     }
+}
+
+fn is_shown(alloc: Global, mode: Mode, text: &[u8], index: usize) -> bool {
+    fault_offset(alloc, mode, text) == Some(index)
 }
 
 #[test]
@@ -59,11 +64,7 @@ fn the_byte_to_show_of_each_code(rt: HostRuntime) {
         (Mode::Standard, b"\"\\u1", 4),
         (Mode::Extended, b"{\xC3", 2),
     ] {
-        assert_eq!(rt;
-            fault_offset(rt.alloc(), mode, text),
-            Some(index),
-            "{text:?}"
-        );
+        assert!(rt; is_shown(rt.alloc(), mode, text, index), "{text:?}");
     }
 }
 
@@ -82,23 +83,19 @@ fn the_byte_to_show_in_lines(rt: HostRuntime) {
         (Mode::Extended, b"{a:\n1,\na:2\n}", 7, (3, 1)),
         (Mode::Extended, b"{\n  host: 'a\\\n'}", 13, (2, 12)),
     ] {
-        assert_eq!(rt;
-            fault_offset(rt.alloc(), mode, text),
-            Some(index),
-            "{text:?}"
-        );
+        assert!(rt; is_shown(rt.alloc(), mode, text, index), "{text:?}");
         assert_eq!(rt; line_and_column(text, index), offset, "{text:?}");
     }
 }
 
+fn expect_index(rt: &impl Abort, code: ParseErrorCode, position: usize, index: usize) {
+    assert_eq!(rt; fault_index(b"ab", &code, position), index, "{code}");
+}
+
 #[test]
 fn the_byte_to_show_of_other_positions(rt: HostRuntime) {
-    for (code, position, index) in [
-        (ParseErrorCode::ExpectedSomeValue, 0, 0),
-        (ParseErrorCode::InvalidHex(0), 1, 0),
-        (ParseErrorCode::ExpectedSomeValue, usize::MAX, 2),
-        (ParseErrorCode::KeyMustBeAString, 1, 1),
-    ] {
-        assert_eq!(rt; fault_index(b"ab", &code, position), index, "{code}");
-    }
+    expect_index(&rt, ParseErrorCode::ExpectedSomeValue, 0, 0);
+    expect_index(&rt, ParseErrorCode::InvalidHex(0), 1, 0);
+    expect_index(&rt, ParseErrorCode::ExpectedSomeValue, usize::MAX, 2);
+    expect_index(&rt, ParseErrorCode::KeyMustBeAString, 1, 1);
 }

@@ -1,24 +1,27 @@
 // Texts of parts at paths, with no value made of the document.
 use jsonb::{Error, Mode, ParseErrorCode};
-use std::alloc::Global;
+use std::alloc::{AllocError, Global};
 
-// The text of the part at the path, or `None` where nothing is there.
-fn part(alloc: Global, text: &[u8], path: &[&str]) -> Result<Option<String>, Error> {
+fn keys_of(alloc: Global, path: &[&str]) -> Result<Vec<String>, AllocError> {
     let mut keys = Vec::new(alloc);
     for key in path {
         keys.push(String::from_str(alloc, key)?)?;
     }
+    Ok(keys)
+}
+
+// The text of the part at the path, or `None` where nothing is there.
+fn part(alloc: Global, text: &[u8], path: &[&str]) -> Result<Option<Vec<u8>>, Error> {
+    let keys = keys_of(alloc, path)?;
     let mut buf = Vec::new(alloc);
-    if jsonb::append_part(alloc, text, Mode::Extended, &keys, &mut buf)? {
-        return Ok(String::from_utf8(buf).ok());
-    }
-    Ok(None)
+    let is_found = jsonb::append_part(alloc, text, Mode::Extended, &keys, &mut buf)?;
+    Ok(if is_found { Some(buf) } else { None })
 }
 
 // Whether this is the text of the part, or nothing is there.
 fn is_part(alloc: Global, text: &[u8], path: &[&str], expected: Option<&str>) -> bool {
     match (part(alloc, text, path), expected) {
-        (Ok(Some(found)), Some(expected)) => found.as_str() == expected,
+        (Ok(Some(found)), Some(expected)) => found.as_slice() == expected.as_bytes(),
         (Ok(None), None) => true,
         _ => false,
     }
@@ -29,44 +32,43 @@ const TEXT: &[u8] =
 
 #[test]
 fn members_and_items(rt: HostRuntime) {
-    let alloc = rt.alloc();
     let whole =
         "{\"\":0,\"0\":{\"0\":7},\"a\":[[1,0],\"y\"],\"b\":{\"cc\":\"/\",\"d\":[10,{\"k\":1.50},[]]}}";
-    assert!(rt; is_part(alloc, TEXT, &[], Some(whole)));
-    assert!(rt;
-        is_part(
-            alloc,
-            TEXT,
-            &["b"],
-            Some("{\"cc\":\"/\",\"d\":[10,{\"k\":1.50},[]]}")
-        )
-    );
-    assert!(rt; is_part(alloc, TEXT, &["b", "cc"], Some("\"/\"")));
-    assert!(rt; is_part(alloc, TEXT, &["b", "d", "0"], Some("10")));
-    assert!(rt; is_part(alloc, TEXT, &["b", "d", "1", "k"], Some("1.50")));
-    assert!(rt; is_part(alloc, TEXT, &["b", "d", "2"], Some("[]")));
-    assert!(rt; is_part(alloc, TEXT, &["a", "0"], Some("[1,0]")));
-    assert!(rt; is_part(alloc, TEXT, &["a", "0", "1"], Some("0")));
-    assert!(rt; is_part(alloc, TEXT, &["a", "1"], Some("\"y\"")));
-    assert!(rt; is_part(alloc, TEXT, &[""], Some("0")));
-    assert!(rt; is_part(alloc, TEXT, &["0", "0"], Some("7")));
-    assert!(rt; is_part(alloc, b" 12 // alone", &[], Some("12")));
+    for (path, text) in [
+        (&[] as &[&str], whole),
+        (&["b"], "{\"cc\":\"/\",\"d\":[10,{\"k\":1.50},[]]}"),
+        (&["b", "cc"], "\"/\""),
+        (&["b", "d", "0"], "10"),
+        (&["b", "d", "1", "k"], "1.50"),
+        (&["b", "d", "2"], "[]"),
+        (&["a", "0"], "[1,0]"),
+        (&["a", "0", "1"], "0"),
+        (&["a", "1"], "\"y\""),
+        (&[""], "0"),
+        (&["0", "0"], "7"),
+    ] {
+        assert!(rt; is_part(rt.alloc(), TEXT, path, Some(text)), "{path:?}");
+    }
+    assert!(rt; is_part(rt.alloc(), b" 12 // alone", &[], Some("12")));
 }
 
 #[test]
 fn nothing_there(rt: HostRuntime) {
-    let alloc = rt.alloc();
-    assert!(rt; is_part(alloc, TEXT, &["c"], None));
-    assert!(rt; is_part(alloc, TEXT, &["b", "d", "3"], None));
-    assert!(rt; is_part(alloc, TEXT, &["b", "d", "01"], None));
-    assert!(rt; is_part(alloc, TEXT, &["b", "d", "+1"], None));
-    assert!(rt; is_part(alloc, TEXT, &["b", "d", "-"], None));
-    assert!(rt; is_part(alloc, TEXT, &["b", "d", ""], None));
-    assert!(rt; is_part(alloc, TEXT, &["b", "d", "18446744073709551616"], None));
-    assert!(rt; is_part(alloc, TEXT, &["b", "d", "0", "0"], None));
-    assert!(rt; is_part(alloc, TEXT, &["b", "cc", "0"], None));
-    assert!(rt; is_part(alloc, TEXT, &["a", "b"], None));
-    assert!(rt; is_part(alloc, b"null", &["a"], None));
+    for path in [
+        &["c"] as &[&str],
+        &["b", "d", "3"],
+        &["b", "d", "01"],
+        &["b", "d", "+1"],
+        &["b", "d", "-"],
+        &["b", "d", ""],
+        &["b", "d", "18446744073709551616"],
+        &["b", "d", "0", "0"],
+        &["b", "cc", "0"],
+        &["a", "b"],
+    ] {
+        assert!(rt; is_part(rt.alloc(), TEXT, path, None), "{path:?}");
+    }
+    assert!(rt; is_part(rt.alloc(), b"null", &["a"], None));
 }
 
 #[test]
@@ -107,7 +109,7 @@ fn much_out_of_order(rt: HostRuntime) -> Result<(), Error> {
     assert!(rt;
         matches!(
         &found,
-        Some(part) if part.len() == 2000 + 14 && part.as_str().starts_with("{\"a\":1,\"b\":\"xxx")
+        Some(part) if part.len() == 2000 + 14 && part.starts_with(b"{\"a\":1,\"b\":\"xxx")
     )
     );
     assert!(rt; is_part(alloc, &text, &["b", "b", "a"], Some("1")));

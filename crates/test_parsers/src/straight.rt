@@ -1,7 +1,7 @@
 // Serialized forms and sort keys that are appended straight from a text, beside those of its value, and texts that are
 // only checked.
 use jsonb::{Error, JsonAst, Mode, Value, parse_value, parse_value_standard_mode};
-use std::alloc::Global;
+use std::alloc::{AllocError, Global};
 use std::test::Fail;
 
 fn parse(alloc: Global, mode: Mode, text: &[u8]) -> Result<Value<'_>, Error> {
@@ -37,10 +37,18 @@ fn key(alloc: Global, mode: Mode, text: &[u8]) -> Result<Vec<u8>, Error> {
     Ok(key)
 }
 
+fn is_appended(alloc: Global, mode: Mode, text: &[u8]) -> bool {
+    form(alloc, mode, text).is_ok()
+}
+
+fn are_equal(left: Result<Vec<u8>, Error>, right: Result<Vec<u8>, Error>) -> bool {
+    left == right
+}
+
 // Whether both functions agree with the text's value, and the text is accepted where it is only checked.
 fn agree(alloc: Global, mode: Mode, text: &[u8]) -> bool {
-    form(alloc, mode, text) == form_of_value(alloc, mode, text)
-        && key(alloc, mode, text) == key_of_value(alloc, mode, text)
+    are_equal(form(alloc, mode, text), form_of_value(alloc, mode, text))
+        && are_equal(key(alloc, mode, text), key_of_value(alloc, mode, text))
         && jsonb::check(alloc, text, mode).is_ok()
 }
 
@@ -58,7 +66,7 @@ fn as_of_the_value_in_both_modes(rt: HostRuntime) {
         b" { \"b\" : [ ] , \"a\" : { } } ",
         b"[[[[]]],{},[{}],true,false,null,\"\"]",
     ] {
-        assert!(rt; form(rt.alloc(), Mode::Standard, text).is_ok(), "{text:?}");
+        assert!(rt; is_appended(rt.alloc(), Mode::Standard, text), "{text:?}");
         assert!(rt; agree(rt.alloc(), Mode::Standard, text), "{text:?}");
         assert!(rt; agree(rt.alloc(), Mode::Extended, text), "{text:?}");
     }
@@ -77,42 +85,58 @@ fn as_of_the_value_in_extended_mode(rt: HostRuntime) {
         b"{$c:{z_:1,y:.25},_b:[1,],'a':nUll}",
         b"{'abcdefgh\\u0062':1,abcdefgha:2}",
     ] {
-        assert!(rt; form(rt.alloc(), Mode::Extended, text).is_ok(), "{text:?}");
+        assert!(rt; is_appended(rt.alloc(), Mode::Extended, text), "{text:?}");
         assert!(rt; agree(rt.alloc(), Mode::Extended, text), "{text:?}");
+    }
+}
+
+fn is_made(made: Result<Vec<u8>, Error>, wanted: &[u8]) -> bool {
+    match made {
+        Ok(bytes) => bytes.as_slice() == wanted,
+        Err(_) => false,
     }
 }
 
 // These forms and keys are those of tests/reference.py.
 #[test]
-fn forms_and_keys(rt: HostRuntime) -> Result<(), Fail> {
-    let alloc = rt.alloc();
+fn forms_and_keys(rt: HostRuntime) {
     let text = b"{\"b\":[1,{\"d\":-0,\"c\":\"\\u0041\"}],\"\\u0061\":null}";
-    let got = form(alloc, Mode::Standard, text)?;
-    assert!(rt; &got[..] == b"front{\"a\":null,\"b\":[1,{\"c\":\"A\",\"d\":0}]}".as_slice());
-    let got = key(alloc, Mode::Extended, b"{b:.5,a:0x1F}")?;
-    assert!(rt; &got[..] == b"front\xD1a\x00\x01\xA2>b\x00\x01\xA0d\x00\x00".as_slice());
-    Ok(())
+    let made = form(rt.alloc(), Mode::Standard, text);
+    assert!(rt; is_made(made, b"front{\"a\":null,\"b\":[1,{\"c\":\"A\",\"d\":0}]}"));
+    let made = key(rt.alloc(), Mode::Extended, b"{b:.5,a:0x1F}");
+    assert!(rt; is_made(made, b"front\xD1a\x00\x01\xA2>b\x00\x01\xA0d\x00\x00"));
 }
 
-// Whether all three functions fail as the parser of trees does, and leave the buffer as it was.
-fn fail_as_the_tree(alloc: Global, mode: Mode, text: &[u8]) -> Result<bool, Error> {
-    let Err(error) = JsonAst::parse(alloc, text, mode) else {
-        return Ok(false);
-    };
+fn is_error(answer: Result<(), Error>, error: &Error) -> bool {
+    match answer {
+        Ok(()) => false,
+        Err(other) => other == *error,
+    }
+}
+
+// Whether all three functions fail with a clone of the error, and leave the buffer as it was.
+fn fail_with(alloc: Global, mode: Mode, text: &[u8], error: &Error) -> Result<bool, AllocError> {
+    let error = error.clone()?;
     let mut buffer = Vec::from_slice(alloc, b"front")?;
-    let form = jsonb::append_text(alloc, text, mode, &mut buffer);
-    let key = jsonb::append_sort_key(alloc, text, mode, &mut buffer);
-    let checked = jsonb::check(alloc, text, mode);
-    Ok(
-        form == Err(error.clone()?)
-            && key == Err(error.clone()?)
-            && checked == Err(error)
-            && &buffer[..] == b"front".as_slice(),
-    )
+    let fail = is_error(jsonb::append_text(alloc, text, mode, &mut buffer), &error)
+        && is_error(
+            jsonb::append_sort_key(alloc, text, mode, &mut buffer),
+            &error,
+        )
+        && is_error(jsonb::check(alloc, text, mode), &error);
+    Ok(fail && &buffer[..] == b"front".as_slice())
+}
+
+// Whether all three functions fail as the parser of trees does.
+fn fail_as_the_tree(alloc: Global, mode: Mode, text: &[u8]) -> bool {
+    match JsonAst::parse(alloc, text, mode) {
+        Ok(_) => false,
+        Err(error) => fail_with(alloc, mode, text, &error) == Ok(true),
+    }
 }
 
 #[test]
-fn faults_are_those_of_the_tree(rt: HostRuntime) -> Result<(), Fail> {
+fn faults_are_those_of_the_tree(rt: HostRuntime) {
     for text in [
         b"{\"b\":1,\"a\":2,\"b\":3}" as &[u8],
         b"{\"b\":{\"c\":1,\"\\u0063\":2},\"b\":3}",
@@ -126,27 +150,29 @@ fn faults_are_those_of_the_tree(rt: HostRuntime) -> Result<(), Fail> {
         &[b'['; 513],
     ] {
         assert!(rt;
-            fail_as_the_tree(rt.alloc(), Mode::Standard, text)?,
+            fail_as_the_tree(rt.alloc(), Mode::Standard, text),
             "{text:?}"
         );
         assert!(rt;
-            fail_as_the_tree(rt.alloc(), Mode::Extended, text)?,
+            fail_as_the_tree(rt.alloc(), Mode::Extended, text),
             "{text:?}"
         );
+    }
+}
+
+fn append_times(text: &mut Vec<u8>, bytes: &[u8], times: usize) -> Result<(), AllocError> {
+    for _ in 0..times {
+        text.extend_from_slice(bytes)?;
     }
     Ok(())
 }
 
 // Objects in each other, each out of order, as deep as may be.
-fn deepest(alloc: Global) -> Result<Vec<u8>, Error> {
+fn deepest(alloc: Global) -> Result<Vec<u8>, AllocError> {
     let mut text = Vec::new(alloc);
-    for _ in 0..511 {
-        text.extend_from_slice(b"{\"b\":0,\"a\":")?;
-    }
-    text.extend_from_slice(b"{}")?;
-    for _ in 0..511 {
-        text.push(b'}')?;
-    }
+    append_times(&mut text, b"{\"b\":0,\"a\":", 511)?;
+    append_times(&mut text, b"{}", 1)?;
+    append_times(&mut text, b"}", 511)?;
     Ok(text)
 }
 
@@ -154,7 +180,7 @@ fn deepest(alloc: Global) -> Result<Vec<u8>, Error> {
 fn as_deep_as_may_be(rt: HostRuntime) -> Result<(), Fail> {
     let alloc = rt.alloc();
     let text = deepest(alloc)?;
-    assert!(rt; form(alloc, Mode::Standard, &text).is_ok());
+    assert!(rt; is_appended(alloc, Mode::Standard, &text));
     assert!(rt; agree(alloc, Mode::Standard, &text));
     assert!(rt; agree(alloc, Mode::Extended, &text));
     Ok(())

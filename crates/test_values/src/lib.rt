@@ -8,4 +8,6 @@ mod extension;
 #[cfg(test)]
 mod number;
 #[cfg(test)]
+mod same;
+#[cfg(test)]
 mod value;
