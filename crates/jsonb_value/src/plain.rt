@@ -16,23 +16,35 @@ pub fn is_plain(bytes: &[u8], count: usize) -> bool
     plain_len(bytes) >= count
 }
 
-/// How many of the first bytes, up to the first that is not, are written as they are. It is short where it is inlined,
-/// as a parser needs it: most strings of a text end within 16 bytes.
+/// How many of the first bytes, up to the first that is not, are written as they are.
 #[inline(always)]
 pub fn plain_len(bytes: &[u8]) -> usize
     ensures within { result ≤ length bytes.now }
     ensures plain { ArePlain (take result bytes.now) }
 {
-    if bytes.len() < 16 {
-        return long_run(bytes);
-    }
-    match near_escaped(bytes) {
-        Some(run) => run,
-        None => long_run(bytes),
-    }
+    first_escaped(bytes).unwrap_or(bytes.len())
 }
 
-// Does so without being inlined.
+/// The index of the first byte that isn't written as it is. It is short where it is inlined, as a parser needs it: most
+/// strings of a text end within 16 bytes.
+#[inline(always)]
+pub fn first_escaped(bytes: &[u8]) -> Option<usize>
+    ensures within { IfSome result (λ index. index < length bytes.now) }
+    ensures plain { MatchOption result (ArePlain bytes.now) (λ index. ArePlain (take index bytes.now)) }
+{
+    if bytes.len() >= 16 {
+        if let Some(index) = near_escaped(bytes) {
+            return Some(index);
+        }
+    }
+    let run = long_run(bytes);
+    if run == bytes.len() {
+        return None;
+    }
+    Some(run)
+}
+
+// How many of the first bytes are written as they are, in a call.
 #[inline(never)]
 fn long_run(bytes: &[u8]) -> usize
     ensures within { result ≤ length bytes.now }
@@ -41,7 +53,7 @@ fn long_run(bytes: &[u8]) -> usize
     run_len(bytes)
 }
 
-/// Does so, inlined whole.
+/// How many of the first bytes, up to the first that is not, are written as they are, inlined whole.
 #[inline(always)]
 pub(crate) fn run_len(bytes: &[u8]) -> usize
     ensures within { result ≤ length bytes.now }
@@ -107,7 +119,7 @@ pub fn run_of_sixteen(bytes: &[u8]) -> usize
 #[inline(always)]
 fn near_escaped(bytes: &[u8]) -> Option<usize>
     requires { 16 ≤ length bytes.now }
-    ensures within { IfSome result (λ index. index ≤ 16) }
+    ensures within { IfSome result (λ index. index < 16) }
     ensures plain { MatchOption result (ArePlain (take 16 bytes.now)) (λ index. ArePlain (take index bytes.now)) }
 {
     let lanes = u8x16::from_slice(bytes);

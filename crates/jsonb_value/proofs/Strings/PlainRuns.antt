@@ -1,11 +1,13 @@
 -- Runs of bytes that are written as they are, found by vectors.
-use Rattle.std.proofs.Common.{◌≡◌, ℕ, zero, suc, ◌+◌, ◌%◌, ◌^◌, ◌<◌, ◌≤◌, eqb, ltb, Bool, true, false, not, ◌||◌, cond, List, [], ◌∷◌, ◌++◌, map, take, drop, length, get_or, Fits, w8, refl, sym, ap, ap₂, ◌∙◌, arith}
+use Rattle.std.proofs.Common.{◌≡◌, ◌≢◌, ℕ, zero, suc, ◌+◌, ◌%◌, ◌^◌, ◌<◌, ◌≤◌, eqb, ltb, Bool, true, false, not, ◌||◌, cond, List, [], ◌∷◌, ◌++◌, map, take, drop, length, get_or, Fits, w8, refl, sym, ap, ap₂, subst, ◌∙◌, inl, inr, arith}
+use Rattle.std.proofs.Math.Pow.{pow_mono}
 use Rattle.std.proofs.Math.Seq.{take-add}
-use Rattle.std.proofs.lemmas.Bool.{agree_below, agree_below_at, or_parts, ltb-false, ne_eqb}
+use Rattle.std.proofs.lemmas.Bool.{agree_below, agree_below_at, cases_lt, or_parts, ltb-false, ne_eqb}
 use Rattle.std.proofs.lemmas.List.{length-map}
 use Rattle.std.proofs.lemmas.List.Concat.{flat_map-append}
-use Rattle.std.proofs.lemmas.Simd.{map-map, mask_l-mod, length-chunk, first_set_mask_l, run_in_chunk_le, run_in_chunk_fails}
-use Rattle.std.specs.Int.{trailing_zeros, w64}
+use Rattle.std.proofs.lemmas.Nat.Bits.{bit_at_above, bit_at-trailing_zeros}
+use Rattle.std.proofs.lemmas.Simd.{map-map, mask_l-lt, mask_l-mod, length-chunk, first_set_mask_l, run_in_chunk_le, run_in_chunk_fails}
+use Rattle.std.specs.Int.{bit_at, trailing_zeros, w64}
 use Rattle.std.specs.List.{flat_map, prefix_len}
 use Rattle.std.specs.Simd.Lanes.{chunk, mask_l, top}
 use Rattle.jsonb_spec.specs.Text.StringText.{byte_text}
@@ -55,6 +57,20 @@ module _ (bytes : List ℕ) (n r : ℕ) (marks : List ℕ) (f : ℕ → ℕ) (sp
 
   pub marks_within : r ≤ n
   marks_within = run_in_chunk_le is_marked bytes 0 n r 0 (omega (arith, space)) counted
+
+  pub marks_inside : mask_l (map (top 7) marks) % 2 ^ 64 ≢ 0 → r < n
+  marks_inside some =
+      let bits = map (top 7) marks in
+      let m = mask_l bits % 2 ^ 64 in
+      let long : length bits ≡ n = length-map marks (top 7) ∙ ap length lanes ∙ length-map (chunk 0 n bytes) f ∙ length-chunk 0 n bytes (omega (arith, space)) in
+      let whole : m ≡ mask_l bits = mask_l-mod bits 64 (omega (arith, long, few)) in
+      let below : m < 2 ^ n = subst (λ k. m < 2 ^ k) long (omega (arith, whole, mask_l-lt bits)) in
+      let lowest = bit_at-trailing_zeros w64 m (omega (arith, some)) (omega (arith, below, pow_mono few)) in
+      let is : r ≡ trailing_zeros w64 m = found ∙ rw (ne_eqb m 0 some) refl in
+      elim (cases_lt r n) [
+        | inl less ↦ less
+        | inr past ↦ absurd (omega (arith, bit_at_above m n r below past, subst (λ k. bit_at m k ≡ 1) (sym is) lowest.1))
+      ]
 
   pub marks_plain : ArePlain (take r bytes)
   marks_plain =

@@ -17,11 +17,11 @@ struct ShortEnd {
     is_same: bool,
 }
 
-// Whether what an escape of this letter means is written by the same escape.
+// Whether the letter is of an escape, and what that means is written by the same escape.
 #[inline(always)]
 fn is_written(letter: u8) -> bool
-    ensures { MatchBool result ((byte : ℕ) → standard_escape letter ≡ Some byte
-        → byte_text byte ≡ ascii.backslash ∷ letter ∷ []) (Unit {0}) }
+    ensures { MatchBool result ((byte : ℕ) × (standard_escape letter ≡ Some byte)
+        × (byte_text byte ≡ ascii.backslash ∷ letter ∷ [])) (Unit {0}) }
 {
     matches!(letter, b'"' | b'\\' | b'n' | b'r' | b't')
 }
@@ -46,11 +46,12 @@ fn short_end(bytes: &[u8]) -> Option<ShortEnd>
             return None;
         }
         let letter = bytes[end + 1];
-        let _byte = short_byte(letter)?;
-        if !is_written(letter) {
-            is_same = false;
-        }
         end += 2;
+        if is_written(letter) {
+            continue;
+        }
+        let _byte = short_byte(letter)?;
+        is_same = false;
     }
     None
 }

@@ -11,7 +11,7 @@ ghost use Rattle.text_scan.specs.Parsing.String.{string_at};
 use super::Parser;
 use super::text::Text;
 use jsonb_value::error::{Error, ParseErrorCode, Result};
-use jsonb_value::plain::plain_len;
+use jsonb_value::plain::first_escaped;
 use std::borrow::CowStr;
 use text_scan::parser::string::{StringEnd, decode_contents, find_end, near_mark};
 
@@ -74,10 +74,7 @@ impl<'a> Parser<'a> {
         ensures { CutsString (λ s. s.now) quote result self.old self.new }
     {
         let rest = self.rest();
-        let end = near_mark(rest, quote);
-        if end == rest.len() {
-            return None;
-        }
+        let end = near_mark(rest, quote)?;
         if rest[end] != quote {
             return None;
         }
@@ -118,10 +115,7 @@ impl<'a> Parser<'a> {
             return Some(Text::Borrowed(body));
         }
         let rest = self.rest();
-        let end = plain_len(rest);
-        if end == rest.len() {
-            return None;
-        }
+        let end = first_escaped(rest)?;
         if rest[end] != b'"' {
             return None;
         }

@@ -40,21 +40,30 @@ impl Parser<'_> {
         }
     }
 
-    // Passes whitespace that is mostly ends of lines and the spaces after them.
+    // Passes whitespace that is mostly one end of a line and the spaces after it, or one space.
     #[inline(never)]
     fn skip_run_of_whitespace(&mut self)
         ensures { Skips skip_whitespace self.old self.new }
     {
-        'lines: loop {
-            self.skip_line_feed();
+        self.skip_line_feed();
+        self.skip_spaces();
+        if self.may_begin_whitespace() {
+            self.skip_lines();
+        }
+    }
+
+    // Passes whitespace that is mostly ends of lines, and tabs and spaces after them.
+    #[inline(never)]
+    fn skip_lines(&mut self)
+        ensures { Skips skip_whitespace self.old self.new }
+    {
+        'pieces: while self.take_plain_whitespace() {
             self.skip_spaces();
             if !self.may_begin_whitespace() {
                 return;
             }
-            if !self.take_plain_whitespace() {
-                return self.skip_other_whitespace();
-            }
         }
+        self.skip_other_whitespace();
     }
 
     // Passes whitespace of all kinds, comments among them.

@@ -123,24 +123,39 @@ fn next_mark(bytes: &[u8], quote: u8, at: usize) -> (usize, u64)
     (at + count, shifted_down(marks, count))
 }
 
-/// The index of the first quote or backslash, or the length of the bytes. It is mostly among the first 16 bytes.
+// An index, where it is of a byte.
 #[inline(always)]
-pub fn near_mark(bytes: &[u8], quote: u8) -> usize
-    ensures within { result ≤ length bytes.now }
-    ensures before { IsClear quote bytes.now 0 result }
-    ensures here { result < length bytes.now → IsQuoteOrBackslash quote (slice_index bytes.now result) }
+fn before_end(at: usize, bytes: &[u8]) -> Option<usize>
+    requires { at ≤ length bytes.now }
+    ensures same { IfSome result (λ index. index ≡ at) }
+    ensures within { IfSome result (λ index. index < length bytes.now) }
+    ensures end { IfNone result (at ≡ length bytes.now) }
+{
+    if at == bytes.len() {
+        return None;
+    }
+    Some(at)
+}
+
+/// The index of the first quote or backslash. It is mostly among the first 16 bytes.
+#[inline(always)]
+pub fn near_mark(bytes: &[u8], quote: u8) -> Option<usize>
+    ensures within { IfSome result (λ at. at < length bytes.now) }
+    ensures before { IfSome result (λ at. IsClear quote bytes.now 0 at) }
+    ensures here { IfSome result (λ at. IsQuoteOrBackslash quote (slice_index bytes.now at)) }
+    ensures none { IfNone result (IsClear quote bytes.now 0 (length bytes.now)) }
 {
     if bytes.len() < 16 {
-        return short_mark(bytes, quote, 0);
+        return before_end(short_mark(bytes, quote, 0), bytes);
     }
     let quotes = near_bits(bytes, quote);
     let backslashes = near_bits(bytes, b'\\');
     let marks = quotes | backslashes;
     if marks != 0 {
-        return lowest(marks);
+        return Some(lowest(marks));
     }
-    let (end, _marks) = next_mark(bytes, quote, 16);
-    end
+    let (at, _marks) = next_mark(bytes, quote, 16);
+    before_end(at, bytes)
 }
 
 /// Looks for the quote that ends a string. An escape is stepped over by its first bytes, without a look at the others.

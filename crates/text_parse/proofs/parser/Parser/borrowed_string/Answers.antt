@@ -8,12 +8,13 @@ pub returns : goal.returns
 returns c =
     let p = c.args.self.now in
     let quote = c.args.quote in
-    let end = c.near_mark-end.result in
+    let end = c.in_ok-end.end in
+    let mark = c.in_ok-end.ensures in
     let is = c.rest-rest.ensures in
     let closed = ap (λ u. get_or u end 0) (sym is) ∙ c.if-rest-end.false in
-    let within : end < length (rest_of p) = omega (arith, ap length is) in
+    let within : end < length (rest_of p) = omega (arith, mark.within, ap length is) in
     record {
-      parses = cut_parsed p _ quote end _ within closed c.in_ok-body.ensures.cuts (subst (λ u. IsClear quote u 0 end) is c.near_mark-end.ensures.before);
+      parses = cut_parsed p _ quote end _ within closed c.in_ok-body.ensures.cuts (subst (λ u. IsClear quote u 0 end) is mark.before);
       encoded = cut_encoded p _ quote end _ within closed c.in_ok-body.ensures.cuts;
       stays = search rules;
       advances = search rules;
