@@ -1,10 +1,13 @@
 //! Keys, in quotes and without.
-ghost use Rattle.std.specs.Prelude.{◌<◌, Err, ◌+◌, Ok};
+ghost use Rattle.std.specs.Prelude.{◌<◌, ◌≢◌, Err, ◌+◌, IfSome, None, Ok};
 ghost use Rattle.std.specs.Cow.{cow_str_bytes};
 ghost use Rattle.jsonb_spec.specs.Ascii as ascii;
+ghost use Rattle.jsonb_spec.specs.Code.Code.{expected_colon};
 ghost use Rattle.jsonb_value.specs.View.{mark_view};
+ghost use Rattle.text_scan.specs.Answer.{NamesFault};
+ghost use Rattle.text_scan.specs.Parsing.{fault_at};
 ghost use Rattle.text_parse.specs.Handler.{AsNamed, Begins, Builds};
-ghost use Rattle.text_parse.specs.Parser.{AdvancesOver, IsTextOf, ParsesAtOffset, ParsesString, parse_at, rest_of};
+ghost use Rattle.text_parse.specs.Parser.{Advances, AdvancesOver, IsTextOf, ParsesAtOffset, ParsesString, parse_at, rest_of, size_of};
 ghost use Rattle.text_parse.specs.Stack.{member_start};
 ghost use Rattle.text_scan.specs.Parsing.Whitespace.{skip_whitespace};
 ghost use Rattle.text_scan.specs.Parsing.String.{string_at};
@@ -38,13 +41,26 @@ impl<'a> Parser<'a> {
     {
         let key = self.parse_member_key::<V>(sink, object, text)?;
         if !self.take_after_whitespace(b':') {
-            let error = self.fault_at_next(ParseErrorCode::ExpectedColon, 0);
-            return Err(self.fail(error));
+            return Err(self.fail_without_colon());
         }
         // Often there is one space.
         self.skip_space();
         self.skip_whitespace();
         Ok(key)
+    }
+
+    // Fails, where a colon is missing. It is a call of its own: inlined, it would clear the slot of an error before each
+    // member.
+    #[cold]
+    #[inline(never)]
+    fn fail_without_colon(&mut self) -> Failed
+        ensures reported { IfSome self.new.reported (λ error. NamesFault error (fault_at (size_of self.old)
+            expected_colon 0 (rest_of self.old))) }
+        ensures some { self.new.reported ≢ None }
+        ensures advances { Advances self.old self.new }
+    {
+        let error = self.fault_at_next(ParseErrorCode::ExpectedColon, 0);
+        self.fail(error)
     }
 
     // A key, after whitespace.

@@ -1,5 +1,5 @@
 //! Values that hold no others.
-ghost use Rattle.std.specs.Prelude.{◌≡◌, ◌≢◌, ◌<◌, ◌++◌, drop, length, MatchBool, Err, IfSome, Some, true, false, ◌^◌, pos, neg_ℤ};
+ghost use Rattle.std.specs.Prelude.{◌≡◌, ◌≢◌, ◌<◌, ◌≤◌, ◌∷◌, ◌++◌, drop, length, MatchBool, Err, IfSome, Some, true, false, ◌^◌, pos, neg_ℤ};
 ghost use Rattle.jsonb_spec.specs.Ascii as ascii;
 ghost use Rattle.jsonb_spec.specs.Mode.{standard, extended};
 ghost use Rattle.jsonb_value.specs.View.{number_view};
@@ -39,12 +39,13 @@ enum Literal {
     Bool(bool),
 }
 
-// Whether the bytes begin with this word.
+// Whether the bytes begin with these letters.
 #[inline(always)]
-fn begins_with(bytes: &[u8], word: &[u8]) -> bool
-    ensures { MatchBool result (bytes.now ≡ word.now ++ drop (length word.now) bytes.now) (Unit {0}) }
+fn begins_with(bytes: &[u8], first: u8, second: u8, third: u8, fourth: u8) -> bool
+    requires { 4 ≤ length bytes.now }
+    ensures { MatchBool result (bytes.now ≡ first ∷ second ∷ third ∷ fourth ∷ drop 4 bytes.now) (Unit {0}) }
 {
-    bytes.len() >= word.len() && &bytes[..word.len()] == word
+    bytes[0] == first && bytes[1] == second && bytes[2] == third && bytes[3] == fourth
 }
 
 // The number below 0, or a 0 with a minus, of these digits.
@@ -392,22 +393,25 @@ impl<'a> Parser<'a> {
         }
     }
 
-    // Parses a literal in small letters, if one comes next.
+    // Parses a literal in small letters, if one comes next. At the end of a text none is found.
     #[inline(always)]
     fn short_literal(&mut self) -> Option<Literal>
         ensures finds { Finds literal_tree scalar_at result self.old self.new }
         ensures encoded { IfSome result (λ l. rest_of self.old ≡ literal_text l ++ rest_of self.new) }
     {
         let rest = self.rest();
-        if begins_with(rest, b"null") {
+        if rest.len() < 5 {
+            return None;
+        }
+        if begins_with(rest, b'n', b'u', b'l', b'l') {
             self.offset += 4;
             return Some(Literal::Null);
         }
-        if begins_with(rest, b"true") {
+        if begins_with(rest, b't', b'r', b'u', b'e') {
             self.offset += 4;
             return Some(Literal::Bool(true));
         }
-        if begins_with(rest, b"false") {
+        if begins_with(rest, b'f', b'a', b'l', b's') && rest[4] == b'e' {
             self.offset += 5;
             return Some(Literal::Bool(false));
         }
