@@ -1,7 +1,7 @@
 -- The sink of a part after an event.
 use Rattle.std.proofs.lemmas.List.{append_cancel_left, take-append-drop}
 use Rattle.std.proofs.Common.{drop, ◌≡◌, inl, inr, ℕ, zero, suc, ◌+◌, ◌-◌, ◌<◌, ◌≤◌, Bool, true, false, true≢false, List, [], ◌∷◌, ◌++◌, map, length, take, Option, Some, None, MatchOption, refl, sym, ap, subst, ◌∙◌, arith, append-nil, length-append, ◌==◌}
-use Rattle.std.proofs.lemmas.Bool.{cond-true}
+use Rattle.std.proofs.lemmas.Bool.{cond-false, cond-true, ne_eqb}
 use Rattle.std.specs.Option.{is_none, option_and_then, option_map, option_or, option_map_or}
 use Rattle.std.specs.Prelude.{if◌then◌else◌, nat_lt, IfOk}
 use Rattle.std.proofs.Common.{Result, Ok, Err}
@@ -21,7 +21,7 @@ use Rattle.text_write.specs.CheckSink.{CheckHolds, unwritten}
 use Rattle.text_write.specs.KeySink as key
 use Rattle.text_write.specs.OpenMembers.{EndsObject, ReportsRepeatOf, all_starts}
 use Rattle.text_write.specs.declared.open_members.Repeat.{Repeat}
-use Rattle.text_write.specs.PartSink.{EndsAt, FilledAt, HeldFits, InnerEnds, IsAhead, IsAround, IsInPart, IsOutside, IsSeeking, IsWritten, Leads, PartFilled, PartHeld, PartHolds, HoldsAt, check_held, first_index, follow, follow_key, array_held, keys_of, path_behind, object_held, other_keys, part_inside, part_of, part_of_ended, part_with_value, less, rest_at, text_held, waits_at, within, ahead_of, level_of}
+use Rattle.text_write.specs.PartSink.{EndsAt, FilledAt, HasNoParts, HeldFits, InnerEnds, IsAhead, IsAround, IsInPart, IsOutside, IsSeeking, IsWritten, Leads, PartFilled, PartHeld, PartHolds, HoldsAt, check_held, first_index, follow, follow_key, array_held, keys_of, path_behind, object_held, other_keys, part_inside, part_of, part_of_ended, part_with_value, less, rest_at, text_held, waits_at, within, ahead_of, level_of}
 use Rattle.text_write.specs.TextSink as text
 use Rattle.text_write.specs.TextSink.{SeesPart, TextFilled, TextHolds, base_of}
 use Rattle.text_write.specs.declared.check.CheckSink.{CheckSink}
@@ -129,6 +129,16 @@ next_on (Some (key ∷ keys)) ss e = cond-true (waits_at (elements_so_far ss) ke
 
 pub item_here : (keys : List (List ℕ)) (level result : Option ℕ) (ss : List Source) (cs : List Open) → rest_at keys result ≡ option_and_then other_keys (rest_at keys level) → Leads keys level cs → IsAhead (option_and_then first_index (path_behind keys cs)) (Some 0) (length ss) → Leads keys result (elements_so_far ss ∷ cs)
 item_here keys level result ss cs is leads ahead = next_on (path_behind keys cs) ss ahead ∙ ap (option_and_then other_keys) leads ∙ sym is
+
+-- the next item isn't on the path
+elsewhere : (rest : Option (List (List ℕ))) (ss : List Source) → IsAhead (option_and_then first_index rest) None (length ss) → option_and_then (follow (elements_so_far ss)) rest ≡ None
+elsewhere None ss h = refl
+elsewhere (Some []) ss h = refl
+elsewhere (Some (key ∷ keys)) ss h = cond-false (waits_at (elements_so_far ss) key) (Some keys) None (passed (index_named key) h)
+  where
+    passed : (o : Option ℕ) → IsAhead o None (length ss) → option_map_or (λ i. i == length ss) o false ≡ false
+    passed None h = refl
+    passed (Some i) h = ne_eqb i (length ss) (λ e. absurd (omega (arith, e, h)))
 
 -- whatever key waits, the members are the same
 same_members : (before : Option Tree) (fs : List Found) (k l : Mark × List ℕ) (offset other : ℕ) (rest : Option (List (List ℕ))) → option_or before (option_and_then (within (members_so_far fs k offset)) rest) ≡ option_or before (option_and_then (within (members_so_far fs l other)) rest)
@@ -457,6 +467,16 @@ item_put {document = document} {r = r} {held = held} {cs = cs} f g ss s none lev
         h.1,
       );
     }
+
+-- an item that holds no others passes, where the one on the path isn't ahead, and none is due
+pub item_passes : {document : List ℕ} {r : PartSink} {held : List PartHeld} {cs : List Open} (f : PartItems) (ss : List Source) (s : Source) → r.inside ≡ 0 → r.due ≡ None → ahead_of f ≡ None → HasNoParts s
+    → PartHolds document r false (array_held f ∷ held) (elements_so_far ss ∷ cs) → PartHolds document r false (array_held f ∷ held) (elements_so_far (ss ++ s ∷ []) ∷ cs)
+item_passes {document = document} {r = r} {held = held} {cs = cs} f ss s none away ahead nothing sink =
+    let leads : Leads (keys_of r) (level_of f) cs → IsAhead (option_and_then first_index (path_behind (keys_of r) cs)) (ahead_of f) (length ss) → Leads (keys_of r) r.due (elements_so_far ss ∷ cs) =
+    λ on is. elsewhere (path_behind (keys_of r) cs) ss (subst (λ a. IsAhead (option_and_then first_index (path_behind (keys_of r) cs)) a (length ss)) ahead is) ∙ sym (ap (rest_at (keys_of r)) away) in
+    let due : PartHolds document r true (array_held f ∷ held) (elements_so_far ss ∷ cs) = item_due f ss r.due none leads sink in
+    let around_it : IsAround r = (none, λ e. absurd (true≢false (ap is_none (sym (ap (rest_at (keys_of r)) away) ∙ e)))) in
+    item_put f f ss s none refl (ahead ∙ sym (ap less ahead)) (alone_around s around_it nothing due)
 
 pub member_put : {document : List ℕ} {r : PartSink} {held : List PartHeld} {cs : List Open} (f : PartMembers) (fs : List Found) (k next : Mark × List ℕ) (offset other : ℕ) (s : Source) → r.inside ≡ 0 → PartFilled document r s (object_held f ∷ held) (members_so_far fs k offset ∷ cs)
     → PartHolds document r false (object_held f ∷ held) (members_so_far (fs ++ found_member k s offset ∷ []) next other ∷ cs)

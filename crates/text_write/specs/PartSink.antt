@@ -93,6 +93,10 @@ abbrev pub part_inside : Source → List (List ℕ) → Option Tree
 part_inside s [] = None
 part_inside s (key ∷ keys) = part_at (key ∷ keys) (tree_of_source s)
 
+-- No path leads into the value: it holds no others.
+abbrev pub HasNoParts : Source → Type 0
+HasNoParts s = (rest : List (List ℕ)) → part_inside s rest ≡ None
+
 -- the part in what ended of all that is open, or inside a value where one was due
 abbrev pub part_with_inside : List (List ℕ) → Source → List Open → Option Tree
 part_with_inside keys s cs = option_or (part_of_ended keys cs) (option_and_then (part_inside s) (path_behind keys cs))

@@ -275,6 +275,11 @@ impl<'a> Sink<'a> for KeySink<'a> {
     }
 
     #[inline(always)]
+    fn passes(&self, items: &()) -> bool {
+        false
+    }
+
+    #[inline(always)]
     fn next_item(&mut self, items: &mut ()) -> Result<(), AllocError> {
         Ok(())
     }

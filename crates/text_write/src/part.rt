@@ -336,6 +336,18 @@ impl<'a> Sink<'a> for PartSink<'a> {
         Ok(PartItems::new(is_first, None, None))
     }
 
+    // An item of an array that isn't on the path, or behind the one that is.
+    #[inline(always)]
+    fn passes(&self, items: &PartItems) -> bool {
+        if self.inside > 0 {
+            return false;
+        }
+        match self.due {
+            Some(_) => false,
+            None => !items.is_ahead,
+        }
+    }
+
     #[inline(always)]
     fn next_item(&mut self, items: &mut PartItems) -> Result<(), AllocError> {
         if self.inside > 0 {

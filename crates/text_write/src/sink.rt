@@ -1,5 +1,5 @@
 //! What is written while a text is parsed: serialized text, a sort key, or the text of a part.
-ghost use Rattle.std.specs.Prelude.{◌≡◌, ◌+◌, ◌-◌, ◌^◌, ◌<◌, ◌++◌, ◌∷◌, [], ℕ, List, Bool, true, false, length, slice_range, IfOk, MatchOption, OnOk};
+ghost use Rattle.std.specs.Prelude.{◌≡◌, ◌+◌, ◌-◌, ◌^◌, ◌<◌, ◌++◌, ◌∷◌, [], ℕ, List, Bool, true, false, length, slice_range, IfOk, MatchBool, MatchOption, OnOk};
 ghost use Rattle.text_scan.specs.Answer.{mode_of};
 ghost use Rattle.text_scan.specs.Decoding.{ReportsBackslash};
 ghost use Rattle.text_scan.specs.Open.{Open, elements_so_far, members_so_far};
@@ -11,6 +11,7 @@ ghost use Rattle.jsonb_spec.specs.Tree.{Mark};
 ghost use Rattle.jsonb_spec.specs.Tree.Mark.{plain};
 ghost use Rattle.text_write.specs.Contents.{ChecksAs};
 ghost use Rattle.text_write.specs.OpenMembers.{EndsObject, ReportsRepeatOf};
+ghost use Rattle.text_write.specs.PartSink.{HasNoParts};
 ghost use Rattle.text_write.specs.TextSink.{IsEncoded, SeesPart};
 ghost use Rattle.text_write.specs.declared.open_members.OpenMembers.{OpenMembers};
 ghost use Rattle.text_common.specs.VerbatimScalar.{IsVerbatimAt};
@@ -25,8 +26,8 @@ use text_scan::parser::Mode;
 
 /// What a text's value is written to, part by part.
 ///
-/// An element that is a scalar comes by `next_item`, `fill` or `fill_verbatim`, and `push_inner`, and one that is a
-/// container by its own calls instead of `fill`. A member comes by its key, and then so too, by `insert_inner` at last.
+/// An element that is a scalar comes by `next_item`, `fill` or `fill_verbatim`, and `push_inner`, unless it `passes`; one
+/// that is a container comes by its own calls instead of `fill`. A member comes by its key, and then so too, by `insert_inner` at last.
 pub trait Sink<'a>: Drop + Sized {
     /// What is held of an array that is open.
     type Items: Drop;
@@ -94,6 +95,13 @@ pub trait Sink<'a>: Drop + Sized {
             → holds text self.old true held cs
             → holds text self.new false (array items ∷ held) (elements_so_far [] ∷ cs)) }
         ensures base { base self.new ≡ base self.old };
+
+    /// Whether the next item, where it holds no others, changes nothing, so that it needn't be put in.
+    fn passes(&self, items: &Self::Items) -> bool
+        ensures holds { MatchBool result ((text : List ℕ) → (s : Source) → (held : List Held) → (ss : List Source)
+            → (cs : List Open) → HasNoParts s
+            → holds text self.now false (array items.now ∷ held) (elements_so_far ss ∷ cs)
+            → holds text self.now false (array items.now ∷ held) (elements_so_far (ss ++ s ∷ []) ∷ cs)) (Unit {0}) };
 
     /// What is before an item.
     fn next_item(&mut self, items: &mut Self::Items) -> Result<(), AllocError>

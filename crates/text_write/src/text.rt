@@ -327,6 +327,11 @@ impl<'a> Sink<'a> for TextSink<'a> {
     }
 
     #[inline(always)]
+    fn passes(&self, is_first: &bool) -> bool {
+        false
+    }
+
+    #[inline(always)]
     fn next_item(&mut self, is_first: &mut bool) -> Result<(), AllocError> {
         if *is_first {
             *is_first = false;

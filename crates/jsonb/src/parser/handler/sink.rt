@@ -148,6 +148,9 @@ impl<'a, S: Sink<'a>> Handler<'a> for SinkPart<'a, S> {
         from: usize,
         to: usize,
     ) -> Result<(), AllocError> {
+        if sink.passes(items) {
+            return Ok(());
+        }
         sink.next_item(items)?;
         value.fill(sink, from, to)?;
         sink.push_inner(items);

@@ -1,8 +1,24 @@
-use Rattle.std.proofs.Common.{◌∷◌, map}
-use Rattle.jsonb.specs.Held.{held_by}
+use Rattle.std.proofs.Common.{◌≡◌, ◌∷◌, ℕ, List, Option, None, Some, map}
+use Rattle.jsonb.specs.Held.{IsScalarAt, held_by}
+use Rattle.jsonb_spec.specs.Source.{Source}
 use Rattle.text_scan.specs.Open.{elements_so_far}
+use Rattle.text_common.specs.declared.verbatim.Verbatim.{Verbatim}
+use Rattle.text_write.specs.PartSink.{HasNoParts}
+use Rattle.text_write.specs.declared.text.Part.{Part}
+use Rattle.text_write.proofs.PartSinks.{alone, verbatim_alone}
 use Rattle.jsonb.proofs.Given.{scalar_given}
 use Rattle.jsonb.proofs.parser.handler.sink.SinkPartHandler.push.Goals as goal
+
+-- a scalar holds no others
+scalar_alone : (part : Part) (verbatim : Option Verbatim) (from to : ℕ) (text : List ℕ) (s : Source) → IsScalarAt part verbatim from to text s → HasNoParts s
+scalar_alone part None from to text s is = alone part s is.0
+scalar_alone part (Some kind) from to text s is = verbatim_alone kind text from to s is
+
+pub returns-then-passes-clause-put : goal.returns-then-passes-clause-put
+returns-then-passes-clause-put g c = λ text s ss fs cs holds is.
+    let value = c.args.value in
+    let nothing = scalar_alone value.part value.verbatim c.args.from c.args.to text s (scalar_given value.part value.verbatim (λ k e. e) is) in
+    c.if-passes.ensures.holds text s (map (held_by g.S.Sink.array g.S.Sink.object) fs) ss cs nothing holds
 
 pub returns-clause-put : goal.returns-clause-put
 returns-clause-put g c = λ text s ss fs cs holds is.
