@@ -1,9 +1,8 @@
 -- The children of trees, as they are found.
-use Rattle.std.proofs.Common.{◌≡◌, ℕ, zero, suc, ◌<◌, ◌^◌, List, Some, None, option_map, refl, sym, ap, arith}
-use Rattle.std.specs.Option.{option_and_then}
+use Rattle.std.proofs.Common.{◌≡◌, ℕ, zero, suc, ◌<◌, ◌^◌, List, Some, None, option_map, refl, sym, arith}
 use Rattle.jsonb_spec.specs.Accessors.{as_array, get_by_name, item_at, trees_len}
 use Rattle.jsonb_spec.specs.Tree.{Tree, array, object, Trees, no_trees, more_trees}
-use Rattle.jsonb_spec.specs.PartAt.{IsIndex, IsChild, child_at, index_named}
+use Rattle.jsonb_spec.specs.PartAt.{IsIndex, IsChild, child_at}
 
 pub item_within : (ts : Trees) (i : ℕ) (t : Tree) → item_at ts i ≡ Some t → i < trees_len ts
 item_within no_trees i t e = cc

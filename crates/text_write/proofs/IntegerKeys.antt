@@ -1,5 +1,5 @@
 -- The bytes of a number's digits, as they are in a text, are its sort key.
-use Rattle.std.proofs.Common.{◌≡◌, ◌≢◌, ℕ, zero, suc, ◌+◌, ◌-◌, ◌*◌, ◌/◌, ◌%◌, ◌^◌, ◌<◌, ◌≤◌, inl, inr, Bool, true, false, List, [], ◌∷◌, ◌++◌, length, map, take, drop, get_or, refl, sym, ap, ap₂, subst, ◌∙◌, arith, pos, append_assoc, length-append, eq-eqb}
+use Rattle.std.proofs.Common.{◌≡◌, ◌≢◌, ℕ, zero, suc, ◌+◌, ◌-◌, ◌*◌, ◌/◌, ◌%◌, ◌^◌, ◌<◌, ◌≤◌, inl, inr, Bool, true, false, List, [], ◌∷◌, ◌++◌, length, map, take, drop, get_or, refl, sym, ap, ap₂, subst, ◌∙◌, arith, pos, append_assoc, eq-eqb}
 use Rattle.std.specs.Prelude.{slice_index, slice_range, slice_set, neg_ℤ, unsigned_abs, if◌then◌else◌, ◌==◌, FitsSigned}
 use mir.Val.{bool_byte}
 use Rattle.std.specs.Char.{digit_value}
@@ -22,7 +22,7 @@ use Rattle.jsonb_spec.specs.Grammar.StandardNumber.{IsStandardNumber}
 use Rattle.jsonb_spec.specs.Tree.{Num}
 use Rattle.jsonb_value.proofs.Numbers.Pointed.{is_negative-pos}
 use Rattle.std.proofs.lemmas.Bool.Decides.{eqb_tells}
-use Rattle.std.proofs.lemmas.List.{map-append, drop-take, drop_all, drop_more, get_or-drop, get_or-take, length-drop, length-take-le, take-append-drop, take-map, take-take, take_rest}
+use Rattle.std.proofs.lemmas.List.{drop-take, drop_all, drop_more, get_or-drop, get_or-take, length-drop, length-take-le, take-append-drop, take-map, take-take, take_rest}
 use Rattle.jsonb_spec.specs.Source.{Source}
 use Rattle.text_write.specs.KeySink.{Writes}
 use Rattle.text_write.specs.Members.{source_key}

@@ -353,11 +353,7 @@ impl<'a> Sink<'a> for PartSink<'a> {
         if self.inside > 0 {
             return self.text.next_item(&mut items.is_first);
         }
-        let level = self.item_level(items);
-        if level.is_none() && self.due.is_none() {
-            return Ok(());
-        }
-        self.due = level;
+        self.due = self.item_level(items);
         Ok(())
     }
 

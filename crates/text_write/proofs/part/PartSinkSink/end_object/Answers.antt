@@ -3,7 +3,7 @@ use Rattle.std.specs.Option.{is_none}
 use Rattle.text_scan.specs.Open.{members_so_far}
 use Rattle.jsonb_spec.specs.Source.{object_source_of}
 use Rattle.text_write.specs.PartSink.{check_held, object_held}
-use Rattle.text_write.proofs.PartSinks.{ended_in, ends_in, if_ok, new_in, reported_around, reported_in}
+use Rattle.text_write.proofs.PartSinks.{ended_in, ends_in, new_in, reported_around, reported_in}
 use Rattle.text_write.proofs.part.PartSinkSink.end_object.Goals as goal
 
 pub returns-then-self-eq0-clause-holds : goal.returns-then-self-eq0-clause-holds

@@ -16,4 +16,4 @@ returns-then-self-gt0-clause-holds c =
 pub returns-clause-holds : goal.returns-clause-holds
 returns-clause-holds c =
     let none : c.args.self.now.inside ≡ 0 = search rules in
-    λ text held ss cs sink. item_due c.args.items.now ss c.item_level-level.result none (c.item_level-level.ensures ss cs) sink
+    λ text held ss cs sink. item_due c.args.items.now ss c.item_level-self.result none (c.item_level-self.ensures ss cs) sink

@@ -1,4 +1,4 @@
-use Rattle.std.proofs.Common.{◌-◌, ◌<◌, ◌≤◌, arith, ap, length, length-append, refl, rules, slice_range, subst, sym, ◌∙◌}
+use Rattle.std.proofs.Common.{◌-◌, ◌<◌, ◌≤◌, ap, length, length-append, refl, rules, slice_range, subst, sym, ◌∙◌}
 use Rattle.jsonb_spec.specs.Tree.{plain}
 use Rattle.text_write.proofs.OpenMembers.{begun_there}
 use Rattle.text_write.proofs.Sinks.{on_ok}

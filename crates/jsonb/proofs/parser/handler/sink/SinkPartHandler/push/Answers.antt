@@ -1,4 +1,4 @@
-use Rattle.std.proofs.Common.{◌≡◌, ◌∷◌, ℕ, List, Option, None, Some, map}
+use Rattle.std.proofs.Common.{◌∷◌, ℕ, List, Option, None, Some, map}
 use Rattle.jsonb.specs.Held.{IsScalarAt, held_by}
 use Rattle.jsonb_spec.specs.Source.{Source}
 use Rattle.text_scan.specs.Open.{elements_so_far}
