@@ -70,6 +70,9 @@ operation_t JOIN(PREFIX, reject);
 #ifdef WITH_AST
 operation_t JOIN(PREFIX, read_ast);
 #endif
+#ifdef WITH_LINES
+operation_t JOIN(PREFIX, lines);
+#endif
 #ifdef WITH_SORT_KEY
 operation_t JOIN(PREFIX, sort_key);
 #endif
@@ -131,6 +134,9 @@ static const struct operation { const char *name; operation_t *run; int only_rea
 #else
   { "write", JOIN(PREFIX, write), 0, ".json" },
 #endif
+#ifdef WITH_LINES
+  { "lines", JOIN(PREFIX, lines), 1, ".json" },
+#endif
 #ifdef WITH_SORT_KEY
   { "sort_key", JOIN(PREFIX, sort_key), 0, ".json" },
 #endif
@@ -187,8 +193,16 @@ static struct file load(const char *path) {
   return file;
 }
 
-/* Does the operation on each document in turn. A error would make the figures worthless, so it ends the run. */
+/* Does the operation on each document in turn. An error would make the figures worthless, so it ends the run. */
 static void pass(const struct file *file, operation_t *run, size_t rounds) {
+#ifdef WITH_LINES
+  /* All lines of the file are one text, which stands there with their line feeds. */
+  if (run == JOIN(PREFIX, lines)) {
+    if (run(file->documents->text, file->bytes + file->count, rounds) == rounds) return;
+    fprintf(stderr, "%s: the lines went wrong\n", file->name);
+    exit(1);
+  }
+#endif
   for (size_t i = 0; i < file->count; i++) {
 #ifdef WITH_PART
     if (file->paths) part_path = (struct path){ file->paths[i].text, file->paths[i].len };

@@ -155,6 +155,20 @@ uint32_t vizhoniku_text_and_key(uint32_t mode, const unsigned char *text, size_t
                                 size_t buffer_size, size_t *size, unsigned char *key_buffer, size_t key_buffer_size,
                                 size_t *key_size, struct vizhoniku_error *error);
 
+/* Writes the values of the lines of a text, each of which is a text of its own, as vizhoniku_text does, and a line feed
+ * behind each: JSON Lines, of which a short one takes less time than a call of its own. The last line may lack its line
+ * feed. No line is left out, also not an empty one.
+ *
+ *  - VIZHONIKU_ACCEPTED: *size bytes were written. The rest of the buffer is as before.
+ *  - VIZHONIKU_TOO_SHORT: *size bytes are needed, and nothing was written.
+ *  - VIZHONIKU_REJECTED: the line that begins at the offset *start is the first that is rejected, and *error says why. For
+ *    vizhoniku_locate that line alone, without its line feed, is the text.
+ *  - any other status: *size is 0, and nothing was written, as with VIZHONIKU_REJECTED.
+ *
+ * But where a line is rejected *start is 0. */
+uint32_t vizhoniku_lines(uint32_t mode, const unsigned char *text, size_t text_size, unsigned char *buffer,
+                         size_t buffer_size, size_t *size, size_t *start, struct vizhoniku_error *error);
+
 /* Compares the values of two texts of one mode: *order is -1 where the first is below the second, 0 where they are the
  * same, and 1 where it is above. It is one total order; docs/VALUES.md has it. Where the status is not
  * VIZHONIKU_ACCEPTED, *order is 0. Where both texts are rejected, the first is reported. The status is never

@@ -19,6 +19,8 @@ uint32_t proved_key_text(const unsigned char *key, size_t key_size, unsigned cha
 uint32_t proved_text_and_key(uint32_t mode, const unsigned char *text, size_t text_size, unsigned char *buffer,
                              size_t buffer_size, size_t *size, unsigned char *key_buffer, size_t key_buffer_size,
                              size_t *key_size, struct vizhoniku_error *error);
+uint32_t proved_lines(uint32_t mode, const unsigned char *text, size_t text_size, unsigned char *buffer,
+                      size_t buffer_size, size_t *size, size_t *start, struct vizhoniku_error *error);
 uint32_t proved_compare(uint32_t mode, const unsigned char *left, size_t left_size, const unsigned char *right,
                         size_t right_size, int32_t *order, struct vizhoniku_error *error);
 void proved_locate(const unsigned char *text, size_t text_size, const struct vizhoniku_error *error,
@@ -155,6 +157,12 @@ uint32_t vizhoniku_text_and_key(uint32_t mode, const unsigned char *text, size_t
                                 size_t *key_size, struct vizhoniku_error *error) {
   return proved_text_and_key(mode, bytes_at(text, text_size), text_size, buffer_at(buffer, buffer_size), buffer_size,
                              size, buffer_at(key_buffer, key_buffer_size), key_buffer_size, key_size, error);
+}
+
+uint32_t vizhoniku_lines(uint32_t mode, const unsigned char *text, size_t text_size, unsigned char *buffer,
+                         size_t buffer_size, size_t *size, size_t *start, struct vizhoniku_error *error) {
+  return proved_lines(mode, bytes_at(text, text_size), text_size, buffer_at(buffer, buffer_size), buffer_size, size,
+                      start, error);
 }
 
 uint32_t vizhoniku_compare(uint32_t mode, const unsigned char *left, size_t left_size, const unsigned char *right,

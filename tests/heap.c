@@ -223,11 +223,11 @@ static size_t bound_of(const struct text *text) {
 }
 
 /* Each function of the library that takes memory, by a number. */
-enum function { CHECK, TEXT, SORT_KEY, TEXT_AND_KEY, DOCUMENT, PART, COMPARE, MESSAGE, REASON, FUNCTIONS };
+enum function { CHECK, TEXT, LINES, SORT_KEY, TEXT_AND_KEY, DOCUMENT, PART, COMPARE, MESSAGE, REASON, FUNCTIONS };
 
 static const char *const functions[] = {
-    "vizhoniku_check", "vizhoniku_text", "vizhoniku_sort_key", "vizhoniku_text_and_key", "vizhoniku_document",
-    "vizhoniku_part",    "vizhoniku_compare", "vizhoniku_message", "vizhoniku_reason",
+    "vizhoniku_check", "vizhoniku_text", "vizhoniku_lines", "vizhoniku_sort_key", "vizhoniku_text_and_key",
+    "vizhoniku_document", "vizhoniku_part", "vizhoniku_compare", "vizhoniku_message", "vizhoniku_reason",
 };
 
 /* Calls the function, with buffers of so much room. *written is the size of all that it writes, and *status what it
@@ -236,11 +236,12 @@ static void call(enum function function, const struct text *text, unsigned char 
                  size_t room, size_t *written, uint32_t *status) {
   const uint32_t mode = VIZHONIKU_STANDARD;
   struct vizhoniku_error error;
-  size_t size = 0, key_size = 0;
+  size_t size = 0, key_size = 0, start;
   int32_t order;
   switch (function) {
     case CHECK: *status = vizhoniku_check(mode, text->bytes, text->size, &error); break;
     case TEXT: *status = vizhoniku_text(mode, text->bytes, text->size, buffer, room, &size, &error); break;
+    case LINES: *status = vizhoniku_lines(mode, text->bytes, text->size, buffer, room, &size, &start, &error); break;
     case SORT_KEY: *status = vizhoniku_sort_key(mode, text->bytes, text->size, buffer, room, &size, &error); break;
     case TEXT_AND_KEY:
       *status = vizhoniku_text_and_key(mode, text->bytes, text->size, buffer, room, &size, key_buffer, room, &key_size,
@@ -293,7 +294,7 @@ static void measure(enum kind kind, int count, const struct text *text, uint32_t
     asked = held = most = 0;
     call(function, text, buffer, key_buffer, i % 2 ? 0 : room, &written, &status);
     calls++;
-    int writes = function == TEXT || function == SORT_KEY || function == TEXT_AND_KEY ||
+    int writes = function == TEXT || function == LINES || function == SORT_KEY || function == TEXT_AND_KEY ||
                  function == DOCUMENT || function == PART;
     uint32_t due = wanted == VIZHONIKU_ACCEPTED ? (i % 2 && writes ? VIZHONIKU_TOO_SHORT : VIZHONIKU_ACCEPTED)
                                                 : (i % 2 && function >= MESSAGE ? VIZHONIKU_TOO_SHORT : wanted);

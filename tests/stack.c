@@ -193,15 +193,15 @@ static struct text make(const struct shape *shape) {
 /* Each function of the library that reads a text, then those that read a sort key, and then those that reject no text,
  * by a number. */
 enum function {
-  CHECK, TEXT, SORT_KEY, TEXT_AND_KEY, DOCUMENT, PART, COMPARE, MESSAGE, REASON, KEY_CHECK, KEY_TEXT, KEY_PART,
+  CHECK, TEXT, LINES, SORT_KEY, TEXT_AND_KEY, DOCUMENT, PART, COMPARE, MESSAGE, REASON, KEY_CHECK, KEY_TEXT, KEY_PART,
   KEY_COUNT, KEY_CONTAINS, KEY_SET, KEY_REMOVE, KEY_MERGE, DOCUMENT_CHECK, DOCUMENT_TEXT, DOCUMENT_PART,
   DOCUMENT_NEXT, DOCUMENT_SET, DOCUMENT_REMOVE, DOCUMENT_INSERT, DOCUMENT_MERGE, DOCUMENT_STRIP, TABLE,
   TABLE_CHECK, TEXT_WITH_ZEROS, PLAIN_NUMBERS, MASKED_NUMBERS, ERROR_PATH, FUNCTIONS
 };
 
 static const char *const functions[] = {
-    "vizhoniku_check", "vizhoniku_text", "vizhoniku_sort_key", "vizhoniku_text_and_key", "vizhoniku_document",
-    "vizhoniku_part",
+    "vizhoniku_check", "vizhoniku_text", "vizhoniku_lines", "vizhoniku_sort_key", "vizhoniku_text_and_key",
+    "vizhoniku_document", "vizhoniku_part",
     "vizhoniku_compare", "vizhoniku_message", "vizhoniku_reason", "vizhoniku_key_check", "vizhoniku_key_text",
     "vizhoniku_key_part",
     "vizhoniku_key_count", "vizhoniku_key_contains", "vizhoniku_key_set", "vizhoniku_key_remove", "vizhoniku_key_merge",
@@ -219,6 +219,7 @@ static const size_t told[FUNCTIONS][2] = {
     [KEY_TEXT] = {2, 0},      [KEY_PART] = {2, 0},     [KEY_COUNT] = {2, 0},       [KEY_CONTAINS] = {25, 0},
     [KEY_SET] = {2, 0},       [KEY_REMOVE] = {2, 0},   [KEY_MERGE] = {2, 0},       [TEXT_WITH_ZEROS] = {2, 0},
     [PLAIN_NUMBERS] = {2, 0}, [MASKED_NUMBERS] = {2, 0}, [ERROR_PATH] = {2, 0},    [REASON] = {22, 0},
+    [LINES] = {22, 110},
     [DOCUMENT] = {22, 110},   [DOCUMENT_CHECK] = {5, 0}, [DOCUMENT_TEXT] = {3, 0}, [DOCUMENT_PART] = {2, 0},
     [DOCUMENT_NEXT] = {2, 0}, [DOCUMENT_SET] = {2, 0}, [DOCUMENT_INSERT] = {2, 0}, [DOCUMENT_REMOVE] = {2, 0},
     [DOCUMENT_MERGE] = {3, 0}, [DOCUMENT_STRIP] = {2, 0}, [TABLE] = {2, 0},        [TABLE_CHECK] = {2, 0},
@@ -248,6 +249,9 @@ static void *run(void *given) {
     case CHECK: call->status = vizhoniku_check(call->mode, bytes, text_size, &error); break;
     case TEXT:
       call->status = vizhoniku_text(call->mode, bytes, text_size, call->buffer, call->room, &size, &error);
+      break;
+    case LINES:
+      call->status = vizhoniku_lines(call->mode, bytes, text_size, call->buffer, call->room, &size, &key_size, &error);
       break;
     case SORT_KEY:
       call->status = vizhoniku_sort_key(call->mode, bytes, text_size, call->buffer, call->room, &size, &error);

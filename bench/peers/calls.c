@@ -50,6 +50,16 @@ size_t calls_bench_read_write(const unsigned char *text, size_t len, size_t roun
   return repeat(vizhoniku_text, text, len, rounds);
 }
 
+size_t calls_bench_lines(const unsigned char *text, size_t len, size_t rounds) {
+  struct vizhoniku_error error;
+  size_t size, start;
+  make_room(len);
+  for (size_t round = 0; round < rounds; round++)
+    if (vizhoniku_lines(VIZHONIKU_STANDARD, text, len, buffer, buffer_size, &size, &start, &error) != VIZHONIKU_ACCEPTED)
+      return round;
+  return rounds;
+}
+
 size_t calls_bench_part(const unsigned char *path, size_t path_len, const unsigned char *text, size_t len, size_t rounds) {
   struct vizhoniku_error error;
   size_t size;

@@ -77,6 +77,20 @@ static void write_both(uint32_t mode, const char *text, size_t buffer_size, size
   print_error(&error);
 }
 
+/* Line feeds of the buffer are shown as bars. */
+static void write_lines(uint32_t mode, const char *text, size_t buffer_size) {
+  unsigned char buffer[12];
+  size_t size = 99, start = 99;
+  struct vizhoniku_error error;
+  memset(buffer, '.', sizeof buffer);
+  memset(&error, 255, sizeof error);
+  uint32_t status = vizhoniku_lines(mode, BYTES(text), buffer, buffer_size, &size, &start, &error);
+  for (size_t i = 0; i < sizeof buffer; i++)
+    if (buffer[i] == '\n') buffer[i] = '|';
+  printf("lines: status %u size %zu start %zu buffer %.12s", (unsigned)status, size, start, (char *)buffer);
+  print_error(&error);
+}
+
 static void write_key_text(const unsigned char *key, size_t key_size, size_t buffer_size) {
   unsigned char buffer[16];
   size_t size = 99;
@@ -305,6 +319,8 @@ static void pass_null(uint32_t mode) {
   printf(" size %zu,", size);
   printf(" both %u", (unsigned)vizhoniku_text_and_key(mode, NULL, 0, NULL, 0, &size, NULL, 0, &key_size, &error));
   printf(" sizes %zu %zu,", size, key_size);
+  printf(" lines %u", (unsigned)vizhoniku_lines(mode, NULL, 0, NULL, 0, &size, &key_size, &error));
+  printf(" size %zu start %zu,", size, key_size);
   printf(" compare %u", (unsigned)vizhoniku_compare(mode, BYTES("null"), NULL, 0, &order, &error));
   printf(" order %d,", (int)order);
   printf(" message %u", (unsigned)vizhoniku_message(mode, NULL, 0, NULL, 0, &size));
@@ -717,6 +733,16 @@ int main(void) {
   write_both(VIZHONIKU_EXTENDED, "[ 1, +2 ]", 12, 5);
   write_both(VIZHONIKU_EXTENDED, "[1", 12, 12);
   write_both(2, "1", 12, 12);
+
+  write_lines(VIZHONIKU_EXTENDED, "[ 1, +2 ]\n{}", 12);
+  write_lines(VIZHONIKU_EXTENDED, "[ 1, +2 ]\r\n{}\n", 9);
+  write_lines(VIZHONIKU_EXTENDED, "[ 1, +2 ]\n{}", 8);
+  write_lines(VIZHONIKU_EXTENDED, "1\n\n2", 12);
+  write_lines(VIZHONIKU_STANDARD, "1\n\n2", 12);
+  write_lines(VIZHONIKU_EXTENDED, "[1]\n[ 1, a ]\n]", 12);
+  write_lines(VIZHONIKU_STANDARD, "[1\n]", 12);
+  write_lines(VIZHONIKU_STANDARD, "", 12);
+  write_lines(2, "1", 12);
 
   /* {"a":[1.5,-42]} of docs/SORT_KEYS.md's format, the same with a byte more, and no bytes. */
   static const unsigned char key[] = {0xD1, 'a', 0, 1, 0xD2, 0xA1, 0x1E, 0x5D, 0xAB, 0, 0, 0, 0};

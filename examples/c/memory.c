@@ -42,6 +42,7 @@ static const char *const texts[] = {
     "{\"a\":1,\"b\":{\"c\":[\"\\t\"]},\"a\":2}",
     "{a:0x1F, /* x */ b:[,+.5,'\\'']} // end",
     "[1.5,\"\\q\"]",
+    "{\"b\":[\"\\t\"],\"a\":[{}]}\n[{\"\\u0041\":1}]\n[[2]]\n",
     "[[[[",
     "\"\\u0041\"",
     "1",
@@ -49,7 +50,7 @@ static const char *const texts[] = {
 };
 
 /* Each function of the library that takes memory, by a number below this one. */
-#define FUNCTIONS 34
+#define FUNCTIONS 35
 
 static uint32_t call(int which, uint32_t mode, const unsigned char *text, size_t text_size, size_t capacity) {
   static const unsigned char path[] = {'/', 'c', '/', 'k'};
@@ -118,6 +119,7 @@ static uint32_t call(int which, uint32_t mode, const unsigned char *text, size_t
       memset(table_key + 17, 'x', sizeof table_key - 21);
       memcpy(table_key + sizeof table_key - 4, "\0\1\0", 4);
       return vizhoniku_table(table_key, sizeof table_key, buffer, capacity, &size);
+    case 33: return vizhoniku_lines(mode, text, text_size, buffer, capacity, &size, &key_size, &error);
     default: return vizhoniku_compare(mode, text, text_size, text, text_size, &order, &error);
   }
 }

@@ -3,6 +3,7 @@ pub mod Containers
 pub mod Documents
 pub mod Errors
 pub mod Given
+pub mod Lines
 pub mod Offsets
 pub mod Rows
 pub mod Encoded

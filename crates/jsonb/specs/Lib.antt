@@ -1,4 +1,5 @@
 pub mod Appends
+pub mod Lines
 pub mod AstView
 pub mod FrameContents
 pub mod Held

@@ -13,8 +13,8 @@ pub use jsonb_value::value::{Object, Value};
 pub use jsonb_value::{error, extension, number, value};
 pub use laws::{decoding_is_unambiguous, grammar_is_unambiguous};
 pub use parser::{
-    JsonAst, Mode, append_part, append_sort_key, append_text, check, may_allocate, parse_value,
-    parse_value_standard_mode,
+    JsonAst, Mode, RejectedLine, append_part, append_sort_key, append_text, append_text_lines,
+    check, may_allocate, parse_value, parse_value_standard_mode,
 };
 pub use part::part_at;
 pub use text_scan::line;

@@ -16,6 +16,7 @@ ghost use Rattle.text_parse.specs.Handler.{Misses};
 
 mod ast;
 mod handler;
+mod lines;
 mod members;
 mod part;
 mod straight;
@@ -24,6 +25,7 @@ pub use ast::JsonAst;
 use handler::ValuePart;
 use jsonb_value::error::{Error, Result};
 use jsonb_value::value::Value;
+pub use lines::{RejectedLine, append_text_lines};
 pub use part::append_part;
 use std::alloc::Global;
 pub use straight::{append_sort_key, append_text, check, may_allocate};

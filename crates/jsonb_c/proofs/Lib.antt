@@ -3,6 +3,7 @@ pub mod Contained
 pub mod DocumentParts
 pub mod KeyParts
 pub mod Keys
+pub mod RejectedLines
 pub mod Parts
 pub mod PartsAt
 pub mod Reasons

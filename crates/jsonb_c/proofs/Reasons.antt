@@ -29,7 +29,7 @@ one_mode (extended_mode e) (extended_mode f) = refl
 -- ---- from errors to reasons
 
 -- a fault of the text that a reader reported, in other words
-rejected_text : (number : ℕ) (mode : Mode) (text : List ℕ) (count : ℕ) (e : Error) (rejection : Rejection) → NumberChooses number mode
+pub rejected_text : (number : ℕ) (mode : Mode) (text : List ℕ) (count : ℕ) (e : Error) (rejection : Rejection) → NumberChooses number mode
     → (e ≢ errors.OutOfMemory → IsNoDocument mode text) → Fails e (document_of mode text) → IsExplained mode text e → SaysError count e (Text rejection) → IsRejected number text count rejection
 rejected_text number mode text count e rejection chosen none fails explained says =
     let code = says.0 in

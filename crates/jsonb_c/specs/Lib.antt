@@ -1,4 +1,5 @@
 pub mod Interface
+pub mod Lines
 pub mod KeyContains
 pub mod KeyEdit
 pub mod KeyParts

@@ -35,6 +35,7 @@ pub mod document_without;
 pub mod key;
 pub mod key_change;
 pub mod key_contains;
+pub mod lines;
 pub mod numbers;
 pub mod rejected;
 pub mod scalar;

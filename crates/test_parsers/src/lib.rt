@@ -12,6 +12,8 @@ mod decoding;
 #[cfg(test)]
 mod line;
 #[cfg(test)]
+mod lines;
+#[cfg(test)]
 mod part;
 #[cfg(test)]
 mod path;

@@ -88,6 +88,17 @@ impl<'a> OpenMembers<'a> {
         }
     }
 
+    /// No object is open, of another text.
+    #[inline(always)]
+    pub(crate) fn restart(&mut self, text: &'a [u8])
+        ensures { (layout : Layout) → AreOf layout text.entry.now self.new true [] }
+    {
+        self.text = text;
+        self.entries.clear();
+        self.decoded.clear();
+        self.spare.total = 0;
+    }
+
     /// How many there are.
     #[inline(always)]
     pub fn len(&self) -> usize

@@ -80,6 +80,17 @@ impl<'a> TextSink<'a> {
         }
     }
 
+    /// Another text's value is written behind what is in the buffer, and the space for members is held for it.
+    #[inline(always)]
+    pub fn restart(&mut self, text: &'a [u8])
+        ensures base { base_of self.new ≡ self.old.written.out.items }
+        ensures holds { TextHolds text.entry.now self.new true [] [] }
+    {
+        self.written.restart(text);
+        self.base = self.written.out.len();
+        self.members.restart(text);
+    }
+
     // Writes a byte.
     #[inline(always)]
     fn put(&mut self, byte: u8) -> Result<(), AllocError>
@@ -250,6 +261,16 @@ impl<'a> TextSink<'a> {
         ensures base { base_of self.new ≡ base_of self.old }
     {
         self.written.flush()
+    }
+
+    /// The buffer is again as it was before anything was written.
+    #[cold]
+    pub fn undo(&mut self)
+        ensures { self.new.written.out.items ≡ base_of self.old }
+    {
+        let before = self.base;
+        let written = &mut self.written;
+        written.out.truncate(before);
     }
 
     /// The buffer, with all that is in it.

@@ -45,6 +45,18 @@ impl<'a> Written<'a> {
         }
     }
 
+    /// The same buffer, and no part of another text.
+    #[inline(always)]
+    pub(crate) fn restart(&mut self, text: &'a [u8])
+        ensures bytes { bytes_of self.new ≡ self.old.out.items }
+        ensures text { self.new.text ≡ text.entry }
+        ensures out { self.new.out ≡ self.old.out }
+    {
+        self.from = 0;
+        self.end = 0;
+        self.text = text;
+    }
+
     /// Copies the part of the text to the buffer.
     #[inline(always)]
     pub fn flush(&mut self) -> Result<(), AllocError>

@@ -1,11 +1,12 @@
 //! The functions and the structs of src/ffi.rs are those of vizhoniku.h. The crate counts columns in bytes, has no
-//! call for the zeros of decimals, takes one part of a document at a time, leaves no names and nulls out, and compares
-//! documents and makes keys and paths by Rust's own types.
+//! call for many lines and for the zeros of decimals, takes one part of a document at a time, leaves no names and nulls
+//! out, and compares documents and makes keys and paths by Rust's own types.
 
 use std::collections::BTreeMap;
 use std::path::Path;
 
-const LEFT_OUT: [&str; 20] = [
+const LEFT_OUT: [&str; 21] = [
+    "vizhoniku_lines",
     "vizhoniku_character",
     "vizhoniku_text_with_zeros",
     "vizhoniku_message",

@@ -190,7 +190,12 @@ pub(super) fn value_of(alloc: Global, text: &[u8], mode: Mode) -> Result<Value<'
 // and its members are out of order at each: there it takes less time.
 #[cold]
 #[inline(never)]
-fn append_text_of_value(alloc: Global, text: &[u8], mode: Mode, buf: &mut Vec<u8>) -> Result<()>
+pub(super) fn append_text_of_value(
+    alloc: Global,
+    text: &[u8],
+    mode: Mode,
+    buf: &mut Vec<u8>,
+) -> Result<()>
     ensures appends { AppendsParsed (AppendsTextOf (mode_of mode) text.now)
         (LacksCapacityForText (mode_of mode) text.now) text.now result buf.old buf.new }
     ensures rejects { Rejects (mode_of mode) text.now result }

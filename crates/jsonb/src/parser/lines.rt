@@ -1,0 +1,160 @@
+//! Texts whose lines are texts of their own, which are parsed one after the other for their serialized forms.
+ghost use Rattle.std.specs.Prelude.{◌≡◌, ◌⊎◌, ◌+◌, ◌<◌, [], ◌∷◌, length, IfErr, OnErr, OnOk};
+ghost use Rattle.jsonb_spec.specs.Text.Appending.{Extends};
+ghost use Rattle.text_scan.specs.Answer.{mode_of};
+ghost use Rattle.text_write.specs.TextSink.{base_of};
+ghost use Rattle.jsonb.specs.Appends.{AppendsTextOf};
+ghost use Rattle.jsonb.specs.Follows.{FailsAsSpecified};
+ghost use Rattle.jsonb.specs.Lines.{AppendsTextOfLine, AppendsTextOfLines, RejectsLine, lines_of};
+ghost use Rattle.jsonb.specs.Parses.{Rejects};
+
+use super::Mode;
+use super::handler::SinkPart;
+use super::straight::append_text_of_value;
+use jsonb_value::error::{Error, Result};
+use memchr::memchr;
+use std::alloc::Global;
+use std::mem;
+use text_parse::parse_text;
+use text_write::text::TextSink;
+
+/// A line that is rejected: the index in the text at which it begins, and what is wrong with it. The offset of an error
+/// counts from there.
+#[derive(Debug, Drop)]
+pub struct RejectedLine {
+    pub start: usize,
+    pub error: Error,
+}
+
+/// Parses each line of a text, which is a whole text, and appends its value's serialized form and a line feed to a
+/// buffer. The last line may lack its line feed. After an error `buf` has the same bytes as before.
+///
+/// It is as if [`append_text`] were called for each line, but what that allocates beside the growth of `buf` is held
+/// from line to line. So short lines take less time.
+///
+/// ```
+/// let mut buf = Vec::new(rt.alloc());
+/// jsonb::append_text_lines(rt.alloc(), b"{b: .5, a: null}\n[ ]", Mode::Extended, &mut buf)?;
+/// // appends {"a":null,"b":0.5} and [], each with a line feed
+/// ```
+///
+/// # Errors
+///
+/// Those of [`append_text`], of the first line that has one.
+///
+/// [`append_text`]: crate::append_text
+pub fn append_text_lines(
+    alloc: Global,
+    text: &[u8],
+    mode: Mode,
+    buf: &mut Vec<u8>,
+) -> std::result::Result<(), RejectedLine>
+    // Each line is a document, whose text is appended. After an error the buffer has its old bytes.
+    ensures appends { OnOk result (AppendsTextOfLines (mode_of mode) (lines_of text.now) buf.old.items buf.new.items) }
+    ensures preserves { OnErr result (buf.new.items ≡ buf.old.items) }
+
+    // An error is that of the parsers, of the first line that has one.
+    ensures rejects { IfErr result (λ e. RejectsLine (mode_of mode) e.error (lines_of text.now) e.start) }
+{
+    let before = buf.len();
+    let out = mem::replace(buf, Vec::new(alloc));
+    let mut sink = TextSink::new(alloc, text, out);
+    let written = write_lines(&mut sink, alloc, text, mode);
+    *buf = sink.into_buffer();
+    if written.is_err() {
+        buf.truncate(before);
+    }
+    written
+}
+
+// Writes the lines, one after the other.
+fn write_lines<'a>(
+    sink: &mut TextSink<'a>,
+    alloc: Global,
+    text: &'a [u8],
+    mode: Mode,
+) -> std::result::Result<(), RejectedLine>
+    ensures appends { OnOk result (AppendsTextOfLines (mode_of mode) (lines_of text.now) sink.old.written.out.items
+        sink.new.written.out.items) }
+    ensures retained { Extends sink.old.written.out.items sink.new.written.out.items }
+    ensures rejects { IfErr result (λ e. RejectsLine (mode_of mode) e.error (lines_of text.now) e.start) }
+{
+    let mut rest = text;
+    'lines: while !rest.is_empty() {
+        let (line, others) = split_line(rest);
+        if let Err(error) = write_line(sink, alloc, line, mode) {
+            let start = text.len() - rest.len();
+            return Err(RejectedLine { start, error });
+        }
+        rest = others;
+    }
+    Ok(())
+}
+
+// The first line of bytes, and what is behind its line feed.
+fn split_line(bytes: &[u8]) -> (&[u8], &[u8])
+    requires { 0 < length bytes.now }
+    ensures lines { lines_of bytes.now ≡ result.0.now ∷ lines_of result.1.now }
+    ensures length { (result.1.now ≡ []) ⊎ (length bytes.now ≡ length result.0.now + 1 + length result.1.now) }
+    ensures shorter { length result.1.now < length bytes.now }
+{
+    match memchr(b'\n', bytes) {
+        Some(end) => (&bytes[..end], &bytes[end + 1..]),
+        None => bytes.split_at(bytes.len()),
+    }
+}
+
+// Writes the serialized form of a line's value, and a line feed, behind what is in the sink's buffer.
+fn write_line<'a>(sink: &mut TextSink<'a>, alloc: Global, line: &'a [u8], mode: Mode) -> Result<()>
+    ensures appends { OnOk result (AppendsTextOfLine (mode_of mode) line.now sink.old.written.out.items
+        sink.new.written.out.items) }
+    ensures retained { Extends sink.old.written.out.items sink.new.written.out.items }
+    ensures rejects { Rejects (mode_of mode) line.now result }
+    ensures follows { FailsAsSpecified (mode_of mode) line.now result }
+{
+    write_form(sink, alloc, line, mode)?;
+    let written = &mut sink.written;
+    match written.out.push(b'\n') {
+        Ok(()) => Ok(()),
+        Err(_) => Err(Error::OutOfMemory),
+    }
+}
+
+// Writes the serialized form alone.
+#[inline(always)]
+fn write_form<'a>(sink: &mut TextSink<'a>, alloc: Global, line: &'a [u8], mode: Mode) -> Result<()>
+    ensures appends { OnOk result (AppendsTextOf (mode_of mode) line.now sink.old.written.out.items
+        sink.new.written.out.items) }
+    ensures retained { Extends sink.old.written.out.items sink.new.written.out.items }
+    ensures rejects { Rejects (mode_of mode) line.now result }
+    ensures follows { FailsAsSpecified (mode_of mode) line.now result }
+{
+    sink.restart(line);
+    match parse_text::<SinkPart<TextSink>>(sink, alloc, line, mode) {
+        Ok(_) => match sink.finish() {
+            Ok(()) => Ok(()),
+            Err(_) => Err(Error::OutOfMemory),
+        },
+        Err(Some(error)) => Err(error),
+        Err(None) => write_form_of_value(sink, alloc, line, mode),
+    }
+}
+
+// Writes it in place of what the sink has written of the line, from a value that is made first.
+#[cold]
+#[inline(never)]
+fn write_form_of_value(
+    sink: &mut TextSink<'_>,
+    alloc: Global,
+    line: &[u8],
+    mode: Mode,
+) -> Result<()>
+    ensures appends { OnOk result (AppendsTextOf (mode_of mode) line.now (base_of sink.old) sink.new.written.out.items) }
+    ensures retained { Extends (base_of sink.old) sink.new.written.out.items }
+    ensures rejects { Rejects (mode_of mode) line.now result }
+    ensures follows { FailsAsSpecified (mode_of mode) line.now result }
+{
+    sink.undo();
+    let written = &mut sink.written;
+    append_text_of_value(alloc, line, mode, &mut written.out)
+}
