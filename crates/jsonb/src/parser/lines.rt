@@ -2,20 +2,16 @@
 ghost use Rattle.std.specs.Prelude.{◌≡◌, ◌⊎◌, ◌+◌, ◌<◌, [], ◌∷◌, length, IfErr, OnErr, OnOk};
 ghost use Rattle.jsonb_spec.specs.Text.Appending.{Extends};
 ghost use Rattle.text_scan.specs.Answer.{mode_of};
-ghost use Rattle.text_write.specs.TextSink.{base_of};
-ghost use Rattle.jsonb.specs.Appends.{AppendsTextOf};
 ghost use Rattle.jsonb.specs.Follows.{FailsAsSpecified};
 ghost use Rattle.jsonb.specs.Lines.{AppendsTextOfLine, AppendsTextOfLines, RejectsLine, lines_of};
 ghost use Rattle.jsonb.specs.Parses.{Rejects};
 
 use super::Mode;
-use super::handler::SinkPart;
-use super::straight::append_text_of_value;
+use super::straight::write_form;
 use jsonb_value::error::{Error, Result};
 use memchr::memchr;
 use std::alloc::Global;
 use std::mem;
-use text_parse::parse_text;
 use text_write::text::TextSink;
 
 /// A line that is rejected: the index in the text at which it begins, and what is wrong with it. The offset of an error
@@ -105,6 +101,7 @@ fn split_line(bytes: &[u8]) -> (&[u8], &[u8])
 }
 
 // Writes the serialized form of a line's value, and a line feed, behind what is in the sink's buffer.
+#[inline(always)]
 fn write_line<'a>(sink: &mut TextSink<'a>, alloc: Global, line: &'a [u8], mode: Mode) -> Result<()>
     ensures appends { OnOk result (AppendsTextOfLine (mode_of mode) line.now sink.old.written.out.items
         sink.new.written.out.items) }
@@ -112,49 +109,11 @@ fn write_line<'a>(sink: &mut TextSink<'a>, alloc: Global, line: &'a [u8], mode: 
     ensures rejects { Rejects (mode_of mode) line.now result }
     ensures follows { FailsAsSpecified (mode_of mode) line.now result }
 {
+    sink.restart(line);
     write_form(sink, alloc, line, mode)?;
     let written = &mut sink.written;
     match written.out.push(b'\n') {
         Ok(()) => Ok(()),
         Err(_) => Err(Error::OutOfMemory),
     }
-}
-
-// Writes the serialized form alone.
-#[inline(always)]
-fn write_form<'a>(sink: &mut TextSink<'a>, alloc: Global, line: &'a [u8], mode: Mode) -> Result<()>
-    ensures appends { OnOk result (AppendsTextOf (mode_of mode) line.now sink.old.written.out.items
-        sink.new.written.out.items) }
-    ensures retained { Extends sink.old.written.out.items sink.new.written.out.items }
-    ensures rejects { Rejects (mode_of mode) line.now result }
-    ensures follows { FailsAsSpecified (mode_of mode) line.now result }
-{
-    sink.restart(line);
-    match parse_text::<SinkPart<TextSink>>(sink, alloc, line, mode) {
-        Ok(_) => match sink.finish() {
-            Ok(()) => Ok(()),
-            Err(_) => Err(Error::OutOfMemory),
-        },
-        Err(Some(error)) => Err(error),
-        Err(None) => write_form_of_value(sink, alloc, line, mode),
-    }
-}
-
-// Writes it in place of what the sink has written of the line, from a value that is made first.
-#[cold]
-#[inline(never)]
-fn write_form_of_value(
-    sink: &mut TextSink<'_>,
-    alloc: Global,
-    line: &[u8],
-    mode: Mode,
-) -> Result<()>
-    ensures appends { OnOk result (AppendsTextOf (mode_of mode) line.now (base_of sink.old) sink.new.written.out.items) }
-    ensures retained { Extends (base_of sink.old) sink.new.written.out.items }
-    ensures rejects { Rejects (mode_of mode) line.now result }
-    ensures follows { FailsAsSpecified (mode_of mode) line.now result }
-{
-    sink.undo();
-    let written = &mut sink.written;
-    append_text_of_value(alloc, line, mode, &mut written.out)
 }

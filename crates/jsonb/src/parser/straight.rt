@@ -1,8 +1,9 @@
 //! Texts that are parsed for their serialized form or their sort key alone, or only checked.
-ghost use Rattle.std.specs.Prelude.{◌≡◌, MatchBool, OnOk, Err};
+ghost use Rattle.std.specs.Prelude.{◌≡◌, [], true, MatchBool, OnErr, OnOk, Err};
 ghost use Rattle.jsonb_spec.specs.Tree.{Tree};
 ghost use Rattle.jsonb_value.specs.View.{view};
 ghost use Rattle.text_scan.specs.Answer.{mode_of, MayAllocate};
+ghost use Rattle.text_write.specs.TextSink.{TextHolds, base_of};
 ghost use Rattle.jsonb.specs.Appends.{AppendsKeyOf, AppendsTextOf, IsParsed, LacksCapacityForKey, LacksCapacityForText};
 ghost use Rattle.jsonb.specs.Follows.{FailsAsSpecified, FollowsSpecification};
 ghost use Rattle.jsonb.specs.Parses.{AppendsParsed, Parses, Rejects};
@@ -101,24 +102,9 @@ pub fn append_text(alloc: Global, text: &[u8], mode: Mode, buf: &mut Vec<u8>) ->
     }
     let out = mem::replace(buf, Vec::new(alloc));
     let mut sink = TextSink::new(alloc, text, out);
-    let read = parse_text::<SinkPart<TextSink>>(&mut sink, alloc, text, mode);
-    match read {
-        Ok(_) => {
-            if sink.finish().is_err() {
-                *buf = sink.take_back();
-                return Err(Error::OutOfMemory);
-            }
-            *buf = sink.into_buffer();
-            Ok(())
-        }
-        Err(reported) => {
-            *buf = sink.take_back();
-            match reported {
-                Some(error) => Err(error),
-                None => append_text_of_value(alloc, text, mode, buf),
-            }
-        }
-    }
+    let written = write_form(&mut sink, alloc, text, mode);
+    *buf = sink.into_buffer();
+    written
 }
 
 /// Parses a whole text, and appends its value's sort key to a buffer. No value is made. After an error `buf` has the
@@ -185,17 +171,63 @@ pub(super) fn value_of(alloc: Global, text: &[u8], mode: Mode) -> Result<Value<'
     }
 }
 
+// Writes the serialized form of a text's value to a sink in which nothing is written yet. After an error its buffer is as
+// before.
+pub(super) fn write_form<'a>(
+    sink: &mut TextSink<'a>,
+    alloc: Global,
+    text: &'a [u8],
+    mode: Mode,
+) -> Result<()>
+    requires holds { TextHolds text.now sink.old true [] [] }
+    ensures appends { OnOk result (AppendsTextOf (mode_of mode) text.now (base_of sink.old) sink.new.written.out.items) }
+    ensures preserves { OnErr result (sink.new.written.out.items ≡ base_of sink.old) }
+    ensures rejects { Rejects (mode_of mode) text.now result }
+    ensures follows { FailsAsSpecified (mode_of mode) text.now result }
+{
+    match parse_text::<SinkPart<TextSink>>(sink, alloc, text, mode) {
+        Ok(_) => {
+            if sink.finish().is_err() {
+                sink.undo();
+                return Err(Error::OutOfMemory);
+            }
+            Ok(())
+        }
+        Err(reported) => {
+            sink.undo();
+            match reported {
+                Some(error) => Err(error),
+                None => write_form_of_value(sink, alloc, text, mode),
+            }
+        }
+    }
+}
+
+// Writes it to the buffer of a sink, from a value that is made first.
+#[cold]
+#[inline(never)]
+fn write_form_of_value(
+    sink: &mut TextSink<'_>,
+    alloc: Global,
+    text: &[u8],
+    mode: Mode,
+) -> Result<()>
+    ensures appends { OnOk result (AppendsTextOf (mode_of mode) text.now sink.old.written.out.items
+        sink.new.written.out.items) }
+    ensures preserves { OnErr result (sink.new.written.out.items ≡ sink.old.written.out.items) }
+    ensures rejects { Rejects (mode_of mode) text.now result }
+    ensures follows { FailsAsSpecified (mode_of mode) text.now result }
+{
+    let written = &mut sink.written;
+    append_text_of_value(alloc, text, mode, &mut written.out)
+}
+
 // Appends the serialized form of a text's value, which is made first. Scalars without escapes go this way, of which it
 // takes no memory but the space that `buf` lacks. So do texts where an object holds most of the text at many levels,
 // and its members are out of order at each: there it takes less time.
 #[cold]
 #[inline(never)]
-pub(super) fn append_text_of_value(
-    alloc: Global,
-    text: &[u8],
-    mode: Mode,
-    buf: &mut Vec<u8>,
-) -> Result<()>
+fn append_text_of_value(alloc: Global, text: &[u8], mode: Mode, buf: &mut Vec<u8>) -> Result<()>
     ensures appends { AppendsParsed (AppendsTextOf (mode_of mode) text.now)
         (LacksCapacityForText (mode_of mode) text.now) text.now result buf.old buf.new }
     ensures rejects { Rejects (mode_of mode) text.now result }
