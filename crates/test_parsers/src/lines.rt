@@ -17,21 +17,20 @@ fn written(
 }
 
 fn is_written(alloc: Global, mode: Mode, text: &[u8], wanted: &[u8]) -> bool {
-    match written(alloc, mode, text) {
-        Ok((out, None)) => out.as_slice() == wanted,
-        _ => false,
-    }
+    let Ok((out, rejected)) = written(alloc, mode, text) else {
+        return false;
+    };
+    rejected.is_none() && out.as_slice() == wanted
 }
 
 fn is_rejected(alloc: Global, mode: Mode, text: &[u8], start: usize, wanted: Error) -> bool {
-    match written(alloc, mode, text) {
-        Ok((out, Some(rejected))) => {
-            out.as_slice() == b"front".as_slice()
-                && rejected.start == start
-                && rejected.error == wanted
-        }
-        _ => false,
-    }
+    let Ok((out, rejected)) = written(alloc, mode, text) else {
+        return false;
+    };
+    let Some(rejected) = rejected else {
+        return false;
+    };
+    out.as_slice() == b"front".as_slice() && rejected.start == start && rejected.error == wanted
 }
 
 #[test]
