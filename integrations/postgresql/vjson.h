@@ -52,10 +52,6 @@
 /* Space beyond what is written at first; more is asked for if needed. */
 #define SPARE_ROOM		16
 
-/* How many lines of memory are fetched of the end of a document, and bytes of one. */
-#define LINES_AT_END	4
-#define LINE_OF_MEMORY	64
-
 /* A range of bytes: a key, a name in a key, or a name in UTF-8. */
 typedef struct
 {
@@ -245,32 +241,12 @@ bytes_of(struct varlena *value)
 	return bytes;
 }
 
-/*
- * The table of the members, the zeros and the last names of a long document are
- * at its end, which in a scan isn't in the caches of the processor yet. These
- * lines of memory are fetched together, and not one after the other.
- */
-static inline void
-fetch_end(Range bytes)
-{
-#ifdef __GNUC__
-	const unsigned char *last = bytes.at + bytes.size - 1;
-
-	if (bytes.size > LINES_AT_END * LINE_OF_MEMORY)
-	{
-		for (int i = 0; i < LINES_AT_END; i++)
-			__builtin_prefetch(last - i * LINE_OF_MEMORY);
-	}
-#endif
-}
-
 static inline Document
 get_document(struct varlena *value)
 {
 	Range		bytes = bytes_of(value);
 	Document	document = {bytes, bytes.size, {NULL, 0}};
 
-	fetch_end(bytes);
 	if (unlikely(*bytes.at < OLD_FORMS))
 		return vjson_old_document(bytes);
 	document.table.size = vizhoniku_table_size(bytes.at, bytes.size);
