@@ -1044,6 +1044,19 @@ compare_keys(Range left, Range right)
 }
 
 /*
+ * A key beside a document and its table.  No key begins another one, so that no
+ * more bytes than the key has tell its order, and it needn't be known where the
+ * key of the document ends: they are equal where it begins with the other one.
+ */
+static inline int
+compare_with_stored(Range key, Range stored)
+{
+	if (likely(stored.size > key.size))
+		stored.size = key.size;
+	return compare_keys(key, stored);
+}
+
+/*
  * The key of a value, or its front where the value is compressed: as many of its
  * first bytes as are surely of the key, since the zeros take at most twice as
  * many bytes as the key, and ten, and the table at most as many as the key, and
@@ -1112,7 +1125,7 @@ static int
 compare_datums(Datum left, Datum right)
 {
 	Range		left_key;
-	Range		right_key;
+	Range		right_bytes;
 	struct varlena *left_value;
 	struct varlena *right_value;
 	int			order;
@@ -1120,8 +1133,12 @@ compare_datums(Datum left, Datum right)
 	if ((is_compressed(left) || is_compressed(right)) && compare_compressed(left, right, &order))
 		return order < 0 ? -1 : order > 0;
 	left_value = value_of(left, &left_key);
-	right_value = value_of(right, &right_key);
-	order = compare_keys(left_key, right_key);
+	right_value = PG_DETOAST_DATUM_PACKED(right);
+	right_bytes = bytes_of(right_value);
+	if (likely(*right_bytes.at >= OLD_FORMS))
+		order = compare_with_stored(left_key, right_bytes);
+	else
+		order = compare_keys(left_key, vjson_old_key(right_bytes, false));
 	free_value(left_value, left);
 	free_value(right_value, right);
 	return order;
