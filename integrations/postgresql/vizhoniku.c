@@ -76,6 +76,9 @@ PG_MODULE_MAGIC;
 /* What zeros and a table take at most, beside three times as many bytes as the key. */
 #define MOST_BEHIND_KEY	13
 
+/* From how many bytes on those that are surely of two keys are compared first. */
+#define LONG_FRONT		32
+
 /* How a text is read. */
 typedef enum
 {
@@ -1044,43 +1047,79 @@ compare_keys(Range left, Range right)
 }
 
 /*
- * A key beside a document and its table.  No key begins another one, so that no
- * more bytes than the key has tell its order, and it needn't be known where the
- * key of the document ends: they are equal where it begins with the other one.
+ * How many of the first bytes of a value are surely of its key: the zeros take
+ * at most twice as many bytes as the key, and ten, and the table at most as
+ * many as the key, and three.
  */
-static inline int
-compare_with_stored(Range key, Range stored)
+static inline size_t
+surely_of_key(size_t size)
 {
-	if (likely(stored.size > key.size))
-		stored.size = key.size;
-	return compare_keys(key, stored);
+	return size > MOST_BEHIND_KEY ? (size - MOST_BEHIND_KEY) / 4 : 0;
 }
 
 /*
- * The key of a value, or its front where the value is compressed: as many of its
- * first bytes as are surely of the key, since the zeros take at most twice as
- * many bytes as the key, and ten, and the table at most as many as the key, and
- * three.
+ * Documents, with their tables.  Where the bytes that are surely of both keys
+ * are the same, the end of the first key is looked for alone: no key begins
+ * another one, so that no more bytes tell their order.
+ */
+static inline int
+compare_stored(Range left, Range right)
+{
+	size_t		front = Min(surely_of_key(left.size), surely_of_key(right.size));
+
+	if (front >= LONG_FRONT)
+	{
+		int			order = memcmp(left.at, right.at, front);
+
+		if (order != 0)
+			return order < 0 ? -1 : 1;
+	}
+	left.size = vizhoniku_document_key(left.at, left.size);
+	right.size = Min(right.size, left.size);
+	return compare_keys(left, right);
+}
+
+/* The same for equality, of values that are mostly the same. */
+static inline bool
+equal_stored(Range left, Range right)
+{
+	if (same_bytes(left, right))
+		return true;
+	left.size = vizhoniku_document_key(left.at, left.size);
+	right.size = Min(right.size, left.size);
+	return same_bytes(left, right);
+}
+
+static inline bool
+is_old(Range bytes)
+{
+	return unlikely(*bytes.at < OLD_FORMS);
+}
+
+/*
+ * The first bytes of a value's key: of those that are there as many as are
+ * surely of it.  Of a compressed value only some are decompressed.
  */
 static inline struct varlena *
 front_of(Datum datum, Range *front)
 {
-	Pointer		compressed = DatumGetPointer(datum);
-	struct varlena *value;
-	size_t		size;
+	Pointer		stored = DatumGetPointer(datum);
+	bool		compressed = VARATT_IS_COMPRESSED(stored);
+	struct varlena *value = compressed ? PG_DETOAST_DATUM_SLICE(datum, 0, FIRST_SLICE) : PG_DETOAST_DATUM_PACKED(datum);
 
-	if (!VARATT_IS_COMPRESSED(compressed))
-		return value_of(datum, front);
-	value = PG_DETOAST_DATUM_SLICE(datum, 0, FIRST_SLICE);
 	*front = bytes_of(value);
-	if (unlikely(*front->at < OLD_FORMS))
-	{
-		*front = vjson_old_key(*front, true);
-		return value;
-	}
-	size = VARDATA_COMPRESSED_GET_EXTSIZE(compressed);
-	front->size = Min(front->size, size > MOST_BEHIND_KEY ? (size - MOST_BEHIND_KEY) / 4 : 0);
+	if (is_old(*front))
+		*front = vjson_old_key(*front, compressed);
+	else
+		front->size = Min(front->size,
+						  surely_of_key(compressed ? VARDATA_COMPRESSED_GET_EXTSIZE(stored) : front->size));
 	return value;
+}
+
+static inline bool
+is_compressed(Datum datum)
+{
+	return VARATT_IS_COMPRESSED(DatumGetPointer(datum));
 }
 
 /*
@@ -1107,38 +1146,33 @@ compare_compressed(Datum left, Datum right, int *order)
 		*order = 0;
 		return true;
 	}
-	left_slice = front_of(left, &left_front);
-	right_slice = front_of(right, &right_front);
+	left_slice = is_compressed(left) ? front_of(left, &left_front) : value_of(left, &left_front);
+	right_slice = is_compressed(right) ? front_of(right, &right_front) : value_of(right, &right_front);
 	*order = memcmp(left_front.at, right_front.at, Min(left_front.size, right_front.size));
 	free_value(left_slice, left);
 	free_value(right_slice, right);
 	return *order != 0;
 }
 
-static inline bool
-is_compressed(Datum datum)
-{
-	return VARATT_IS_COMPRESSED(DatumGetPointer(datum));
-}
-
 static int
 compare_datums(Datum left, Datum right)
 {
-	Range		left_key;
-	Range		right_bytes;
 	struct varlena *left_value;
 	struct varlena *right_value;
+	Range		left_bytes;
+	Range		right_bytes;
 	int			order;
 
 	if ((is_compressed(left) || is_compressed(right)) && compare_compressed(left, right, &order))
 		return order < 0 ? -1 : order > 0;
-	left_value = value_of(left, &left_key);
+	left_value = PG_DETOAST_DATUM_PACKED(left);
 	right_value = PG_DETOAST_DATUM_PACKED(right);
+	left_bytes = bytes_of(left_value);
 	right_bytes = bytes_of(right_value);
-	if (likely(*right_bytes.at >= OLD_FORMS))
-		order = compare_with_stored(left_key, right_bytes);
+	if (is_old(left_bytes) || is_old(right_bytes))
+		order = compare_keys(get_key(left_value), get_key(right_value));
 	else
-		order = compare_keys(left_key, vjson_old_key(right_bytes, false));
+		order = compare_stored(left_bytes, right_bytes);
 	free_value(left_value, left);
 	free_value(right_value, right);
 	return order;
@@ -1147,18 +1181,23 @@ compare_datums(Datum left, Datum right)
 static bool
 equal_datums(Datum left, Datum right)
 {
-	Range		left_key;
-	Range		right_key;
 	struct varlena *left_value;
 	struct varlena *right_value;
+	Range		left_bytes;
+	Range		right_bytes;
 	int			order;
 	bool		equal;
 
 	if ((is_compressed(left) || is_compressed(right)) && compare_compressed(left, right, &order))
 		return order == 0;
-	left_value = value_of(left, &left_key);
-	right_value = value_of(right, &right_key);
-	equal = same_bytes(left_key, right_key);
+	left_value = PG_DETOAST_DATUM_PACKED(left);
+	right_value = PG_DETOAST_DATUM_PACKED(right);
+	left_bytes = bytes_of(left_value);
+	right_bytes = bytes_of(right_value);
+	if (is_old(left_bytes) || is_old(right_bytes))
+		equal = same_bytes(get_key(left_value), get_key(right_value));
+	else
+		equal = equal_stored(left_bytes, right_bytes);
 	free_value(left_value, left);
 	free_value(right_value, right);
 	return equal;
@@ -1253,9 +1292,9 @@ static Datum
 vjson_abbreviate(Datum original, SortSupport ssup)
 {
 	VjsonSort  *sort = (VjsonSort *) ssup->ssup_extra;
-	bool		slice = sort->pivot_size > 0 && VARATT_IS_COMPRESSED(DatumGetPointer(original));
+	bool		is_front = sort->pivot_size > 0;
 	Range		key;
-	struct varlena *value = slice ? front_of(original, &key) : value_of(original, &key);
+	struct varlena *value = is_front ? front_of(original, &key) : value_of(original, &key);
 	size_t		limit;
 	size_t		front = 0;
 	bool		below;
@@ -1276,11 +1315,15 @@ vjson_abbreviate(Datum original, SortSupport ssup)
 			front += sizeof(uint64);
 		while (front < limit && key.at[front] == sort->pivot[front])
 			front++;
-		if (!slice || front + SHOWN_BYTES <= key.size)
+		if (!is_front || front + SHOWN_BYTES <= key.size)
 			break;
-		slice = false;			/* the slice may be too short */
-		free_value(value, original);
-		value = value_of(original, &key);
+		is_front = false;		/* the front may be too short */
+		if (is_compressed(original))
+		{
+			free_value(value, original);
+			value = PG_DETOAST_DATUM_PACKED(original);
+		}
+		key = get_key(value);
 	}
 
 	/* No key begins another: one with all bytes of the pivot is the pivot, or has FRONT_LIMIT bytes in common. */

@@ -249,10 +249,13 @@ get_document(struct varlena *value)
 
 	if (unlikely(*bytes.at < OLD_FORMS))
 		return vjson_old_document(bytes);
-	document.table.size = vizhoniku_table_size(bytes.at, bytes.size);
-	document.size = bytes.size - document.table.size;
-	document.table.at = bytes.at + document.size;
-	document.key.size = vizhoniku_document_key(bytes.at, document.size);
+	document.key.size = vizhoniku_document_key(bytes.at, bytes.size);
+	if (document.key.size < bytes.size)
+	{
+		document.table.size = vizhoniku_table_size(bytes.at, bytes.size);
+		document.size = bytes.size - document.table.size;
+		document.table.at = bytes.at + document.size;
+	}
 	return document;
 }
 
@@ -263,7 +266,7 @@ get_key(struct varlena *value)
 
 	if (unlikely(*bytes.at < OLD_FORMS))
 		return vjson_old_key(bytes, false);
-	bytes.size = vizhoniku_document_key(bytes.at, bytes.size - vizhoniku_table_size(bytes.at, bytes.size));
+	bytes.size = vizhoniku_document_key(bytes.at, bytes.size);
 	return bytes;
 }
 

@@ -3,7 +3,7 @@
 //!
 //! Any bytes are safe to pass. What a call writes is promised for the documents of values of JSON's kinds with at most
 //! 512 nested arrays and objects; of other bytes it may be `NO_DOCUMENT` or any bytes.
-ghost use Rattle.std.specs.Prelude.{◌≡◌, ◌⊎◌, ◌≤◌, ◌↔◌, IfOk, ℕ, List, [], length, map, string_bytes, Option, Some, Vec};
+ghost use Rattle.std.specs.Prelude.{◌≡◌, ◌⊎◌, ◌≤◌, ◌↔◌, ◌++◌, IfOk, IsTrue, ℕ, List, [], length, map, string_bytes, Option, Some, Vec};
 ghost use Rattle.std.specs.declared.alloc.Global.{Global as GlobalAlloc};
 ghost use Rattle.jsonb_c.specs.Document.{document_status_of, IsDocumentAnswer, IsDocumentOfText, IsDocumentStatus, IsTreeDocument};
 ghost use Rattle.jsonb_c.specs.Interface.{sign, FailsFor, FillsBuffer, FormMayAllocate, IsRejected, IsStatusOfForm, PreservesBuffer, Reports, ReportsPath};
@@ -17,6 +17,7 @@ ghost use Rattle.jsonb_spec.specs.Text.{text_of};
 ghost use Rattle.jsonb_spec.specs.Tree.{Tree};
 ghost use Rattle.key_document.specs.Check.{IsDocumentInRange};
 ghost use Rattle.key_document.specs.Changes.{Answers, AppendsDocument, IsPartAt};
+ghost use Rattle.key_table.specs.Table.{has_table, table_of};
 
 use crate::{
     ACCEPTED, Failure, NO_DOCUMENT, NO_PART, NO_PATH, NOTHING, OUT_OF_MEMORY, Rejection, TOO_DEEP,
@@ -26,6 +27,7 @@ use key_document::{
     DocumentError, append_document_of_text, append_part, append_range, append_text_of_document,
     compare_documents, is_document, split_document,
 };
+use key_table::split_table;
 use std::alloc::Global;
 
 /// Writes the document of the text's value to the start of `out`, and its size to `size`. Where `out` is too
@@ -88,13 +90,17 @@ pub extern "C" fn vizhoniku_document_check(document: &[u8]) -> u32
     }
 }
 
-/// Returns how many of the document's first bytes are its key. It looks at the last ten bytes alone.
+/// Returns how many of the document's first bytes are its key, also where its table is behind it. It looks at the last
+/// ten bytes alone, and at the three that end the table.
 #[unsafe(no_mangle)]
 pub extern "C" fn vizhoniku_document_key(document: &[u8]) -> usize
     ensures size { (t : Tree) → IsTreeDocument document.now t → result ≡ length (key_of t) }
+    ensures before_table { (front : List ℕ) → (t : Tree) → IsTreeDocument front t → IsTrue (has_table t)
+        → document.now ≡ front ++ table_of t → result ≡ length (key_of t) }
     ensures within { result ≤ length document.now }
 {
-    let (key, _) = split_document(document);
+    let (front, _) = split_table(document);
+    let (key, _) = split_document(front);
     key.len()
 }
 

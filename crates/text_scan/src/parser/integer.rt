@@ -34,23 +34,26 @@ pub(super) fn digits_by_bytes(bytes: &[u8]) -> (usize, u64)
     short_digits(bytes)
 }
 
-// How many digits the bytes begin with, or 19 where they are more.
+// How many digits the bytes begin with, or 19 where they are more, and the byte behind them, or 0 where none is. Digits
+// that end among 16 bytes have one behind them, so that their end isn't compared with that of the bytes.
 #[inline(always)]
-pub(super) fn digits_len(bytes: &[u8]) -> usize
-    ensures few { result ≤ 19 }
-    ensures within { result ≤ length bytes.now }
-    ensures digits { digits_length bytes.now ≡ result + digits_length (drop result bytes.now) }
+pub(super) fn digits_and_next(bytes: &[u8]) -> (usize, u8)
+    ensures few { result.0 ≤ 19 }
+    ensures within { result.0 ≤ length bytes.now }
+    ensures digits { digits_length bytes.now ≡ result.0 + digits_length (drop result.0 bytes.now) }
+    ensures next { result.1 ≡ slice_index bytes.now result.0 }
 {
     if bytes.len() < 16 {
         let (len, _value) = digits_by_bytes(bytes);
-        return len;
+        return (len, byte_at(bytes, len));
     }
     let near = near_digits(bytes);
     if near < 16 {
-        return near;
+        return (near, bytes[near]);
     }
     let (more, _value) = digits_within(&bytes[16..], (bytes.len() - 16).min(3));
-    16 + more
+    let len = 16 + more;
+    (len, byte_at(bytes, len))
 }
 
 // Whether an integer of so many bytes, with its sign, may have this first digit.
@@ -73,7 +76,7 @@ pub fn verbatim_integer(bytes: &[u8]) -> Option<usize>
     ensures within { IfSome result (λ end. end ≤ length bytes.now) }
 {
     let digits = after_minus(bytes);
-    let len = digits_len(digits);
+    let (len, next) = digits_and_next(digits);
     if len == 0 {
         return None;
     }
@@ -81,7 +84,7 @@ pub fn verbatim_integer(bytes: &[u8]) -> Option<usize>
     if start + len > 19 || !may_begin(digits[0], start + len) {
         return None;
     }
-    if continues_number(byte_at(digits, len)) {
+    if continues_number(next) {
         return None;
     }
     Some(start + len)

@@ -7,7 +7,7 @@ ghost use Rattle.text_scan.specs.ShortInteger.{IsVerbatimInteger};
 ghost use Rattle.text_scan.specs.VerbatimNumber.{IsDecimalBody, IsVerbatimDecimal};
 ghost use Rattle.jsonb_spec.specs.Ascii as ascii;
 
-use super::integer::{digits_by_bytes, digits_len, may_begin};
+use super::integer::{digits_and_next, digits_by_bytes, may_begin};
 use super::number::{after_minus, byte_at};
 
 /// A number that is written by the same bytes again: the index after it, and whether it has a point.
@@ -56,12 +56,12 @@ fn decimal_len(bytes: &[u8], front: usize, negative: bool) -> Option<usize>
     ensures within { IfSome result (λ len. len ≤ length bytes.now) }
     ensures ends { IfSome result (λ len. is_break (slice_index bytes.now len) ≡ true) }
 {
-    let behind = digits_len(&bytes[front + 1..]);
+    let (behind, next) = digits_and_next(&bytes[front + 1..]);
     if behind == 0 || front + behind > MOST_DIGITS || !may_begin(bytes[0], front) {
         return None;
     }
     let len = front + 1 + behind;
-    if !is_separator(byte_at(bytes, len)) {
+    if !is_separator(next) {
         return None;
     }
     if !may_have_sign(negative, bytes[0], &bytes[front + 1..len]) {
@@ -81,13 +81,12 @@ pub fn verbatim_number(bytes: &[u8]) -> Option<VerbatimNumber>
     ensures within { IfSome result (λ read. read.end ≤ length bytes.now) }
 {
     let digits = after_minus(bytes);
-    let len = digits_len(digits);
+    let (len, next) = digits_and_next(digits);
     if len == 0 {
         return None;
     }
     let negative = byte_at(bytes, 0) == b'-';
     let start = usize::from(negative);
-    let next = byte_at(digits, len);
     if is_separator(next) {
         if start + len > 19 || !may_begin(digits[0], start + len) {
             return None;

@@ -10,12 +10,12 @@ pub returns-clause-found : goal.returns-clause-found
 returns-clause-found c =
     let bytes = c.args.bytes.now in
     let ds = c.after_minus-digits.result.now in
-    let len = c.digits_len-len.result in
+    let len = c.digits_and_next-len.result.0 in
     let start : length bytes - length ds ≡ whole_start bytes =
     omega (arith, ap length c.after_minus-digits.ensures, length-drop (whole_start bytes) bytes, whole_start_within bytes) in
-    verbatim_read bytes ds (length bytes - length ds) len (get_or bytes 0 0) c.after_minus-digits.ensures refl start c.if-len-eq0.false c.digits_len-len.ensures.digits
-    (λ more. c.if-continues_number.ensures (subst ContinuesNumber (sym c.byte_at.ensures) more)) (omega arith) c.if-not-may_begin.ensures
+    verbatim_read bytes ds (length bytes - length ds) len (get_or bytes 0 0) c.after_minus-digits.ensures refl start c.if-len-eq0.false c.digits_and_next-len.ensures.digits
+    (λ more. c.if-continues_number.ensures (subst ContinuesNumber (sym c.digits_and_next-len.ensures.next) more)) (omega arith) c.if-not-may_begin.ensures
 
 pub returns-clause-first : goal.returns-clause-first
 returns-clause-first c =
-    starts_here c.args.bytes.now (omega (arith, c.if-len-eq0.false, ap digits_length c.after_minus-digits.ensures, c.digits_len-len.ensures.digits))
+    starts_here c.args.bytes.now (omega (arith, c.if-len-eq0.false, ap digits_length c.after_minus-digits.ensures, c.digits_and_next-len.ensures.digits))

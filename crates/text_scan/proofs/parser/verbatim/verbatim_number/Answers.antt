@@ -8,13 +8,13 @@ use Rattle.text_scan.proofs.parser.verbatim.verbatim_number.Goals as goal
 pub returns-then-is_separator-clause-integer : goal.returns-then-is_separator-clause-integer
 returns-then-is_separator-clause-integer c = λ e.
     let ds = c.after_minus-digits.result.now in
-    let len = c.digits_len-len.result in
-    verbatim_read c.args.bytes.now ds c.from-start.result len c.byte_at-negative.result c.after_minus-digits.ensures c.byte_at-negative.ensures c.from-start.ensures c.if-len-eq0.false c.digits_len-len.ensures.digits
-    (λ more. c.if-is_separator.ensures.apart (subst ContinuesNumber (sym c.byte_at-next.ensures) more)) c.if-start-len-gt19.false c.if-not-may_begin.ensures
+    let len = c.digits_and_next-len.result.0 in
+    verbatim_read c.args.bytes.now ds c.from-start.result len c.byte_at-negative.result c.after_minus-digits.ensures c.byte_at-negative.ensures c.from-start.ensures c.if-len-eq0.false c.digits_and_next-len.ensures.digits
+    (λ more. c.if-is_separator.ensures.apart (subst ContinuesNumber (sym c.digits_and_next-len.ensures.next) more)) c.if-start-len-gt19.false c.if-not-may_begin.ensures
 
 pub returns-then-is_separator-clause-first : goal.returns-then-is_separator-clause-first
 returns-then-is_separator-clause-first c =
-    starts_here c.args.bytes.now (omega (arith, c.if-len-eq0.false, ap digits_length c.after_minus-digits.ensures, c.digits_len-len.ensures.digits))
+    starts_here c.args.bytes.now (omega (arith, c.if-len-eq0.false, ap digits_length c.after_minus-digits.ensures, c.digits_and_next-len.ensures.digits))
 
 pub returns-clause-decimal : goal.returns-clause-decimal
 returns-clause-decimal c = λ e.
@@ -22,4 +22,4 @@ returns-clause-decimal c = λ e.
 
 pub returns-clause-first : goal.returns-clause-first
 returns-clause-first c =
-    starts_here c.args.bytes.now (omega (arith, c.if-len-eq0.false, ap digits_length c.after_minus-digits.ensures, c.digits_len-len.ensures.digits))
+    starts_here c.args.bytes.now (omega (arith, c.if-len-eq0.false, ap digits_length c.after_minus-digits.ensures, c.digits_and_next-len.ensures.digits))

@@ -2,7 +2,7 @@ use Rattle.std.proofs.Common.{◌≡◌, ◌+◌, drop, drop-drop, ap, arith}
 use Rattle.std.proofs.lemmas.List.{take_rest}
 use Rattle.text_scan.specs.Parsing.Number.{digits_length}
 use Rattle.text_scan.proofs.Numbers.DigitRuns.{count_digits}
-use Rattle.text_scan.proofs.parser.integer.digits_len.Goals as goal
+use Rattle.text_scan.proofs.parser.integer.digits_and_next.Goals as goal
 
 pub returns-then-near-lt16-clause-digits : goal.returns-then-near-lt16-clause-digits
 returns-then-near-lt16-clause-digits c = count_digits c.args.bytes.now c.near_digits-near.result c.near_digits-near.ensures.digits
