@@ -446,8 +446,8 @@ uint32_t vizhoniku_document_check(const unsigned char *document, size_t document
 uint32_t vizhoniku_document_text(const unsigned char *document, size_t document_size, unsigned char *buffer,
                                  size_t buffer_size, size_t *size);
 
-/* Returns how many of the document's first bytes are its key. It looks at the last ten bytes alone. Of any bytes it is at
- * most their number. */
+/* Returns how many of the document's first bytes are its key, also where its table is behind it. It looks at the last ten
+ * bytes of the document alone, and the last three of the table. Of any bytes it is at most their number. */
 size_t vizhoniku_document_key(const unsigned char *document, size_t document_size);
 
 /* Compares the values of two documents: -1 where the first is below the second, 0 where they are equal, and 1 where it is
@@ -535,7 +535,7 @@ uint32_t vizhoniku_document_strip_nulls(const unsigned char *document, size_t do
  * 65535 bytes. The table is, for each member in the order of the key, the offset in the key at which the member's name
  * begins; then their number, each in two bytes with the higher one first; and the byte FE, with which no key and no
  * document ends. So a document with a table behind it is told from one without by its last byte, and the table is no part
- * of the document: the other calls take the document alone.
+ * of the document: the other calls take the document alone, but vizhoniku_document_key.
  *
  * A table is made for its key and is not changed: a changed document has another. What vizhoniku_table_member finds is
  * promised for a key and its table. Any bytes may be passed, and the ranges are within the key; a table from outside is

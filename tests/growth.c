@@ -1,8 +1,8 @@
 /* Calls a function of the library over the sort key, or the document, of the text on standard input: growth FUNCTION
  * [PATH], where growth document_without leaves out all members by their names; or over the text: growth plain_numbers,
- * growth masked_numbers, and growth error_path for a text that extended mode rejects with its numbers masked; or growth
- * document_next over all parts of the text's document. The status is the one that the call returns, and 0 where the
- * parts have ended. tests/growth counts the instructions of the call. */
+ * growth masked_numbers, growth lines, and growth error_path for a text that extended mode rejects with its numbers
+ * masked; or growth document_next over all parts of the text's document. The status is the one that the call returns,
+ * and 0 where the parts have ended. tests/growth counts the instructions of the call. */
 #include <stdio.h>
 #include <stdlib.h>
 #include <string.h>
@@ -25,6 +25,10 @@ int main(int count, char **words) {
   if (!strcmp(words[1], "plain_numbers"))
     return (int)vizhoniku_plain_numbers(text, text_size, buffer, ROOM, &size, &error);
   if (!strcmp(words[1], "masked_numbers")) return (int)vizhoniku_masked_numbers(text, text_size, buffer, ROOM, &size);
+  if (!strcmp(words[1], "lines")) {
+    size_t start;
+    return (int)vizhoniku_lines(VIZHONIKU_STANDARD, text, text_size, buffer, ROOM, &size, &start, &error);
+  }
   if (!strcmp(words[1], "error_path")) {
     if (vizhoniku_masked_numbers(text, text_size, key, ROOM, &key_size) ||
         vizhoniku_check(VIZHONIKU_EXTENDED, key, key_size, &error) != VIZHONIKU_REJECTED)

@@ -320,6 +320,35 @@ static void measure(enum kind kind, int count, const struct text *text, uint32_t
   __real_free(buffer);
 }
 
+#define LINE_COUNT 50
+
+/* One document on each line of a text: what is taken for one is held for the next, and no more. */
+static void measure_lines(enum kind kind, int count) {
+  struct text line = make(kind, count), text = {0};
+  size_t one = bound_of(&line) + 2 * (line.size + 1), room, written;
+  uint32_t status;
+  for (int i = 0; i < LINE_COUNT; i++) {
+    append(&text, line.bytes, line.size);
+    add(&text, "\n");
+  }
+  room = 2 * text.size + 64;
+  unsigned char *buffer = __real_malloc(room);
+  if (!buffer) exit(2);
+  asked = held = most = 0;
+  call(LINES, &text, buffer, NULL, room, &written, &status);
+  calls++;
+  if (status != VIZHONIKU_ACCEPTED || held) {
+    faults++;
+    printf("%s of %d lines answered %u, and kept %zu bytes: %s, %d\n", functions[LINES], LINE_COUNT, (unsigned)status,
+           held, kinds[kind], count);
+  }
+  compare(LINES, kind, count, 0, most, one + ROOM(written));
+  compare(LINES, kind, count, 1, asked, 3 * (LINE_COUNT * one + ROOM(written)));
+  __real_free(buffer);
+  __real_free(text.bytes);
+  __real_free(line.bytes);
+}
+
 /* Each function over sort keys. The first ones take no memory. */
 enum key_function {
   KEY_CHECK,
@@ -617,6 +646,7 @@ int main(void) {
       add(&text, "?"); /* a byte too much */
       measure((enum kind)kind, counts[i], &text, VIZHONIKU_REJECTED);
       __real_free(text.bytes);
+      if (counts[i] <= 700) measure_lines((enum kind)kind, counts[i]);
     }
   }
   for (size_t i = 0; i < sizeof counts / sizeof *counts; i++) measure_zeros(counts[i]);

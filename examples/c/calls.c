@@ -598,6 +598,7 @@ static void find_by_table(void) {
   memcpy(stored + sizeof key, table, size);
   printf("its size: %zu, of a key %zu, null: %zu\n", vizhoniku_table_size(stored, sizeof key + size),
          vizhoniku_table_size(key, sizeof key), vizhoniku_table_size(NULL, 0));
+  printf("its key: %zu\n", vizhoniku_document_key(stored, sizeof key + size));
   for (size_t i = 0; i < sizeof names / sizeof *names; i++) {
     status = vizhoniku_table_member(key, sizeof key, table, size, BYTES(names[i]), &offset, &part_size);
     printf("member %s: %u %zu %zu\n", names[i], (unsigned)status, offset, part_size);
