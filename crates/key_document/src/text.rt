@@ -41,6 +41,8 @@ pub fn append_text_of_document(
     let mut shortest = Vec::new(alloc);
     write_text_of_key(key, &mut shortest)?;
     let mut counts = Vec::new(alloc);
+    // Fewer numbers than bytes come before the next one with zeros, so that the zeros take no more bytes by the numbers.
+    let _reserved = counts.try_reserve(zeros.len());
     let all = all_left(zeros)?;
     append_counts(key, all, &mut counts)?;
     write_text_with_zeros(&shortest, &counts, out)?;

@@ -45,6 +45,10 @@ pub fn write_text_with_zeros(
     ensures capacity { vec_capacity buf.old ≤ vec_capacity buf.new }
 {
     let old_len = buf.len();
+    // Mostly a number has at most two zeros, and needs a point. Where there is no such space, each append asks for its
+    // own.
+    let space = shortest.len().saturating_add(zeros.len());
+    let _reserved = buf.try_reserve(space.saturating_add(zeros.len()));
     match append_text(shortest, zeros, buf) {
         Ok(()) => Ok(()),
         Err(error) => {

@@ -37,7 +37,7 @@ returns-in_err-write_text_with_zeros-clause-errors c =
     let shortest : c.deref.result.now ≡ tree_text (with_fewest_digits t) =
     c.deref.ensures.value ∙ shortest_appended t c.new-shortest.result.items c.write_text_of_key-2.new.buf.items (c.in_ok-write_text_of_key-2.ensures.ok t r key) ∙ ap (λ l. l ++ tree_text (with_fewest_digits t)) c.new-shortest.ensures.items in
     let counts : c.deref-2.result.now ≡ zeros_in t =
-    c.deref-2.ensures.value ∙ c.in_ok-append_counts.ensures.appended t r key (c.in_ok-all.ensures.found (counts_at t) small (c.split_document.ensures.zeros t r d)) ∙ ap (λ l. l ++ zeros_in t) c.new-counts.ensures.items in
+    c.deref-2.ensures.value ∙ c.in_ok-append_counts.ensures.appended t r key (c.in_ok-all.ensures.found (counts_at t) small (c.split_document.ensures.zeros t r d)) ∙ ap (λ l. l ++ zeros_in t) (c.try_reserve-reserved.ensures.items ∙ c.new-counts.ensures.items) in
     of_memory c.in_err-write_text_with_zeros.field-0.0 (λ is. c.in_err-write_text_with_zeros.ensures.invalid is t r shortest counts))
 
 pub returns-clause-text : goal.returns-clause-text
@@ -47,5 +47,5 @@ returns-clause-text c = λ t r d.
     let shortest : c.deref.result.now ≡ tree_text (with_fewest_digits t) =
     c.deref.ensures.value ∙ shortest_appended t c.new-shortest.result.items c.write_text_of_key-2.new.buf.items (c.in_ok-write_text_of_key-2.ensures.ok t r key) ∙ ap (λ l. l ++ tree_text (with_fewest_digits t)) c.new-shortest.ensures.items in
     let counts : c.deref-2.result.now ≡ zeros_in t =
-    c.deref-2.ensures.value ∙ c.in_ok-append_counts.ensures.appended t r key (c.in_ok-all.ensures.found (counts_at t) small (c.split_document.ensures.zeros t r d)) ∙ ap (λ l. l ++ zeros_in t) c.new-counts.ensures.items in
+    c.deref-2.ensures.value ∙ c.in_ok-append_counts.ensures.appended t r key (c.in_ok-all.ensures.found (counts_at t) small (c.split_document.ensures.zeros t r d)) ∙ ap (λ l. l ++ zeros_in t) (c.try_reserve-reserved.ensures.items ∙ c.new-counts.ensures.items) in
     text_appended t c.args.out.now.items c.write_text_with_zeros.new.buf.items r (c.in_ok-write_text_with_zeros.ensures.ok t r shortest counts)
