@@ -25,6 +25,7 @@
 #include "libpq/pqformat.h"
 #include "mb/pg_wchar.h"
 #include "miscadmin.h"
+#include "port/pg_bswap.h"
 #include "tcop/tcopprot.h"
 #include "utils/array.h"
 #include "utils/builtins.h"
@@ -76,8 +77,8 @@ PG_MODULE_MAGIC;
 /* What zeros and a table take at most, beside three times as many bytes as the key. */
 #define MOST_BEHIND_KEY	13
 
-/* From how many bytes on those that are surely of two keys are compared first. */
-#define LONG_FRONT		32
+/* From how many bytes on those that are surely of a key are looked at first. */
+#define LONG_FRONT		48
 
 /* How a text is read. */
 typedef enum
@@ -1096,6 +1097,14 @@ is_old(Range bytes)
 	return unlikely(*bytes.at < OLD_FORMS);
 }
 
+/* Whether a value is compressed, or has many bytes that are surely of its key. */
+static inline bool
+may_have_long_front(Datum datum)
+{
+	return VARATT_IS_COMPRESSED(DatumGetPointer(datum)) ||
+		surely_of_key(VARSIZE_ANY_EXHDR(DatumGetPointer(datum))) >= LONG_FRONT;
+}
+
 /*
  * The first bytes of a value's key: of those that are there as many as are
  * surely of it.  Of a compressed value only some are decompressed.
@@ -1272,6 +1281,22 @@ vjson_fast_cmp(Datum x, Datum y, SortSupport ssup)
 
 #if SIZEOF_DATUM >= 8
 
+/* The bytes of a key from this index on as a number, the first one the highest, with zeros behind the last. */
+static inline uint64
+shown_bytes(Range key, size_t from)
+{
+	uint64		shown = 0;
+
+	if (likely(from + sizeof(uint64) <= key.size))
+	{
+		memcpy(&shown, key.at + from, sizeof(uint64));
+		return pg_ntoh64(shown) >> (8 * (sizeof(uint64) - SHOWN_BYTES));
+	}
+	for (size_t i = from; i < from + SHOWN_BYTES; i++)
+		shown = (shown << 8) | (i < key.size ? key.at[i] : 0);
+	return shown;
+}
+
 /*
  * An abbreviated key, compared as an unsigned number.
  *
@@ -1292,7 +1317,7 @@ static Datum
 vjson_abbreviate(Datum original, SortSupport ssup)
 {
 	VjsonSort  *sort = (VjsonSort *) ssup->ssup_extra;
-	bool		is_front = sort->pivot_size > 0;
+	bool		is_front = sort->pivot_size > 0 && may_have_long_front(original);
 	Range		key;
 	struct varlena *value = is_front ? front_of(original, &key) : value_of(original, &key);
 	size_t		limit;
@@ -1329,8 +1354,7 @@ vjson_abbreviate(Datum original, SortSupport ssup)
 	/* No key begins another: one with all bytes of the pivot is the pivot, or has FRONT_LIMIT bytes in common. */
 	below = front < limit && key.at[front] < sort->pivot[front];
 	result = below ? (uint64) front : (uint64) (2 * FRONT_LIMIT + 1 - front);
-	for (size_t i = front; i < front + SHOWN_BYTES; i++)
-		result = (result << 8) | (i < key.size ? key.at[i] : 0);
+	result = (result << (8 * SHOWN_BYTES)) | shown_bytes(key, front);
 	free_value(value, original);
 
 	sort->input_count++;
