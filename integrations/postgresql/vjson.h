@@ -241,6 +241,9 @@ bytes_of(struct varlena *value)
 	return bytes;
 }
 
+/* A document with a table has more bytes: its key takes as many at least. */
+#define LEAST_WITH_TABLE	256
+
 static inline Document
 get_document(struct varlena *value)
 {
@@ -249,13 +252,13 @@ get_document(struct varlena *value)
 
 	if (unlikely(*bytes.at < OLD_FORMS))
 		return vjson_old_document(bytes);
-	document.key.size = vizhoniku_document_key(bytes.at, bytes.size);
-	if (document.key.size < bytes.size)
+	if (bytes.size >= LEAST_WITH_TABLE)
 	{
 		document.table.size = vizhoniku_table_size(bytes.at, bytes.size);
 		document.size = bytes.size - document.table.size;
 		document.table.at = bytes.at + document.size;
 	}
+	document.key.size = vizhoniku_document_key(bytes.at, document.size);
 	return document;
 }
 
