@@ -1097,12 +1097,17 @@ is_old(Range bytes)
 	return unlikely(*bytes.at < OLD_FORMS);
 }
 
+static inline bool
+is_compressed(Datum datum)
+{
+	return VARATT_IS_COMPRESSED(DatumGetPointer(datum));
+}
+
 /* Whether a value is compressed, or has many bytes that are surely of its key. */
 static inline bool
 may_have_long_front(Datum datum)
 {
-	return VARATT_IS_COMPRESSED(DatumGetPointer(datum)) ||
-		surely_of_key(VARSIZE_ANY_EXHDR(DatumGetPointer(datum))) >= LONG_FRONT;
+	return is_compressed(datum) || surely_of_key(VARSIZE_ANY_EXHDR(DatumGetPointer(datum))) >= LONG_FRONT;
 }
 
 /*
@@ -1112,23 +1117,19 @@ may_have_long_front(Datum datum)
 static inline struct varlena *
 front_of(Datum datum, Range *front)
 {
-	Pointer		stored = DatumGetPointer(datum);
-	bool		compressed = VARATT_IS_COMPRESSED(stored);
+	bool		compressed = is_compressed(datum);
 	struct varlena *value = compressed ? PG_DETOAST_DATUM_SLICE(datum, 0, FIRST_SLICE) : PG_DETOAST_DATUM_PACKED(datum);
+	size_t		size;
 
 	*front = bytes_of(value);
 	if (is_old(*front))
+	{
 		*front = vjson_old_key(*front, compressed);
-	else
-		front->size = Min(front->size,
-						  surely_of_key(compressed ? VARDATA_COMPRESSED_GET_EXTSIZE(stored) : front->size));
+		return value;
+	}
+	size = compressed ? VARDATA_COMPRESSED_GET_EXTSIZE(DatumGetPointer(datum)) : front->size;
+	front->size = Min(front->size, surely_of_key(size));
 	return value;
-}
-
-static inline bool
-is_compressed(Datum datum)
-{
-	return VARATT_IS_COMPRESSED(DatumGetPointer(datum));
 }
 
 /*
