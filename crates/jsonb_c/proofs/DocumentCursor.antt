@@ -13,16 +13,17 @@ use Rattle.jsonb_spec.specs.Text.Range.{IsWithin}
 use Rattle.jsonb_spec.specs.Tree.{Tree, null, boolean, string, number, array, object, binary, date, timestamp, timestamp_tz, interval, no_trees, more_trees, no_members, more_members}
 use Rattle.key_document.specs.Changes.{IsLacking, IsPartAt}
 use Rattle.key_document.specs.Cursor.{IsLeftBehind}
-use Rattle.key_document.specs.Document.{counts_at, counts_at_items, counts_at_members, document_of}
+use Rattle.key_document.specs.Document.{document_of}
 use Rattle.key_document.specs.declared.error.DocumentError.{DocumentError}
 use Rattle.key_document.specs.declared.error.DocumentError.TheVariants.{NoDocument, TooDeep, OutOfMemory}
-use Rattle.key_document.proofs.Counts.{one_each}
+use Rattle.key_text.proofs.Counts.{one_each}
 use Rattle.jsonb_c.specs.Document.{IsDocumentAnswer}
 use Rattle.jsonb_c.specs.DocumentCursor.{all_parts, behind_first, first_part, zeros_left, IsBefore, IsBegunBefore}
 use Rattle.jsonb_c.specs.KeyParts.{IsBegun, IsNextPart, IsWritten, OccursBefore}
 use Rattle.jsonb_c.specs.declared.document_cursor.DocumentCursor.{DocumentCursor}
 use Rattle.jsonb_c.specs.declared.key.Cursor.{Cursor}
 use Rattle.jsonb_c.specs.declared.key.Entry.{Entry}
+use Rattle.key_text.specs.Counts.{counts_at, counts_at_items, counts_at_members}
 
 -- ---- the cursor before all parts
 

@@ -4,13 +4,12 @@ use Rattle.jsonb_spec.specs.SortKey.{key_of}
 use Rattle.jsonb_spec.specs.Tree.{Tree, array, object, no_trees, more_trees, no_members, more_members}
 use Rattle.key_walk.specs.Open.{Open, items, members}
 use Rattle.key_document.specs.Cursor.{IsLeftBehind}
-use Rattle.key_document.specs.Document.{counts_at}
-use Rattle.key_document.specs.Numbering.{counts_open}
 use Rattle.key_document.specs.declared.cursor.ZerosLeft.{ZerosLeft}
 use Rattle.jsonb_c.specs.Document.{IsDocumentAnswer}
 use Rattle.jsonb_c.specs.KeyParts.{IsNextPart, OccursBefore}
 use Rattle.jsonb_c.specs.declared.document_cursor.DocumentCursor.{DocumentCursor}
 use Rattle.jsonb_c.specs.declared.key.Entry.{Entry}
+use Rattle.key_text.specs.Counts.{counts_at, counts_open}
 
 -- what the cursor says is left of the zeros
 abbrev pub zeros_left : DocumentCursor → ZerosLeft

@@ -130,7 +130,7 @@ pub extern "C" fn vizhoniku_document_text(
     ensures preserves { PreservesBuffer result size.new out.old out.new }
 {
     let mut bytes = Vec::new(alloc);
-    match append_text_of_document(alloc, &mut bytes, document) {
+    match append_text_of_document(&mut bytes, document) {
         Ok(()) => {
             *size = bytes.len();
             put(&bytes, out)

@@ -6,11 +6,11 @@ use Rattle.jsonb_spec.specs.SortKey.{key_of}
 use Rattle.jsonb_spec.specs.Text.Range.{IsWithin}
 use Rattle.jsonb_spec.specs.Tree.{Tree, null, boolean}
 use Rattle.key_walk.specs.Open.{name_key}
-use Rattle.key_document.specs.Document.{counts_at}
 use Rattle.key_document.specs.Splices.{Cut, IsSplice, AreSplices, Agrees}
 use Rattle.key_edit.specs.Edit.{Outcome, goes, becomes}
 use Rattle.key_edit.specs.Spots.{Answers, SlotIn}
 use Rattle.key_edit.specs.declared.slot.Slot.{Slot}
+use Rattle.key_text.specs.Counts.{counts_at}
 
 abbrev tail_of : List ℕ → List ℕ
 tail_of [] = []

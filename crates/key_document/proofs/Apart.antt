@@ -13,7 +13,7 @@ use Rattle.jsonb_value.proofs.SortKeys.Trees.{keys_same}
 use Rattle.jsonb_value.proofs.Trees.OneText.{one_tree, IsShort}
 use Rattle.jsonb_value.proofs.Trees.Ranges.{widened}
 use Rattle.jsonb_value.proofs.Trees.Runs.{heads, tails}
-use Rattle.key_document.specs.Document.{behind_key, counts_at, document_of, zeros_at, EndsUnlike}
+use Rattle.key_document.specs.Document.{behind_key, document_of, zeros_at, EndsUnlike}
 use Rattle.key_document.proofs.Agreeing.{same_back}
 use Rattle.key_document.proofs.Backwards.{turned_back, turned_number}
 use Rattle.key_document.proofs.Endings.{key_ends}
@@ -26,6 +26,7 @@ use Rattle.key_zeros.proofs.Sevens.{some_sevens}
 use Rattle.key_zeros.proofs.Splitting.{entry_first, plain_first}
 use Rattle.key_zeros.proofs.Taking.{pend}
 use Rattle.key_zeros.proofs.Telling.{sevens_same, text_reported}
+use Rattle.key_text.specs.Counts.{counts_at}
 
 -- ---- the key and the zeros of a document
 

@@ -18,11 +18,11 @@ use Rattle.key_walk.specs.Passing.{joined_members}
 use Rattle.key_edit.specs.Merging.{AreFirst, AreReplaced, IsLast, keys_of_members}
 use Rattle.key_edit.specs.declared.merge.Step.{Step}
 use Rattle.key_edit.proofs.Merged.{joined_key}
-use Rattle.key_document.specs.Document.{counts_at, counts_at_items, counts_at_members}
 use Rattle.key_document.specs.LeftOut.{any_named, beside_names, has_name, is_named, items_beside, members_beside}
 use Rattle.key_document.specs.Retaining.{unless}
 use Rattle.key_document.proofs.MembersJoined.{counts_each, counts_of_members, first_proper, joined_counts}
 use Rattle.key_document.proofs.Retained.{PassedNext}
+use Rattle.key_text.specs.Counts.{counts_at, counts_at_items, counts_at_members}
 
 -- ---- names
 

@@ -11,13 +11,13 @@ use Rattle.jsonb_spec.specs.Text.Appending.{Extends}
 use Rattle.jsonb_spec.specs.Text.Range.{IsWithin}
 use Rattle.jsonb_spec.specs.Tree.{Tree}
 use Rattle.key_document.specs.Changes.{Answers, AppendsDocument, IsLacking, PreservesOnError, as_document_error}
-use Rattle.key_document.specs.Document.{behind_key, counts_at, document_of, zeros_at}
+use Rattle.key_document.specs.Document.{behind_key, document_of, zeros_at}
 use Rattle.key_document.specs.Splices.{AppendsZeros, Cut, CutsOnError, IsSplice, AreSpliced, PutsPart, Spliced, entry_counts, spliced_counts}
 use Rattle.key_document.specs.declared.error.DocumentError.{DocumentError}
 use Rattle.key_document.specs.declared.error.DocumentError.TheVariants.{OutOfMemory}
 use Rattle.key_document.specs.declared.splice.Lengths.{Lengths}
 use Rattle.key_document.proofs.Agreeing.{agree}
-use Rattle.key_document.proofs.Counts.{one_each}
+use Rattle.key_text.proofs.Counts.{one_each}
 use Rattle.key_edit.specs.Insert.{add}
 use Rattle.key_edit.specs.Edit.{Outcome, stays, goes, becomes, changed_at, remove, set_to, without_part}
 use Rattle.key_edit.specs.Edit.{IsLacking as KeyLacks}
@@ -26,6 +26,7 @@ use Rattle.key_edit.specs.declared.error.EditError.{EditError}
 use Rattle.key_edit.specs.declared.error.EditError.TheVariants as edits
 use Rattle.key_edit.specs.declared.slot.Slot.{Slot}
 use Rattle.key_zeros.specs.Zeros.{zeros_of}
+use Rattle.key_text.specs.Counts.{counts_at}
 
 pub false_true : false ≡ true → ⊥
 false_true e = cc

@@ -1,50 +1,15 @@
 -- The counts of the bytes of a key, and of a part's key in it.
-use Rattle.std.proofs.Common.{◌≡◌, ℕ, suc, ◌-◌, inl, inr, List, [], ◌∷◌, ◌++◌, length, take, drop, replicate, refl, sym, ap, subst, ◌∙◌, arith, append_assoc, append-nil, length-append}
+use Rattle.std.proofs.Common.{◌≡◌, ℕ, inl, inr, List, [], ◌∷◌, ◌++◌, length, take, drop, replicate, refl, sym, ap, subst, ◌∙◌, arith, append_assoc, append-nil, length-append}
 use Rattle.std.proofs.lemmas.List.{length-replicate}
 use Rattle.std.proofs.Math.Seq.{drop-append_seam, take-append_seam}
 use Rattle.jsonb_spec.specs.Proper.{IsProper, AreProper, HaveProperParts}
-use Rattle.jsonb_spec.specs.SortKey.{key_of, items_key, members_key, number_key, text_key}
+use Rattle.jsonb_spec.specs.SortKey.{key_of, items_key, members_key, text_key}
 use Rattle.jsonb_spec.specs.Tree.{Tree, null, boolean, string, number, array, object, binary, date, timestamp, timestamp_tz, interval, Trees, no_trees, more_trees, Members, no_members, more_members}
-use Rattle.jsonb_value.proofs.SortKeys.Kinds.{is_small, number_begins}
+use Rattle.key_text.proofs.Counts.{one_each}
 use Rattle.key_document.specs.Changes.{IsBehind, IsPartBehind}
-use Rattle.key_document.specs.Document.{counts_at, counts_at_items, counts_at_members}
 use Rattle.key_zeros.specs.Numbers.{counts_taken}
 use Rattle.key_zeros.specs.PartsOf.{IsWhole, OccursIn, OccursInItems, OccursInMembers}
-
-mutual
-  pub one_each : (t : Tree) → IsProper t → length (counts_at t) ≡ length (key_of t)
-  one_each (number n) p =
-      let x = number_begins n (is_small n p) in
-      omega (arith, length-replicate {A = ℕ} (length (number_key n) - 1) 0, ap length x.is)
-  one_each (array ts) p = ap suc (items_each ts p)
-  one_each (object ms) p = ap suc (members_each ms p.1)
-  one_each null p = length-replicate {A = ℕ} (length (key_of null)) 0
-  one_each (boolean b) p = length-replicate {A = ℕ} (length (key_of (boolean b))) 0
-  one_each (string mark bytes) p = length-replicate {A = ℕ} (length (key_of (string mark bytes))) 0
-  one_each (binary bytes) p = length-replicate {A = ℕ} (length (key_of (binary bytes))) 0
-  one_each (date days) p = length-replicate {A = ℕ} (length (key_of (date days))) 0
-  one_each (timestamp micros) p = length-replicate {A = ℕ} (length (key_of (timestamp micros))) 0
-  one_each (timestamp_tz offset micros) p = length-replicate {A = ℕ} (length (key_of (timestamp_tz offset micros))) 0
-  one_each (interval months days micros) p = length-replicate {A = ℕ} (length (key_of (interval months days micros))) 0
-
-  pub items_each : (ts : Trees) → AreProper ts → length (counts_at_items ts) ≡ length (items_key ts)
-  items_each no_trees p = refl
-  items_each (more_trees t ts) p =
-      omega (arith, length-append (counts_at t) (counts_at_items ts), length-append (key_of t) (items_key ts), one_each t p.0, items_each ts p.1)
-
-  pub members_each : (ms : Members) → HaveProperParts ms → length (counts_at_members ms) ≡ length (members_key ms)
-  members_each no_members p = refl
-  members_each (more_members k t ms) p =
-      omega (
-        arith,
-        length-append (replicate (length (text_key k)) 0) (counts_at t ++ counts_at_members ms),
-        length-replicate {A = ℕ} (length (text_key k)) 0,
-        length-append (counts_at t) (counts_at_members ms),
-        length-append (text_key k) (key_of t ++ members_key ms),
-        length-append (key_of t) (members_key ms),
-        one_each t p.1,
-        members_each ms p.2,
-      )
+use Rattle.key_text.specs.Counts.{counts_at, counts_at_items, counts_at_members}
 
 -- ---- a part
 

@@ -6,9 +6,8 @@ use Rattle.jsonb_spec.specs.Proper.{IsProper}
 use Rattle.jsonb_spec.specs.SortKey.{key_of, number_key, text_key}
 use Rattle.jsonb_spec.specs.Tree.{Num, Tree, null, boolean, string, number, array, object, binary, date, timestamp, timestamp_tz, interval, Trees, no_trees, more_trees, Members, no_members, more_members}
 use Rattle.key_document.specs.Check.{AreAtMost, Fits, FitsFrom, IsCounted, ZerosFit, most_at, most_at_items, most_at_members, most_open, most_zeros}
-use Rattle.key_document.specs.Document.{counts_at, counts_at_items, counts_at_members}
-use Rattle.key_document.specs.declared.check.ZerosDue.{ZerosDue}
-use Rattle.key_document.proofs.Counts.{items_each, members_each, one_each}
+use Rattle.key_document.specs.declared.due.ZerosDue.{ZerosDue}
+use Rattle.key_text.proofs.Counts.{items_each, members_each, one_each}
 use Rattle.key_document.proofs.Trailing.{as_long, none_at_most}
 use Rattle.key_walk.specs.Open.{Open, items, members, is_object, open_key, end_key, name_key, IsOpen, IsScalar}
 use Rattle.key_walk.specs.Parts.{opened_tree}
@@ -17,6 +16,7 @@ use Rattle.key_zeros.specs.Zeros.{in_sevens, zeros_of}
 use Rattle.key_walk.specs.Steps.{IsOver, IsPart}
 use Rattle.key_zeros.proofs.Splitting.{entry_first, plain_first}
 use Rattle.key_zeros.proofs.Taking.{counts_long, one_pending, pending_occurs}
+use Rattle.key_text.specs.Counts.{counts_at, counts_at_items, counts_at_members}
 
 -- ---- byte by byte
 

@@ -10,11 +10,12 @@ use Rattle.std.proofs.lemmas.Bool.{cases_lt}
 use Rattle.jsonb_spec.specs.Text.StringText.{quoted_text}
 use Rattle.jsonb_value.proofs.Appending.Appended.{IsUnderway, fits}
 use Rattle.jsonb_value.proofs.SortKeys.Kinds.{is_small, number_begins}
+use Rattle.key_text.specs.Counts.{counts_at}
 use Rattle.key_text.specs.FewestDigits.{spare_zeros}
 use Rattle.key_zeros.proofs.Decimals.{text_begins}
 use Rattle.key_zeros.specs.Scan.{is_number_byte}
 use Rattle.key_zeros.specs.Zeros.{zeros_of}
-use Rattle.key_document.specs.Document.{counts_at, zeros_at}
+use Rattle.key_document.specs.Document.{zeros_at}
 use Rattle.key_document.specs.FromText.{mark_behind, mark_key, string_key}
 use Rattle.key_document.specs.Tokens.{Token, tokens_text, tokens_key, tokens_counts, AreTokens, FindsZeros, ZerosFrom}
 use Rattle.key_document.specs.declared.from_text.FirstZeros.{FirstZeros}

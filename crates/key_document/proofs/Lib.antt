@@ -18,7 +18,8 @@ pub mod ItemsJoined
 pub mod MembersJoined
 pub mod StepsCopied
 pub mod NoZeros
-pub mod Numbering
+pub mod OpenCounts
+pub mod DueZeros
 pub mod Texts
 pub mod Twins
 pub mod Apart

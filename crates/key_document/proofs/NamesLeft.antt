@@ -20,7 +20,6 @@ use Rattle.key_edit.specs.declared.merge.Step.{Step}
 use Rattle.key_edit.proofs.Merged.{behind_first, joined_key, last_step, next_step}
 use Rattle.key_walk.specs.Passing.{joined_members}
 use Rattle.jsonb_spec.specs.Proper.{HaveProperParts}
-use Rattle.key_document.specs.Document.{counts_at, counts_at_items, counts_at_members}
 use Rattle.key_document.specs.LeftOut.{any_named, has_name, is_named, items_beside, members_beside}
 use Rattle.key_document.specs.Retaining.{Finishes, IsBegun, Retains, WritesAnswer, output_of, unless}
 use Rattle.key_document.specs.declared.error.DocumentError.{DocumentError}
@@ -28,8 +27,9 @@ use Rattle.key_document.specs.declared.error.DocumentError.TheVariants.{OutOfMem
 use Rattle.key_document.specs.declared.retain.Output.{Output}
 use Rattle.key_document.specs.declared.retain.Retaining.{Retaining}
 use Rattle.key_document.proofs.Beside.{MemberPassed, replaced_passed, run_passed, push_counts, push_key, rest_stays}
-use Rattle.key_document.proofs.Counts.{members_each, one_each}
+use Rattle.key_text.proofs.Counts.{members_each, one_each}
 use Rattle.key_document.proofs.Retained.{answer_finished, answer_lacking, next_ready, retains_begun, stays_next}
+use Rattle.key_text.specs.Counts.{counts_at, counts_at_items, counts_at_members}
 
 -- ---- whether anything goes
 

@@ -7,13 +7,14 @@ use Rattle.jsonb_spec.specs.SortKey.{key_of}
 use Rattle.jsonb_spec.specs.Tree.{Tree}
 use Rattle.key_document.specs.Changes.{IsPartAt}
 use Rattle.key_document.specs.Cursor.{IsLeftOf, IsLeftAt}
-use Rattle.key_document.specs.Document.{counts_at, zeros_at}
+use Rattle.key_document.specs.Document.{zeros_at}
 use Rattle.key_document.specs.declared.cursor.ZerosLeft.{ZerosLeft}
-use Rattle.key_document.proofs.Counts.{one_each}
+use Rattle.key_text.proofs.Counts.{one_each}
 use Rattle.key_document.proofs.Joining.{zeros_behind_plain}
 use Rattle.key_zeros.specs.Numbers.{PendsAt}
 use Rattle.key_zeros.specs.Zeros.{entry_of, plain_at_end, plain_behind, zeros_of}
 use Rattle.key_zeros.proofs.Joining.{zeros_joined}
+use Rattle.key_text.specs.Counts.{counts_at}
 
 -- what is left at the end is found by its length
 dropped : (all front others : List ℕ) → all ≡ front ++ others → drop (length all - length others) all ≡ others

@@ -5,7 +5,6 @@ use Rattle.std.specs.declared.alloc.Global.{Global}
 use Rattle.std.proofs.Math.Seq.{drop-append_seam, take-append_seam}
 use Rattle.jsonb_spec.specs.SortKey.{key_of}
 use Rattle.jsonb_spec.specs.Tree.{Tree}
-use Rattle.key_document.specs.Document.{counts_at}
 use Rattle.key_document.specs.Retaining.{AreAhead, Finishes, LeavesOut, Retains, WritesAll, WritesAnswer, WritesOn, output_of, unless}
 use Rattle.key_document.specs.declared.error.DocumentError.{DocumentError}
 use Rattle.key_document.specs.declared.error.DocumentError.TheVariants.{OutOfMemory}
@@ -16,6 +15,7 @@ use Rattle.key_document.proofs.Joining.{plain_bound}
 use Rattle.key_zeros.specs.Numbers.{Pends}
 use Rattle.key_zeros.specs.Zeros.{plain_at_end, zeros_of}
 use Rattle.key_zeros.proofs.Joining.{zeros_joined}
+use Rattle.key_text.specs.Counts.{counts_at}
 
 -- ---- bytes written, and left out
 

@@ -12,7 +12,6 @@ use Rattle.key_walk.specs.Found.{Finds}
 use Rattle.key_walk.specs.Open.{name_key}
 use Rattle.key_walk.specs.declared.find.NoKey.{NoKey}
 use Rattle.key_document.specs.Changes.{FindsRange, IsPartBehind}
-use Rattle.key_document.specs.Document.{counts_at}
 use Rattle.key_document.specs.Splices.{IsSplice, AreSplices, entry_counts, entry_key}
 use Rattle.key_document.proofs.Agreeing.{agree, same_back, same_front}
 use Rattle.key_document.proofs.Reaching.{ChangesPart, at_part, part_changes, same_some}
@@ -20,6 +19,7 @@ use Rattle.key_document.proofs.Splicing.{at_splice}
 use Rattle.key_edit.specs.Edit.{Outcome, stays, goes, becomes, changed_at, remove}
 use Rattle.key_edit.specs.Spots.{Answers, SlotIn, Occurs}
 use Rattle.key_edit.specs.declared.slot.Slot.{Slot}
+use Rattle.key_text.specs.Counts.{counts_at}
 
 goes_stays : goes ≡ stays → ⊥
 goes_stays e = cc

@@ -14,17 +14,16 @@ use Rattle.key_walk.specs.Parts.{opened_tree}
 use Rattle.key_walk.specs.Steps.{IsAmid, StepsOver, opens_key}
 use Rattle.key_walk.specs.declared.steps.Steps.{Steps}
 use Rattle.key_walk.proofs.Stepping.{Walking}
-use Rattle.key_document.specs.Document.{counts_at, counts_at_items, counts_at_members}
 use Rattle.key_document.specs.LeftOut.{is_null, items_without_nulls, members_without_nulls, without_nulls}
-use Rattle.key_document.specs.Numbering.{counts_open}
 use Rattle.key_document.specs.Retaining.{AreAhead, IsBegun, Retains, unless}
 use Rattle.key_document.specs.declared.retain.Output.{Output}
 use Rattle.key_document.specs.declared.retain.Retaining.{Retaining}
 use Rattle.key_document.proofs.Beside.{push_counts, push_key}
-use Rattle.key_document.proofs.Counts.{one_each}
-use Rattle.key_document.proofs.Numbering.{bytes_left, opened_bytes, over_bytes, part_bytes}
+use Rattle.key_text.proofs.Counts.{one_each, opens_counts}
+use Rattle.key_document.proofs.OpenCounts.{opened_bytes, over_bytes, part_bytes}
 use Rattle.key_document.proofs.Retained.{PassedNext, retains_begun}
 use Rattle.key_walk.specs.Steps.{IsOver, IsPart}
+use Rattle.key_text.specs.Counts.{counts_at, counts_at_items, counts_at_members, counts_open}
 
 -- ---- what stays
 
@@ -119,27 +118,27 @@ part_later b (members (more_members k t ms)) name value others under p =
     ∙ ap₂ (λ v o. unless (is_null v && (true || b)) (text_key name ++ key_of (without_nulls b v)) (opens_key (bare_all b (o ∷ under)))) (sym p.1) (sym p.2)
 
 pub part_later_counts : (b : Bool) (o : Open) (name : List ℕ) (value : Tree) (others : Open) (under : List Open) → IsPart o name value others
-    → bytes_left (bare_all b (o ∷ under)) ≡ unless (is_null value && (is_object o || b)) (replicate (length (name_key (is_object o) name)) 0 ++ counts_at (without_nulls b value)) (bytes_left (bare_all b (others ∷ under)))
+    → opens_counts (bare_all b (o ∷ under)) ≡ unless (is_null value && (is_object o || b)) (replicate (length (name_key (is_object o) name)) 0 ++ counts_at (without_nulls b value)) (opens_counts (bare_all b (others ∷ under)))
 part_later_counts b (items no_trees) name value others under p = absurd p
 part_later_counts b (items (more_trees t ts)) name value others under p =
-    ap (λ key. key ++ bytes_left (bare_all b under)) (push_counts (is_null t && b) (without_nulls b t) (items_without_nulls b ts))
-    ∙ unless_append (is_null t && b) (counts_at (without_nulls b t)) (counts_at_items (items_without_nulls b ts)) (bytes_left (bare_all b under))
-    ∙ ap₂ (λ v o. unless (is_null v && b) (counts_at (without_nulls b v)) (bytes_left (bare_all b (o ∷ under)))) (sym p.1) (sym p.2)
+    ap (λ key. key ++ opens_counts (bare_all b under)) (push_counts (is_null t && b) (without_nulls b t) (items_without_nulls b ts))
+    ∙ unless_append (is_null t && b) (counts_at (without_nulls b t)) (counts_at_items (items_without_nulls b ts)) (opens_counts (bare_all b under))
+    ∙ ap₂ (λ v o. unless (is_null v && b) (counts_at (without_nulls b v)) (opens_counts (bare_all b (o ∷ under)))) (sym p.1) (sym p.2)
 part_later_counts b (members no_members) name value others under p = absurd p
 part_later_counts b (members (more_members k t ms)) name value others under p =
     let zeros : List ℕ → List ℕ = λ n. replicate (length (text_key n)) 0 in
-    ap (λ key. key ++ bytes_left (bare_all b under)) (push_member_counts (is_null t) k (without_nulls b t) (members_without_nulls b ms))
-    ∙ unless_append (is_null t) (zeros k ++ counts_at (without_nulls b t)) (counts_at_members (members_without_nulls b ms)) (bytes_left (bare_all b under))
-    ∙ ap (λ g. unless g (zeros k ++ counts_at (without_nulls b t)) (bytes_left (bare_all b (members ms ∷ under)))) (and_true (is_null t) b)
-    ∙ ap (λ n. unless (is_null t && (true || b)) (zeros n ++ counts_at (without_nulls b t)) (bytes_left (bare_all b (members ms ∷ under)))) (sym p.0)
-    ∙ ap₂ (λ v o. unless (is_null v && (true || b)) (zeros name ++ counts_at (without_nulls b v)) (bytes_left (bare_all b (o ∷ under)))) (sym p.1) (sym p.2)
+    ap (λ key. key ++ opens_counts (bare_all b under)) (push_member_counts (is_null t) k (without_nulls b t) (members_without_nulls b ms))
+    ∙ unless_append (is_null t) (zeros k ++ counts_at (without_nulls b t)) (counts_at_members (members_without_nulls b ms)) (opens_counts (bare_all b under))
+    ∙ ap (λ g. unless g (zeros k ++ counts_at (without_nulls b t)) (opens_counts (bare_all b (members ms ∷ under)))) (and_true (is_null t) b)
+    ∙ ap (λ n. unless (is_null t && (true || b)) (zeros n ++ counts_at (without_nulls b t)) (opens_counts (bare_all b (members ms ∷ under)))) (sym p.0)
+    ∙ ap₂ (λ v o. unless (is_null v && (true || b)) (zeros name ++ counts_at (without_nulls b v)) (opens_counts (bare_all b (o ∷ under)))) (sym p.1) (sym p.2)
 
 -- ---- steps
 
 -- a step through what is open
 abbrev pub StripsNext : Bool → Bool → List ℕ → List ℕ → List Open → List Open → Type 0
 StripsNext b gone rest behind opens others =
-    PassedNext gone rest (bytes_left opens) (opens_key (bare_all b opens)) (bytes_left (bare_all b opens)) behind (bytes_left others) (opens_key (bare_all b others)) (bytes_left (bare_all b others))
+    PassedNext gone rest (opens_counts opens) (opens_key (bare_all b opens)) (opens_counts (bare_all b opens)) behind (opens_counts others) (opens_key (bare_all b others)) (opens_counts (bare_all b others))
 
 pub end_next : (b : Bool) (rest behind : List ℕ) (over : Open) (under : List Open) → IsOver over → rest ≡ end_key (is_object over) ++ behind → StripsNext b false rest behind (over ∷ under) under
 end_next b rest behind over under h e = record {
@@ -149,7 +148,7 @@ end_next b rest behind over under h e = record {
   key_is = e;
   counts_are = over_bytes over under h;
   later_is = ap (λ o. open_key o ++ opens_key (bare_all b under)) (bare_over b over h) ∙ over_key over (bare_all b under) h;
-  later_counts_are = ap (λ o. counts_open o ++ bytes_left (bare_all b under)) (bare_over b over h) ∙ over_bytes over (bare_all b under) h;
+  later_counts_are = ap (λ o. counts_open o ++ opens_counts (bare_all b under)) (bare_over b over h) ∙ over_bytes over (bare_all b under) h;
 }
 
 module _ (b : Bool) (rest behind : List ℕ) (o : Open) (name : List ℕ) (value : Tree) (others : Open) (under : List Open) (p : IsPart o name value others) where
@@ -165,9 +164,9 @@ module _ (b : Bool) (rest behind : List ℕ) (o : Open) (name : List ℕ) (value
     one_counts = named_counts ++ counts_at value;
     each = omega (arith, length-append named (key_of value), length-append named_counts (counts_at value), length-replicate {A = ℕ} (length named) 0, one_each value q);
     key_is = e ∙ sym (append_assoc named (key_of value) behind);
-    counts_are = part_bytes o name value others under p ∙ sym (append_assoc named_counts (counts_at value) (bytes_left (others ∷ under)));
+    counts_are = part_bytes o name value others under p ∙ sym (append_assoc named_counts (counts_at value) (opens_counts (others ∷ under)));
     later_is = part_later b o name value others under p ∙ ap (λ v. unless (is_null value && (is_object o || b)) (named ++ key_of v) (opens_key (bare_all b (others ∷ under)))) (bare_scalar b value s);
-    later_counts_are = part_later_counts b o name value others under p ∙ ap (λ v. unless (is_null value && (is_object o || b)) (named_counts ++ counts_at v) (bytes_left (bare_all b (others ∷ under)))) (bare_scalar b value s);
+    later_counts_are = part_later_counts b o name value others under p ∙ ap (λ v. unless (is_null value && (is_object o || b)) (named_counts ++ counts_at v) (opens_counts (bare_all b (others ∷ under)))) (bare_scalar b value s);
   }
 
   -- an array or an object isn't null
@@ -196,20 +195,20 @@ module _ (b : Bool) (rest behind : List ℕ) (o : Open) (name : List ℕ) (value
         one_counts = named_counts ++ 0 ∷ [];
         each = omega (arith, length-append named (byte ∷ []), length-append named_counts (0 ∷ []), length-replicate {A = ℕ} (length named) 0);
         key_is = e ∙ sym (append_assoc named (byte ∷ []) behind);
-        counts_are = part_bytes o name value others under p ∙ ap (λ cs. named_counts ++ (cs ++ bytes_left (others ∷ under))) (ap counts_at w ∙ opened_bytes inside) ∙ sym (append_assoc named_counts (0 ∷ []) (counts_open inside ++ bytes_left (others ∷ under)));
+        counts_are = part_bytes o name value others under p ∙ ap (λ cs. named_counts ++ (cs ++ opens_counts (others ∷ under))) (ap counts_at w ∙ opened_bytes inside) ∙ sym (append_assoc named_counts (0 ∷ []) (counts_open inside ++ opens_counts (others ∷ under)));
         later_is = part_later b o name value others under p ∙ ap (λ g. unless (g && (is_object o || b)) (named ++ key_of (without_nulls b value)) (opens_key (bare_all b (others ∷ under)))) none
             ∙ ap (λ k. (named ++ k) ++ opens_key (bare_all b (others ∷ under))) (ap key_of stays ∙ opened_key (bare b inside) ∙ ap (λ x. opening_byte x ∷ open_key (bare b inside)) (bare_kind inside))
             ∙ regroup named byte (open_key (bare b inside)) (opens_key (bare_all b (others ∷ under)));
-        later_counts_are = part_later_counts b o name value others under p ∙ ap (λ g. unless (g && (is_object o || b)) (named_counts ++ counts_at (without_nulls b value)) (bytes_left (bare_all b (others ∷ under)))) none
-            ∙ ap (λ k. (named_counts ++ k) ++ bytes_left (bare_all b (others ∷ under))) (ap counts_at stays ∙ opened_bytes (bare b inside))
-            ∙ regroup named_counts 0 (counts_open (bare b inside)) (bytes_left (bare_all b (others ∷ under)));
+        later_counts_are = part_later_counts b o name value others under p ∙ ap (λ g. unless (g && (is_object o || b)) (named_counts ++ counts_at (without_nulls b value)) (opens_counts (bare_all b (others ∷ under)))) none
+            ∙ ap (λ k. (named_counts ++ k) ++ opens_counts (bare_all b (others ∷ under))) (ap counts_at stays ∙ opened_bytes (bare b inside))
+            ∙ regroup named_counts 0 (counts_open (bare b inside)) (opens_counts (bare_all b (others ∷ under)));
       }
 
 -- ---- the walk
 
 -- What was written of the value, and what is left of those that are open.
 abbrev pub StripsLeft : Output → Tree → Bool → Retaining → List ℕ → List ℕ → List ℕ → List Open → Type 0
-StripsLeft first v b retaining rest old now opens = Retains first (key_of v) (counts_at v) rest (bytes_left opens) (opens_key (bare_all b opens)) (bytes_left (bare_all b opens)) retaining old now
+StripsLeft first v b retaining rest old now opens = Retains first (key_of v) (counts_at v) rest (opens_counts opens) (opens_key (bare_all b opens)) (opens_counts (bare_all b opens)) retaining old now
 
 pub strip_begun : (o : Open) (b : Bool) (begun : Retaining) (bytes old : List ℕ) → IsBegun (opening_byte (is_object o)) begun bytes (counts_open o) → StripsLeft begun.output (without_nulls b (opened_tree o)) b begun bytes old old (o ∷ [])
 strip_begun (items ts) b begun bytes old h =

@@ -7,9 +7,9 @@ use Rattle.jsonb_spec.specs.Text.{tree_text, AppendsText}
 use Rattle.jsonb_spec.specs.Tree.{Tree}
 use Rattle.jsonb_value.proofs.Trees.RangeTexts.{text_in_range}
 use Rattle.key_text.specs.FewestDigits.{with_fewest_digits, AppendsTextOf}
-use Rattle.key_zeros.specs.declared.error.ZerosError.{ZerosError}
-use Rattle.key_zeros.specs.declared.error.ZerosError.TheVariants as zeros_errors
-use Rattle.key_document.specs.Changes.{of_zeros_error}
+use Rattle.key_document.specs.Changes.{of_key_error}
+use Rattle.key_value.specs.declared.key.KeyError.{KeyError}
+use Rattle.key_value.specs.declared.key.KeyError.TheVariants as key_errors
 use Rattle.key_document.specs.Document.{OfDocument}
 use Rattle.key_document.specs.declared.error.DocumentError.{DocumentError}
 use Rattle.key_document.specs.declared.error.DocumentError.TheVariants.{OutOfMemory}
@@ -28,6 +28,6 @@ pub only_memory : {X : Type 0} (r : Result X DocumentError) (error : DocumentErr
 only_memory (Ok x) error document h p = tt
 only_memory (Err e) error document h p = λ t r d. h ∙ p t r d
 
-pub of_memory : (e : ZerosError) → (e ≡ zeros_errors.Invalid → ⊥) → of_zeros_error e ≡ OutOfMemory
-of_memory zeros_errors.Invalid other = absurd (other refl)
-of_memory zeros_errors.OutOfMemory other = refl
+pub of_memory : (e : KeyError) → (e ≡ key_errors.Invalid → ⊥) → of_key_error e ≡ OutOfMemory
+of_memory key_errors.Invalid other = absurd (other refl)
+of_memory key_errors.OutOfMemory other = refl

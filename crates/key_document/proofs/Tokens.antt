@@ -14,10 +14,10 @@ use Rattle.jsonb_value.proofs.Appending.Pieces.{texts_left, texts_left-comma}
 use Rattle.jsonb_value.proofs.Trees.Runs.{heads, tails}
 use Rattle.key_zeros.specs.Scan.{is_number_byte}
 use Rattle.key_zeros.proofs.Decimals.{text_begins}
-use Rattle.key_document.specs.Document.{counts_at, counts_at_items, counts_at_members}
 use Rattle.key_document.specs.FromText.{closed, EndsNumber, is_name, mark_behind}
 use Rattle.key_document.specs.Tokens.{Token, mark_part, string_part, number_part, tokens_text, tokens_key, tokens_counts, IsMark, AreTokens}
 use Rattle.key_document.proofs.Items.{kind_of}
+use Rattle.key_text.specs.Counts.{counts_at, counts_at_items, counts_at_members}
 
 -- what may follow a value: no byte of a number, and no colon
 abbrev pub EndsValue : List ℕ → Type 0

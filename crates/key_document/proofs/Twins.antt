@@ -25,9 +25,9 @@ use Rattle.jsonb_value.proofs.SortKeys.Kinds.{begins, is_small, number_begins}
 use Rattle.jsonb_value.proofs.SortKeys.Texts.{text_compares}
 use Rattle.jsonb_value.proofs.SortKeys.Trees.{keys_same, tree_compares}
 use Rattle.jsonb_value.proofs.Trees.Runs.{heads, tails}
-use Rattle.key_document.specs.Document.{counts_at, counts_at_items, counts_at_members}
 use Rattle.key_document.proofs.Agreeing.{same_back}
-use Rattle.key_text.specs.FewestDigits.{fewest_digits, spare_zeros}
+use Rattle.key_text.specs.Counts.{counts_at, counts_at_items, counts_at_members}
+use Rattle.key_text.specs.FewestDigits.{fewest_digits, items_with_fewest_digits, members_with_fewest_digits, spare_zeros}
 use Rattle.key_text.specs.Writes.{items_left, members_left, name_text, value_text}
 use Rattle.key_text.proofs.Spares.{fewest_has, fewest_key, fewest_proper}
 use Rattle.key_text.proofs.Whole.{array_text, object_text}
@@ -142,11 +142,11 @@ pub record Twins (t u : Tree) : Type 0 where
 
 record TwinItems (ts us : Trees) : Type 0 where
   counts : Alike (counts_at_items ts) (counts_at_items us) (counts_in_items ts) (counts_in_items us)
-  text : (first : Bool) → items_left first ts ≡ items_left first us
+  text : (first : Bool) → items_left first (items_with_fewest_digits ts) ≡ items_left first (items_with_fewest_digits us)
 
 record TwinMembers (ms ns : Members) : Type 0 where
   counts : Alike (counts_at_members ms) (counts_at_members ns) (counts_in_members ms) (counts_in_members ns)
-  text : (first : Bool) → members_left first ms ≡ members_left first ns
+  text : (first : Bool) → members_left first (members_with_fewest_digits ms) ≡ members_left first (members_with_fewest_digits ns)
 
 data KindOf (u : Tree) : Type 0 where
   of_null : u ≡ null → KindOf u
@@ -240,7 +240,7 @@ mutual
           let y = inner us (subst IsProper x q) (subst (λ t. IsWithin IsAnyNumber t (suc d)) x v) (tails 210 210 (items_key ts) (items_key us) (k ∙ ap key_of x)) in
           subst (Twins (array ts)) (sym x) (record {
             counts = alike_joined (0 ∷ []) (0 ∷ []) [] [] (counts_at_items ts) (counts_at_items us) (counts_in_items ts) (counts_in_items us) (alike_zeros 1 1 refl) y.counts;
-            text = array_text ts ∙ ap (λ l. 91 ∷ l) (y.text true) ∙ sym (array_text us);
+            text = array_text (items_with_fewest_digits ts) ∙ ap (λ l. 91 ∷ l) (y.text true) ∙ sym (array_text (items_with_fewest_digits us));
           })
       by (of_object ns x) inner = absurd (omega (arith, heads 210 209 (items_key ts) (members_key ns) (k ∙ ap key_of x)))
   twins (object ms) u zero p q w v k = absurd w
@@ -257,7 +257,7 @@ mutual
           let y = inner ns (subst IsProper x q).1 (subst (λ t. IsWithin IsAnyNumber t (suc d)) x v) (tails 209 209 (members_key ms) (members_key ns) (k ∙ ap key_of x)) in
           subst (Twins (object ms)) (sym x) (record {
             counts = alike_joined (0 ∷ []) (0 ∷ []) [] [] (counts_at_members ms) (counts_at_members ns) (counts_in_members ms) (counts_in_members ns) (alike_zeros 1 1 refl) y.counts;
-            text = object_text ms ∙ ap (λ l. 123 ∷ l) (y.text true) ∙ sym (object_text ns);
+            text = object_text (members_with_fewest_digits ms) ∙ ap (λ l. 123 ∷ l) (y.text true) ∙ sym (object_text (members_with_fewest_digits ns));
           })
   twins t u d p q w v k = absurd w
 

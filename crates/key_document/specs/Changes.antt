@@ -10,15 +10,14 @@ use Rattle.jsonb_spec.specs.Grammar.{max_depth}
 use Rattle.jsonb_spec.specs.SortKey.{key_of}
 use Rattle.jsonb_spec.specs.Text.Range.{IsWithin}
 use Rattle.jsonb_spec.specs.Tree.{Tree}
-use Rattle.key_document.specs.Document.{counts_at, document_of, OfDocument}
+use Rattle.key_document.specs.Document.{document_of, OfDocument}
 use Rattle.key_zeros.specs.Numbers.{Pends}
 use Rattle.key_zeros.specs.Zeros.{plain_at_end, zeros_of}
 use Rattle.key_document.specs.declared.error.DocumentError.{DocumentError}
 use Rattle.key_document.specs.declared.error.DocumentError.TheVariants.{NoDocument, TooDeep, OutOfMemory}
 use Rattle.key_edit.specs.declared.error.EditError.{EditError}
 use Rattle.key_edit.specs.declared.error.EditError.TheVariants as edits
-use Rattle.key_zeros.specs.declared.error.ZerosError.{ZerosError}
-use Rattle.key_zeros.specs.declared.error.ZerosError.TheVariants as zeros_errors
+use Rattle.key_text.specs.Counts.{counts_at}
 
 -- Why the document of the value isn't appended: it has too many arrays and objects in one another, or the capacity for
 -- the document is missing.
@@ -107,8 +106,3 @@ as_document_error edits.OutOfMemory = OutOfMemory
 abbrev pub of_key_error : KeyError → DocumentError
 of_key_error key_errors.Invalid = NoDocument
 of_key_error key_errors.OutOfMemory = OutOfMemory
-
--- and that of what is made of zeros
-abbrev pub of_zeros_error : ZerosError → DocumentError
-of_zeros_error zeros_errors.Invalid = NoDocument
-of_zeros_error zeros_errors.OutOfMemory = OutOfMemory

@@ -5,7 +5,7 @@ use Rattle.jsonb_spec.specs.SortKey.{digit_count, key_of, number_key, text_key}
 use Rattle.jsonb_spec.specs.Text.Range.{IsInRange}
 use Rattle.jsonb_spec.specs.Tree.{Num, Tree, number, array, object, Trees, no_trees, more_trees, Members, no_members, more_members}
 use Rattle.key_document.specs.Document.{document_of}
-use Rattle.key_document.specs.declared.check.ZerosDue.{ZerosDue}
+use Rattle.key_document.specs.declared.due.ZerosDue.{ZerosDue}
 use Rattle.key_text.specs.FewestDigits.{fewest_digits}
 use Rattle.key_value.specs.Reading.{IsDigits}
 use Rattle.key_walk.specs.Open.{Open, items, members}

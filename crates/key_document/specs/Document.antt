@@ -1,31 +1,10 @@
 -- What is stored of a value: its sort key, and after it the zeros that end its decimals.
-use Rattle.std.specs.Prelude.{◌≡◌, ◌≢◌, ℕ, zero, suc, ◌-◌, unsigned_abs, List, [], ◌∷◌, ◌++◌, length, replicate, reverse}
+use Rattle.std.specs.Prelude.{◌≡◌, ◌≢◌, ℕ, zero, suc, List, [], ◌∷◌, ◌++◌, length, reverse}
 use Rattle.key_value.specs.Readable.{IsReadable}
-use Rattle.jsonb_spec.specs.SortKey.{key_of, number_key, text_key}
-use Rattle.jsonb_spec.specs.Tree.{Tree, number, array, object, Trees, no_trees, more_trees, Members, no_members, more_members}
-use Rattle.key_text.specs.FewestDigits.{spare_zeros}
+use Rattle.jsonb_spec.specs.SortKey.{key_of}
+use Rattle.jsonb_spec.specs.Tree.{Tree}
+use Rattle.key_text.specs.Counts.{counts_at}
 use Rattle.key_zeros.specs.Zeros.{in_sevens, zeros_of}
-
-abbrev mutual
-  -- Of each byte of a value's key: how many zeros end the digits behind the point of the number whose key begins there;
-  -- 0 where none does.
-  pub counts_at : Tree → List ℕ
-  counts_at (number n) =
-      spare_zeros n.scale (unsigned_abs n.whole) ∷ replicate (length (number_key n) - 1) 0
-  counts_at (array ts) = 0 ∷ counts_at_items ts
-  counts_at (object ms) = 0 ∷ counts_at_members ms
-  counts_at t = replicate (length (key_of t)) 0
-
-  -- those of the items' keys, and of the end
-  pub counts_at_items : Trees → List ℕ
-  counts_at_items no_trees = 0 ∷ []
-  counts_at_items (more_trees t ts) = counts_at t ++ counts_at_items ts
-
-  -- those of the names and of the values' keys, and of the end
-  pub counts_at_members : Members → List ℕ
-  counts_at_members no_members = 0 ∷ 0 ∷ []
-  counts_at_members (more_members key t ms) =
-      replicate (length (text_key key)) 0 ++ (counts_at t ++ counts_at_members ms)
 
 -- the last byte of a document with zeros, which ends no key
 abbrev pub zeros_mark : ℕ

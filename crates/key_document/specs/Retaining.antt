@@ -4,7 +4,6 @@ use Rattle.std.specs.Vec.{vec_capacity}
 use Rattle.std.specs.declared.alloc.Global.{Global}
 use Rattle.jsonb_spec.specs.SortKey.{key_of}
 use Rattle.jsonb_spec.specs.Tree.{Tree}
-use Rattle.key_document.specs.Document.{counts_at}
 use Rattle.key_document.specs.declared.error.DocumentError.{DocumentError}
 use Rattle.key_document.specs.declared.error.DocumentError.TheVariants.{OutOfMemory}
 use Rattle.key_document.specs.declared.retain.Output.{Output}
@@ -12,6 +11,7 @@ use Rattle.key_document.specs.declared.retain.Output.TheVariants.{Bytes, Zeros}
 use Rattle.key_document.specs.declared.retain.Retaining.{Retaining}
 use Rattle.key_zeros.specs.Numbers.{Pends}
 use Rattle.key_zeros.specs.Zeros.{zeros_of}
+use Rattle.key_text.specs.Counts.{counts_at}
 
 -- what is written of bytes with these counts: the bytes, or their zeros
 abbrev pub output_of : Output → List ℕ → List ℕ → List ℕ

@@ -6,12 +6,12 @@ use Rattle.jsonb_spec.specs.Proper.{IsProper}
 use Rattle.jsonb_spec.specs.SortKey.{key_of}
 use Rattle.jsonb_spec.specs.Text.Appending.{Extends}
 use Rattle.jsonb_spec.specs.Tree.{Tree}
-use Rattle.key_document.specs.Document.{counts_at}
 use Rattle.key_document.specs.declared.error.DocumentError.{DocumentError}
 use Rattle.key_document.specs.declared.error.DocumentError.TheVariants.{OutOfMemory}
 use Rattle.key_document.specs.declared.splice.Lengths.{Lengths}
 use Rattle.key_zeros.specs.Zeros.{zeros_of}
 use Rattle.key_edit.specs.Edit.{Outcome, stays, goes, becomes}
+use Rattle.key_text.specs.Counts.{counts_at}
 
 -- The slot of a change: what is before it and behind it in a key, with the counts of these bytes, and the name of
 -- a member that would be there.

@@ -12,6 +12,7 @@ ghost use Rattle.key_zeros.specs.PartsOf.{number_count, numbers_in};
 ghost use Rattle.key_zeros.specs.Zeros.{in_sevens};
 
 use crate::document::{ZEROS_MARK, split_document};
+use crate::due::ZerosDue;
 use jsonb_value::sort_key::kind;
 use key_value::number::{invert_if, read_exponent};
 use key_walk::is_sort_key;
@@ -25,17 +26,6 @@ const MOST_DIGITS: u32 = 38;
 
 // What `read_exponent` adds to an exponent: a number without digits before the point has this one.
 const POINT: u32 = 255;
-
-/// What is known of the next number with zeros while a key is walked.
-#[derive(Clone, Copy)]
-pub(crate) struct ZerosDue<'z> {
-    /// How many bytes of the key are left where the number's first byte is; 0 where no zeros are left.
-    at: usize,
-    /// How many zeros it has.
-    count: u8,
-    /// The entries behind it.
-    entries: &'z [u8],
-}
 
 /// Whether bytes are the document of a value in range: of JSON's kinds, with at most 512 nested arrays and objects, and
 /// with numbers of at most 38 digits, before and behind the point. So each such document is that of an extended text.

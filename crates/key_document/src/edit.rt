@@ -5,10 +5,11 @@ ghost use Rattle.key_value.specs.Readable.{IsReadable};
 ghost use Rattle.jsonb_spec.specs.SortKey.{key_of};
 ghost use Rattle.jsonb_spec.specs.Tree.{Tree};
 ghost use Rattle.key_document.specs.Changes.{Answers, AnswersOf, AnswersOfBoth, PreservesOnError};
-ghost use Rattle.key_document.specs.Document.{counts_at, zeros_at, OfDocument};
+ghost use Rattle.key_document.specs.Document.{zeros_at, OfDocument};
 ghost use Rattle.key_document.specs.Splices.{PutsPart, Spliced};
 ghost use Rattle.key_edit.specs.Edit.{Outcome, becomes, with_part, without_part};
 ghost use Rattle.key_edit.specs.Spots.{SlotIn};
+ghost use Rattle.key_text.specs.Counts.{counts_at};
 
 use crate::document::split_document;
 use crate::error::DocumentError;

@@ -3,7 +3,6 @@
 use key_edit::EditError;
 use key_value::KeyError;
 use key_walk::find::NoKey;
-use key_zeros::ZerosError;
 use std::alloc::AllocError;
 
 /// Why nothing is appended.
@@ -64,20 +63,6 @@ impl From<KeyError> for DocumentError {
         match error {
             KeyError::Invalid => DocumentError::NoDocument,
             KeyError::OutOfMemory => DocumentError::OutOfMemory,
-        }
-    }
-}
-
-impl From<ZerosError> for DocumentError {
-    ghost use Rattle.std.specs.Prelude.{◌≡◌};
-    ghost use Rattle.key_document.specs.Changes.{of_zeros_error};
-
-    ghost from_gives = { λ error e. e ≡ of_zeros_error error };
-
-    fn from(error: ZerosError) -> DocumentError {
-        match error {
-            ZerosError::Invalid => DocumentError::NoDocument,
-            ZerosError::OutOfMemory => DocumentError::OutOfMemory,
         }
     }
 }

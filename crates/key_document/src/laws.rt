@@ -13,7 +13,7 @@ ghost use Rattle.jsonb_spec.specs.Text.{tree_text};
 ghost use Rattle.jsonb_spec.specs.Text.Range.{IsInRange};
 ghost use Rattle.jsonb_spec.specs.Tree.{Tree, Trees, Members, more_members};
 ghost use Rattle.key_document.specs.Changes.{IsPartBehind};
-ghost use Rattle.key_document.specs.Document.{behind_key, counts_at, counts_at_items, document_of, zeros_at, zeros_mark, EndsUnlike};
+ghost use Rattle.key_document.specs.Document.{behind_key, document_of, zeros_at, zeros_mark, EndsUnlike};
 ghost use Rattle.key_document.specs.Merging.{counts_of_items};
 ghost use Rattle.key_document.specs.Splices.{Agrees, AreSplices, Spliced};
 ghost use Rattle.key_edit.specs.Edit.{Outcome, changed_at, joined_items, merged_members};
@@ -21,6 +21,7 @@ ghost use Rattle.key_edit.specs.Spots.{SlotIn};
 ghost use Rattle.key_edit.specs.declared.slot.Slot.{Slot};
 ghost use Rattle.key_zeros.specs.Numbers.{counts_taken};
 ghost use Rattle.key_zeros.specs.PartsOf.{OccursIn};
+ghost use Rattle.key_text.specs.Counts.{counts_at, counts_at_items};
 
 /// Documents compare as the values do; where these are equal, what is behind their keys decides. A key alone bounds
 /// the documents of its value and of those above it from below.

@@ -6,10 +6,11 @@ ghost use Rattle.jsonb_spec.specs.Tree.{Members, array, object};
 ghost use Rattle.key_walk.specs.AtKeys.{OfKey};
 ghost use Rattle.key_walk.specs.Checked.{HaveReadable};
 ghost use Rattle.key_document.specs.Changes.{AppendsBoth, PreservesOnError};
-ghost use Rattle.key_document.specs.Document.{behind_key, counts_at_members, zeros_at};
+ghost use Rattle.key_document.specs.Document.{behind_key, zeros_at};
 ghost use Rattle.key_document.specs.Merging.{CopiesStep, ItemsLeft, OfBoth, item_edge};
 ghost use Rattle.key_document.specs.Splices.{AppendsZeros};
 ghost use Rattle.key_edit.specs.Edit.{as_items, joined_items, merge, merged_members};
+ghost use Rattle.key_text.specs.Counts.{counts_at_members};
 ghost use Rattle.key_text.specs.Writes.{Preserves};
 ghost use Rattle.key_zeros.specs.Numbers.{Pends};
 

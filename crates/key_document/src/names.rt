@@ -8,11 +8,12 @@ ghost use Rattle.jsonb_spec.specs.Tree.{Members, Tree, Trees, array, object};
 ghost use Rattle.key_walk.specs.AtKeys.{OfKey};
 ghost use Rattle.key_walk.specs.Checked.{AreReadable, HaveReadable};
 ghost use Rattle.key_document.specs.Changes.{Answers, AnswersOfBoth, PreservesOnError};
-ghost use Rattle.key_document.specs.Document.{behind_key, counts_at, counts_at_items, counts_at_members, zeros_at};
+ghost use Rattle.key_document.specs.Document.{behind_key, zeros_at};
 ghost use Rattle.key_document.specs.LeftOut.{beside_names, has_name, is_named, without_names};
 ghost use Rattle.key_document.specs.Retaining.{AreAhead, Finishes, IsBegun, Retains, WritesAnswer};
 ghost use Rattle.key_document.specs.Splices.{AppendsZeros};
 ghost use Rattle.key_document.specs.declared.retain.Output.{Output};
+ghost use Rattle.key_text.specs.Counts.{counts_at, counts_at_items, counts_at_members};
 ghost use Rattle.key_text.specs.Writes.{Preserves};
 
 use crate::document::{end_zeros, split_document};

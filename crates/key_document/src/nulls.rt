@@ -6,11 +6,11 @@ ghost use Rattle.key_walk.specs.AtKeys.{OfKey};
 ghost use Rattle.key_walk.specs.Open.{Open, is_object, open_key, opening_byte, IsOpen};
 ghost use Rattle.key_walk.specs.Parts.{opened_tree};
 ghost use Rattle.key_document.specs.Changes.{AppendsDocument, PreservesOnError};
-ghost use Rattle.key_document.specs.Document.{behind_key, counts_at, zeros_at, OfDocument};
+ghost use Rattle.key_document.specs.Document.{behind_key, zeros_at, OfDocument};
 ghost use Rattle.key_document.specs.LeftOut.{without_nulls};
-ghost use Rattle.key_document.specs.Numbering.{counts_open};
 ghost use Rattle.key_document.specs.Retaining.{AreAhead, IsBegun, WritesAll};
 ghost use Rattle.key_document.specs.Splices.{AppendsZeros};
+ghost use Rattle.key_text.specs.Counts.{counts_at, counts_open};
 ghost use Rattle.key_text.specs.Writes.{Preserves};
 
 use crate::document::{end_zeros, split_document};

@@ -1,6 +1,6 @@
 -- Bytes that are appended to a buffer, one piece after the other.
 use Rattle.std.proofs.Common.{◌≡◌, ℕ, ◌+◌, ◌<◌, ◌≤◌, List, [], ◌++◌, length, Result, Ok, Err, sym, ap, ◌∙◌, arith, append-nil, append_assoc, length-append}
-use Rattle.std.specs.Prelude.{IsErrAnd, Vec, vec_len, vec_capacity}
+use Rattle.std.specs.Prelude.{IsErrAnd, OnOk, Vec, vec_len, vec_capacity}
 use Rattle.std.specs.declared.alloc.Global.{Global}
 use Rattle.key_value.specs.declared.key.KeyError.{KeyError}
 use Rattle.key_value.specs.declared.key.KeyError.TheVariants.{OutOfMemory}
@@ -54,3 +54,8 @@ behind left (Err e) old mid new more front back text is most split h = (h.0, ome
 pub as_text : {X : Type 0} (left : X → List ℕ) (r : Result X KeyError) (old new : Vec ℕ Global) (more back text : List ℕ) → text ≡ back → Writes left r old new more back → Writes left r old new more text
 as_text left (Ok x) old new more back text e h = (h.0, h.1 ∙ ap (λ t. old.items ++ t) (sym e))
 as_text left (Err x) old new more back text e h = (h.0, omega (arith, h.1, ap length e))
+
+-- an error says nothing of a success
+pub not_ok : (X : Type 0) {T : Type 0} (r : Result T KeyError) (error : KeyError) → IsErrAnd r (λ e. e ≡ error) → OnOk r X
+not_ok X (Ok x) error h = absurd h
+not_ok X (Err e) error h = tt

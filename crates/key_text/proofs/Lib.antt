@@ -1,6 +1,7 @@
 pub mod Appending
 pub mod LastDigits
 pub mod Spares
+pub mod Decimals
 pub mod NumberTexts
 pub mod Pairs
 pub mod Encoding
@@ -10,6 +11,7 @@ pub mod KeyNumbers
 pub mod Strings
 pub mod Rows
 pub mod Whole
+pub mod Counts
 pub mod Scalars
 pub mod Walk
 pub mod Documents

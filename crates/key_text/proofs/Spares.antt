@@ -13,6 +13,7 @@ use Rattle.jsonb_value.proofs.Numbers.Pointed.{is_negative-pos}
 use Rattle.key_value.specs.Readable.{HasFewestDigits}
 use Rattle.key_value.proofs.Signs.{same_keys}
 use Rattle.key_value.proofs.Wholes.{same_number}
+use Rattle.key_text.specs.Counts.{count_of}
 use Rattle.key_text.specs.FewestDigits.{spare_zeros, fewest_digits}
 
 one_spare : (scale m : ℕ) → m % 10 ≡ 0 → spare_zeros (suc scale) m ≡ suc (spare_zeros scale (m / 10))
@@ -132,3 +133,13 @@ fewest_has n =
       | inl all ↦ inl (omega (arith, all))
       | inr other ↦ inr (λ e. other (ap (λ k. k % 10) (sym (unsigned_abs-signed (is_negative n.whole) (m / 10 ^ z))) ∙ e))
     ]
+
+-- ---- a number with no zeros to spare
+
+pub none_to_spare : (n : Num) → HasFewestDigits n → count_of n ≡ 0
+none_to_spare n (inl whole) = ap (λ scale. spare_zeros scale (unsigned_abs n.whole)) whole ∙ no_scale (unsigned_abs n.whole)
+none_to_spare n (inr other) = by_scale n.scale (unsigned_abs n.whole) other
+  where
+    by_scale : (scale m : ℕ) → m % 10 ≢ 0 → spare_zeros scale m ≡ 0
+    by_scale zero m last = no_scale m
+    by_scale (suc scale) m last = none_spare scale m last

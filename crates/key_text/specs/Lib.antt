@@ -1,2 +1,3 @@
 pub mod FewestDigits
+pub mod Counts
 pub mod Writes

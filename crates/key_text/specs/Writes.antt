@@ -52,14 +52,14 @@ pub record TakesSome (bytes : List ℕ) (count : ℕ) (old new : Vec ℕ Global)
 abbrev pub LacksCapacity : Vec ℕ Global → List ℕ → Type 0
 LacksCapacity buf bytes = vec_capacity buf < vec_len buf + length bytes
 
--- the text that is written of a value
+-- the text of a value with the fewest digits
 abbrev pub value_text : Tree → List ℕ
 value_text t = tree_text (with_fewest_digits t)
 
 -- what is left of an array's text
 abbrev pub items_left : Bool → Trees → List ℕ
 items_left first no_trees = ascii.close_bracket ∷ []
-items_left first (more_trees t ts) = comma_before first ++ (value_text t ++ items_left false ts)
+items_left first (more_trees t ts) = comma_before first ++ (tree_text t ++ items_left false ts)
 
 -- a member's name and a colon, which an item has none of
 abbrev pub name_text : Bool → List ℕ → List ℕ
@@ -70,7 +70,7 @@ name_text false name = []
 abbrev pub members_left : Bool → Members → List ℕ
 members_left first no_members = ascii.close_brace ∷ []
 members_left first (more_members k t ms) =
-    comma_before first ++ (name_text true k ++ (value_text t ++ members_left false ms))
+    comma_before first ++ (name_text true k ++ (tree_text t ++ members_left false ms))
 
 -- what is left of the text of what is open
 abbrev pub open_text : Bool → Open → List ℕ

@@ -5,5 +5,7 @@ pub mod append;
 pub mod number;
 pub mod string;
 pub mod write;
+pub mod zeros;
 
-pub use write::write_text_of_key;
+pub use write::{write_text_of_key, write_text_with};
+pub use zeros::Zeros;

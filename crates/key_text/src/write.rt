@@ -1,6 +1,6 @@
 //! The text of a value from its key.
 
-ghost use Rattle.std.specs.Prelude.{◌≡◌, ◌<◌, ◌≤◌, ◌++◌, ◌∷◌, [], List, ℕ, length, true, IsTrue, IsFalse, IfOk, IfErr, OnErr};
+ghost use Rattle.std.specs.Prelude.{◌≡◌, ◌<◌, ◌≤◌, ◌++◌, ◌∷◌, [], List, ℕ, length, true, IsTrue, IsFalse, IfOk, IfErr, OnErr, OnOk};
 ghost use Rattle.std.specs.Vec.{vec_capacity};
 ghost use Rattle.key_value.specs.Readable.{IsReadableAt};
 ghost use Rattle.key_walk.specs.AtKeys.{AtKey, AtParts, OfKey};
@@ -9,13 +9,16 @@ ghost use Rattle.key_walk.specs.Open.{name_key, IsScalar};
 ghost use Rattle.jsonb_spec.specs.Ascii as ascii;
 ghost use Rattle.jsonb_spec.specs.SortKey.{key_of};
 ghost use Rattle.jsonb_spec.specs.Text.Appending.{Appends, comma_before};
+ghost use Rattle.jsonb_spec.specs.Text.{tree_text};
 ghost use Rattle.jsonb_spec.specs.Tree.{Tree};
+ghost use Rattle.key_text.specs.Counts.{counts_at, counts_open, IsDue, WhereDue};
 ghost use Rattle.key_text.specs.FewestDigits.{AppendsTextOf, AppendsDocumentWithKey};
 ghost use Rattle.key_text.specs.Writes.{AppendsWord, Preserves, LacksCapacity, AppendsLeaving, name_text, opening_text, open_text, closing_text, value_text};
 
 use crate::append::{append_one, append_within};
 use crate::number::{append_integer, append_number};
 use crate::string::{append_long_name, append_long_string, append_short_name, append_short_string};
+use crate::zeros::{NoZeros, Zeros};
 use jsonb_value::plain::plain_len;
 use jsonb_value::sort_key::kind;
 use key_value::KeyError;
@@ -45,11 +48,39 @@ pub fn write_text_of_key(key: &[u8], buf: &mut Vec<u8>) -> Result<(), KeyError>
     ensures full { OnErr result (OfKey key.now (λ t. LacksCapacity buf.old (value_text t))) }
     ensures capacity { vec_capacity buf.old ≤ vec_capacity buf.new }
 {
+    write_text_with(key, &mut NoZeros, buf)
+}
+
+/// Appends the serialized form of the value whose sort key the bytes are, and whose numbers end in these zeros. After an
+/// error `buf` has the same bytes as before.
+///
+/// The time is linear in the text, but for that of the zeros. The only allocations are those of `buf`.
+///
+/// Of bytes that aren't a key, and of zeros that aren't those of a value with this key, it may be any text.
+///
+/// # Errors
+///
+/// `Invalid` only where there is no value of JSON's kinds, with at most 512 nested arrays and objects, that has this key
+/// and these zeros. `OutOfMemory` where `buf` could not grow; of such a value only where it lacks the capacity for the
+/// whole text.
+pub fn write_text_with<Z: Zeros>(
+    key: &[u8],
+    zeros: &mut Z,
+    buf: &mut Vec<u8>,
+) -> Result<(), KeyError>
+    ensures ok { IfOk result (λ _. OfKey key.now (λ t. Z.due zeros.old (counts_at t)
+        → buf.new.items ≡ buf.old.items ++ tree_text t)) }
+    ensures err { OnErr result (buf.new.items ≡ buf.old.items) }
+    ensures invalid { IfErr result (λ e. e ≡ KeyError.Invalid → OfKey key.now (λ t. Z.due zeros.old (counts_at t) → ⊥)) }
+    ensures full { OnErr result (OfKey key.now (λ t. Z.due zeros.old (counts_at t)
+        → LacksCapacity buf.old (tree_text t))) }
+    ensures capacity { vec_capacity buf.old ≤ vec_capacity buf.new }
+{
     let old_len = buf.len();
     // Mostly the text is no longer. Where there is no such space, each append asks for its own.
     let space = key.len().saturating_add(key.len() / 2);
     let _reserved = buf.try_reserve(space.saturating_add(48));
-    match append_value(key, buf) {
+    match append_value(key, zeros, buf) {
         Ok(rest) => {
             if rest.is_empty() {
                 return Ok(());
@@ -65,24 +96,34 @@ pub fn write_text_of_key(key: &[u8], buf: &mut Vec<u8>) -> Result<(), KeyError>
 }
 
 // Appends the text of the value whose key the bytes begin with.
-fn append_value<'k>(bytes: &'k [u8], buf: &mut Vec<u8>) -> Result<&'k [u8], KeyError>
-    ensures found { AtKey bytes.now (λ t more. AppendsLeaving result buf.old buf.new more (value_text t)) }
+fn append_value<'k, Z: Zeros>(
+    bytes: &'k [u8],
+    zeros: &mut Z,
+    buf: &mut Vec<u8>,
+) -> Result<&'k [u8], KeyError>
+    ensures found { AtKey bytes.now (λ t more. WhereDue (Z.due zeros.old) (counts_at t) more (λ later.
+        AppendsLeaving result buf.old buf.new more (tree_text t))) }
     ensures preserves { Preserves buf.old buf.new }
 {
     let Some((first, rest)) = bytes.split_first() else {
         return Err(KeyError::Invalid);
     };
     match opening(*first) {
-        Some(object) => append_parts(object, rest, buf),
-        None => append_scalar(bytes, buf),
+        Some(object) => append_parts(object, rest, zeros, buf),
+        None => append_scalar(bytes, zeros, buf),
     }
 }
 
 // Appends the text of a value that is no array and no object.
 #[inline(never)]
-fn append_scalar<'k>(bytes: &'k [u8], buf: &mut Vec<u8>) -> Result<&'k [u8], KeyError>
+fn append_scalar<'k, Z: Zeros>(
+    bytes: &'k [u8],
+    zeros: &mut Z,
+    buf: &mut Vec<u8>,
+) -> Result<&'k [u8], KeyError>
     ensures found { (depth : ℕ) → (t : Tree) → IsReadableAt depth t → IsScalar t → (more : List ℕ)
-        → bytes.now ≡ key_of t ++ more → AppendsLeaving result buf.old buf.new more (value_text t) }
+        → bytes.now ≡ key_of t ++ more → WhereDue (Z.due zeros.old) (counts_at t) more (λ later.
+        AppendsLeaving result buf.old buf.new more (tree_text t) × OnOk result (IsDue (Z.due zeros.new) later)) }
     ensures shorter { IfOk result (λ rest. length rest.now < length bytes.now) }
     ensures preserves { Preserves buf.old buf.new }
 {
@@ -104,7 +145,10 @@ fn append_scalar<'k>(bytes: &'k [u8], buf: &mut Vec<u8>) -> Result<&'k [u8], Key
         buf.extend_from_slice(b"true")?;
         return Ok(rest);
     }
-    append_number(bytes, buf)
+    let start = buf.len();
+    let rest = append_number(bytes, buf)?;
+    zeros.append_next(bytes.len(), start, buf)?;
+    Ok(rest)
 }
 
 // Appends what is before a value: a comma, but for the first, and a member's name and a colon.
@@ -154,9 +198,14 @@ fn append_closing(object: bool, buf: &mut Vec<u8>) -> Result<(), AllocError>
 // Appends an object or an array, from the parts that the bytes begin with. Which of the open ones are objects is in
 // an array, outermost first. Short names and scalars are tried first, by functions that return a number of bytes, as
 // results with a slice would be in memory.
-fn append_parts<'k>(object: bool, bytes: &'k [u8], buf: &mut Vec<u8>) -> Result<&'k [u8], KeyError>
-    ensures found { AtParts object bytes.now (λ o more.
-        AppendsLeaving result buf.old buf.new more (opening_text object ∷ open_text true o)) }
+fn append_parts<'k, Z: Zeros>(
+    object: bool,
+    bytes: &'k [u8],
+    zeros: &mut Z,
+    buf: &mut Vec<u8>,
+) -> Result<&'k [u8], KeyError>
+    ensures found { AtParts object bytes.now (λ o more. WhereDue (Z.due zeros.old) (counts_open o) more (λ later.
+        AppendsLeaving result buf.old buf.new more (opening_text object ∷ open_text true o))) }
     ensures preserves { Preserves buf.old buf.new }
 {
     append_opening(object, buf)?;
@@ -188,8 +237,10 @@ fn append_parts<'k>(object: bool, bytes: &'k [u8], buf: &mut Vec<u8>) -> Result<
         let Some((first, others)) = value.split_first() else {
             return Err(KeyError::Invalid);
         };
+        let start = buf.len();
         let digits = append_integer(*first, others, buf);
         if digits > 0 {
+            zeros.append_next(value.len(), start, buf)?;
             is_first = false;
             rest = &others[digits..];
             continue;
@@ -211,7 +262,7 @@ fn append_parts<'k>(object: bool, bytes: &'k [u8], buf: &mut Vec<u8>) -> Result<
                 rest = others;
                 continue;
             }
-            rest = append_scalar(value, buf)?;
+            rest = append_scalar(value, zeros, buf)?;
             continue;
         }
         let Some(inner) = opening(*first) else {

@@ -6,7 +6,8 @@ use Rattle.jsonb_spec.specs.Text.NumberText.{number_text}
 use Rattle.jsonb_spec.specs.Tree.{Tree}
 use Rattle.key_zeros.specs.Scan.{ZerosAhead}
 use Rattle.key_zeros.specs.Zeros.{counts_in}
-use Rattle.key_zeros.proofs.Decimals.{few, text_begins, text_passed}
+use Rattle.key_text.proofs.Decimals.{few}
+use Rattle.key_zeros.proofs.Decimals.{text_begins, text_passed}
 use Rattle.key_zeros.proofs.Finding.{none_found, number_found}
 use Rattle.key_zeros.proofs.NumberedTexts.{NumberedText, last_gap, gap_then, bytes_with, counts_of, ends_number, IsNumbered, numbers_of}
 

@@ -6,7 +6,8 @@ use Rattle.jsonb_spec.specs.Tree.{Num}
 use Rattle.key_zeros.specs.Scan.{is_number_byte, from_number, ending_of, behind_number, next_number}
 use Rattle.key_zeros.proofs.Scanning.{IsGap}
 use Rattle.key_zeros.proofs.NumberedTexts.{NumberedText, gap_then, bytes_with, shortest_text, IsNumbered, ends_number}
-use Rattle.key_zeros.proofs.Decimals.{Begins, pointed, shortest_begins, shortest_passed, text_begins, ends_there}
+use Rattle.key_text.proofs.Decimals.{pointed}
+use Rattle.key_zeros.proofs.Decimals.{Begins, shortest_begins, shortest_passed, text_begins, ends_there}
 
 -- a number is first
 begins_there : (first : ℕ) (others : List ℕ) → is_number_byte first ≡ true → from_number (first ∷ others) ≡ Some (first ∷ others)

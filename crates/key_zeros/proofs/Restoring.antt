@@ -6,7 +6,8 @@ use Rattle.jsonb_spec.specs.Text.NumberText.{number_text}
 use Rattle.jsonb_spec.specs.Tree.{Tree}
 use Rattle.jsonb_value.proofs.Appending.Appended.{IsUnderway, goes_on, fits}
 use Rattle.key_text.specs.FewestDigits.{with_fewest_digits}
-use Rattle.key_zeros.specs.Scan.{after_numbers, ending_text}
+use Rattle.key_text.specs.Counts.{ending_text}
+use Rattle.key_zeros.specs.Scan.{after_numbers}
 use Rattle.key_zeros.specs.Zeros.{in_sevens, zeros_of, zeros_in}
 use Rattle.key_zeros.proofs.NumberedTexts.{NumberedText, bytes_with, counts_of, shortest_text, IsNumbered, numbers_of}
 use Rattle.key_zeros.proofs.Splitting.{NextEntry, split}

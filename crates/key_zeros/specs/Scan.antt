@@ -1,5 +1,5 @@
 -- Numbers in the bytes of texts, found from left to right.
-use Rattle.std.specs.Prelude.{◌≡◌, ◌<◌, ◌≤◌, ⊤, ℕ, zero, suc, ◌+◌, ◌==◌, nat_lt, Bool, true, false, ◌&&◌, ◌||◌, if◌then◌else◌, List, [], ◌∷◌, length, replicate, Option, Some, None, option_and_then}
+use Rattle.std.specs.Prelude.{◌≡◌, ◌<◌, ◌≤◌, ⊤, ℕ, zero, suc, ◌+◌, ◌==◌, nat_lt, Bool, true, false, ◌&&◌, ◌||◌, if◌then◌else◌, List, [], ◌∷◌, length, Option, Some, None, option_and_then}
 use Rattle.jsonb_spec.specs.Ascii as ascii
 
 -- a minus, a point or a digit
@@ -40,11 +40,6 @@ ending_of pointed zeros [] = (pointed, (zeros, []))
 ending_of pointed zeros (byte ∷ bytes) =
     if is_number_byte byte then ending_of (pointed || byte == ascii.point) (zeros_with pointed zeros byte) bytes
     else (pointed, (zeros, byte ∷ bytes))
-
--- so many zeros at the end of a number, behind its point
-abbrev pub ending_text : Bool → ℕ → List ℕ
-ending_text true count = replicate count ascii.digit_zero
-ending_text false count = ascii.point ∷ replicate count ascii.digit_zero
 
 -- whether the number that the bytes begin with has a point, and the bytes behind it; nothing where there is none
 abbrev pub behind_number : Option (List ℕ) → Option (Bool × List ℕ)

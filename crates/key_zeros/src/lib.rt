@@ -11,4 +11,4 @@ pub mod scan;
 
 pub use count::number_count;
 pub use error::ZerosError;
-pub use restore::write_text_with_zeros;
+pub use restore::{append_ending, write_text_with_zeros};

@@ -5,9 +5,9 @@ ghost use Rattle.std.specs.Vec.{vec_capacity};
 ghost use Rattle.jsonb_spec.specs.Ascii as ascii;
 ghost use Rattle.jsonb_spec.specs.Text.{tree_text};
 ghost use Rattle.jsonb_spec.specs.Text.Appending.{Appends};
+ghost use Rattle.key_text.specs.Counts.{ending_text};
 ghost use Rattle.key_text.specs.Writes.{Preserves, LacksCapacity};
 ghost use Rattle.key_zeros.specs.Appending.{AppendsOr, OfTextAndZeros};
-ghost use Rattle.key_zeros.specs.Scan.{ending_text};
 
 use crate::entry::next_entry;
 use crate::error::ZerosError;
@@ -86,6 +86,13 @@ fn append_number(text: &[u8], pointed: bool, count: u8, buf: &mut Vec<u8>) -> Re
     ensures { Appends result buf.old buf.new (text.now ++ ending_text pointed count) }
 {
     buf.extend_from_slice(text)?;
+    append_ending(pointed, count, buf)
+}
+
+/// Appends so many zeros behind a number, and a point before them where it has none.
+pub fn append_ending(pointed: bool, count: u8, buf: &mut Vec<u8>) -> Result<(), AllocError>
+    ensures { Appends result buf.old buf.new (ending_text pointed count) }
+{
     append_point(pointed, buf)?;
     let row = [b'0'; 255];
     buf.extend_from_slice(&row[..usize::from(count)])

@@ -58,7 +58,7 @@ fn order_of(left: &[u8], right: &[u8]) -> &'static str {
 // Whether the text is the document's, behind a byte.
 fn has_text(alloc: Global, document: &[u8], text: &[u8]) -> Result<bool, AllocError> {
     let mut out = Vec::from_slice(alloc, b"x")?;
-    let is_appended = append_text_of_document(alloc, &mut out, document).is_ok();
+    let is_appended = append_text_of_document(&mut out, document).is_ok();
     Ok(is_appended && out.strip_prefix(b"x") == Some(text))
 }
 
@@ -225,7 +225,7 @@ fn parts_have_their_zeros(rt: HostRuntime) -> Result<(), Fail> {
 // Whether the bytes are no document, and what was in the buffer is still there.
 fn has_no_text(alloc: Global, bytes: &[u8]) -> Result<bool, AllocError> {
     let mut out = Vec::from_slice(alloc, b"x")?;
-    let made = append_text_of_document(alloc, &mut out, bytes);
+    let made = append_text_of_document(&mut out, bytes);
     Ok(made == Err(DocumentError::NoDocument) && out.as_slice() == b"x".as_slice())
 }
 
@@ -309,7 +309,7 @@ fn long_texts_are_those_of_their_documents(rt: HostRuntime) -> Result<(), Fail> 
         .strip_prefix(b"x")
         .expect(&rt, "what was there is gone");
     let mut again = Vec::new(rt.alloc());
-    assert!(rt; append_text_of_document(rt.alloc(), &mut again, made).is_ok());
+    assert!(rt; append_text_of_document(&mut again, made).is_ok());
     assert!(rt; *again == *text);
     Ok(())
 }

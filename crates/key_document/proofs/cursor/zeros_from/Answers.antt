@@ -1,10 +1,10 @@
 use Rattle.std.proofs.Common.{◌≡◌, ◌<◌, ◌^◌, drop, length, take, ap, ◌∙◌, arith}
 use Rattle.jsonb_spec.specs.SortKey.{key_of}
-use Rattle.key_document.specs.Document.{counts_at}
-use Rattle.key_document.proofs.Counts.{one_each}
+use Rattle.key_text.proofs.Counts.{one_each}
 use Rattle.key_document.proofs.Remaining.{halves, left_at}
 use Rattle.key_zeros.specs.Zeros.{zeros_of}
 use Rattle.key_document.proofs.cursor.zeros_from.Goals as goal
+use Rattle.key_text.specs.Counts.{counts_at}
 
 pub returns-in_err-all : goal.returns-in_err-all
 returns-in_err-all c = record {

@@ -1,5 +1,5 @@
 use Rattle.std.proofs.Common.{ap, ◌∙◌, arith}
-use Rattle.key_zeros.proofs.Decimals.{few}
+use Rattle.key_text.proofs.Decimals.{few}
 use Rattle.key_document.proofs.Digits.{ending_read}
 use Rattle.key_document.proofs.from_text.count_zeros.Goals as goal
 

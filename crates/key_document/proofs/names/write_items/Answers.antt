@@ -1,10 +1,10 @@
 use Rattle.std.proofs.Common.{◌≡◌, [], ◌∷◌, None, Some, length, refl, sym, ap}
 use Rattle.jsonb_spec.specs.SortKey.{items_key, key_of}
 use Rattle.jsonb_spec.specs.Tree.{array}
+use Rattle.key_text.specs.Counts.{counts_at, counts_at_items}
 use Rattle.key_text.proofs.Appending.{preserves_on, retained}
-use Rattle.key_document.specs.Document.{counts_at, counts_at_items}
 use Rattle.key_document.specs.LeftOut.{items_beside}
-use Rattle.key_document.proofs.Counts.{one_each}
+use Rattle.key_text.proofs.Counts.{one_each}
 use Rattle.key_document.proofs.NamesLeft.{item_first, item_goes_wrong, item_here, item_ready, items_begun, next_items, no_items}
 use Rattle.key_document.proofs.Retained.{answer_finished}
 use Rattle.key_document.proofs.names.write_items.Goals as goal

@@ -1,15 +1,14 @@
-use Rattle.std.proofs.Common.{◌≡◌, ◌&&◌, ◌||◌, ◌++◌, [], ◌∷◌, List, ℕ, Ok, Some, refl, sym, ap, subst, ◌∙◌, arith, append-nil}
+use Rattle.std.proofs.Common.{◌≡◌, ◌&&◌, ◌||◌, ◌++◌, [], ◌∷◌, List, ℕ, Ok, Some, refl, sym, ap, subst, ◌∙◌, append-nil}
 use Rattle.jsonb_spec.specs.SortKey.{key_of}
 use Rattle.key_walk.specs.Open.{Open, is_object, name_key, open_key, opening_byte}
 use Rattle.key_walk.specs.Parts.{opened_tree}
 use Rattle.key_walk.specs.Steps.{IsAmid, StepsOver, opens_key}
 use Rattle.key_walk.proofs.Stepping.{all_passed, edge_passed, no_error, value_passed}
+use Rattle.key_text.specs.Counts.{counts_at, counts_open}
 use Rattle.key_text.proofs.Appending.{preserves_on, retained}
-use Rattle.key_document.specs.Document.{counts_at}
 use Rattle.key_document.specs.LeftOut.{without_nulls}
-use Rattle.key_document.specs.Numbering.{counts_open}
 use Rattle.key_document.specs.Retaining.{IsBegun, Retains}
-use Rattle.key_document.proofs.Numbering.{bytes_left}
+use Rattle.key_text.proofs.Counts.{opens_counts}
 use Rattle.key_document.proofs.Retained.{all_lacks, all_written, next_ready, stays_next}
 use Rattle.key_document.proofs.Stripped.{StripsLeft, StripsNext, bare_all, end_next, ended, null_first, opening_next, part_goes, scalar_next, strip_begun}
 use Rattle.key_document.proofs.nulls.write_parts.Goals as goal
@@ -61,7 +60,7 @@ returns-in_err-retaining-clause-written c = λ o is h e d.
     let here = v.x.named ∙ ap (λ l. name_key (is_object v.o) v.x.name ++ l) v.x.occurs in
     let s = subst (λ g. StripsNext c.args.in_arrays g part after (v.o ∷ v.under) (v.x.others ∷ v.under)) (sym gone) (scalar_next c.args.in_arrays part after v.o v.x.name v.x.value v.x.others v.under v.x.is_part v.x.is_scalar v.x.readable.proper here) in
     let t = subst (λ r. StripsLeft c.args.begun.now.output whole c.args.in_arrays c.steps.retaining r c.args.out.now.items c.steps.out.items (v.o ∷ v.under)) (sym v.x.from) v.holds in
-    let y = c.in_err-retaining.ensures.passed c.args.begun.now.output (key_of whole) (counts_at whole) s.one s.one_counts (bytes_left (v.x.others ∷ v.under)) (opens_key (bare_all c.args.in_arrays (v.x.others ∷ v.under))) (bytes_left (bare_all c.args.in_arrays (v.x.others ∷ v.under))) c.args.out.now.items s.key_is s.each (next_ready _ _ _ _ _ _ _ _ _ _ _ _ _ _ _ s t) in
+    let y = c.in_err-retaining.ensures.passed c.args.begun.now.output (key_of whole) (counts_at whole) s.one s.one_counts (opens_counts (v.x.others ∷ v.under)) (opens_key (bare_all c.args.in_arrays (v.x.others ∷ v.under))) (opens_counts (bare_all c.args.in_arrays (v.x.others ∷ v.under))) c.args.out.now.items s.key_is s.each (next_ready _ _ _ _ _ _ _ _ _ _ _ _ _ _ _ s t) in
     all_lacks c.args.begun.now.output whole c.from_residual-in_err-retaining.result c.in_err-retaining.field-0.0 c.args.out.now c.steps.out c.pass_bytes.new.out c.from_residual-in_err-retaining.ensures.1 c.steps.invariant.preserves.capacity (y.1, y.2)
 
 pub steps-preserved-in-Scalar : goal.steps-preserved-in-Scalar
@@ -76,7 +75,7 @@ steps-preserved-in-Scalar c = record {
       let here = v.x.named ∙ ap (λ l. name_key (is_object v.o) v.x.name ++ l) v.x.occurs in
       let s = subst (λ g. StripsNext c.args.in_arrays g part after (v.o ∷ v.under) (v.x.others ∷ v.under)) (sym gone) (scalar_next c.args.in_arrays part after v.o v.x.name v.x.value v.x.others v.under v.x.is_part v.x.is_scalar v.x.readable.proper here) in
       let t = subst (λ r. StripsLeft c.args.begun.now.output whole c.args.in_arrays c.steps.retaining r c.args.out.now.items c.steps.out.items (v.o ∷ v.under)) (sym v.x.from) v.holds in
-      let y = c.in_ok-retaining.ensures.passed c.args.begun.now.output (key_of whole) (counts_at whole) s.one s.one_counts (bytes_left (v.x.others ∷ v.under)) (opens_key (bare_all c.args.in_arrays (v.x.others ∷ v.under))) (bytes_left (bare_all c.args.in_arrays (v.x.others ∷ v.under))) c.args.out.now.items s.key_is s.each (next_ready _ _ _ _ _ _ _ _ _ _ _ _ _ _ _ s t) in
+      let y = c.in_ok-retaining.ensures.passed c.args.begun.now.output (key_of whole) (counts_at whole) s.one s.one_counts (opens_counts (v.x.others ∷ v.under)) (opens_key (bare_all c.args.in_arrays (v.x.others ∷ v.under))) (opens_counts (bare_all c.args.in_arrays (v.x.others ∷ v.under))) c.args.out.now.items s.key_is s.each (next_ready _ _ _ _ _ _ _ _ _ _ _ _ _ _ _ s t) in
       record {
         opens = v.x.others ∷ v.under;
         amid = v.x.amid;

@@ -2,9 +2,9 @@ use Rattle.std.proofs.Common.{◌≡◌, [], length}
 use Rattle.key_walk.specs.Open.{Open, is_object, open_key, opening_byte, IsOpen}
 use Rattle.key_walk.specs.Parts.{opened_tree}
 use Rattle.key_walk.proofs.Stepping.{Walking}
+use Rattle.key_text.specs.Counts.{counts_open}
 use Rattle.key_text.specs.Writes.{Preserves}
 use Rattle.key_document.specs.LeftOut.{without_nulls}
-use Rattle.key_document.specs.Numbering.{counts_open}
 use Rattle.key_document.specs.Retaining.{IsBegun}
 use Rattle.key_document.proofs.Stripped.{StripsLeft}
 use Rattle.key_document.proofs.nulls.write_parts.Given as goal

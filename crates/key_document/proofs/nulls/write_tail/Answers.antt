@@ -1,10 +1,11 @@
 use Rattle.std.proofs.Common.{◌≡◌, ◌+◌, ◌<◌, ◌^◌, ◌++◌, length, refl, sym, subst, ap, ◌∙◌, append-nil, arith, eqb-true, length-append}
 use Rattle.std.specs.Prelude.{vec_len, vec_capacity}
+use Rattle.key_text.specs.Counts.{counts_at}
 use Rattle.key_text.proofs.Appending.{both, no_capacity_second}
-use Rattle.key_document.specs.Document.{behind_key, counts_at, end_of, zeros_at}
+use Rattle.key_document.specs.Document.{behind_key, end_of, zeros_at}
 use Rattle.key_document.specs.LeftOut.{without_nulls}
 use Rattle.key_document.specs.declared.error.DocumentError.TheVariants.{OutOfMemory}
-use Rattle.key_document.proofs.Counts.{one_each}
+use Rattle.key_text.proofs.Counts.{one_each}
 use Rattle.key_document.proofs.Joining.{lacks_zeros}
 use Rattle.key_document.proofs.NoZeros.{none_bare}
 use Rattle.key_document.proofs.nulls.write_tail.Goals as goal

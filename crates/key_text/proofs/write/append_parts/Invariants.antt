@@ -4,8 +4,8 @@ use Rattle.key_text.proofs.Walk.{WritesParts}
 use Rattle.key_text.proofs.write.append_parts.Given as goal
 
 abbrev pub invariant-parts : goal.invariant-parts
-invariant-parts l = record {
-  writes : WritesParts l.object l.bytes l.objects l.depth l.rest l.is_first (l.fn.buf.items ++ opening_text l.object ∷ []) l.buf.items;
+invariant-parts g l = record {
+  writes : WritesParts (g.Z.Zeros.due l.fn.zeros) (g.Z.Zeros.due l.zeros) l.object l.bytes l.objects l.depth l.rest l.is_first (l.fn.buf.items ++ opening_text l.object ∷ []) l.buf.items;
   preserves : Preserves l.fn.buf l.buf;
   some : 0 < l.depth;
   deep : l.depth ≤ 512;
@@ -14,4 +14,4 @@ invariant-parts l = record {
 }
 
 abbrev pub decreases-parts : goal.decreases-parts
-decreases-parts l = length l.rest
+decreases-parts g l = length l.rest

@@ -1,39 +1,30 @@
-use Rattle.std.proofs.Common.{◌≡◌, ◌==◌, true≢false, [], ◌++◌, length, sym, ap, ◌∙◌, arith, append-nil}
-use Rattle.key_value.specs.declared.key.KeyError.TheVariants.{Invalid, OutOfMemory}
-use Rattle.jsonb_spec.specs.SortKey.{key_of}
-use Rattle.key_text.specs.Writes.{value_text}
-use Rattle.key_walk.proofs.CheckedKeys.{key_readable}
+use Rattle.std.proofs.Common.{◌∙◌, sym}
+use Rattle.std.proofs.lemmas.Result.{IfErr-weaker, IfOk-weaker, on_err_weaker}
+use Rattle.jsonb_spec.specs.Grammar.{max_depth}
+use Rattle.key_text.specs.FewestDigits.{with_fewest_digits}
 use Rattle.key_text.proofs.Documents.{document_appended}
-use Rattle.key_text.proofs.Whole.{appended}
+use Rattle.key_text.proofs.Whole.{appended, key_retained, no_counts, readable_retained}
+use Rattle.key_walk.proofs.CheckedKeys.{key_readable}
 use Rattle.key_text.proofs.write.write_text_of_key.Goals as goal
 
-pub returns-then-is_empty-clause-ok : goal.returns-then-is_empty-clause-ok
-returns-then-is_empty-clause-ok c = λ t r e.
-    let x = c.in-Ok.ensures.found t r [] (e ∙ sym (append-nil (key_of t))) in
-    appended t c.args.buf.now.items c.append_value.new.buf.items r (x.1 ∙ ap (λ items. items ++ value_text t) c.try_reserve-reserved.ensures.items)
+-- that of the value with the fewest digits, which has this key and no zeros
+pub returns-clause-ok : goal.returns-clause-ok
+returns-clause-ok c =
+    IfOk-weaker c.write_text_with.result _ _ (λ x ok t r e.
+    appended t c.args.buf.now.items c.write_text_with.new.buf.items r (ok (with_fewest_digits t) (readable_retained t r) (e ∙ sym (key_retained t r.proper)) (no_counts t max_depth r.within))) c.write_text_with.ensures.ok
 
-pub returns-else-is_empty-clause-invalid : goal.returns-else-is_empty-clause-invalid
-returns-else-is_empty-clause-invalid c = λ is t r e.
-    let x = c.in-Ok.ensures.found t r [] (e ∙ sym (append-nil (key_of t))) in
-    absurd (true≢false (sym (c.is_empty.ensures ∙ ap (λ rest. length rest == 0) x.0) ∙ c.if-is_empty.false))
+pub returns-clause-document : goal.returns-clause-document
+returns-clause-document c =
+    IfOk-weaker c.write_text_with.result _ _ (λ x ok k.
+    let r = key_readable c.args.key.now k in
+    document_appended c.args.key.now c.args.buf.now.items c.write_text_with.new.buf.items k (ok (with_fewest_digits k.value) (readable_retained k.value r) (k.is_key ∙ sym (key_retained k.value r.proper)) (no_counts k.value max_depth r.within))) c.write_text_with.ensures.ok
 
-pub returns-else-is_empty-clause-full : goal.returns-else-is_empty-clause-full
-returns-else-is_empty-clause-full c = λ t r e.
-    let x = c.in-Ok.ensures.found t r [] (e ∙ sym (append-nil (key_of t))) in
-    absurd (true≢false (sym (c.is_empty.ensures ∙ ap (λ rest. length rest == 0) x.0) ∙ c.if-is_empty.false))
+pub returns-clause-invalid : goal.returns-clause-invalid
+returns-clause-invalid c =
+    IfErr-weaker c.write_text_with.result _ _ (λ x invalid is t r e.
+    invalid is (with_fewest_digits t) (readable_retained t r) (e ∙ sym (key_retained t r.proper)) (no_counts t max_depth r.within)) c.write_text_with.ensures.invalid
 
-pub returns-in-Err-clause-invalid : goal.returns-in-Err-clause-invalid
-returns-in-Err-clause-invalid c = λ is t r e.
-    let x = c.in-Err.ensures.found t r [] (e ∙ sym (append-nil (key_of t))) in
-    let clash : Invalid ≡ OutOfMemory = sym is ∙ x.0 in
-    cc clash
-
-pub returns-in-Err-clause-full : goal.returns-in-Err-clause-full
-returns-in-Err-clause-full c = λ t r e.
-    let x = c.in-Err.ensures.found t r [] (e ∙ sym (append-nil (key_of t))) in
-    omega (arith, x.1, c.try_reserve-reserved.ensures.capacity, ap length c.try_reserve-reserved.ensures.items)
-
-pub returns-then-is_empty-clause-document : goal.returns-then-is_empty-clause-document
-returns-then-is_empty-clause-document c = λ k.
-    let x = c.in-Ok.ensures.found k.value (key_readable c.args.key.now k) [] (k.is_key ∙ sym (append-nil (key_of k.value))) in
-    document_appended c.args.key.now c.args.buf.now.items c.append_value.new.buf.items k (x.1 ∙ ap (λ items. items ++ value_text k.value) c.try_reserve-reserved.ensures.items)
+pub returns-clause-full : goal.returns-clause-full
+returns-clause-full c =
+    on_err_weaker c.write_text_with.result (λ full t r e.
+    full (with_fewest_digits t) (readable_retained t r) (e ∙ sym (key_retained t r.proper)) (no_counts t max_depth r.within)) c.write_text_with.ensures.full
