@@ -30,6 +30,8 @@ pub fn append_table(out: &mut Vec<u8>, key: &[u8]) -> Result<bool, TableError>
         return Ok(false);
     };
     let start = out.len();
+    // Space for the table of 30 members. Where there is none, each append asks for its own.
+    let _reserved = out.try_reserve(64);
     match write_table(out, members) {
         Ok(true) => Ok(true),
         Ok(false) => {
