@@ -1,8 +1,9 @@
 /* Calls a function of the library over the sort key, or the document, of the text on standard input: growth FUNCTION
  * [PATH], where growth document_without leaves out all members by their names; or over the text: growth plain_numbers,
  * growth masked_numbers, growth lines, and growth error_path for a text that extended mode rejects with its numbers
- * masked; or growth document_next over all parts of the text's document. The status is the one that the call returns,
- * and 0 where the parts have ended. tests/growth counts the instructions of the call. */
+ * masked; growth document_next over all parts of the text's document, growth document_text for the text of it, and
+ * growth text_with_zeros with one zero for each number before a comma. The status is the one that the call returns, and
+ * 0 where the parts have ended. tests/growth counts the instructions of the call. */
 #include <stdio.h>
 #include <stdlib.h>
 #include <string.h>
@@ -29,6 +30,15 @@ int main(int count, char **words) {
     size_t start;
     return (int)vizhoniku_lines(VIZHONIKU_STANDARD, text, text_size, buffer, ROOM, &size, &start, &error);
   }
+  if (!strcmp(words[1], "text_with_zeros")) {
+    key_size = 0;
+    for (size_t at = 0; at < text_size; at++) {
+      if (text[at] != ',') continue;
+      key[key_size++] = 0;
+      key[key_size++] = 1;
+    }
+    return (int)vizhoniku_text_with_zeros(text, text_size, key, key_size, buffer, ROOM, &size);
+  }
   if (!strcmp(words[1], "error_path")) {
     if (vizhoniku_masked_numbers(text, text_size, key, ROOM, &key_size) ||
         vizhoniku_check(VIZHONIKU_EXTENDED, key, key_size, &error) != VIZHONIKU_REJECTED)
@@ -50,6 +60,7 @@ int main(int count, char **words) {
     return 2;
   }
   if (!strcmp(words[1], "key_count")) return (int)vizhoniku_key_count(key, key_size, &size);
+  if (!strcmp(words[1], "document_text")) return (int)vizhoniku_document_text(key, key_size, buffer, ROOM, &size);
   if (!strcmp(words[1], "document_without"))
     return (int)vizhoniku_document_without(key, key_size, key, key_size, buffer, ROOM, &size);
   if (!strcmp(words[1], "document_strip_nulls"))
