@@ -403,6 +403,18 @@ share_by_entries(const AttStatsSlot *kept, const char *operator, bool is_left, c
 	return true;
 }
 
+/* Get the entries that are kept. Where none is in two documents there are no values, and it is an error to ask for them. */
+static bool
+get_entries(HeapTuple statistics, AttStatsSlot *kept)
+{
+	if (!get_attstatsslot(kept, statistics, KIND_ENTRIES, InvalidOid, ATTSTATSSLOT_NUMBERS))
+		return false;
+	if (kept->nnumbers == 1)
+		return true;
+	free_attstatsslot(kept);
+	return get_attstatsslot(kept, statistics, KIND_ENTRIES, InvalidOid, ATTSTATSSLOT_VALUES | ATTSTATSSLOT_NUMBERS);
+}
+
 Datum
 vjson_matchingsel(PG_FUNCTION_ARGS)
 {
@@ -420,8 +432,7 @@ vjson_matchingsel(PG_FUNCTION_ARGS)
 		PG_RETURN_FLOAT8(DEFAULT_SHARE);
 	if (IsA(other, Const) && !((Const *) other)->constisnull && HeapTupleIsValid(variable.statsTuple) &&
 		statistic_proc_security_check(&variable, get_opcode(operator)) &&
-		get_attstatsslot(&kept, variable.statsTuple, KIND_ENTRIES, InvalidOid,
-						 ATTSTATSSLOT_VALUES | ATTSTATSSLOT_NUMBERS))
+		get_entries(variable.statsTuple, &kept))
 	{
 		if (kept.nnumbers == kept.nvalues + 1 &&
 			share_by_entries(&kept, get_opname(operator), is_left, (Const *) other, &share))
