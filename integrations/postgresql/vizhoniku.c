@@ -26,11 +26,9 @@
 #include "mb/pg_wchar.h"
 #include "miscadmin.h"
 #include "port/pg_bswap.h"
-#include "tcop/tcopprot.h"
 #include "utils/array.h"
 #include "utils/builtins.h"
 #include "utils/fmgroids.h"
-#include "utils/guc.h"
 #include "utils/json.h"
 #include "utils/jsonb.h"
 #include "utils/memutils.h"
@@ -58,14 +56,6 @@ PG_MODULE_MAGIC;
 
 /* The longest text of which it is clear that what is written of the value is at most 1 GB. */
 #define LONGEST_CLEAR	(MaxAllocSize / 8)
-
-/*
- * The machine stack that one call of the library may take, in bytes: at most
- * about 8 kB, and 0.21 kB for each array or object that is open.
- */
-#define CALL_STACK		(16 * 1024)
-#define LEVEL_STACK		256
-#define WORST_STACK		(CALL_STACK + MOST_LEVELS * LEVEL_STACK)
 
 /* How an abbreviated key is divided; see vjson_abbreviate. */
 #define FRONT_LIMIT		0x7FFF
@@ -293,45 +283,6 @@ vjson_raise_unexpected(uint32 status)
  * Reading
  */
 
-/*
- * Raise an error unless the machine stack has space for a call with this text.
- *
- * The library doesn't look at the stack itself.  It is enough for each text
- * where the most that a call takes is left below max_stack_depth, as it nearly
- * always is.  Else the brackets of the text bound how deep it nests.
- */
-static void
-check_stack(const char *text, size_t size)
-{
-	char		here;
-	pg_stack_base_t base = set_stack_base();
-	size_t		used;
-	size_t		limit = (size_t) max_stack_depth * 1024;
-	size_t		levels = 0;
-
-	restore_stack_base(base);
-	if (base == NULL)
-		return;					/* not a usual backend: nothing is limited */
-	used = base > &here ? (size_t) (base - &here) : (size_t) (&here - base);
-	if (used + WORST_STACK <= limit)
-		return;
-
-	for (size_t i = 0; i < size && levels < MOST_LEVELS; i++)
-	{
-		if (text[i] == '[' || text[i] == '{')
-			levels++;
-	}
-	if (used + CALL_STACK + levels * LEVEL_STACK <= limit)
-		return;
-	ereport(ERROR,
-			(errcode(ERRCODE_STATEMENT_TOO_COMPLEX),
-			 errmsg("stack depth limit exceeded"),
-			 errdetail("Reading a vjson text needs up to %d kB of stack.", WORST_STACK / 1024),
-			 errhint("Increase the configuration parameter \"max_stack_depth\" (currently %dkB), "
-					 "after ensuring the platform's stack depth limit is adequate.",
-					 max_stack_depth)));
-}
-
 /* Raise an error where the text of a value exceeds 1 GB, so that no row is kept that can't be shown or dumped. */
 static void
 check_size_of_text(struct varlena *value)
@@ -355,7 +306,7 @@ make_value(uint32 mode, bool has_zeros, const char *text, size_t size, struct va
 	const unsigned char *bytes = (const unsigned char *) text;
 
 	CHECK_FOR_INTERRUPTS();
-	check_stack(text, size);
+	check_stack_depth();		/* a call takes at most 110 kB more, and the server keeps 512 kB behind that */
 	for (;;)
 	{
 		char	   *block = palloc_extended(VARHDRSZ + capacity, MCXT_ALLOC_HUGE);
@@ -571,10 +522,8 @@ value_of_json(const char *text, size_t size, Numbers numbers)
 static struct varlena *
 try_json(const char *text, size_t size, bool is_known)
 {
-	Numbers		numbers;
+	Numbers		numbers = look_at_numbers(text, size);
 
-	check_stack(text, size);
-	numbers = look_at_numbers(text, size);
 	if (numbers.is_deep)
 		return NULL;
 	if (!is_known && (!numbers.some_fraction || !vizhoniku_is_strict((const unsigned char *) text, size)))
