@@ -250,7 +250,7 @@ vjson_extract_path_text(PG_FUNCTION_ARGS)
  * Steps of a path, in which an index may count from the end
  */
 
-/* The next step of the path, with its escapes. False at its end. */
+/* Take the next step off the path: a slash, and what is behind it up to the next one. False at its end. */
 static bool
 next_step(Range *path, Range *step)
 {
@@ -258,11 +258,11 @@ next_step(Range *path, Range *step)
 
 	if (path->size == 0)
 		return false;
-	step->at = path->at + 1;
-	end = memchr(step->at, '/', path->size - 1);
-	step->size = end != NULL ? (size_t) (end - step->at) : path->size - 1;
-	path->at = step->at + step->size;
-	path->size -= step->size + 1;
+	end = memchr(path->at + 1, '/', path->size - 1);
+	step->at = path->at;
+	step->size = end != NULL ? (size_t) (end - path->at) : path->size;
+	path->at += step->size;
+	path->size -= step->size;
 	return true;
 }
 
@@ -273,78 +273,41 @@ vjson_take_name(Range *path, Range *name)
 
 	if (rest.size == 0 || *rest.at != '/' || !next_step(&rest, name) || memchr(name->at, '~', name->size) != NULL)
 		return false;
+	name->at++;
+	name->size--;
 	*path = rest;
 	return true;
 }
 
-/* The index that a step has as the library reads it: no zeros at its front, and with a minus sign from the end. */
+/* The index that a step is which counts from the end, as the library reads one: digits with no zeros at their front. */
 static bool
-index_of_step(Range step, int64 *index)
+index_from_end(Range step, int64 *index)
 {
-	bool		is_negative = step.size > 0 && step.at[0] == '-';
-	Range		digits = {step.at + is_negative, step.size - is_negative};
-
-	if (digits.size == 0 || digits.size > 18 || (digits.at[0] == '0' && (digits.size > 1 || is_negative)))
-		return false;
 	*index = 0;
-	for (size_t i = 0; i < digits.size; i++)
+	if (step.size < 3 || step.size > 20 || step.at[1] != '-' || step.at[2] == '0')
+		return false;
+	for (size_t i = 2; i < step.size; i++)
 	{
-		if (digits.at[i] < '0' || digits.at[i] > '9')
+		if (step.at[i] < '0' || step.at[i] > '9')
 			return false;
-		*index = *index * 10 + (digits.at[i] - '0');
+		*index = *index * 10 - (step.at[i] - '0');
 	}
-	if (is_negative)
-		*index = -*index;
 	return true;
-}
-
-/* The name that a step has. */
-static Range
-name_of_step(Range step)
-{
-	unsigned char *name = palloc(step.size + 1);
-	Range		result = {name, 0};
-
-	for (size_t i = 0; i < step.size; i++)
-	{
-		if (step.at[i] == '~')
-			name[result.size++] = step.at[++i] == '0' ? '~' : '/';
-		else
-			name[result.size++] = step.at[i];
-	}
-	return result;
-}
-
-/* The part to which a step leads. */
-static bool
-take_step(const Document *whole, Range step, Range *part)
-{
-	int64		index;
-
-	switch (kind_of(whole->key))
-	{
-		case VIZHONIKU_OBJECT:
-			return find_member(whole, name_of_step(step), part);
-		case VIZHONIKU_ARRAY:
-			return index_of_step(step, &index) && find_item(whole->key, index, part);
-		default:
-			return false;
-	}
 }
 
 bool
 vjson_find_by_steps(const Document *whole, Range path, Range *part)
 {
-	Document	at = *whole;
 	Range		step;
+	int64		index;
 
+	*part = whole->key;
 	while (next_step(&path, &step))
 	{
-		if (!take_step(&at, step, part))
+		if (kind_of(*part) == VIZHONIKU_ARRAY && index_from_end(step, &index) ?
+			!find_item(*part, index, part) : vjson_find_part(*part, step, part) != VIZHONIKU_ACCEPTED)
 			return false;
-		at = document_of_key(*part);
 	}
-	*part = at.key;
 	return true;
 }
 

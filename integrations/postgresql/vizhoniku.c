@@ -760,12 +760,8 @@ report_no_path(Node *context, const char *path)
 				  errdetail("A path is empty or begins with \"/\", and each \"~\" in it is followed by 0 or 1.")));
 }
 
-/*
- * The status of the library for the part at a path, and where it is in the
- * key.
- */
-static uint32
-find_part(Range key, Range path, Range *part)
+uint32
+vjson_find_part(Range key, Range path, Range *part)
 {
 	size_t		offset;
 	uint32		status = vizhoniku_key_part(key.at, key.size, path.at, path.size, &offset, &part->size);
@@ -843,7 +839,7 @@ make_path(const char *path, size_t size, Node *context)
 
 	if (size > 0 && path[0] == '{')
 		return path_of_array(pnstrdup(path, size), context);
-	if (find_part(any_key, utf8_of_bytes(path, size), &part) == VIZHONIKU_NO_PATH)
+	if (vjson_find_part(any_key, utf8_of_bytes(path, size), &part) == VIZHONIKU_NO_PATH)
 	{
 		report_no_path(context, pnstrdup(path, size));
 		return NULL;
@@ -909,7 +905,7 @@ find_at_path(FunctionCallInfo fcinfo, const Document *whole, Range *part)
 		if (rest.size == 0)
 			return true;
 	}
-	switch (find_part(*part, rest, part))
+	switch (vjson_find_part(*part, rest, part))
 	{
 		case VIZHONIKU_ACCEPTED:
 			return true;

@@ -120,6 +120,9 @@ extern int32 vjson_name_entry(Range name);
 /* The name that the first step of a path is, and the path behind it. False if it has escapes, or there is none. */
 extern bool vjson_take_name(Range *path, Range *name);
 
+/* The status of the library for the part at a path: accepted, no part or no path; and where it is in the key. */
+extern uint32 vjson_find_part(Range key, Range path, Range *part);
+
 /* The part at a path, in which an index may count from the end. False if there is none. */
 extern bool vjson_find_by_steps(const Document *whole, Range path, Range *part);
 
