@@ -30,9 +30,8 @@
 #include "vjson.h"
 #include "zeros.h"
 
-/* Pairs of digits that a number has at most, bytes of its document, and digits of which each number is an int64. */
+/* Pairs of digits that a number has at most, and digits of which each number is an int64. */
 #define MOST_PAIRS		20
-#define LONGEST_NUMBER	(2 + MOST_PAIRS + 4)
 #define INT64_DIGITS	18
 
 /* What a jsonb takes at most of a part, beside the bytes of a text or a number: its entry, a header, and zeros before. */
@@ -161,28 +160,22 @@ read_text(Reader *reader, JsonbValue *value)
 	return !reader->ascii_alone || is_ascii(start, zero - start);
 }
 
-/* The number whose key goes from the start to where the reader is, of its text. */
+/* The number whose key goes from the start to where the reader is, with so many zeros at its end, of its text. */
 static Numeric
-numeric_of_text(const Reader *reader, const unsigned char *start, unsigned char zeros)
+numeric_of_text(const Reader *reader, const unsigned char *start, int zeros)
 {
-	unsigned char bytes[LONGEST_NUMBER];
-	Document	document = {{bytes, reader->at - start}, 0, {NULL, 0}};
-	ZerosWriter writer = {0};
+	Range		key = {start, reader->at - start};
+	Document	number = document_of_key(key);
 	size_t		size;
-	char	   *text;
-	Datum		number;
+	char	   *text = vjson_text(&number, &size);
+	char	   *words = zeros == 0 ? text : psprintf("%s%s%0*d", text, strchr(text, '.') != NULL ? "" : ".", zeros, 0);
+	Datum		numeric = DirectFunctionCall3(numeric_in, CStringGetDatum(words), ObjectIdGetDatum(InvalidOid),
+											  Int32GetDatum(-1));
 
-	add_zeros(&writer, 0, zeros);
-	end_zeros(&writer);
-	document.size = document.key.size + writer.size;
-	Assert(document.size <= sizeof bytes);
-	memcpy(bytes, start, document.key.size);
-	if (writer.size > 0)
-		memcpy(bytes + document.key.size, writer.bytes, writer.size);
-	text = vjson_text(&document, &size);
-	number = DirectFunctionCall3(numeric_in, CStringGetDatum(text), ObjectIdGetDatum(InvalidOid), Int32GetDatum(-1));
+	if (words != text)
+		pfree(words);
 	pfree(text);
-	return DatumGetNumeric(number);
+	return DatumGetNumeric(numeric);
 }
 
 /*
