@@ -7,8 +7,8 @@
  *
  * What a caller owes:
  *  - No pointer is null, but that of a text, a path, a name, a key or a buffer of size 0, which isn't dereferenced.
- *  - What a call writes to (buffer, size, order, error, location, offset, count, value, cursor, entry, before, numbers,
- *    plain) doesn't overlap any other argument.
+ *  - What a call writes to (buffer, key_buffer, size, key_size, order, error, location, offset, count, value, start,
+ *    cursor, entry) doesn't overlap any other argument.
  *  - No text, no key and no buffer is longer than PTRDIFF_MAX bytes.
  *  - The thread has 112 KB of stack free, where input is untrusted: no call was seen to take more, and
  *    vizhoniku_check and vizhoniku_message take no more than 32 KB. docs/C.md has figures. A thread of musl has 128 KB
