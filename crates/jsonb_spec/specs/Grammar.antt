@@ -16,7 +16,7 @@ use Rattle.jsonb_spec.specs.Tree.{Mark, Tree, null, array, object, no_members, t
 use Rattle.jsonb_spec.specs.Grammar.Whitespace.{IsWhitespace, IsLastWhitespace}
 use Rattle.jsonb_spec.specs.Grammar.Scalar.{IsScalar, IsKey}
 
--- `Spells bytes a` says that the bytes encode a. Whitespace may be before and after what is padded.
+-- `Encodes bytes a` says that the bytes encode a. Whitespace may be before and after what is padded.
 pub data IsPadded {A : Type 0} (mode : Mode) (Encodes : List ℕ → A → Type 0) : List ℕ → A → Type 0 where
   padded : {before core after : List ℕ} {a : A} → IsWhitespace mode before → Encodes core a → IsWhitespace mode after
       → IsPadded mode Encodes (before ++ (core ++ after)) a
