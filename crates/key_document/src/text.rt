@@ -1,7 +1,8 @@
 //! Texts from documents.
 
-ghost use Rattle.std.specs.Prelude.{◌≡◌, IfErr, OnOk};
-ghost use Rattle.jsonb_spec.specs.Text.{AppendsText};
+ghost use Rattle.std.specs.Prelude.{◌≡◌, IfErr, OnErr, OnOk};
+ghost use Rattle.jsonb_spec.specs.Text.{AppendsText, tree_text};
+ghost use Rattle.key_text.specs.Writes.{LacksCapacity};
 ghost use Rattle.key_document.specs.Changes.{PreservesOnError};
 ghost use Rattle.key_document.specs.Document.{OfDocument};
 
@@ -18,12 +19,13 @@ use key_text::{write_text_of_key, write_text_with};
 ///
 /// # Errors
 ///
-/// `NoDocument` only where the bytes are no document, and `OutOfMemory` where memory runs out. After an error the
-/// buffer is as before.
+/// `NoDocument` only where the bytes are no document, and `OutOfMemory` where memory runs out; of a document only where
+/// the buffer lacks the capacity for the whole text. After an error the buffer is as before.
 pub fn append_text_of_document(out: &mut Vec<u8>, document: &[u8]) -> Result<(), DocumentError>
     ensures text { OnOk result (OfDocument document.now (λ t. AppendsText t out.old.items out.new.items)) }
-    // A document fails only where memory runs out.
+    // A document fails only where memory runs out, as the capacity for the whole text is missing.
     ensures errors { IfErr result (λ e. OfDocument document.now (λ t. e ≡ DocumentError.OutOfMemory)) }
+    ensures full { OnErr result (OfDocument document.now (λ t. LacksCapacity out.old (tree_text t))) }
     ensures preserves { PreservesOnError result out.old out.new }
 {
     let (key, zeros) = split_document(document);
