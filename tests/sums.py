@@ -1,5 +1,6 @@
-"""The sums of what is promised: of each clause of a public item of the product's crates, and of each file of their
-definitions. `tests/pages` compares them with docs/PROMISES.sums, and `tests/pages --sums` writes that file.
+"""The sums of what is promised: of each clause of a public item of the product's crates, of where the definitions are
+that these name, and of each file of definitions. `tests/pages` compares them with docs/PROMISES.sums, and `tests/pages
+--sums` writes that file.
 
 A sum is of the text without comments, with one space for all whitespace between two words.
 """
@@ -10,7 +11,8 @@ import re
 
 TOP = pathlib.Path(__file__).resolve().parent.parent
 SUMS = TOP / "docs/PROMISES.sums"
-HEAD = "# Written by tests/pages --sums: the sum of each public clause, and of each file of definitions.\n"
+HEAD = "# Written by tests/pages --sums: the sum of each public clause, of the imports of what the clauses of a file\n" \
+    "# name, and of each file of definitions.\n"
 
 # Where a type, a trait or its implementation begins and ends, a function, and a clause, up to its brace.
 MARKS = re.compile(r"""
@@ -19,6 +21,9 @@ MARKS = re.compile(r"""
     | ^\ *(?P<public>pub\ |pub\([^)]*\)\ )?(?:extern\ "C"\ )?fn\ (?P<function>\w+)
     | ^\ *(?:pub\ )?(?P<kind>ensures|requires|ghost)(?:\ (?P<clause>\w+))?\ ?[=:]?\ ?(?=\{)
     """, re.M | re.X)
+
+# An import of definitions: of names of a file, or of a file.
+IMPORT = re.compile(r"^ *(?:ghost )?use (Rattle\.[\w.]+?)(?:\.\{([^}]*)\})?(?: as (\w+))?;?$", re.M)
 
 
 def product():
@@ -53,6 +58,33 @@ def clauses(source):
             yield f"{item}: {mark['kind']} {mark['clause'] or 'sole'}", in_braces(source, mark.end())
 
 
+def imports(source):
+    """The names of definitions that a file has, each with where it is."""
+    for path, names, other in IMPORT.findall(source):
+        if not names:
+            yield other or path.split(".")[-1], path
+        for name in filter(None, (" ".join(each.split()) for each in names.split(","))):
+            there, _, here = name.partition(" as ")
+            yield here or there, f"{path}.{there}"
+
+
+def is_named(name, text):
+    """Whether the text has the name, or each sign of an operator."""
+    return all(re.search(rf"\b{part}\b", text) if part.isidentifier() else part in text
+               for part in name.split("◌") if part)
+
+
+def unsummed():
+    """Definitions that have no sum since they are among proofs, with the file that imports them."""
+    names = "|".join(product())
+    for crate in product():
+        folder = TOP / "crates" / crate
+        for file in sorted([*folder.glob("src/**/*.rt"), *folder.glob("specs/**/*.antt")]):
+            for name, path in imports(file.read_text(encoding="utf-8")):
+                if re.match(rf"Rattle\.(?:{names})\.proofs\.", path):
+                    yield f"{file.relative_to(TOP)}: {name} of {path}"
+
+
 def texts():
     """What has a sum, with its text, in the order of crates.txt."""
     found = {}
@@ -60,9 +92,14 @@ def texts():
         folder = TOP / "crates" / crate
         for file in sorted(folder.rglob("*.rt")):
             if "src" in file.relative_to(folder).parts[:1]:
-                for clause, text in clauses(file.read_text(encoding="utf-8")):
-                    name = f"{file.relative_to(TOP / 'crates')} {clause}"
+                source, where, everything = file.read_text(encoding="utf-8"), file.relative_to(TOP / "crates"), ""
+                for clause, text in clauses(source):
+                    name = f"{where} {clause}"
                     found[name] = found.get(name, "") + text
+                    everything += text + "\n"
+                named = {f"{name} {path}" for name, path in imports(source) if is_named(name, everything)}
+                if everything and named:
+                    found[f"{where}: imports"] = "\n".join(sorted(named))
         for file in sorted(folder.glob("specs/**/*.antt")):
             text = re.sub(r"^ *--.*$", "", file.read_text(encoding="utf-8"), flags=re.M)
             found[str(file.relative_to(TOP / "crates"))] = text
