@@ -19,9 +19,6 @@ use std::alloc::{AllocError, AllocFailed, Global};
 use std::borrow::CowStr;
 use std::fmt;
 
-#[cfg(test)]
-mod tests;
-
 /// Why a key has no value.
 #[derive(Debug, Drop)]
 pub enum KeyError {

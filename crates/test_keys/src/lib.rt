@@ -1,4 +1,4 @@
-//! Tests of `key_walk`, `key_edit` and `key_zeros` over public calls.
+//! Tests of `key_value`, `key_walk`, `key_edit` and `key_zeros` over public calls.
 #![tactic(auto)]
 
 #[cfg(test)]
@@ -7,5 +7,7 @@ mod check;
 mod contains;
 #[cfg(test)]
 mod edit;
+#[cfg(test)]
+mod value;
 #[cfg(test)]
 mod zeros;

@@ -1,7 +1,9 @@
-use super::*;
 use jsonb_value::extension::{Date, Interval, Timestamp, TimestampTz};
 use jsonb_value::number::{Decimal64, Number};
 use jsonb_value::sort_key::kind;
+use jsonb_value::value::Value;
+use key_value::{KeyError, value_of_sort_key};
+use std::alloc::{AllocError, Global};
 use std::process::Abort;
 use std::test::Fail;
 
