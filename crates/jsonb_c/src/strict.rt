@@ -1,8 +1,8 @@
 //! Texts whose tokens are those of RFC 8259.
 ghost use Rattle.std.specs.Prelude.{◌≡◌, true, false};
-ghost use Rattle.vjson_text.specs.Strict.{is_strict};
+ghost use Rattle.text_strict.specs.Strict.{is_strict};
 
-use vjson_text::strict::look_through;
+use text_strict::strict::look_through;
 
 /// Returns 1 where each token of the text is one of RFC 8259, where it may be: a text that extended mode takes is JSON
 /// then. Else it returns 0.

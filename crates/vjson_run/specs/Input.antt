@@ -4,7 +4,7 @@ use Rattle.std.specs.Io.BufRead.{ends_with_byte}
 use Rattle.std.specs.List.{filter, list_all}
 use Rattle.std.specs.Str.Lines.{lines, strip_carriage_return}
 use Rattle.jsonb_spec.specs.Ascii as ascii
-use Rattle.vjson_text.specs.Word.{is_blank}
+use Rattle.text_strict.specs.Word.{is_blank}
 
 -- the bytes of a byte order mark in UTF-8, EF BB BF
 abbrev pub mark_first : ℕ

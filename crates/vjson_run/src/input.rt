@@ -10,7 +10,7 @@ ghost use Rattle.vjson_run.specs.Input.{is_blank_line, without_end, without_mark
 use memchr::memchr;
 use std::io;
 use std::io::{BufRead, ErrorKind};
-use vjson_text::word::is_blank;
+use text_strict::word::is_blank;
 
 /// The bytes without a byte order mark at their start.
 pub fn without_mark(bytes: &[u8]) -> &[u8]

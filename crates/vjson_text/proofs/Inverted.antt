@@ -21,10 +21,10 @@ use Rattle.vjson_text.proofs.JsonWords.{IsGood, json_good}
 use Rattle.vjson_text.proofs.Numbers.{digit_word}
 use Rattle.vjson_text.proofs.PlainWords.{exact_number_is, high_word, literal_is, literal_words_of, lower_word, number_words_of, upper_word}
 use Rattle.vjson_text.proofs.StrictTexts.{can_begin, ends_value, EndsWord, before_value, still_ends, comma_behind, rest_passed, whole_length}
-use Rattle.vjson_text.proofs.Strings.{one_byte}
-use Rattle.vjson_text.specs.Strict.{Last, nothing, opened, comma, colon, word, ended_word, value, blank_after, may_begin, may_close, may_name, is_plain, is_strict_from, in_string, is_strict}
+use Rattle.text_strict.proofs.Strings.{one_byte}
+use Rattle.text_strict.specs.Strict.{Last, nothing, opened, comma, colon, word, ended_word, value, blank_after, may_begin, may_close, may_name, is_plain, is_strict_from, in_string, is_strict}
 use Rattle.vjson_text.specs.Texts.{AreSpaces, IsStrictItem, IsString, IsPlainValue, a_literal, a_string, a_number, IsSpaced, spaced, IsName, IsPair, name_and_value, IsOneValue, plain_value, no_items, some_items, no_pairs, some_pairs, IsNested, IsJsonText}
-use Rattle.vjson_text.specs.Word.{is_word_byte, word_length, is_json_word}
+use Rattle.text_strict.specs.Word.{is_word_byte, word_length, is_json_word}
 
 -- ---- what may follow
 

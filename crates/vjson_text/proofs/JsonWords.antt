@@ -13,7 +13,7 @@ use Rattle.text_scan.specs.Parsing.Number.{digits_length}
 use Rattle.text_scan.proofs.Numbers.Steps.{all_digits, digits_within}
 use Rattle.plain_numbers.proofs.Parts.{whole_all}
 use Rattle.vjson_text.proofs.Numbers.{all_bytes, all_exponent, none_none}
-use Rattle.vjson_text.specs.Word.{are_digits, after_sign, is_exponent, is_fraction, is_unsigned, is_number, is_json_word, is_literal}
+use Rattle.text_strict.specs.Word.{are_digits, after_sign, is_exponent, is_fraction, is_unsigned, is_number, is_json_word, is_literal}
 
 or_second : (a b : Bool) → a ≡ false → (a || b) ≡ true → b ≡ true
 or_second a b none h = sym (ap (λ x. x || b) none) ∙ h

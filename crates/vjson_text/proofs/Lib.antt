@@ -1,17 +1,13 @@
-pub mod Exponents
 pub mod Inverted
 pub mod JsonWords
 pub mod LaidOut
 pub mod LaidOutTexts
 pub mod NumberTexts
 pub mod Numbers
-pub mod PassedWords
 pub mod Pieces
 pub mod PlainTexts
 pub mod PlainWords
 pub mod Readings
 pub mod Sources
 pub mod StrictTexts
-pub mod Strings
-pub mod Tokens
 pub mod Written

@@ -19,7 +19,7 @@ use Rattle.plain_numbers.specs.Laws.{HasParts, IsFractionOf, IsSignOf}
 use Rattle.plain_numbers.specs.Passing as plain
 use Rattle.plain_numbers.proofs.Found.{found, read}
 use Rattle.vjson_text.specs.Texts.{IsExactNumber, without_exponent, with_exponent}
-use Rattle.vjson_text.specs.Word.{is_word_byte, are_digits, after_sign, is_exponent, is_fraction, is_unsigned, is_number, is_json_word, is_literal}
+use Rattle.text_strict.specs.Word.{is_word_byte, are_digits, after_sign, is_exponent, is_fraction, is_unsigned, is_number, is_json_word, is_literal}
 
 -- ---- digits before other bytes
 

@@ -18,7 +18,7 @@ use Rattle.jsonb_value.proofs.Trees.Runs.{heads}
 use Rattle.vjson_text.proofs.JsonWords.{IsJsonWord, is_true, is_false, is_null, is_a_number, json_word_is}
 use Rattle.vjson_text.proofs.Numbers.{all_bytes, all_digits, all_exponent, all_signed, all_then, digit_word}
 use Rattle.vjson_text.specs.Texts.{IsExactNumber, without_exponent}
-use Rattle.vjson_text.specs.Word.{is_word_byte, is_json_word}
+use Rattle.text_strict.specs.Word.{is_word_byte, is_json_word}
 
 abbrev AreWords : List ℕ → Type 0
 AreWords bytes = AllByRecursion (λ b. is_word_byte b ≡ true) bytes

@@ -13,10 +13,10 @@ use Rattle.jsonb_spec.specs.Grammar.{IsJoined, one_part, more_parts, max_depth}
 use Rattle.jsonb_spec.specs.Mode.{standard}
 use Rattle.jsonb_spec.specs.Tree.{Mark, Tree, Member}
 use Rattle.vjson_text.proofs.Numbers.{exact_some, exact_word, exact_words}
-use Rattle.vjson_text.proofs.Strings.{at_other}
-use Rattle.vjson_text.specs.Strict.{Last, nothing, opened, comma, colon, word, ended_word, value, blank_after, may_begin, is_strict_from, in_string, is_strict}
+use Rattle.text_strict.proofs.Strings.{at_other}
+use Rattle.text_strict.specs.Strict.{Last, nothing, opened, comma, colon, word, ended_word, value, blank_after, may_begin, is_strict_from, in_string, is_strict}
 use Rattle.vjson_text.specs.Texts.{IsSpace, AreSpaces, IsStrictItem, IsString, IsPlainValue, a_literal, a_string, a_number, IsSpaced, spaced, IsName, IsPair, name_and_value, IsOneValue, plain_value, no_items, some_items, no_pairs, some_pairs, IsNested, IsJsonText}
-use Rattle.vjson_text.specs.Word.{is_word_byte, word_length, is_json_word}
+use Rattle.text_strict.specs.Word.{is_word_byte, word_length, is_json_word}
 
 -- what may be before a value
 abbrev pub can_begin : Last → Bool

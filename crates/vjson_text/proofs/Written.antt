@@ -15,9 +15,9 @@ use Rattle.vjson_text.proofs.JsonWords.{IsGood}
 use Rattle.vjson_text.proofs.Numbers.{number_some, number_is_word, number_words}
 use Rattle.vjson_text.proofs.Pieces.{IsPlain, itself, exactly, EndsPlain, exact_text, word_front, separator_front, quote_front, string_front, escape_front, behind_byte, behind_other, same_result, other_front}
 use Rattle.vjson_text.proofs.StrictTexts.{EndsWord}
-use Rattle.vjson_text.proofs.Strings.{one_byte}
-use Rattle.vjson_text.specs.Strict.{Last, nothing, opened, comma, colon, word, value, blank_after, may_close, may_name, may_separate, is_plain, is_strict_from, in_string, in_escape, is_strict}
-use Rattle.vjson_text.specs.Word.{is_word_byte, is_json_word, opens, closes}
+use Rattle.text_strict.proofs.Strings.{one_byte}
+use Rattle.text_strict.specs.Strict.{Last, nothing, opened, comma, colon, word, value, blank_after, may_close, may_name, may_separate, is_plain, is_strict_from, in_string, in_escape, is_strict}
+use Rattle.text_strict.specs.Word.{is_word_byte, is_json_word, opens, closes}
 
 -- ---- bytes
 

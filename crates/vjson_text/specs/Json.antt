@@ -9,7 +9,7 @@ use Rattle.jsonb_spec.specs.SortKey.{key_of}
 use Rattle.jsonb_spec.specs.Text.{AppendsText}
 use Rattle.jsonb_spec.specs.Tree.{Tree}
 use Rattle.plain_numbers.specs.Expansion.{expanded}
-use Rattle.vjson_text.specs.Strict.{is_strict}
+use Rattle.text_strict.specs.Strict.{is_strict}
 use Rattle.vjson_text.specs.declared.reader.Grammar.{Grammar}
 use Rattle.vjson_text.specs.declared.reader.Grammar.TheVariants.{Json, Standard, Extended}
 use Rattle.vjson_text.specs.declared.reader.Layout.{Layout}

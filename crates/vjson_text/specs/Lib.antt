@@ -1,9 +1,4 @@
-pub mod Exponents
 pub mod Json
-pub mod PlainWord
 pub mod Raw
 pub mod Read
-pub mod Strict
 pub mod Texts
-pub mod View
-pub mod Word

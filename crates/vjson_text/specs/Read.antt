@@ -3,7 +3,7 @@ use Rattle.std.specs.Prelude.{◌≡◌, ◌≢◌, ℕ, Bool, true, false, List
 use Rattle.jsonb_spec.specs.Mode.{Mode, standard, extended}
 use Rattle.plain_numbers.specs.Expansion.{expanded}
 use Rattle.vjson_text.specs.Json.{IsNoTextOf}
-use Rattle.vjson_text.specs.Strict.{is_strict}
+use Rattle.text_strict.specs.Strict.{is_strict}
 use Rattle.vjson_text.specs.declared.fault.Fault.{Fault}
 use Rattle.vjson_text.specs.declared.fault.Fault.TheVariants.{NoMemory}
 use Rattle.vjson_text.specs.declared.reader.Grammar.{Grammar}

@@ -4,10 +4,7 @@
 pub mod fault;
 pub mod laws;
 pub mod mask;
-mod plain_word;
 pub mod reader;
-pub mod strict;
-pub mod word;
 
 pub use fault::Fault;
 pub use reader::{Grammar, Layout, append, append_key, append_part, append_raw, check};

@@ -2,8 +2,8 @@
 
 ghost use Rattle.std.specs.Prelude.{◌≤◌, length, IfOk};
 
-use crate::word::{is_json_word, word_len};
 use std::alloc::{AllocError, Global};
+use text_strict::word::{is_json_word, word_len};
 
 // Appends a string up to its end, whose first quote is before the bytes, and returns what is behind.
 fn copy_string<'a>(bytes: &'a [u8], out: &mut Vec<u8>) -> Result<&'a [u8], AllocError>

@@ -12,11 +12,11 @@ ghost use Rattle.vjson_text.specs.Read.{IsReadAs, Rejects, parser_mode, read_tex
 
 use crate::fault::{Fault, fault_at, fault_of};
 use crate::mask::masked;
-use crate::strict::look_through;
 use jsonb::parser::Mode;
 use jsonb::{Error, ParseErrorCode, Value};
 use plain_numbers::{PlainError, write_masked_numbers, write_plain_numbers};
 use std::alloc::Global;
+use text_strict::strict::look_through;
 
 /// Which texts are read.
 #[derive(Clone, Copy, PartialEq, Eq, Debug)]

@@ -1,0 +1,4 @@
+pub mod Exponents
+pub mod PassedWords
+pub mod Strings
+pub mod Tokens

@@ -1,0 +1,5 @@
+pub mod Exponents
+pub mod PlainWord
+pub mod Strict
+pub mod View
+pub mod Word
