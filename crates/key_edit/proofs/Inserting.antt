@@ -1,26 +1,24 @@
--- A part inserted: the slot between items, and within the value that the names before the last one lead to.
-use Rattle.std.proofs.Common.{◌≡◌, ℕ, zero, suc, ◌+◌, ◌-◌, ◌<◌, Bool, true, false, List, [], ◌∷◌, ◌++◌, Bor, Option, Some, None, IfSome, MatchOption, MatchResult, option_map, if◌then◌else◌, Result, Ok, Err, refl, sym, ap, subst, ◌∙◌, arith, append_assoc, append-nil}
+-- A part inserted: the slot between items.
+use Rattle.std.proofs.Common.{◌≡◌, ℕ, zero, suc, ◌+◌, ◌-◌, ◌<◌, Bool, true, false, List, [], ◌∷◌, ◌++◌, Bor, Option, Some, None, option_map, if◌then◌else◌, Result, Ok, refl, sym, ap, subst, ◌∙◌, arith, append_assoc}
 use Rattle.std.specs.Option.{option_and_then}
 use Rattle.std.proofs.lemmas.Bool.{le-ltb, lt-ltb}
 use Rattle.key_value.specs.Readable.{IsAnyNumber, IsReadable}
 use Rattle.key_walk.specs.Found.{IsLeftOf}
-use Rattle.key_walk.specs.Open.{Open, items, members, is_object, name_key, open_key, opening_byte, IsOpen, IsScalar}
+use Rattle.key_walk.specs.Open.{Open, items, members, is_object, open_key, opening_byte, IsOpen}
 use Rattle.key_walk.specs.Parts.{opened_tree}
 use Rattle.key_walk.specs.declared.find.NoKey.{NoKey}
 use Rattle.key_walk.proofs.Finds.{readable_inside}
 use Rattle.jsonb_spec.specs.Accessors.{trees_len}
-use Rattle.jsonb_spec.specs.Grammar.{max_depth}
 use Rattle.jsonb_spec.specs.Proper.{AreProper, HaveProperParts}
 use Rattle.jsonb_spec.specs.SortKey.{key_of, items_key, members_key}
 use Rattle.jsonb_spec.specs.Text.Range.{AreWithin, HaveWithin, IsWithin}
 use Rattle.jsonb_spec.specs.Tree.{Tree, null, boolean, string, number, array, object, binary, date, timestamp, timestamp_tz, interval, Trees, no_trees, more_trees, Members}
-use Rattle.key_edit.specs.Edit.{Outcome, stays, changed_at_member, changed_member, changed_part, part_with, remove, step_named, within}
-use Rattle.key_edit.specs.Insert.{changed_between, changed_slot, changed_slot_at, changed_within, items_from, one_more, slot_index, without_member, ChangesSo, IsPartWithin, SlotBefore}
-use Rattle.key_edit.specs.Spots.{Answers, OpenWithin, SlotIn, SpotIn, Occurs, OccursFirst, changed_open}
-use Rattle.key_edit.specs.declared.slot.Slot.{Slot}
+use Rattle.key_edit.specs.Edit.{Outcome, changed_at_member, changed_member, changed_part, remove, step_named, within}
+use Rattle.key_edit.specs.Insert.{changed_between, changed_slot, changed_slot_at, changed_within, items_from, one_more, slot_index, without_member}
+use Rattle.key_edit.specs.Spots.{Answers, SpotIn, OccursFirst}
 use Rattle.key_edit.specs.declared.spot.Spot.{Spot}
-use Rattle.key_edit.proofs.Lifting.{Lifts, lifted, lifts_through}
-use Rattle.key_edit.proofs.Located.{WholeLifts, all_lifts, answers_none, items_open, members_open, none_lifts, open_fits, open_lifts, scalar_stays, tree_before, tree_fits, within_lifts}
+use Rattle.key_edit.proofs.Lifting.{lifted}
+use Rattle.key_edit.proofs.Located.{false_true, items_open, members_open, open_fits, tree_before, tree_fits}
 use Rattle.key_edit.proofs.Spotted.{first_item, fits_in, key_before, more_items_lift}
 
 -- ---- items passed
@@ -188,181 +186,6 @@ last_within change after [] last t = refl
 last_within change after (name ∷ []) last t = refl
 last_within change after (name ∷ next ∷ names) last t = λ i. changed_part (within (λ u. last_within change after (next ∷ names) last u i)) name t
 
-so_lifts : (front behind : List ℕ) (depth_left : ℕ) (x y : Option Tree) → ChangesSo front behind depth_left x y → WholeLifts behind depth_left front x y
-so_lifts front behind depth_left None None h = h
-so_lifts front behind depth_left None (Some u) h = h
-so_lifts front behind depth_left (Some part) None h = h
-so_lifts front behind depth_left (Some part) (Some u) h = h
-
-lifts_so : (front behind : List ℕ) (depth_left : ℕ) (x y : Option Tree) → WholeLifts behind depth_left front x y → ChangesSo front behind depth_left x y
-lifts_so front behind depth_left None None h = h
-lifts_so front behind depth_left None (Some u) h = h
-lifts_so front behind depth_left (Some part) None h = h
-lifts_so front behind depth_left (Some part) (Some u) h = h
-
--- the part at the names so far, within which a change at the others is that of all
-pub record WithinLeft (t : Tree) (names left : List (List ℕ)) (key part : List ℕ) (depth_left : ℕ) : Type 0 where
-  pub inner : Tree
-  pub readable : IsReadable inner
-  pub fits : IsWithin IsAnyNumber inner depth_left
-  pub front : List ℕ
-  pub behind : List ℕ
-  pub inside : key ≡ front ++ part
-  pub occurs : part ≡ key_of inner ++ behind
-  pub lifts : (change : Tree → Option Tree) → WholeLifts behind depth_left front (changed_within change left inner) (changed_within change names t)
-
-abbrev pub WalksWithin : List ℕ → List (List ℕ) → List (List ℕ) → List ℕ → ℕ → Type 0
-WalksWithin key names left part depth_left = (t : Tree) → IsReadable t → key ≡ key_of t → WithinLeft t names left key part depth_left
-
-pub within_begun : (key : List ℕ) (names : List (List ℕ)) → WalksWithin key names names key max_depth
-within_begun key names = λ t r e. record { inner = t; readable = r; fits = r.within; front = []; behind = []; inside = refl; occurs = e ∙ sym (append-nil (key_of t)); lifts = λ change. all_lifts (changed_within change names t) }
-
--- no names are left
-pub within_ended : (t : Tree) (names left : List (List ℕ)) (key part : List ℕ) (depth_left : ℕ) → WithinLeft t names left key part depth_left → left ≡ [] → IsPartWithin t names key part depth_left
-within_ended t names left key part depth_left w over = record {
-  part = w.inner;
-  readable = w.readable;
-  fits = w.fits;
-  front = w.front;
-  behind = w.behind;
-  inside = w.inside;
-  occurs = w.occurs;
-  lifts = λ change. lifts_so w.front w.behind depth_left (change w.inner) (changed_within change names t) (subst (λ l. WholeLifts w.behind depth_left w.front (changed_within change l w.inner) (changed_within change names t)) over (w.lifts change));
-}
-
--- no part is in a scalar
-pub within_stopped : (t : Tree) (names left others : List (List ℕ)) (name key part : List ℕ) (depth_left : ℕ) (w : WithinLeft t names left key part depth_left) → left ≡ name ∷ others → IsScalar w.inner → (change : Tree → Option Tree) → changed_within change names t ≡ None
-within_stopped t names left others name key part depth_left w first s change =
-    none_lifts w.behind w.front depth_left (changed_within change left w.inner) (changed_within change names t) (w.lifts change) (ap (λ l. changed_within change l w.inner) first ∙ scalar_stays (within (changed_within change others)) name w.inner s)
-
--- the array or the object that the names so far lead to
-pub record StepWithin (t : Tree) (names others : List (List ℕ)) (name key parts : List ℕ) (of_object : Bool) (depth_left : ℕ) : Type 0 where
-  pub all : Open
-  pub is : is_object all ≡ of_object
-  pub readable : IsOpen all 511
-  pub fits : OpenWithin all depth_left
-  pub front : List ℕ
-  pub behind : List ℕ
-  pub inside : key ≡ front ++ parts
-  pub occurs : parts ≡ open_key all ++ behind
-  pub lifts : (change : Tree → Option Tree) → Lifts (key_before behind) (fits_in depth_left) key_of (tree_fits max_depth) front (changed_open (within (changed_within change others)) name all) (changed_within change names t)
-
-pub step_within : (t : Tree) (names left others : List (List ℕ)) (name key part parts : List ℕ) (of_object : Bool) (depth_left inner : ℕ) (w : WithinLeft t names left key part depth_left) → left ≡ name ∷ others → inner + 1 ≡ depth_left → part ≡ opening_byte of_object ∷ parts → IsLeftOf w.inner of_object parts w.behind → StepWithin t names others name key parts of_object inner
-step_within t names left others name key part parts of_object depth_left inner w first one begins l = record {
-  all = l.all;
-  is = l.is;
-  readable = l.fits;
-  fits = open_fits l.all inner (subst (λ d. IsWithin IsAnyNumber (opened_tree l.all) d) deeper (subst (λ u. IsWithin IsAnyNumber u depth_left) (sym l.whole) w.fits));
-  front = w.front ++ opening_byte of_object ∷ [];
-  behind = w.behind;
-  inside = w.inside ∙ ap (λ key. w.front ++ key) begins ∙ sym (append_assoc w.front (opening_byte of_object ∷ []) parts);
-  occurs = l.occurs;
-  lifts = λ change.
-      let step = within (changed_within change others) in
-      let near = subst (λ b. Lifts (key_before w.behind) (fits_in inner) (tree_before w.behind) (tree_fits (suc inner)) (opening_byte b ∷ []) (changed_open step name l.all) (changed_part step name (opened_tree l.all))) l.is
-      (open_lifts w.behind inner step name l.all) in
-      let same : changed_part step name (opened_tree l.all) ≡ changed_within change left w.inner = ap (λ u. changed_part step name u) l.whole ∙ ap (λ l. changed_within change l w.inner) (sym first) in
-      let there = subst (λ x. Lifts (key_before w.behind) (fits_in inner) (tree_before w.behind) (tree_fits (suc inner)) (opening_byte of_object ∷ []) (changed_open step name l.all) x) same near in
-      let far = subst (λ d. WholeLifts w.behind d w.front (changed_within change left w.inner) (changed_within change names t)) deeper (w.lifts change) in
-      lifts_through (key_before w.behind) (fits_in inner) (tree_before w.behind) (tree_fits (suc inner)) key_of (tree_fits max_depth) (opening_byte of_object ∷ []) w.front _ _ _ there far;
-}
-  where
-    deeper : depth_left ≡ suc inner
-    deeper = omega (arith, one)
-
--- the name leads nowhere
-pub within_missed : (t : Tree) (names others : List (List ℕ)) (name key parts : List ℕ) (of_object : Bool) (depth_left : ℕ) (l : StepWithin t names others name key parts of_object depth_left) → ((change : Option Tree → Outcome) → changed_open change name l.all ≡ None) → (change : Tree → Option Tree) → changed_within change names t ≡ None
-within_missed t names others name key parts of_object depth_left l none change = go (changed_open (within (changed_within change others)) name l.all) (changed_within change names t) (none (within (changed_within change others))) (l.lifts change)
-  where
-    go : (x : Option Open) (y : Option Tree) → x ≡ None → Lifts (key_before l.behind) (fits_in depth_left) key_of (tree_fits max_depth) l.front x y → y ≡ None
-    go None None e h = refl
-    go None (Some y) e h = absurd h
-    go (Some x) y e h = absurd (some_none x e)
-      where
-        some_none : (x : Open) → Some x ≡ None → ⊥
-        some_none x e = cc
-
-false_true : false ≡ true → ⊥
-false_true e = cc
-
-abbrev pub SpotAt : (o : Open) → List ℕ → List ℕ → Bool → List ℕ → ℕ → Spot → Type 0
-SpotAt o behind name of_object parts depth_left spot = SpotIn (key_before behind) (fits_in depth_left) (λ change. changed_open change name o) of_object name parts depth_left spot
-
--- it leads to no part
-pub within_lost : (t : Tree) (names others : List (List ℕ)) (name key parts : List ℕ) (of_object : Bool) (depth_left : ℕ) (spot : Spot) (l : StepWithin t names others name key parts of_object depth_left) → SpotAt l.all l.behind name of_object parts depth_left spot → spot.found ≡ false → (change : Tree → Option Tree) → changed_within change names t ≡ None
-within_lost t names others name key parts of_object depth_left spot l s lost change = go s.there s.occurs (s.answers (within (changed_within change others)))
-  where
-    go : (there : Option Tree) → Occurs of_object s.name spot s.behind there → Answers (key_before l.behind) (fits_in depth_left) of_object s.name s.front s.behind depth_left (within (changed_within change others) there) (changed_open (within (changed_within change others)) name l.all) → changed_within change names t ≡ None
-    go None st h = answers_none of_object s.name (l.front ++ s.front) s.behind depth_left (changed_within change names t) (lifted (key_before l.behind) (fits_in depth_left) key_of (tree_fits max_depth) of_object s.name l.front s.front s.behind depth_left stays _ _ (l.lifts change) h)
-    go (Some u) st h = absurd (false_true (sym lost ∙ st.0))
-
--- it leads to a part
-pub within_taken : (t : Tree) (names others : List (List ℕ)) (name key parts : List ℕ) (of_object : Bool) (depth_left : ℕ) (spot : Spot) (l : StepWithin t names others name key parts of_object depth_left) → SpotAt l.all l.behind name of_object parts depth_left spot → spot.found ≡ true → WithinLeft t names others key spot.value.now depth_left
-within_taken t names others name key parts of_object depth_left spot l s found = go s.there s.occurs s.readable s.fits s.answers
-  where
-    go : (there : Option Tree) → Occurs of_object s.name spot s.behind there → IfSome there IsReadable → IfSome there (λ u. IsWithin IsAnyNumber u depth_left)
-        → ((change : Option Tree → Outcome) → Answers (key_before l.behind) (fits_in depth_left) of_object s.name s.front s.behind depth_left (change there) (changed_open change name l.all)) → WithinLeft t names others key spot.value.now depth_left
-    go None st r f h = absurd (false_true (sym st.0 ∙ found))
-    go (Some u) st r f h = record {
-      inner = u;
-      readable = r;
-      fits = f;
-      front = (l.front ++ s.front) ++ name_key of_object s.name;
-      behind = s.behind;
-      inside = l.inside ∙ ap (λ key. l.front ++ key) (s.inside ∙ ap (λ key. s.front ++ key) st.1) ∙ moved l.front s.front (name_key of_object s.name) spot.value.now;
-      occurs = st.2;
-      lifts = λ change. within_lifts of_object s.name (l.front ++ s.front) s.behind depth_left (changed_within change others u) (changed_within change names t)
-          (lifted (key_before l.behind) (fits_in depth_left) key_of (tree_fits max_depth) of_object s.name l.front s.front s.behind depth_left (part_with (changed_within change others u)) _ _ (l.lifts change) (h (within (changed_within change others))));
-    }
-      where
-        moved : (a b c d : List ℕ) → a ++ (b ++ (c ++ d)) ≡ ((a ++ b) ++ c) ++ d
-        moved a b c d = simp append_assoc
-
--- the slot in the whole value
-pub inner_slot : (t : Tree) (names : List (List ℕ)) (key value : List ℕ) (depth_left : ℕ) (after : Bool) (last : List ℕ) (slot : Slot) → (c : IsPartWithin t names key value depth_left)
-    → SlotBefore c.behind (λ change. changed_slot change after last c.part) value depth_left slot → SlotIn (λ change. changed_slot_at change after (names ++ last ∷ []) t) key slot
-inner_slot t names key value depth_left after last slot c (s, b) = (
-  record {
-    there = s.there;
-    name = s.name;
-    front = c.front ++ s.front;
-    behind = s.behind;
-    inside = c.inside ∙ ap (λ k. c.front ++ k) s.inside ∙ sym (append_assoc c.front s.front slot.spot.entry.now);
-    occurs = s.occurs;
-    named = s.named;
-    readable = s.readable;
-    fits = s.fits;
-    answers = λ change.
-        subst (Answers key_of (tree_fits max_depth) slot.object s.name (c.front ++ s.front) s.behind slot.depth_left (change s.there)) (sym (last_within change after names last t))
-        (lifted (tree_before c.behind) (tree_fits depth_left) key_of (tree_fits max_depth) slot.object s.name c.front s.front s.behind slot.depth_left (change s.there) _ _
-        (so_lifts c.front c.behind depth_left (changed_slot change after last c.part) (changed_within (changed_slot change after last) names t) (c.lifts (changed_slot change after last))) (s.answers change));
-  },
-  b,
-)
-
--- nothing changes in what the names lead to, or they lead nowhere
-pub none_inner : (t : Tree) (names : List (List ℕ)) (key value : List ℕ) (depth_left : ℕ) (after : Bool) (last : List ℕ) → (c : IsPartWithin t names key value depth_left)
-    → ((change : Option Tree → Outcome) → changed_slot change after last c.part ≡ None) → (change : Option Tree → Outcome) → changed_slot_at change after (names ++ last ∷ []) t ≡ None
-none_inner t names key value depth_left after last c none change =
-    last_within change after names last t ∙ none_lifts c.behind c.front depth_left (changed_slot change after last c.part) (changed_within (changed_slot change after last) names t)
-    (so_lifts c.front c.behind depth_left (changed_slot change after last c.part) (changed_within (changed_slot change after last) names t) (c.lifts (changed_slot change after last))) (none change)
-
-pub none_there : (t : Tree) (names : List (List ℕ)) (after : Bool) (last : List ℕ) → ((change : Tree → Option Tree) → changed_within change names t ≡ None) → (change : Option Tree → Outcome) → changed_slot_at change after (names ++ last ∷ []) t ≡ None
-none_there t names after last none change = last_within change after names last t ∙ none (changed_slot change after last)
-
-pub no_slot : (change : Option Tree → Outcome) (after : Bool) (name : List ℕ) (t : Tree) → IsScalar t → changed_slot change after name t ≡ None
-no_slot change after name (array ts) s = absurd s
-no_slot change after name (object ms) s = absurd s
-no_slot change after name null s = refl
-no_slot change after name (boolean b) s = refl
-no_slot change after name (string mark text) s = refl
-no_slot change after name (number n) s = refl
-no_slot change after name (binary bytes) s = refl
-no_slot change after name (date days) s = refl
-no_slot change after name (timestamp micros) s = refl
-no_slot change after name (timestamp_tz offset micros) s = refl
-no_slot change after name (interval months days micros) s = refl
-
 -- the object is open
 pub record MembersOf (t : Tree) (bytes parts more : List ℕ) (depth_left : ℕ) : Type 0 where
   pub ms : Members
@@ -412,28 +235,6 @@ opened_items t of_object bytes parts more depth inner l o begins w one = go l.al
       occurs = occurs;
       begins = begins ∙ ap (λ b. opening_byte b ∷ parts) o;
     }
-
--- ---- what is found
-
-abbrev pub Finds : ((Option Tree → Outcome) → Option Tree) → List ℕ → Result (Option Slot) NoKey → Type 0
-Finds changed key r = MatchResult r (λ answer. MatchOption answer ((change : Option Tree → Outcome) → changed change ≡ None) (SlotIn changed key)) (λ e. ⊥)
-
-abbrev pub FindsBefore : List ℕ → ((Option Tree → Outcome) → Option Tree) → List ℕ → ℕ → Result (Option Slot) NoKey → Type 0
-FindsBefore more changed bytes depth_left r = MatchResult r (λ answer. MatchOption answer ((change : Option Tree → Outcome) → changed change ≡ None) (SlotBefore more changed bytes depth_left)) (λ e. ⊥)
-
-pub inner_found : (t : Tree) (names : List (List ℕ)) (key value : List ℕ) (depth_left : ℕ) (after : Bool) (last : List ℕ) → (c : IsPartWithin t names key value depth_left) → (r : Result (Option Slot) NoKey)
-    → FindsBefore c.behind (λ change. changed_slot change after last c.part) value depth_left r → Finds (λ change. changed_slot_at change after (names ++ last ∷ []) t) key r
-inner_found t names key value depth_left after last c (Ok None) f = none_inner t names key value depth_left after last c f
-inner_found t names key value depth_left after last c (Ok (Some slot)) f = inner_slot t names key value depth_left after last slot c f
-inner_found t names key value depth_left after last c (Err e) f = f
-
--- what is reported of the part that the names before the last one lead to
-abbrev pub ReportsWithin : Tree → List (List ℕ) → List ℕ → Option (Bor (List ℕ) × ℕ) → Type 0
-ReportsWithin t names key answer = MatchOption answer ((change : Tree → Option Tree) → changed_within change names t ≡ None) (λ r. IsPartWithin t names key r.0.now r.1)
-
--- the names of a path, whose last one is this
-pub last_named : (names before : List (List ℕ)) (name last : List ℕ) → names ≡ before ++ name ∷ [] → last ≡ name → names ≡ before ++ last ∷ []
-last_named names before name last e is = e ∙ ap (λ n. before ++ n ∷ []) (sym is)
 
 -- ---- members removed
 

@@ -1,18 +1,24 @@
 -- The slot that a path leads to: the walk to it.
-use Rattle.std.proofs.Common.{◌≡◌, ℕ, suc, ◌+◌, Bool, true, false, List, [], ◌∷◌, ◌++◌, Option, Some, None, option_map, IfSome, length, refl, sym, ap, subst, ◌∙◌, arith, append_assoc, append-nil}
+use Rattle.std.proofs.Common.{◌≡◌, ℕ, suc, ◌+◌, Bool, true, false, List, [], ◌∷◌, ◌++◌, Bor, Option, Some, None, option_map, IfSome, MatchOption, MatchResult, Result, Ok, Err, refl, sym, ap, subst, ◌∙◌, arith, append_assoc, append-nil}
 use Rattle.key_value.specs.Readable.{IsAnyNumber, IsReadable}
 use Rattle.key_walk.specs.Found.{IsLeftOf}
-use Rattle.key_walk.specs.Open.{Open, items, members, is_object, open_key, name_key, opening_byte, IsOpen, IsScalar}
+use Rattle.key_walk.specs.Open.{Open, items, members, is_object, open_key, name_key, opening_byte, IsOpen}
 use Rattle.key_walk.specs.Parts.{opened_tree}
+use Rattle.key_walk.specs.declared.find.NoKey.{NoKey}
 use Rattle.jsonb_spec.specs.Grammar.{max_depth}
 use Rattle.jsonb_spec.specs.SortKey.{key_of}
 use Rattle.jsonb_spec.specs.Text.Range.{IsWithin}
 use Rattle.jsonb_spec.specs.Tree.{Tree, array, object, Trees, Members}
 use Rattle.key_edit.specs.Edit.{Outcome, stays, changed_at, changed_items, changed_member, changed_part, part_with, within}
-use Rattle.key_edit.specs.Spots.{Answers, OpenWithin, SpotIn, Occurs, changed_open}
+use Rattle.key_edit.specs.Insert.{changed_within, ChangesSo, IsPartWithin, SlotBefore}
+use Rattle.key_edit.specs.Spots.{Answers, OpenWithin, SlotIn, SpotIn, Occurs, changed_open}
+use Rattle.key_edit.specs.declared.slot.Slot.{Slot}
 use Rattle.key_edit.specs.declared.spot.Spot.{Spot}
 use Rattle.key_edit.proofs.Lifting.{Lifts, lifted, lifts_through}
 use Rattle.key_edit.proofs.Spotted.{key_before, fits_in}
+
+pub false_true : false ≡ true → ⊥
+false_true e = cc
 
 -- a value, and these bytes behind it
 abbrev pub tree_before : List ℕ → Tree → List ℕ
@@ -25,61 +31,18 @@ tree_fits depth_left t = IsWithin IsAnyNumber t depth_left
 abbrev pub WholeLifts : List ℕ → ℕ → List ℕ → Option Tree → Option Tree → Type 0
 WholeLifts behind depth_left front x y = Lifts (tree_before behind) (tree_fits depth_left) key_of (tree_fits max_depth) front x y
 
--- the part at the names so far, whose change at the others is that of all
-pub record PathLeft (t : Tree) (names left : List (List ℕ)) (key part : List ℕ) (depth_left : ℕ) : Type 0 where
-  pub inner : Tree
-  pub readable : IsReadable inner
-  pub fits : IsWithin IsAnyNumber inner depth_left
-  pub front : List ℕ
-  pub behind : List ℕ
-  pub inside : key ≡ front ++ part
-  pub occurs : part ≡ key_of inner ++ behind
-  pub lifts : (change : Option Tree → Outcome) → WholeLifts behind depth_left front (changed_at change left inner) (changed_at change names t)
-
-abbrev pub WalksPath : List ℕ → List (List ℕ) → List (List ℕ) → List ℕ → ℕ → Type 0
-WalksPath key names left part depth_left = (t : Tree) → IsReadable t → key ≡ key_of t → PathLeft t names left key part depth_left
-
 pub all_lifts : (x : Option Tree) → WholeLifts [] max_depth [] x x
 all_lifts None = tt
 all_lifts (Some t) = (sym (append-nil (key_of t)), (λ h. h, λ h. h))
 
-pub path_begun : (key : List ℕ) (names : List (List ℕ)) → WalksPath key names names key max_depth
-path_begun key names = λ t r e. record { inner = t; readable = r; fits = r.within; front = []; behind = []; inside = refl; occurs = e ∙ sym (append-nil (key_of t)); lifts = λ change. all_lifts (changed_at change names t) }
-
--- nothing changes in all, where nothing changes in what is left
-pub none_lifts : (behind front : List ℕ) (depth_left : ℕ) (x y : Option Tree) → WholeLifts behind depth_left front x y → x ≡ None → y ≡ None
-none_lifts behind front depth_left None None l e = refl
-none_lifts behind front depth_left None (Some y) l e = absurd l
-none_lifts behind front depth_left (Some x) y l e = absurd (some_none x e)
+-- nothing changes in the second, where nothing changes in the first
+nothing_lifts : {A B : Type 0} (key : A → List ℕ) (Fits : A → Type 0) (others : B → List ℕ) (AlsoFits : B → Type 0) (front : List ℕ) (x : Option A) (y : Option B) → Lifts key Fits others AlsoFits front x y → x ≡ None → y ≡ None
+nothing_lifts key Fits others AlsoFits front None None l e = refl
+nothing_lifts key Fits others AlsoFits front None (Some y) l e = absurd l
+nothing_lifts {A} key Fits others AlsoFits front (Some x) y l e = absurd (some_none x e)
   where
-    some_none : (x : Tree) → Some x ≡ None → ⊥
+    some_none : (x : A) → Some x ≡ None → ⊥
     some_none x e = cc
-
--- ---- one step
-
--- the change of the part that the first name leads to
-abbrev step_change : (Option Tree → Outcome) → List (List ℕ) → Option Tree → Outcome
-step_change change [] = change
-step_change change (next ∷ names) = within (changed_at change (next ∷ names))
-
-by_step : (change : Option Tree → Outcome) (name : List ℕ) (others : List (List ℕ)) (t : Tree) → changed_at change (name ∷ others) t ≡ changed_part (step_change change others) name t
-by_step change name [] t = refl
-by_step change name (next ∷ names) t = refl
-
-pub scalar_stays : (change : Option Tree → Outcome) (name : List ℕ) (t : Tree) → IsScalar t → changed_part change name t ≡ None
-scalar_stays change name (array ts) s = absurd s
-scalar_stays change name (object ms) s = absurd s
-scalar_stays change name t s = refl
-
--- no part is in a scalar
-pub path_stopped : (t : Tree) (names left others : List (List ℕ)) (name key part : List ℕ) (depth_left : ℕ) (p : PathLeft t names left key part depth_left) → left ≡ name ∷ others → IsScalar p.inner → (change : Option Tree → Outcome) → changed_at change names t ≡ None
-path_stopped t names left others name key part depth_left p first s change =
-    none_lifts p.behind p.front depth_left (changed_at change left p.inner) (changed_at change names t) (p.lifts change) (ap (λ l. changed_at change l p.inner) first ∙ by_step change name others p.inner ∙ scalar_stays (step_change change others) name p.inner s)
-
--- no part is at no names
-pub path_empty : (t : Tree) (names left : List (List ℕ)) (key part : List ℕ) (depth_left : ℕ) → PathLeft t names left key part depth_left → length left ≡ 0 → (change : Option Tree → Outcome) → changed_at change names t ≡ None
-path_empty t names [] key part depth_left p over change = none_lifts p.behind p.front depth_left None (changed_at change names t) (p.lifts change) refl
-path_empty t names (name ∷ left) key part depth_left p over change = absurd (omega (arith, over))
 
 pub items_open : (more : List ℕ) (depth_left : ℕ) (x : Option Trees) → Lifts (key_before more) (fits_in depth_left) (tree_before more) (tree_fits (suc depth_left)) (0xD2 ∷ []) (option_map items x) (option_map array x)
 items_open more depth_left None = tt
@@ -97,79 +60,6 @@ pub open_fits : (o : Open) (depth_left : ℕ) → IsWithin IsAnyNumber (opened_t
 open_fits (items ts) depth_left h = h
 open_fits (members ms) depth_left h = h
 
--- the array or the object that the names so far lead to
-pub record StepLeft (t : Tree) (names others : List (List ℕ)) (name key parts : List ℕ) (of_object : Bool) (depth_left : ℕ) : Type 0 where
-  pub all : Open
-  pub is : is_object all ≡ of_object
-  pub readable : IsOpen all 511
-  pub fits : OpenWithin all depth_left
-  pub front : List ℕ
-  pub behind : List ℕ
-  pub inside : key ≡ front ++ parts
-  pub occurs : parts ≡ open_key all ++ behind
-  pub lifts : (change : Option Tree → Outcome) → Lifts (key_before behind) (fits_in depth_left) key_of (tree_fits max_depth) front (changed_open (step_change change others) name all) (changed_at change names t)
-
-pub step_left : (t : Tree) (names left others : List (List ℕ)) (name key part parts : List ℕ) (of_object : Bool) (depth_left inner : ℕ) (p : PathLeft t names left key part depth_left) → left ≡ name ∷ others → inner + 1 ≡ depth_left → part ≡ opening_byte of_object ∷ parts → IsLeftOf p.inner of_object parts p.behind → StepLeft t names others name key parts of_object inner
-step_left t names left others name key part parts of_object depth_left inner p first one begins l = record {
-  all = l.all;
-  is = l.is;
-  readable = l.fits;
-  fits = open_fits l.all inner (subst (λ d. IsWithin IsAnyNumber (opened_tree l.all) d) deeper (subst (λ u. IsWithin IsAnyNumber u depth_left) (sym l.whole) p.fits));
-  front = p.front ++ opening_byte of_object ∷ [];
-  behind = p.behind;
-  inside = p.inside ∙ ap (λ key. p.front ++ key) begins ∙ sym (append_assoc p.front (opening_byte of_object ∷ []) parts);
-  occurs = l.occurs;
-  lifts = λ change.
-      let near = subst (λ b. Lifts (key_before p.behind) (fits_in inner) (tree_before p.behind) (tree_fits (suc inner)) (opening_byte b ∷ []) (changed_open (step_change change others) name l.all) (changed_part (step_change change others) name (opened_tree l.all))) l.is
-      (open_lifts p.behind inner (step_change change others) name l.all) in
-      let same = ap (λ u. changed_part (step_change change others) name u) l.whole ∙ sym (by_step change name others p.inner) ∙ ap (λ l. changed_at change l p.inner) (sym first) in
-      let there = subst (λ x. Lifts (key_before p.behind) (fits_in inner) (tree_before p.behind) (tree_fits (suc inner)) (opening_byte of_object ∷ []) (changed_open (step_change change others) name l.all) x) same near in
-      let far = subst (λ d. WholeLifts p.behind d p.front (changed_at change left p.inner) (changed_at change names t)) deeper (p.lifts change) in
-      lifts_through (key_before p.behind) (fits_in inner) (tree_before p.behind) (tree_fits (suc inner)) key_of (tree_fits max_depth) (opening_byte of_object ∷ []) p.front _ _ _ there far;
-}
-  where
-    deeper : depth_left ≡ suc inner
-    deeper = omega (arith, one)
-
--- the name leads nowhere
-pub step_missed : (t : Tree) (names others : List (List ℕ)) (name key parts : List ℕ) (of_object : Bool) (depth_left : ℕ) (l : StepLeft t names others name key parts of_object depth_left) → ((change : Option Tree → Outcome) → changed_open change name l.all ≡ None) → (change : Option Tree → Outcome) → changed_at change names t ≡ None
-step_missed t names others name key parts of_object depth_left l none change = go (changed_open (step_change change others) name l.all) (changed_at change names t) (none (step_change change others)) (l.lifts change)
-  where
-    go : (x : Option Open) (y : Option Tree) → x ≡ None → Lifts (key_before l.behind) (fits_in depth_left) key_of (tree_fits max_depth) l.front x y → y ≡ None
-    go None None e h = refl
-    go None (Some y) e h = absurd h
-    go (Some x) y e h = absurd (some_none x e)
-      where
-        some_none : (x : Open) → Some x ≡ None → ⊥
-        some_none x e = cc
-
-abbrev StepSpot : (o : Open) → List ℕ → List ℕ → Bool → List ℕ → ℕ → Spot → Type 0
-StepSpot o behind name of_object parts depth_left spot = SpotIn (key_before behind) (fits_in depth_left) (λ change. changed_open change name o) of_object name parts depth_left spot
-
--- the spot in the key of all, and what is behind it
-abbrev pub EndSpot : Tree → List (List ℕ) → Bool → List ℕ → List ℕ → ℕ → Spot → List ℕ → Type 0
-EndSpot t names of_object name key depth_left spot behind = (s : SpotIn key_of (tree_fits max_depth) (λ change. changed_at change names t) of_object name key depth_left spot) × (s.behind ≡ behind)
-
--- the last name leads to the spot
-pub step_ended : (t : Tree) (names others : List (List ℕ)) (name key parts : List ℕ) (of_object : Bool) (depth_left : ℕ) (spot : Spot) (behind : List ℕ) (l : StepLeft t names others name key parts of_object depth_left) → length others ≡ 0 → (s : StepSpot l.all l.behind name of_object parts depth_left spot) → behind ≡ s.behind
-    → EndSpot t names of_object name key depth_left spot behind
-step_ended t names [] name key parts of_object depth_left spot behind l over s is = (
-  record {
-    there = s.there;
-    name = s.name;
-    front = l.front ++ s.front;
-    behind = s.behind;
-    inside = l.inside ∙ ap (λ key. l.front ++ key) s.inside ∙ sym (append_assoc l.front s.front spot.entry.now);
-    occurs = s.occurs;
-    named = s.named;
-    readable = s.readable;
-    fits = s.fits;
-    answers = λ change. lifted (key_before l.behind) (fits_in depth_left) key_of (tree_fits max_depth) of_object s.name l.front s.front s.behind depth_left (change s.there) _ _ (l.lifts change) (s.answers change);
-  },
-  sym is,
-)
-step_ended t names (next ∷ others) name key parts of_object depth_left spot behind l over s is = absurd (omega (arith, over))
-
 -- an answer about a part within the one that is there
 pub within_lifts : (of_object : Bool) (name front behind : List ℕ) (depth_left : ℕ) (x y : Option Tree) → Answers key_of (tree_fits max_depth) of_object name front behind depth_left (part_with x) y → WholeLifts behind depth_left (front ++ name_key of_object name) x y
 within_lifts of_object name front behind depth_left None None h = tt
@@ -181,28 +71,131 @@ pub answers_none : (of_object : Bool) (name front behind : List ℕ) (depth_left
 answers_none of_object name front behind depth_left None h = refl
 answers_none of_object name front behind depth_left (Some y) h = absurd h
 
--- an earlier name leads to no part
-pub step_lost : (t : Tree) (names others : List (List ℕ)) (name key parts : List ℕ) (of_object : Bool) (depth_left : ℕ) (spot : Spot) (l : StepLeft t names others name key parts of_object depth_left) → (length others ≡ 0 → ⊥) → StepSpot l.all l.behind name of_object parts depth_left spot → spot.found ≡ false → (change : Option Tree → Outcome) → changed_at change names t ≡ None
-step_lost t names [] name key parts of_object depth_left spot l more s lost change = absurd (more refl)
-step_lost t names (next ∷ others) name key parts of_object depth_left spot l more s lost change = go s.there s.occurs (s.answers (within (changed_at change (next ∷ others))))
+-- ---- the slot in the value that is open
+
+-- as the answer is in what is open, it is in the value
+opened_lifts : (t : Tree) (of_object : Bool) (parts more : List ℕ) (depth inner : ℕ) (l : IsLeftOf t of_object parts more) → inner + 1 ≡ depth → (change : Option Tree → Outcome) (name : List ℕ)
+    → Lifts (key_before more) (fits_in inner) (tree_before more) (tree_fits depth) (opening_byte of_object ∷ []) (changed_open change name l.all) (changed_part change name t)
+opened_lifts t of_object parts more depth inner l one change name =
+    subst (λ d. Lifts (key_before more) (fits_in inner) (tree_before more) (tree_fits d) (opening_byte of_object ∷ []) (changed_open change name l.all) (changed_part change name t)) deeper
+    (subst (λ u. Lifts (key_before more) (fits_in inner) (tree_before more) (tree_fits (suc inner)) (opening_byte of_object ∷ []) (changed_open change name l.all) (changed_part change name u)) l.whole
+    (subst (λ b. Lifts (key_before more) (fits_in inner) (tree_before more) (tree_fits (suc inner)) (opening_byte b ∷ []) (changed_open change name l.all) (changed_part change name (opened_tree l.all))) l.is (open_lifts more inner change name l.all)))
   where
-    true_false : true ≡ false → ⊥
-    true_false e = cc
+    deeper : suc inner ≡ depth
+    deeper = omega (arith, one)
 
-    go : (there : Option Tree) → Occurs of_object s.name spot s.behind there → Answers (key_before l.behind) (fits_in depth_left) of_object s.name s.front s.behind depth_left (within (changed_at change (next ∷ others)) there) (changed_open (within (changed_at change (next ∷ others))) name l.all) → changed_at change names t ≡ None
-    go None st h = answers_none of_object s.name (l.front ++ s.front) s.behind depth_left (changed_at change names t) (lifted (key_before l.behind) (fits_in depth_left) key_of (tree_fits max_depth) of_object s.name l.front s.front s.behind depth_left stays _ _ (l.lifts change) h)
-    go (Some u) st h = absurd (true_false (sym st.0 ∙ lost))
+-- what is open fits
+pub opened_fits : (t : Tree) (of_object : Bool) (parts more : List ℕ) (depth inner : ℕ) (l : IsLeftOf t of_object parts more) → inner + 1 ≡ depth → IsWithin IsAnyNumber t depth → OpenWithin l.all inner
+opened_fits t of_object parts more depth inner l one h =
+    open_fits l.all inner (subst (λ d. IsWithin IsAnyNumber (opened_tree l.all) d) {x = depth} {y = suc inner} (omega (arith, one)) (subst (λ u. IsWithin IsAnyNumber u depth) (sym l.whole) h))
 
--- an earlier name leads to a part
-pub step_taken : (t : Tree) (names others : List (List ℕ)) (name key parts : List ℕ) (of_object : Bool) (depth_left : ℕ) (spot : Spot) (l : StepLeft t names others name key parts of_object depth_left) → (length others ≡ 0 → ⊥) → StepSpot l.all l.behind name of_object parts depth_left spot → spot.found ≡ true → PathLeft t names others key spot.value.now depth_left
-step_taken t names [] name key parts of_object depth_left spot l more s found = absurd (more refl)
-step_taken t names (next ∷ others) name key parts of_object depth_left spot l more s found = go s.there s.occurs s.readable s.fits s.answers
+-- nothing changes in the value, where nothing changes in what is open
+pub none_opened : (t : Tree) (of_object : Bool) (parts more : List ℕ) (depth inner : ℕ) (l : IsLeftOf t of_object parts more) → inner + 1 ≡ depth → (change : Option Tree → Outcome) (name : List ℕ) → changed_open change name l.all ≡ None → changed_part change name t ≡ None
+none_opened t of_object parts more depth inner l one change name none =
+    nothing_lifts (key_before more) (fits_in inner) (tree_before more) (tree_fits depth) (opening_byte of_object ∷ []) (changed_open change name l.all) (changed_part change name t) (opened_lifts t of_object parts more depth inner l one change name) none
+
+abbrev pub SpotAt : (o : Open) → List ℕ → List ℕ → Bool → List ℕ → ℕ → Spot → Type 0
+SpotAt o behind name of_object parts depth_left spot = SpotIn (key_before behind) (fits_in depth_left) (λ change. changed_open change name o) of_object name parts depth_left spot
+
+-- the slot in the value, before which so many arrays and objects may be in one another
+abbrev pub PartSlot : Tree → List ℕ → ℕ → Bool → List ℕ → List ℕ → ℕ → Spot → List ℕ → Type 0
+PartSlot t more depth of_object name bytes depth_left spot behind =
+    (s : SpotIn (tree_before more) (tree_fits depth) (λ change. changed_part change name t) of_object name bytes depth_left spot) × (s.behind ≡ behind)
+
+pub opened_slot : (t : Tree) (name bytes parts behind more : List ℕ) (of_object : Bool) (depth inner : ℕ) (spot : Spot) (l : IsLeftOf t of_object parts more) → bytes ≡ opening_byte of_object ∷ parts → inner + 1 ≡ depth
+    → (s : SpotAt l.all more name of_object parts inner spot) → behind ≡ s.behind → PartSlot t more depth of_object name bytes inner spot behind
+opened_slot t name bytes parts behind more of_object depth inner spot l begins one s b = (
+  record {
+    there = s.there;
+    name = s.name;
+    front = opening_byte of_object ∷ s.front;
+    behind = s.behind;
+    inside = begins ∙ ap (λ k. opening_byte of_object ∷ k) s.inside;
+    occurs = s.occurs;
+    named = s.named;
+    readable = s.readable;
+    fits = s.fits;
+    answers = λ change. lifted (key_before more) (fits_in inner) (tree_before more) (tree_fits depth) of_object s.name (opening_byte of_object ∷ []) s.front s.behind inner (change s.there) _ _ (opened_lifts t of_object parts more depth inner l one change name) (s.answers change);
+  },
+  sym b,
+)
+
+-- ---- within the value that the names before the last one lead to
+
+so_lifts : (front behind : List ℕ) (depth_left : ℕ) (x y : Option Tree) → ChangesSo front behind depth_left x y → WholeLifts behind depth_left front x y
+so_lifts front behind depth_left None None h = h
+so_lifts front behind depth_left None (Some u) h = h
+so_lifts front behind depth_left (Some part) None h = h
+so_lifts front behind depth_left (Some part) (Some u) h = h
+
+-- the part at the names so far, within which a change at the others is that of all
+pub record WithinLeft (t : Tree) (names left : List (List ℕ)) (key part : List ℕ) (depth_left : ℕ) : Type 0 where
+  pub inner : Tree
+  pub readable : IsReadable inner
+  pub fits : IsWithin IsAnyNumber inner depth_left
+  pub front : List ℕ
+  pub behind : List ℕ
+  pub inside : key ≡ front ++ part
+  pub occurs : part ≡ key_of inner ++ behind
+  pub lifts : (change : Tree → Option Tree) → WholeLifts behind depth_left front (changed_within change left inner) (changed_within change names t)
+
+abbrev pub WalksWithin : List ℕ → List (List ℕ) → List (List ℕ) → List ℕ → ℕ → Type 0
+WalksWithin key names left part depth_left = (t : Tree) → IsReadable t → key ≡ key_of t → WithinLeft t names left key part depth_left
+
+pub within_begun : (key : List ℕ) (names : List (List ℕ)) → WalksWithin key names names key max_depth
+within_begun key names = λ t r e. record { inner = t; readable = r; fits = r.within; front = []; behind = []; inside = refl; occurs = e ∙ sym (append-nil (key_of t)); lifts = λ change. all_lifts (changed_within change names t) }
+
+-- the array or the object that the names so far lead to
+pub record StepWithin (t : Tree) (names others : List (List ℕ)) (name key parts : List ℕ) (of_object : Bool) (depth_left : ℕ) : Type 0 where
+  pub all : Open
+  pub is : is_object all ≡ of_object
+  pub readable : IsOpen all 511
+  pub fits : OpenWithin all depth_left
+  pub front : List ℕ
+  pub behind : List ℕ
+  pub inside : key ≡ front ++ parts
+  pub occurs : parts ≡ open_key all ++ behind
+  pub lifts : (change : Tree → Option Tree) → Lifts (key_before behind) (fits_in depth_left) key_of (tree_fits max_depth) front (changed_open (within (changed_within change others)) name all) (changed_within change names t)
+
+pub step_within : (t : Tree) (names left others : List (List ℕ)) (name key part parts : List ℕ) (of_object : Bool) (depth_left inner : ℕ) (w : WithinLeft t names left key part depth_left) → left ≡ name ∷ others → inner + 1 ≡ depth_left → part ≡ opening_byte of_object ∷ parts → IsLeftOf w.inner of_object parts w.behind → StepWithin t names others name key parts of_object inner
+step_within t names left others name key part parts of_object depth_left inner w first one begins l = record {
+  all = l.all;
+  is = l.is;
+  readable = l.fits;
+  fits = open_fits l.all inner (subst (λ d. IsWithin IsAnyNumber (opened_tree l.all) d) deeper (subst (λ u. IsWithin IsAnyNumber u depth_left) (sym l.whole) w.fits));
+  front = w.front ++ opening_byte of_object ∷ [];
+  behind = w.behind;
+  inside = w.inside ∙ ap (λ key. w.front ++ key) begins ∙ sym (append_assoc w.front (opening_byte of_object ∷ []) parts);
+  occurs = l.occurs;
+  lifts = λ change.
+      let near = opened_lifts w.inner of_object parts w.behind depth_left inner l one (within (changed_within change others)) name in
+      let same : changed_within change (name ∷ others) w.inner ≡ changed_within change left w.inner = ap (λ l. changed_within change l w.inner) (sym first) in
+      let far = subst (λ x. WholeLifts w.behind depth_left w.front x (changed_within change names t)) (sym same) (w.lifts change) in
+      lifts_through (key_before w.behind) (fits_in inner) (tree_before w.behind) (tree_fits depth_left) key_of (tree_fits max_depth) (opening_byte of_object ∷ []) w.front _ _ _ near far;
+}
   where
-    false_true : false ≡ true → ⊥
-    false_true e = cc
+    deeper : depth_left ≡ suc inner
+    deeper = omega (arith, one)
 
+-- the name leads nowhere
+pub within_missed : (t : Tree) (names others : List (List ℕ)) (name key parts : List ℕ) (of_object : Bool) (depth_left : ℕ) (l : StepWithin t names others name key parts of_object depth_left) → ((change : Option Tree → Outcome) → changed_open change name l.all ≡ None) → (change : Tree → Option Tree) → changed_within change names t ≡ None
+within_missed t names others name key parts of_object depth_left l none change =
+    nothing_lifts (key_before l.behind) (fits_in depth_left) key_of (tree_fits max_depth) l.front (changed_open (within (changed_within change others)) name l.all) (changed_within change names t) (l.lifts change) (none (within (changed_within change others)))
+
+-- it leads to no part
+pub within_lost : (t : Tree) (names others : List (List ℕ)) (name key parts : List ℕ) (of_object : Bool) (depth_left : ℕ) (spot : Spot) (l : StepWithin t names others name key parts of_object depth_left) → SpotAt l.all l.behind name of_object parts depth_left spot → spot.found ≡ false → (change : Tree → Option Tree) → changed_within change names t ≡ None
+within_lost t names others name key parts of_object depth_left spot l s lost change = go s.there s.occurs (s.answers (within (changed_within change others)))
+  where
+    go : (there : Option Tree) → Occurs of_object s.name spot s.behind there → Answers (key_before l.behind) (fits_in depth_left) of_object s.name s.front s.behind depth_left (within (changed_within change others) there) (changed_open (within (changed_within change others)) name l.all) → changed_within change names t ≡ None
+    go None st h = answers_none of_object s.name (l.front ++ s.front) s.behind depth_left (changed_within change names t) (lifted (key_before l.behind) (fits_in depth_left) key_of (tree_fits max_depth) of_object s.name l.front s.front s.behind depth_left stays _ _ (l.lifts change) h)
+    go (Some u) st h = absurd (false_true (sym lost ∙ st.0))
+
+-- it leads to a part
+pub within_taken : (t : Tree) (names others : List (List ℕ)) (name key parts : List ℕ) (of_object : Bool) (depth_left : ℕ) (spot : Spot) (l : StepWithin t names others name key parts of_object depth_left) → SpotAt l.all l.behind name of_object parts depth_left spot → spot.found ≡ true → WithinLeft t names others key spot.value.now depth_left
+within_taken t names others name key parts of_object depth_left spot l s found = go s.there s.occurs s.readable s.fits s.answers
+  where
     go : (there : Option Tree) → Occurs of_object s.name spot s.behind there → IfSome there IsReadable → IfSome there (λ u. IsWithin IsAnyNumber u depth_left)
-        → ((change : Option Tree → Outcome) → Answers (key_before l.behind) (fits_in depth_left) of_object s.name s.front s.behind depth_left (change there) (changed_open change name l.all)) → PathLeft t names (next ∷ others) key spot.value.now depth_left
+        → ((change : Option Tree → Outcome) → Answers (key_before l.behind) (fits_in depth_left) of_object s.name s.front s.behind depth_left (change there) (changed_open change name l.all)) → WithinLeft t names others key spot.value.now depth_left
     go None st r f h = absurd (false_true (sym st.0 ∙ found))
     go (Some u) st r f h = record {
       inner = u;
@@ -212,9 +205,60 @@ step_taken t names (next ∷ others) name key parts of_object depth_left spot l 
       behind = s.behind;
       inside = l.inside ∙ ap (λ key. l.front ++ key) (s.inside ∙ ap (λ key. s.front ++ key) st.1) ∙ moved l.front s.front (name_key of_object s.name) spot.value.now;
       occurs = st.2;
-      lifts = λ change. within_lifts of_object s.name (l.front ++ s.front) s.behind depth_left (changed_at change (next ∷ others) u) (changed_at change names t)
-          (lifted (key_before l.behind) (fits_in depth_left) key_of (tree_fits max_depth) of_object s.name l.front s.front s.behind depth_left (part_with (changed_at change (next ∷ others) u)) _ _ (l.lifts change) (h (within (changed_at change (next ∷ others)))));
+      lifts = λ change. within_lifts of_object s.name (l.front ++ s.front) s.behind depth_left (changed_within change others u) (changed_within change names t)
+          (lifted (key_before l.behind) (fits_in depth_left) key_of (tree_fits max_depth) of_object s.name l.front s.front s.behind depth_left (part_with (changed_within change others u)) _ _ (l.lifts change) (h (within (changed_within change others))));
     }
       where
         moved : (a b c d : List ℕ) → a ++ (b ++ (c ++ d)) ≡ ((a ++ b) ++ c) ++ d
         moved a b c d = simp append_assoc
+
+-- ---- what is found
+
+abbrev pub Finds : ((Option Tree → Outcome) → Option Tree) → List ℕ → Result (Option Slot) NoKey → Type 0
+Finds changed key r = MatchResult r (λ answer. MatchOption answer ((change : Option Tree → Outcome) → changed change ≡ None) (SlotIn changed key)) (λ e. ⊥)
+
+abbrev pub FindsBefore : List ℕ → ((Option Tree → Outcome) → Option Tree) → List ℕ → ℕ → Result (Option Slot) NoKey → Type 0
+FindsBefore more changed bytes depth_left r = MatchResult r (λ answer. MatchOption answer ((change : Option Tree → Outcome) → changed change ≡ None) (SlotBefore more changed bytes depth_left)) (λ e. ⊥)
+
+-- what is reported of the part that the names before the last one lead to
+abbrev pub ReportsWithin : Tree → List (List ℕ) → List ℕ → Option (Bor (List ℕ) × ℕ) → Type 0
+ReportsWithin t names key answer = MatchOption answer ((change : Tree → Option Tree) → changed_within change names t ≡ None) (λ r. IsPartWithin t names key r.0.now r.1)
+
+-- a change at the last name is one within what the others lead to
+pub last_at : (change : Option Tree → Outcome) (before : List (List ℕ)) (last : List ℕ) (t : Tree) → changed_at change (before ++ last ∷ []) t ≡ changed_within (changed_part change last) before t
+last_at change [] last t = refl
+last_at change (name ∷ []) last t = refl
+last_at change (name ∷ next ∷ names) last t = λ i. changed_part (within (λ u. last_at change (next ∷ names) last u i)) name t
+
+module _ (t : Tree) (names : List (List ℕ)) (key : List ℕ) (last : (Option Tree → Outcome) → Tree → Option Tree) (whole : (Option Tree → Outcome) → Option Tree) (is : (change : Option Tree → Outcome) → whole change ≡ changed_within (last change) names t) where
+  -- the names lead nowhere
+  pub none_there : ((change : Tree → Option Tree) → changed_within change names t ≡ None) → (change : Option Tree → Outcome) → whole change ≡ None
+  none_there none change = is change ∙ none (last change)
+
+  module _ (value : List ℕ) (depth_left : ℕ) (c : IsPartWithin t names key value depth_left) where
+    part_lifts : (change : Option Tree → Outcome) → WholeLifts c.behind depth_left c.front (last change c.part) (whole change)
+    part_lifts change = subst (WholeLifts c.behind depth_left c.front (last change c.part)) (sym (is change)) (so_lifts c.front c.behind depth_left (last change c.part) (changed_within (last change) names t) (c.lifts (last change)))
+
+    -- the slot in the whole value; or nothing changes in what the names lead to
+    pub inner_found : (r : Result (Option Slot) NoKey) → FindsBefore c.behind (λ change. last change c.part) value depth_left r → Finds whole key r
+    inner_found (Ok None) f = λ change. nothing_lifts (tree_before c.behind) (tree_fits depth_left) key_of (tree_fits max_depth) c.front (last change c.part) (whole change) (part_lifts change) (f change)
+    inner_found (Ok (Some slot)) (s, b) = (
+      record {
+        there = s.there;
+        name = s.name;
+        front = c.front ++ s.front;
+        behind = s.behind;
+        inside = c.inside ∙ ap (λ k. c.front ++ k) s.inside ∙ sym (append_assoc c.front s.front slot.spot.entry.now);
+        occurs = s.occurs;
+        named = s.named;
+        readable = s.readable;
+        fits = s.fits;
+        answers = λ change. lifted (tree_before c.behind) (tree_fits depth_left) key_of (tree_fits max_depth) slot.object s.name c.front s.front s.behind slot.depth_left (change s.there) _ _ (part_lifts change) (s.answers change);
+      },
+      b,
+    )
+    inner_found (Err e) f = f
+
+-- the names of a path, whose last one is this
+pub last_named : (names before : List (List ℕ)) (name last : List ℕ) → names ≡ before ++ name ∷ [] → last ≡ name → names ≡ before ++ last ∷ []
+last_named names before name last e is = e ∙ ap (λ n. before ++ n ∷ []) (sym is)

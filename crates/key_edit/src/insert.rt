@@ -9,14 +9,13 @@ ghost use Rattle.jsonb_spec.specs.SortKey.{items_key, key_of};
 ghost use Rattle.jsonb_spec.specs.Text.Range.{AreWithin, IsWithin};
 ghost use Rattle.jsonb_spec.specs.Tree.{Tree, Trees, array};
 ghost use Rattle.key_edit.specs.Edit.{Outcome, step_named};
-ghost use Rattle.key_edit.specs.Insert.{changed_slot, changed_slot_at, changed_within, items_from, one_more, slot_index, IsPartWithin, SlotBefore};
+ghost use Rattle.key_edit.specs.Insert.{changed_slot, changed_slot_at, items_from, one_more, slot_index, SlotBefore};
 ghost use Rattle.key_edit.specs.Spots.{ReportsBehind, SlotIn};
 
-use crate::slot::Slot;
-use crate::spot::{behind_key, behind_part, first_value, member_spot, no_part, part_spot};
+use crate::slot::{Slot, part_from};
+use crate::spot::{behind_key, behind_part, first_value, member_spot, no_part};
 use crate::step::step_of;
 use key_walk::find::{NoKey, count_parts, open_key};
-use key_walk::skip::MAX_DEPTH;
 
 /// The slot at which a part is inserted that the path leads to. In an array it is before the item of the last name's
 /// index, or behind it where `after` is true; at the end where there are fewer items; and before all of them where there
@@ -39,37 +38,6 @@ pub fn find_insertion<'k, 'n>(
         return Ok(None);
     };
     insertion_in(bytes, name.as_str(), after, depth_left)
-}
-
-// The bytes from the part on that the path leads to, which is the value where it has no names, and how many arrays and
-// objects may be in one another there; `None` where it leads nowhere. Of each part only the beginning is looked for.
-fn part_from<'k>(key: &'k [u8], names: &[String]) -> Result<Option<(&'k [u8], usize)>, NoKey>
-    ensures found { OfKey key.now (λ t. MatchResult result (λ answer. MatchOption answer
-        ((change : Tree → Option Tree) → changed_within change (map string_bytes names.now) t ≡ None)
-        (λ r. IsPartWithin t (map string_bytes names.now) key.now r.0.now r.1)) (λ e. ⊥)) }
-    ensures space { IfOk result (λ answer. IfSome answer (λ r. r.1 ≤ 512)) }
-{
-    let mut part = key;
-    let mut left = names;
-    let mut depth_left = MAX_DEPTH;
-    'names: while let Some((name, others)) = left.split_first() {
-        let Some((object, parts)) = open_key(part)? else {
-            return Ok(None);
-        };
-        let Some(inner) = depth_left.checked_sub(1) else {
-            return Err(NoKey);
-        };
-        let Some(spot) = part_spot(object, parts, name.as_str())? else {
-            return Ok(None);
-        };
-        if !spot.found {
-            return Ok(None);
-        }
-        part = spot.value;
-        left = others;
-        depth_left = inner;
-    }
-    Ok(Some((part, depth_left)))
 }
 
 // The slot in the value whose key the bytes begin with; `None` where it is neither an array nor an object, or the name

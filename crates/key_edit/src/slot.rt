@@ -1,9 +1,12 @@
 //! The slot in a key that a path leads to.
 
-ghost use Rattle.std.specs.Prelude.{◌≡◌, ◌≤◌, length, map, string_bytes, Option, None, IfOk, IfSome, MatchBool, MatchResult, MatchOption};
-ghost use Rattle.key_walk.specs.AtKeys.{OfKey};
+ghost use Rattle.std.specs.Prelude.{◌≡◌, ◌≤◌, ◌+◌, map, string_bytes, Option, None, IfOk, IfSome, MatchResult, MatchOption};
+ghost use Rattle.key_value.specs.Readable.{IsAnyNumber};
+ghost use Rattle.key_walk.specs.AtKeys.{AtKey, OfKey};
+ghost use Rattle.jsonb_spec.specs.Text.Range.{IsWithin};
 ghost use Rattle.jsonb_spec.specs.Tree.{Tree};
-ghost use Rattle.key_edit.specs.Edit.{Outcome, changed_at, changed_at_member};
+ghost use Rattle.key_edit.specs.Edit.{Outcome, changed_at, changed_at_member, changed_part};
+ghost use Rattle.key_edit.specs.Insert.{changed_within, IsPartWithin, SlotBefore};
 ghost use Rattle.key_edit.specs.Spots.{SlotIn};
 
 use crate::spot::{Spot, behind_part, member_spot, part_spot};
@@ -29,6 +32,26 @@ pub fn find_slot<'k, 'n>(key: &'k [u8], names: &'n [String]) -> Result<Option<Sl
         (SlotIn (λ change. changed_at change (map string_bytes names.now) t) key.now)) (λ e. ⊥)) }
     ensures space { IfOk result (λ answer. IfSome answer (λ slot. slot.depth_left ≤ 511)) }
 {
+    let Some((name, before)) = names.split_last() else {
+        return Ok(None);
+    };
+    let Some((bytes, depth_left)) = part_from(key, before)? else {
+        return Ok(None);
+    };
+    slot_in(bytes, name.as_str(), depth_left)
+}
+
+// The bytes from the part on that the path leads to, which is the value where it has no names, and how many arrays and
+// objects may be in one another there; `None` where it leads nowhere. Of each part only the beginning is looked for.
+pub(crate) fn part_from<'k>(
+    key: &'k [u8],
+    names: &[String],
+) -> Result<Option<(&'k [u8], usize)>, NoKey>
+    ensures found { OfKey key.now (λ t. MatchResult result (λ answer. MatchOption answer
+        ((change : Tree → Option Tree) → changed_within change (map string_bytes names.now) t ≡ None)
+        (λ r. IsPartWithin t (map string_bytes names.now) key.now r.0.now r.1)) (λ e. ⊥)) }
+    ensures space { IfOk result (λ answer. IfSome answer (λ r. r.1 ≤ 512)) }
+{
     let mut part = key;
     let mut left = names;
     let mut depth_left = MAX_DEPTH;
@@ -42,16 +65,6 @@ pub fn find_slot<'k, 'n>(key: &'k [u8], names: &'n [String]) -> Result<Option<Sl
         let Some(spot) = part_spot(object, parts, name.as_str())? else {
             return Ok(None);
         };
-        if are_none(others) {
-            let behind = behind_part(&spot)?;
-            return Ok(Some(Slot {
-                spot,
-                behind,
-                object,
-                name: name.as_str(),
-                depth_left: inner,
-            }));
-        }
         if !spot.found {
             return Ok(None);
         }
@@ -59,7 +72,38 @@ pub fn find_slot<'k, 'n>(key: &'k [u8], names: &'n [String]) -> Result<Option<Sl
         left = others;
         depth_left = inner;
     }
-    Ok(None)
+    Ok(Some((part, depth_left)))
+}
+
+// The slot in the value whose key the bytes begin with; `None` where it is neither an array nor an object, or the name
+// encodes no index of an array.
+fn slot_in<'k, 'n>(
+    bytes: &'k [u8],
+    name: &'n str,
+    depth_left: usize,
+) -> Result<Option<Slot<'k, 'n>>, NoKey>
+    ensures slot { AtKey bytes.now (λ t more. IsWithin IsAnyNumber t depth_left → MatchResult result
+        (λ answer. MatchOption answer ((change : Option Tree → Outcome) → changed_part change name.now t ≡ None)
+        (SlotBefore more (λ change. changed_part change name.now t) bytes.now depth_left)) (λ e. ⊥)) }
+    ensures space { IfOk result (λ answer. IfSome answer (λ slot. slot.depth_left + 1 ≡ depth_left)) }
+{
+    let Some((object, parts)) = open_key(bytes)? else {
+        return Ok(None);
+    };
+    let Some(inner) = depth_left.checked_sub(1) else {
+        return Err(NoKey);
+    };
+    let Some(spot) = part_spot(object, parts, name)? else {
+        return Ok(None);
+    };
+    let behind = behind_part(&spot)?;
+    Ok(Some(Slot {
+        spot,
+        behind,
+        object,
+        name,
+        depth_left: inner,
+    }))
 }
 
 /// Where the member of that name is in an object, or would be; `None` for another value.
@@ -84,10 +128,4 @@ pub fn member_slot<'k, 'n>(key: &'k [u8], name: &'n str) -> Result<Option<Slot<'
         name,
         depth_left: MAX_DEPTH - 1,
     }))
-}
-
-fn are_none(names: &[String]) -> bool
-    ensures { MatchBool result (length names.now ≡ 0) (length names.now ≡ 0 → ⊥) }
-{
-    names.is_empty()
 }

@@ -4,8 +4,8 @@ use Rattle.key_walk.specs.Open.{opening_byte}
 use Rattle.jsonb_spec.specs.Tree.{Tree}
 use Rattle.key_edit.specs.Edit.{Outcome}
 use Rattle.key_edit.specs.Spots.{changed_open}
-use Rattle.key_edit.proofs.Inserting.{SpotAt, step_within, within_begun, within_lost, within_missed, within_taken}
-use Rattle.key_edit.proofs.insert.part_from.Goals as goal
+use Rattle.key_edit.proofs.Located.{SpotAt, step_within, within_begun, within_lost, within_missed, within_taken}
+use Rattle.key_edit.proofs.slot.part_from.Goals as goal
 
 pub names-init : goal.names-init
 names-init c = record { walks = within_begun c.args.key.now (map (string_bytes {Z = Global}) c.args.names.now); depth_left = omega arith }

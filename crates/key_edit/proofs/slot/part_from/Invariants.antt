@@ -1,6 +1,6 @@
 use Rattle.std.proofs.Common.{◌≤◌, length, map, string_bytes}
-use Rattle.key_edit.proofs.Inserting.{WalksWithin}
-use Rattle.key_edit.proofs.insert.part_from.Given as goal
+use Rattle.key_edit.proofs.Located.{WalksWithin}
+use Rattle.key_edit.proofs.slot.part_from.Given as goal
 
 abbrev pub invariant-names : goal.invariant-names
 invariant-names l = record { walks : WalksWithin l.key (map string_bytes l.names) (map string_bytes l.left) l.part l.depth_left; depth_left : l.depth_left ≤ 512 }
