@@ -1,5 +1,5 @@
 -- The zeros that are due at a number, or aren't.
-use Rattle.std.proofs.Common.{◌≡◌, ◌≢◌, Bool, Result, Ok, Err, ap₂, ℕ, zero, suc, ◌^◌, ◌<◌, ◌≤◌, inl, inr, List, [], ◌∷◌, ◌++◌, length, replicate, drop, sym, ap, ◌∙◌, arith, append-nil, append_assoc, length-append, false}
+use Rattle.std.proofs.Common.{◌≡◌, ◌≢◌, Bool, Result, Ok, Err, ap₂, ℕ, zero, suc, ◌^◌, ◌<◌, inl, inr, List, [], ◌∷◌, ◌++◌, length, replicate, drop, sym, ap, ◌∙◌, arith, append-nil, append_assoc, length-append, false}
 use Rattle.std.specs.Prelude.{IsErrAnd, Vec, vec_capacity}
 use Rattle.std.specs.declared.alloc.Global.{Global}
 use Rattle.std.proofs.Math.Seq.{drop-append_seam}
@@ -73,10 +73,6 @@ module _ (due : ZerosDue) (passed count : ℕ) (counts : List ℕ) (d : AreDue d
 -- ---- the text of a number
 
 module _ (n : Num) (proper : IsProperNumber n) (front buffer : List ℕ) (start : ℕ) (long : length front ≡ start) (is : buffer ≡ front ++ number_text (fewest_digits n)) where
-  -- it is in the buffer
-  pub within : start ≤ length buffer
-  within = omega (arith, long, ap length is, length-append front (number_text (fewest_digits n)))
-
   -- how it ends
   shortest_end : ending_of false 0 (drop start buffer) ≡ (pointed n proper, (0, []))
   shortest_end =

@@ -228,16 +228,6 @@ module _ (at count : ℕ) (entries : List ℕ) (t : Tree) (s : IsScalar t) (most
           let y = one_passed at count entries (most_zeros n) (replicate k 0 ++ most) (λ clash. other (clash ∙ ap (λ l. length (l ++ most)) (sym is))) in
           subst (λ l. FitsFrom at count entries most ↔ FitsFrom at count entries (l ++ most)) (sym is) (λ h. y.0 (x.0 h), λ h. x.1 (y.1 h))
 
-  -- where some are due, of what is no number
-  pub none_there : at ≡ length (most_at t ++ most) → 0 < length (most_at t) → numbers_in t ≡ 0 → Here → ⊥
-  none_there here some none h = go (scalar_most t s)
-    where
-      go : ScalarMost t → ⊥
-      go (no_number z size e) =
-          let inside = within_left at count entries most ((none_passed at count entries size most).1 (subst (λ l. FitsFrom at count entries (l ++ most)) e h)) in
-          omega (arith, inside, here, some, length-append (most_at t) most)
-      go (one_number z n e) = omega (arith, none, z)
-
 pub number_is : (t : Tree) → IsScalar t → (numbers_in t ≡ 0 → ⊥) → (n : Num) × (t ≡ number n)
 number_is t s some = elim (scalar_most t s) [
   | no_number z size e ↦ absurd (some z)

@@ -8,7 +8,7 @@ use Rattle.std.specs.Char.{digit_char}
 use Rattle.std.specs.List.{flat_map}
 use Rattle.jsonb_spec.specs.SortKey.{byte_key, text_key}
 use Rattle.jsonb_spec.specs.Text.StringText.{ArePlain, byte_text}
-use Rattle.jsonb_value.proofs.Appending.Appended.{IsUnderway, begun, goes_on, fits}
+use Rattle.jsonb_value.proofs.Appending.Appended.{IsUnderway, goes_on, fits}
 use Rattle.jsonb_value.proofs.SortKeys.Zeros.{plain_key}
 use Rattle.jsonb_value.proofs.Strings.PlainTexts.{no_marks, one_plain, rest_plain}
 use Rattle.jsonb_value.proofs.Trees.Runs.{heads, tails}
@@ -159,9 +159,6 @@ pub record SizeLeft (text rest more : List ℕ) (size : ℕ) : Type 0 where
 abbrev pub CountsOn : List ℕ → List ℕ → ℕ → Type 0
 CountsOn bytes rest size = (text more : List ℕ) → bytes ≡ closed text more → SizeLeft text rest more size
 
-pub size_begun : (bytes : List ℕ) → CountsOn bytes bytes 0
-size_begun bytes = λ text more e. record { left = text; occurs = e; counted = omega arith }
-
 key_split : (run later : List ℕ) → ArePlain run → flat_map byte_key (run ++ later) ≡ run ++ flat_map byte_key later
 key_split run later p = flat_map-append byte_key run later ∙ ap (λ t. t ++ flat_map byte_key later) (plain_key run p)
 
@@ -196,9 +193,6 @@ pub record KeyLeft (text rest more old now : List ℕ) : Type 0 where
 
 abbrev pub WritesOn : List ℕ → List ℕ → List ℕ → List ℕ → Type 0
 WritesOn bytes rest old now = (text more : List ℕ) → bytes ≡ closed text more → KeyLeft text rest more old now
-
-pub key_begun : (bytes old : List ℕ) → WritesOn bytes bytes old old
-key_begun bytes old = λ text more e. record { left = text; occurs = e; underway = begun old (text_key text) }
 
 module _ (bytes rest run others old now : List ℕ) (is : rest ≡ run ++ others) (plain : ArePlain run) (so_far : WritesOn bytes rest old now) (text more : List ℕ) (e : bytes ≡ closed text more) where
   passed : (later : List ℕ) × ((so_far text more e).left ≡ run ++ later) × (others ≡ closed later more)

@@ -4,7 +4,7 @@ use Rattle.std.proofs.Math.Seq.{drop-append_seam, take-append_seam, take-length}
 use Rattle.std.proofs.lemmas.List.{length-replicate}
 use Rattle.jsonb_spec.specs.Proper.{HaveProperParts}
 use Rattle.jsonb_spec.specs.SortKey.{key_of, members_key, text_key}
-use Rattle.jsonb_spec.specs.Tree.{object, Members, no_members, more_members}
+use Rattle.jsonb_spec.specs.Tree.{Members, no_members, more_members}
 use Rattle.key_walk.specs.Checked.{HaveReadable}
 use Rattle.key_walk.specs.Passing.{joined_members}
 use Rattle.key_document.specs.Merging.{taken_counts}
@@ -13,7 +13,6 @@ use Rattle.key_document.proofs.Joining.{plain_bound}
 use Rattle.key_edit.specs.Edit.{merged_members}
 use Rattle.key_edit.specs.Merging.{IsLast, IsStep, StepsOn, keys_of_members}
 use Rattle.key_edit.proofs.Merged.{into_none, joined_key, last_step, next_step}
-use Rattle.key_edit.proofs.ProperChanges.{merged_proper}
 use Rattle.key_edit.specs.declared.merge.Step.{Step}
 use Rattle.key_zeros.specs.Numbers.{Pends}
 use Rattle.key_zeros.specs.Zeros.{plain_at_end, zeros_of}
@@ -73,9 +72,6 @@ record StepTaken (run replaced part : ℕ) (xs ys all : List ℕ) : Type 0 where
   size : run + part ≡ length one
   enough : run + replaced ≤ length xs
   part_enough : part ≤ length ys
-
-merged_parts : (ms ns : Members) → HaveReadable ms → HaveReadable ns → HaveProperParts (merged_members ms ns)
-merged_parts ms ns h i = (merged_proper (object ms) (object ns) (h.ascend, h.proper) (i.ascend, i.proper)).1
 
 module _ (ms ns : Members) (left right : List ℕ) (step : Step) (replaced : ℕ) (h : HaveReadable ms) (i : HaveReadable ns) (left_is : left ≡ members_key ms) (right_is : right ≡ members_key ns) (replaces : replaced ≡ length left - length step.run.now - length step.members.now) where
   -- the last step takes all that is left

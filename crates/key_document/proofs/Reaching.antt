@@ -26,9 +26,6 @@ none_some e = cc
 some_none : {A : Type 0} {a : A} → Some a ≡ None → ⊥
 some_none e = cc
 
-goes_stays : goes ≡ stays → ⊥
-goes_stays e = cc
-
 becomes_stays : (t : Tree) → becomes t ≡ stays → ⊥
 becomes_stays t e = cc
 

@@ -37,10 +37,6 @@ module _ (plain : ℕ) (left : Option (ℕ × ℕ × Bor (List ℕ))) (counts be
         λ later later_counts. zeros_joined plain counts later_counts ∙ ap (λ n. zeros_of plain counts ++ zeros_of n later_counts) (sym more_is),
       )
 
-  pub zeros_left_out : (o : Output) (rest : Option (ℕ × ℕ × Bor (List ℕ))) → o ≡ Zeros plain left → AreAhead (Zeros plain left) (counts ++ behind) → Pends (drop size (counts ++ behind)) rest → LeavesOut o behind (Ok (Zeros plain rest))
-  zeros_left_out o rest is a p =
-      subst (λ y. LeavesOut y behind (Ok (Zeros plain rest))) (sym is) ((subst (λ l. Pends l rest) dropped p, omega (arith, a.1, length-append counts behind)), λ later later_counts. refl)
-
 -- what is written of bytes is part of what is written of more
 pub front_output : (o : Output) (bytes more counts more_counts : List ℕ) → length (output_of o bytes counts) ≤ length (output_of o (bytes ++ more) (counts ++ more_counts))
 front_output Bytes bytes more counts more_counts = omega (arith, length-append bytes more)

@@ -34,9 +34,6 @@ pub record LeftOver (ts : Trees) (count left : ℕ) (rest more : List ℕ) : Typ
 abbrev pub WalksOver : List ℕ → ℕ → ℕ → List ℕ → Type 0
 WalksOver bytes count left rest = (ts : Trees) → AreProper ts → AreWithin IsAnyNumber ts 511 → (more : List ℕ) → bytes ≡ items_key ts ++ more → LeftOver ts count left rest more
 
-pub over_begun : (bytes : List ℕ) (count : ℕ) → WalksOver bytes count count bytes
-over_begun bytes count ts p w more e = record { others = ts; proper = p; within = w; occurs = e; same = refl }
-
 -- none is left to be passed
 pub over_ended : (ts : Trees) (count left : ℕ) (rest more : List ℕ) → LeftOver ts count left rest more → left ≡ 0 → rest ≡ items_key (items_from count ts) ++ more
 over_ended ts count left rest more l e = l.occurs ∙ ap (λ us. items_key us ++ more) (ap (λ n. items_from n l.others) (sym e) ∙ l.same)

@@ -30,10 +30,6 @@ pub joined_within : (ts us : Trees) (depth : ℕ) → AreWithin IsAnyNumber ts d
 joined_within no_trees us depth h i = i
 joined_within (more_trees t ts) us depth h i = (h.0, joined_within ts us depth h.1 i)
 
-pub first_within : (ts us : Trees) (depth : ℕ) → AreWithin IsAnyNumber (joined_items ts us) depth → AreWithin IsAnyNumber ts depth
-first_within no_trees us depth h = tt
-first_within (more_trees t ts) us depth h = (h.0, first_within ts us depth h.1)
-
 pub second_within : (ts us : Trees) (depth : ℕ) → AreWithin IsAnyNumber (joined_items ts us) depth → AreWithin IsAnyNumber us depth
 second_within no_trees us depth h = h
 second_within (more_trees t ts) us depth h = second_within ts us depth h.1

@@ -242,9 +242,6 @@ pub record MergeLeft (ms ns : Members) (old out left right : List ℕ) : Type 0 
 abbrev pub WalksBoth : List ℕ → List ℕ → List ℕ → List ℕ → List ℕ → List ℕ → Type 0
 WalksBoth all_left all_right old out left right = (ms ns : Members) → HaveReadable ms → HaveReadable ns → all_left ≡ members_key ms → all_right ≡ members_key ns → MergeLeft ms ns old out left right
 
-pub merge_begun : (left right old out : List ℕ) → out ≡ old ++ 0xD1 ∷ [] → WalksBoth left right old out left right
-merge_begun left right old out e = λ ms ns h i l r. record { members = ms; others = ns; readable = h; others_readable = i; left_is = l; right_is = r; front = []; appended = e; key_is = refl }
-
 pub merge_goes_on : (ms ns : Members) (old out left right next : List ℕ) (step : Step) (l : MergeLeft ms ns old out left right) → step.over ≡ false → IsStep l.members l.others step → next ≡ out ++ (step.run.now ++ step.part.now) → MergeLeft ms ns old next step.members.now step.others.now
 merge_goes_on ms ns old out left right next step l on is e =
     let s = next_step l.members l.others step on is in

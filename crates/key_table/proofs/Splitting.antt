@@ -1,7 +1,7 @@
 -- A table apart from what is before it, and bytes that are compared with a table.
 use Rattle.std.proofs.Common.{◌≡◌, ◌↔◌, option_map, ℕ, ◌+◌, ◌*◌, ◌<◌, ◌≤◌, false, List, [], ◌∷◌, ◌++◌, Option, Some, None, Bor, IsTrue, take, drop, length, slice_index_or, nat_eq, refl, sym, ap, ◌∙◌, arith, append_assoc, length-append}
 use Rattle.std.proofs.Math.Seq.{take-append_seam, drop-append_seam}
-use Rattle.std.proofs.lemmas.List.{append_cancel_left, same_from_push}
+use Rattle.std.proofs.lemmas.List.{append_cancel_left}
 use Rattle.std.proofs.lemmas.Bool.{eqb-true}
 use Rattle.jsonb_spec.specs.Tree.{Tree, Members}
 use Rattle.key_value.proofs.Texts.{none_some, some_same}
@@ -32,9 +32,6 @@ module _ (bytes front : List ℕ) (t : Tree) (p : TableParts t) (e : bytes ≡ f
   table_behind start is =
       let same : start ≡ length front = omega (arith, is, whole_size) in
       (λ i. drop (same i) (e i)) ∙ drop-append_seam front (table_of t)
-
-  pub marked : (last : ℕ) (others : List ℕ) → bytes ≡ others ++ last ∷ [] → last ≡ table_mark
-  marked last others is = (same_from_push others ((front ++ p.entries) ++ in_two p.count) last table_mark (sym is ∙ count_there ∙ sym (append_assoc (front ++ p.entries) (in_two p.count) (table_mark ∷ [])))).1
 
 -- ---- the end of a table
 

@@ -1,7 +1,7 @@
 -- Tables by what is left of them while the members of a key are walked.
-use Rattle.std.proofs.Common.{◌≡◌, ℕ, zero, suc, ◌+◌, ◌<◌, ◌≤◌, ◌&&◌, nat_le, Bool, true, false, List, [], ◌∷◌, ◌++◌, Option, Some, None, Bor, Ok, Err, IfSome, take, drop, length, get_or, refl, sym, ap, subst, ◌∙◌, arith, append-nil, length-append}
+use Rattle.std.proofs.Common.{◌≡◌, ℕ, zero, suc, ◌+◌, ◌<◌, ◌≤◌, true, false, List, [], ◌∷◌, ◌++◌, Option, Some, None, Bor, Ok, Err, IfSome, take, drop, length, get_or, refl, sym, ap, subst, ◌∙◌, arith, append-nil, length-append}
 use Rattle.std.proofs.lemmas.Nat.{be_bytes_2}
-use Rattle.std.specs.Int.{w16, from_be_bytes, is_in_range}
+use Rattle.std.specs.Int.{w16, from_be_bytes}
 use Rattle.std.specs.List.{flat_map}
 use Rattle.key_value.specs.Readable.{IsAnyNumber, IsReadable}
 use Rattle.key_value.proofs.Texts.{none_some}
@@ -33,14 +33,6 @@ two_first (a ∷ b ∷ bytes) first rest n small long f r is =
     fits (suc (suc i)) = omega arith
 
 -- ---- the members of a key
-
-pub no_table : (t : Tree) (key : List ℕ) → key ≡ key_of t → is_in_range 256 65535 (length key) ≡ false → has_table t ≡ false
-no_table (object ms) key e out = ap (λ b. nat_le 4 (members_len ms) && b) (ap (λ l. is_in_range 256 65535 (length l)) (sym e) ∙ out) ∙ false_behind (nat_le 4 (members_len ms))
-  where
-    false_behind : (b : Bool) → b && false ≡ false
-    false_behind true = refl
-    false_behind false = refl
-no_table t key e out = refl
 
 module _ (t : Tree) (r : IsReadable t) (key : List ℕ) (e : key ≡ key_of t) (least : 256 ≤ length key) (most : length key ≤ 65535) where
   no_members_there : (u : Tree) → u ≡ t → ((ms : Members) → (more : List ℕ) → key ≡ key_of (object ms) ++ more → Leaves None (members_key ms ++ more)) → has_table u ≡ false

@@ -46,10 +46,6 @@ retained_by v w p = record { retained = p.retained; capacity = p.capacity }
 
 -- ---- what follows what was appended
 
-pub behind : {X : Type 0} (left : X → List ℕ) (r : Result X KeyError) (old mid new : Vec ℕ Global) (more front back text : List ℕ) → mid.items ≡ old.items ++ front → vec_capacity old ≤ vec_capacity mid → text ≡ front ++ back → Writes left r mid new more back → Writes left r old new more text
-behind left (Ok x) old mid new more front back text is most split h = (h.0, both old.items mid.items new.items front back is h.1 ∙ ap (λ t. old.items ++ t) (sym split))
-behind left (Err e) old mid new more front back text is most split h = (h.0, omega (arith, no_capacity_second old mid front back is most h.1, ap length split))
-
 -- the text by another name
 pub as_text : {X : Type 0} (left : X → List ℕ) (r : Result X KeyError) (old new : Vec ℕ Global) (more back text : List ℕ) → text ≡ back → Writes left r old new more back → Writes left r old new more text
 as_text left (Ok x) old new more back text e h = (h.0, h.1 ∙ ap (λ t. old.items ++ t) (sym e))

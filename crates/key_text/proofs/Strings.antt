@@ -74,9 +74,6 @@ pub record InsideLeft (colon : Bool) (text rest more old now : List ℕ) : Type 
 abbrev pub WritesInside : Bool → List ℕ → List ℕ → List ℕ → List ℕ → Type 0
 WritesInside colon bytes rest old now = (text more : List ℕ) → bytes ≡ text_key text ++ more → InsideLeft colon text rest more old now
 
-pub inside_begun : (colon : Bool) (bytes old : List ℕ) → WritesInside colon bytes bytes old old
-inside_begun colon bytes old = λ text more e. record { left = text; occurs = e; underway = begun old (flat_map byte_text text ++ closing_quote colon) }
-
 -- a run, and what is left behind it
 pub run_split : (colon : Bool) (left run later : List ℕ) → left ≡ run ++ later → ArePlain run → flat_map byte_text left ++ closing_quote colon ≡ run ++ (flat_map byte_text later ++ closing_quote colon)
 run_split colon left run later is plain =

@@ -182,16 +182,6 @@ stack_more : (os : List Open) (p : Open) (objects : List Bool) (depth : ℕ) (b 
 stack_more os p objects depth b fits is s = (get_or-set_same objects depth b false fits ∙ sym is, stack_retained os objects depth b depth (omega arith) s)
 
 module _ (Due : List ℕ → Type 0) (later : List ℕ) (objects : List Bool) (depth : ℕ) (rest more : List ℕ) (object first : Bool) (o : Open) (start now : List ℕ) (n : NextText Due later objects depth rest more object first o start now) where
-  -- what is left behind the value
-  abbrev pub behind : List Open
-  behind = n.next.others ∷ n.next.under
-
-  abbrev pub tail_there : List ℕ
-  tail_there = opens_key (n.next.others ∷ n.next.under) ++ more
-
-  -- the counts behind the value
-  abbrev pub counts_there : List ℕ
-  counts_there = opens_counts (n.next.others ∷ n.next.under) ++ later
 
   pub each_there : length later ≡ length more → length (opens_counts (n.next.others ∷ n.next.under) ++ later) ≡ length (opens_key (n.next.others ∷ n.next.under) ++ more)
   each_there each =

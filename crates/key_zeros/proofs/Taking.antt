@@ -96,12 +96,6 @@ pub record SkipLeft (counts : List ℕ) (numbers left : ℕ) (rest : List ℕ) :
   pub enough : left ≤ length others
   pub fewer : length others ≤ length counts
 
-abbrev pub Skips : List ℕ → ℕ → ℕ → List ℕ → Type 0
-Skips zeros numbers left rest = (counts : List ℕ) → length counts < 2 ^ 63 → zeros ≡ zeros_of 0 counts → numbers ≤ length counts → SkipLeft counts numbers left rest
-
-pub skips : (zeros : List ℕ) (numbers : ℕ) → Skips zeros numbers numbers zeros
-skips zeros numbers = λ counts small are enough. record { others = counts; occurs = are; same = refl; enough = enough; fewer = omega arith }
-
 -- all that are left are 0
 pub none_skipped : (counts : List ℕ) (numbers left : ℕ) (rest : List ℕ) (s : SkipLeft counts numbers left rest) → s.others ≡ replicate (length s.others) 0 → drop numbers counts ≡ replicate (length (drop numbers counts)) 0
 none_skipped counts numbers left rest s all =
@@ -157,9 +151,6 @@ pub record CopyLeft (plain : ℕ) (taken old now : List ℕ) (others : List ℕ)
 pub copies_some : (plain numbers : ℕ) (counts old : List ℕ) → numbers ≤ length counts → length counts < 2 ^ 63 → plain + numbers < 2 ^ 63 → CopyLeft plain (take numbers counts) old old counts numbers plain
 copies_some plain numbers counts old enough short fit = record { underway = begun old (zeros_of plain (take numbers counts)); at_end = refl; enough = enough; fit = fit; short = short }
 
-pub copies : (plain numbers : ℕ) (counts old : List ℕ) → numbers ≤ length counts → plain + length counts < 2 ^ 63 → CopyLeft plain (take numbers counts) old old counts numbers plain
-copies plain numbers counts old enough fit = copies_some plain numbers counts old enough (omega (arith, fit)) (omega (arith, enough, fit))
-
 -- all that are left to append are 0
 pub plain_copied : (plain : ℕ) (taken old now others : List ℕ) (left more sum : ℕ) → CopyLeft plain taken old now others left more → take left others ≡ replicate left 0 → more + left ≡ sum → (now ≡ old ++ zeros_of plain taken) × (sum ≡ plain_at_end plain taken)
 plain_copied plain taken old now others left more sum c all e =
@@ -182,9 +173,6 @@ module _ (plain : ℕ) (taken old now others : List ℕ) (left more before count
 
   later_zeros : zeros_of more (take left others) ≡ entry_of gap count ++ zeros_of (plain_behind gap count) (take (left - (before + 1)) p.later)
   later_zeros = ap (zeros_of more) split ∙ zeros_behind_plain before more (count ∷ take (left - (before + 1)) p.later) ∙ ap (λ g. zeros_of g (count ∷ take (left - (before + 1)) p.later)) is_gap
-
-  pub gap_small : gap < 2 ^ 63
-  gap_small = omega (arith, is_gap, c.fit, less)
 
   pub entry_sink : length now + length (entry_of gap count) ≤ length old + length (zeros_of plain taken)
   entry_sink = fits (entry_of gap count) (zeros_of (plain_behind gap count) (take (left - (before + 1)) p.later)) c.underway later_zeros

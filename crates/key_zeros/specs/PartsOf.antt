@@ -1,10 +1,9 @@
 -- Where the parts of a value are in its key, and how many numbers come before them.
 use Rattle.std.specs.Prelude.{◌≡◌, ℕ, ◌+◌, ◌⊎◌, ◌&&◌, nat_lt, if◌then◌else◌, List, [], ◌∷◌, ◌++◌, length}
-use Rattle.key_walk.specs.Open.{Open, items, members}
 use Rattle.jsonb_spec.specs.SortKey.{key_of, text_key}
 use Rattle.jsonb_spec.specs.SortKey.Kind as kind
 use Rattle.jsonb_spec.specs.Tree.{Tree, array, object, Trees, no_trees, more_trees, Members, no_members, more_members}
-use Rattle.key_zeros.specs.Zeros.{counts_in, counts_in_items, counts_in_members}
+use Rattle.key_zeros.specs.Zeros.{counts_in}
 
 -- how many numbers a value has
 abbrev pub numbers_in : Tree → ℕ
@@ -41,8 +40,3 @@ abbrev mutual
       ((inner : List ℕ) × (before ≡ text_key key ++ inner) × OccursIn t inner numbers part)
       ⊎ ((inner : List ℕ) × (fewer : ℕ) × (before ≡ text_key key ++ (key_of t ++ inner))
       × (numbers ≡ numbers_in t + fewer) × OccursInMembers ms inner fewer part)
-
--- how many numbers are left of an array or an object
-abbrev pub numbers_open : Open → ℕ
-numbers_open (items ts) = length (counts_in_items ts)
-numbers_open (members ms) = length (counts_in_members ms)

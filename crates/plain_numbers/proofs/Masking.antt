@@ -81,9 +81,6 @@ pub record MaskedTo (text rest old now : List ℕ) : Type 0 where
   pub same : masked text ≡ written ++ masked rest
   pub sum : length written + length rest ≡ length text
 
-pub nothing_masked : (text old : List ℕ) → MaskedTo text text old old
-nothing_masked text old = record { written = []; items = sym (append-nil old); same = refl; sum = omega arith }
-
 pub gap_masked : (text rest from old now new gap : List ℕ) → MaskedTo text rest old now → (p : Passes rest from) → gap ≡ flat_map piece_bytes p.front → new ≡ now ++ gap → MaskedTo text from old new
 gap_masked text rest from old now new gap w p is items =
     let bytes = flat_map piece_bytes p.front in

@@ -17,11 +17,6 @@ pub all_of_both : {A : Type 0} (P : A → Type 0) (front back : List A) → AllB
 all_of_both P [] back f b = b
 all_of_both P (x ∷ front) back f b = (f.0, all_of_both P front back f.1 b)
 
-all_of_front : {A : Type 0} (P : A → Type 0) (n : ℕ) (xs : List A) → AllByRecursion P xs → AllByRecursion P (take n xs)
-all_of_front P zero xs h = tt
-all_of_front P (suc n) [] h = tt
-all_of_front P (suc n) (x ∷ xs) h = (h.0, all_of_front P n xs h.1)
-
 all_of_back : {A : Type 0} (P : A → Type 0) (n : ℕ) (xs : List A) → AllByRecursion P xs → AllByRecursion P (drop n xs)
 all_of_back P zero xs h = h
 all_of_back P (suc n) [] h = tt
@@ -182,9 +177,6 @@ ends_at (b ∷ []) (suc (suc start)) more within h l = absurd (omega (arith, wit
 ends_at (b ∷ c ∷ rest) (suc (suc start)) more within h l = ends_at (c ∷ rest) (suc start) more (omega (arith, within)) h.1 l
 
 -- ---- passing
-
-pub passes : (all : List ℕ) → Passes all all
-passes all = record { front = []; split = refl; same = refl; lack = tt }
 
 pub passes_on : (all rest : List ℕ) (back : List Piece) (later : List ℕ) → Passes all rest → rest ≡ flat_map piece_bytes back ++ later → pieces rest ≡ back ++ pieces later → AllByRecursion LacksExponent back → Passes all later
 passes_on all rest back later s split same lack = record {

@@ -1,6 +1,6 @@
 -- A text that is written out piece by piece.
 use Rattle.std.proofs.Common.{◌≡◌, ℕ, ◌+◌, ◌-◌, ◌<◌, ◌≤◌, Bool, true, false, Option, Some, None, Result, Ok, Err, List, [], ◌∷◌, ◌++◌, take, drop, length, if◌then◌else◌, refl, sym, subst, ap, ◌∙◌, arith, append_assoc, append-nil, length-append}
-use Rattle.std.specs.Prelude.{IsErrAnd, IfErr, IfNone, IfSome, Vec, vec_len, vec_capacity, option_map}
+use Rattle.std.specs.Prelude.{IsErrAnd, IfErr, IfNone, IfSome, Vec, vec_len, vec_capacity}
 use Rattle.std.specs.declared.alloc.Global.{Global}
 use Rattle.std.proofs.lemmas.Bool.{cond-true, cond-false}
 use Rattle.std.proofs.lemmas.List.{take-append-drop}
@@ -105,9 +105,6 @@ pub record WrittenTo (text rest old now : List ℕ) : Type 0 where
   pub items : now ≡ old ++ written
   pub same : expanded text ≡ before written (expanded_at (length text - length rest) (pieces rest))
   pub within : length rest ≤ length text
-
-pub nothing_written : (text old : List ℕ) → WrittenTo text text old old
-nothing_written text old = record { written = []; items = sym (append-nil old); same = nothing_before (expanded text) (expanded_at (length text - length text) (pieces text)) (ap (λ (n : ℕ). expanded_at n (pieces text)) (omega arith)); within = omega arith }
 
 gap_same : (text rest words old now : List ℕ) (w : WrittenTo text rest old now) (p : Passes rest words) → expanded text ≡ before (w.written ++ flat_map piece_bytes p.front) (expanded_at (length text - length words) (pieces words))
 gap_same text rest words old now w p =
@@ -220,9 +217,3 @@ has_either text (Some found) t some none e = e ∙ sym (has_some text found some
 pub err_explains : {X : Type 0} (r : Result X PlainError) (text : List ℕ) (old : Vec ℕ Global) (error : PlainError) → IsErrAnd r (λ e. e ≡ error) → Explains text old error → IfErr r (Explains text old)
 err_explains (Ok x) text old error h explains = tt
 err_explains (Err e) text old error h explains = subst (Explains text old) (sym h) explains
-
-pub parts_found : {A : Type 0} (f : A → Parts) (x : A) (p : Option Parts) → option_map f (Some x) ≡ p → Some (f x) ≡ p
-parts_found f x p e = e
-
-pub parts_lack : {A : Type 0} (f : A → Parts) (r : Option A) (p : Option Parts) → option_map f r ≡ p → r ≡ None → p ≡ None
-parts_lack f r p e h = sym e ∙ ap (option_map f) h
