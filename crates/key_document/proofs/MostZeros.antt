@@ -1,16 +1,12 @@
 -- How many zeros a number may end in, by the digits and the exponent of its key.
-use Rattle.std.proofs.Common.{◌≡◌, ◌≢◌, ℕ, zero, suc, ◌+◌, ◌-◌, ◌*◌, ◌/◌, ◌%◌, ◌^◌, ◌<◌, ◌≤◌, ◌⊎◌, inl, inr, Bool, true, false, ℤ, pos, negsuc, unsigned_abs, List, ◌∷◌, ◌++◌, map, None, refl, sym, ap, ◌∙◌, arith}
+use Rattle.std.proofs.Common.{◌≡◌, ◌≢◌, ℕ, ◌+◌, ◌-◌, ◌*◌, ◌/◌, ◌%◌, ◌^◌, ◌<◌, ◌≤◌, ◌⊎◌, inl, inr, Bool, pos, unsigned_abs, List, ◌∷◌, ◌++◌, map, None, refl, sym, ap, ◌∙◌, arith}
 use Rattle.std.proofs.Math.Nat.{mul-le-mul_right, mul-lt-mul_of_pos_right}
 use Rattle.std.proofs.lemmas.Bool.{cases_lt}
 use Rattle.std.proofs.lemmas.Nat.{pow-add}
-use Rattle.jsonb_spec.specs.Proper.{IsProperNumber}
-use Rattle.jsonb_spec.specs.SortKey.{digit_count, digits_key, invert_if, number_key}
+use Rattle.jsonb_spec.specs.SortKey.{digit_count, digits_key, invert_if}
 use Rattle.jsonb_spec.specs.Tree.{Num}
 use Rattle.jsonb_value.proofs.SortKeys.Counts.{power_le}
 use Rattle.jsonb_value.proofs.SortKeys.Digits.{ten}
-use Rattle.jsonb_value.proofs.SortKeys.Kinds.{is_small}
-use Rattle.jsonb_value.proofs.SortKeys.Numbers.{head_of, negative, positive}
-use Rattle.jsonb_value.proofs.Trees.Runs.{heads}
 use Rattle.key_document.specs.Check.{IsStripped, most_zeros}
 use Rattle.key_document.proofs.Trailing.{Fewest, fewest, no_digits}
 use Rattle.key_text.specs.FewestDigits.{spare_zeros}
@@ -67,21 +63,6 @@ module _ (negative : Bool) (bytes : List ℕ) (digits read : ℕ) (rest : List �
   })
 
 -- ---- the number of a key
-
--- with the byte of 0 it is 0
-pub zero_there : (n : Num) → IsProperNumber n → (first : ℕ) (rest bytes more : List ℕ) → bytes ≡ first ∷ rest → first ≡ 128 → bytes ≡ number_key n ++ more → n.whole ≡ pos 0
-zero_there n proper first rest bytes more e is occurs = by_whole n.whole refl
-  where
-    by_whole : (z : ℤ) → n.whole ≡ z → n.whole ≡ pos 0
-    by_whole (pos zero) w = w
-    by_whole (pos (suc a)) w =
-        let x = head_of n a (ap unsigned_abs w) (is_small n proper) in
-        let key = positive n a w ∙ ap (map (invert_if false)) x.is in
-        absurd (omega (arith, is, x.low, heads first x.head rest (map (invert_if false) x.tail ++ more) (sym e ∙ occurs ∙ ap (λ k. k ++ more) key)))
-    by_whole (negsuc a) w =
-        let x = head_of n a (ap unsigned_abs w) (is_small n proper) in
-        let key = negative n a w ∙ ap (map (invert_if true)) x.is in
-        absurd (omega (arith, is, x.low, x.high, heads first (255 - x.head) rest (map (invert_if true) x.tail ++ more) (sym e ∙ occurs ∙ ap (λ k. k ++ more) key)))
 
 module _ (n : Num) (sign : Bool) (bytes more : List ℕ) (s : IsSigned n sign bytes more) where
   there : exponent_of sign bytes ≡ read_as s.exponent (map (invert_if sign) (digits_key s.count (unsigned_abs n.whole)) ++ more)

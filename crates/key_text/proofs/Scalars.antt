@@ -5,7 +5,8 @@ use Rattle.key_value.specs.Readable.{IsReadableAt}
 use Rattle.jsonb_spec.specs.Text.{tree_text}
 use Rattle.jsonb_spec.specs.Text.StringText.{quoted_text}
 use Rattle.key_walk.specs.Open.{IsScalar, Open, items, members, is_object, open_key, IsOpen, opening_byte}
-use Rattle.key_walk.proofs.Scalars.{array_open, object_open}
+use Rattle.key_walk.specs.Parts.{opened_tree}
+use Rattle.key_walk.proofs.Stepping.{opening_there}
 use Rattle.jsonb_spec.specs.Proper.{IsProperNumber}
 use Rattle.jsonb_spec.specs.SortKey.{key_of, items_key, members_key, text_key}
 use Rattle.jsonb_spec.specs.Tree.{Num, Tree, null, boolean, string, number, array, object}
@@ -78,24 +79,20 @@ pub record OpenedText (t : Tree) (left : ℕ) (b : Bool) (rest more : List ℕ) 
   pub text : tree_text t ≡ opening_text b ∷ open_text true open_there
   pub counts : counts_at t ≡ 0 ∷ counts_open open_there
 
-between : (b : Bool) → (209 ≤ opening_byte b) × (opening_byte b ≤ 210)
-between true = (omega arith, omega arith)
-between false = (omega arith, omega arith)
+text_of_opened : (o : Open) → (tree_text (opened_tree o) ≡ opening_text (is_object o) ∷ open_text true o) × (counts_at (opened_tree o) ≡ 0 ∷ counts_open o)
+text_of_opened (items ts) = (array_text ts, refl)
+text_of_opened (members ms) = (object_text ms, refl)
 
 pub opened_text : (left : ℕ) (t : Tree) → IsReadableAt left t → (first : ℕ) (rest bytes more : List ℕ) → bytes ≡ first ∷ rest → bytes ≡ key_of t ++ more → (b : Bool) → first ≡ opening_byte b → OpenedText t left b rest more
-opened_text left null r first rest bytes more e occurs b is = absurd (omega (arith, is, between b, heads first 211 rest more (sym e ∙ occurs)))
-opened_text left (boolean true) r first rest bytes more e occurs b is = absurd (omega (arith, is, between b, heads first 22 rest more (sym e ∙ occurs)))
-opened_text left (boolean false) r first rest bytes more e occurs b is = absurd (omega (arith, is, between b, heads first 21 rest more (sym e ∙ occurs)))
-opened_text left (string mark text) r first rest bytes more e occurs b is = absurd (omega (arith, is, between b, heads first 208 rest (text_key text ++ more) (sym e ∙ occurs)))
-opened_text left (number n) r first rest bytes more e occurs b is =
-    let x = number_begins n (is_small n r.proper) in
-    absurd (omega (arith, is, between b, x.high, heads first x.head rest (x.tail ++ more) (sym e ∙ occurs ∙ ap (λ key. key ++ more) x.is)))
-opened_text left (array ts) r first rest bytes more e occurs true is = absurd (omega (arith, is, heads first 210 rest (items_key ts ++ more) (sym e ∙ occurs)))
-opened_text left (array ts) r first rest bytes more e occurs false is =
-    let o = array_open ts left r in
-    record { open_there = items ts; is = refl; inner = o.0; deeper = o.1; fits = o.2; occurs = tails first 210 rest (items_key ts ++ more) (sym e ∙ occurs); text = array_text ts; counts = refl }
-opened_text left (object ms) r first rest bytes more e occurs false is = absurd (omega (arith, is, heads first 209 rest (members_key ms ++ more) (sym e ∙ occurs)))
-opened_text left (object ms) r first rest bytes more e occurs true is =
-    let o = object_open ms left r in
-    record { open_there = members ms; is = refl; inner = o.0; deeper = o.1; fits = o.2; occurs = tails first 209 rest (members_key ms ++ more) (sym e ∙ occurs); text = object_text ms; counts = refl }
-opened_text left t r first rest bytes more e occurs b is = absurd r.within
+opened_text left t r first rest bytes more e occurs b is =
+    let o = opening_there left t r first rest bytes more e occurs b is in
+    record {
+      open_there = o.inside;
+      is = o.is;
+      inner = o.inner;
+      deeper = o.deeper;
+      fits = o.fits;
+      occurs = o.occurs;
+      text = ap tree_text o.whole ∙ (text_of_opened o.inside).0 ∙ ap (λ b. opening_text b ∷ open_text true o.inside) o.is;
+      counts = ap counts_at o.whole ∙ (text_of_opened o.inside).1;
+    }

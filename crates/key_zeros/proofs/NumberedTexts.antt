@@ -14,6 +14,7 @@ use Rattle.key_text.specs.FewestDigits.{spare_zeros, fewest_digits, with_fewest_
 use Rattle.key_zeros.specs.Scan.{is_number_byte}
 use Rattle.key_zeros.specs.Zeros.{counts_in, counts_in_items, counts_in_members}
 use Rattle.key_zeros.proofs.Scanning.{IsGap, quoted_gap, gaps}
+use Rattle.key_text.proofs.Whole.{within_retained}
 
 -- a text: what is before each number, and behind the last
 pub data NumberedText : Type 0 where
@@ -174,26 +175,6 @@ mutual
       ∙ ap (with_gap (comma_before first)) (fewest_gap (quoted_text key ++ 58 ∷ []) inner
       ∙ ap (with_gap (quoted_text key ++ 58 ∷ [])) (fewest_numbered t (members_numbered false ms k) ∙ ap (numbered_text (with_fewest_digits t)) (fewest_members false ms k)))
 
-mutual
-  within_retained : (t : Tree) (depth : ℕ) → IsWithin IsAnyNumber t depth → IsWithin IsAnyNumber (with_fewest_digits t) depth
-  within_retained null depth h = tt
-  within_retained (boolean b) depth h = tt
-  within_retained (string mark bytes) depth h = tt
-  within_retained (number n) depth h = tt
-  within_retained (array ts) zero h = absurd h
-  within_retained (array ts) (suc depth) h = items_retained ts depth h
-  within_retained (object ms) zero h = absurd h
-  within_retained (object ms) (suc depth) h = members_retained ms depth h
-  within_retained t depth h = absurd h
-
-  items_retained : (ts : Trees) (depth : ℕ) → AreWithin IsAnyNumber ts depth → AreWithin IsAnyNumber (items_with_fewest_digits ts) depth
-  items_retained no_trees depth h = tt
-  items_retained (more_trees t ts) depth h = (within_retained t depth h.0, items_retained ts depth h.1)
-
-  members_retained : (ms : Members) (depth : ℕ) → HaveWithin IsAnyNumber ms depth → HaveWithin IsAnyNumber (members_with_fewest_digits ms) depth
-  members_retained no_members depth h = tt
-  members_retained (more_members key t ms) depth h = (within_retained t depth h.0, members_retained ms depth h.1)
-
 -- ---- its counts are the tree's
 
 counts_behind : (gap : List ℕ) (k : NumberedText) → counts_of (with_gap gap k) ≡ counts_of k
@@ -297,6 +278,6 @@ numbers_of t r =
       text = text;
       is_numbered = is_numbered t 512 r.proper r.within (last_gap []) tt (λ more. refl);
       full = sym (text_written t 512 r.within (last_gap []) ∙ append-nil (tree_text t));
-      shortest = sym (fewest_written text ∙ ap (bytes_with number_text) (fewest_numbered t (last_gap [])) ∙ text_written (with_fewest_digits t) 512 (within_retained t 512 r.within) (last_gap []) ∙ append-nil (tree_text (with_fewest_digits t)));
+      shortest = sym (fewest_written text ∙ ap (bytes_with number_text) (fewest_numbered t (last_gap [])) ∙ text_written (with_fewest_digits t) 512 (within_retained IsAnyNumber IsAnyNumber (λ n any. tt) t 512 r.within) (last_gap []) ∙ append-nil (tree_text (with_fewest_digits t)));
       counts = sym (counts_numbered t (last_gap []) ∙ append-nil (counts_in t));
     }
