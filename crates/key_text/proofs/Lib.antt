@@ -2,6 +2,7 @@ pub mod Appending
 pub mod LastDigits
 pub mod Spares
 pub mod Decimals
+pub mod NextParts
 pub mod NumberTexts
 pub mod Pairs
 pub mod Encoding

@@ -1,5 +1,5 @@
 -- The texts of words, strings and numbers, by the first byte of their keys, and of what is opened.
-use Rattle.std.proofs.Common.{◌≡◌, ◌≢◌, ℕ, suc, ◌≤◌, Bool, true, false, List, ◌∷◌, ◌++◌, length, refl, sym, ap, ◌∙◌, arith}
+use Rattle.std.proofs.Common.{◌≡◌, ◌≢◌, ℕ, suc, Bool, true, false, List, ◌∷◌, ◌++◌, length, refl, sym, ap, ◌∙◌, arith}
 use Rattle.std.specs.Prelude.{codes}
 use Rattle.key_value.specs.Readable.{IsReadableAt}
 use Rattle.jsonb_spec.specs.Text.{tree_text}

@@ -1,5 +1,5 @@
 -- The text of what is open while a key is walked.
-use Rattle.std.proofs.Common.{◌≡◌, ℕ, zero, suc, ◌+◌, ◌<◌, ◌≤◌, ◌⊎◌, inl, inr, Bool, true, false, List, [], ◌∷◌, ◌++◌, Some, None, get_or, set, length, replicate, refl, sym, ap, subst, ◌∙◌, arith, append_assoc, append-nil, length-append}
+use Rattle.std.proofs.Common.{◌≡◌, ℕ, zero, suc, ◌+◌, ◌<◌, ◌≤◌, ◌⊎◌, inl, inr, Bool, true, false, List, [], ◌∷◌, ◌++◌, get_or, set, length, replicate, refl, sym, ap, subst, ◌∙◌, arith, append_assoc, append-nil, length-append}
 use Rattle.key_walk.specs.Open.{Open, items, members, is_object, open_key, IsOpen, end_key}
 use Rattle.std.proofs.lemmas.List.{get_or-set_same}
 use Rattle.key_walk.proofs.Opens.{Next, no_end, stack_retained}
@@ -134,12 +134,6 @@ module _ (Due : List ℕ → Type 0) (later : List ℕ) (objects : List Bool) (t
       let kind : is_object p ≡ object = sym s.0 ∙ ap (λ i. get_or objects i false) (sym same) ∙ sym is_top in
       subst (λ b. Cases (suc d) b) kind (by_open p os left d same levels a s st u due)
 
-none_some : (x : List ℕ) → None ≡ Some x → ⊥
-none_some x e = cc
-
-some_same : (x y : List ℕ) → Some x ≡ Some y → x ≡ y
-some_same x y e = cc
-
 module _ (Due : List ℕ → Type 0) (later : List ℕ) (objects : List Bool) (depth top : ℕ) (rest more : List ℕ) (object first : Bool) (o : Open) (start now : List ℕ) (below : top + 1 ≡ depth) (is_top : object ≡ get_or objects top false) (l : TextLeft Due later objects depth rest more first o start now) where
   end_or_next : EndsText Due later objects top rest more object o start now ⊎ NextText Due later objects depth rest more object first o start now
   end_or_next = by_opens Due later objects top rest more first o start now l.opens l.left depth object l.levels l.are_open l.stacked l.occurs l.underway l.due below is_top
@@ -152,9 +146,9 @@ module _ (Due : List ℕ → Type 0) (later : List ℕ) (objects : List Bool) (d
   ]
 
   -- where none was read, a part is there
-  pub part_there : ((tail : List ℕ) → rest ≡ end_key object ++ tail → None ≡ Some tail) → NextText Due later objects depth rest more object first o start now
+  pub part_there : ((tail : List ℕ) → rest ≡ end_key object ++ tail → ⊥) → NextText Due later objects depth rest more object first o start now
   part_there none = elim end_or_next [
-    | inl x ↦ absurd (none_some (opens_key x.under ++ more) (none (opens_key x.under ++ more) x.occurs))
+    | inl x ↦ absurd (none (opens_key x.under ++ more) x.occurs)
     | inr n ↦ n
   ]
 
@@ -164,14 +158,14 @@ module _ (Due : List ℕ → Type 0) (later : List ℕ) (objects : List Bool) (t
   pub end_fits : length now + length (closing_text object ∷ []) ≤ length start + length (open_text true o)
   end_fits = fits (closing_text object ∷ []) (opens_text false x.under) x.underway refl
 
-  pub end_written : (others new : List ℕ) → ((tail : List ℕ) → rest ≡ end_key object ++ tail → Some others ≡ Some tail) → new ≡ now ++ closing_text object ∷ [] → TextLeft Due later objects top others more false o start new
+  pub end_written : (others new : List ℕ) → ((tail : List ℕ) → rest ≡ end_key object ++ tail → others ≡ tail) → new ≡ now ++ closing_text object ∷ [] → TextLeft Due later objects top others more false o start new
   end_written others new found closing = record {
     opens = x.under;
     left = x.left;
     levels = x.levels;
     are_open = x.are_open;
     stacked = x.stacked;
-    occurs = some_same others (opens_key x.under ++ more) (found (opens_key x.under ++ more) x.occurs);
+    occurs = found (opens_key x.under ++ more) x.occurs;
     underway = goes_on new (closing_text object ∷ []) (opens_text false x.under) x.underway refl closing;
     due = x.due;
   }
@@ -182,7 +176,6 @@ stack_more : (os : List Open) (p : Open) (objects : List Bool) (depth : ℕ) (b 
 stack_more os p objects depth b fits is s = (get_or-set_same objects depth b false fits ∙ sym is, stack_retained os objects depth b depth (omega arith) s)
 
 module _ (Due : List ℕ → Type 0) (later : List ℕ) (objects : List Bool) (depth : ℕ) (rest more : List ℕ) (object first : Bool) (o : Open) (start now : List ℕ) (n : NextText Due later objects depth rest more object first o start now) where
-
   pub each_there : length later ≡ length more → length (opens_counts (n.next.others ∷ n.next.under) ++ later) ≡ length (opens_key (n.next.others ∷ n.next.under) ++ more)
   each_there each =
       omega (

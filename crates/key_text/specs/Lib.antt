@@ -1,3 +1,4 @@
 pub mod FewestDigits
 pub mod Counts
+pub mod NextParts
 pub mod Writes

@@ -13,6 +13,7 @@ ghost use Rattle.jsonb_spec.specs.Text.{tree_text};
 ghost use Rattle.jsonb_spec.specs.Tree.{Tree};
 ghost use Rattle.key_text.specs.Counts.{counts_at, counts_open, IsDue, WhereDue};
 ghost use Rattle.key_text.specs.FewestDigits.{AppendsTextOf, AppendsDocumentWithKey};
+ghost use Rattle.key_text.specs.NextParts.{BeginsNext, NextIsWithin};
 ghost use Rattle.key_text.specs.Writes.{AppendsWord, Preserves, LacksCapacity, AppendsLeaving, name_text, opening_text, open_text, closing_text, value_text};
 
 use crate::append::{append_one, append_within};
@@ -181,6 +182,38 @@ fn append_comma(is_first: bool, buf: &mut Vec<u8>) -> Result<(), AllocError>
     append_one(b',', buf)
 }
 
+// What comes next of an array or an object: its end, and the bytes behind it; or the bytes from a value on.
+#[derive(Clone, Copy)]
+enum Next<'k> {
+    End(&'k [u8]),
+    Value(&'k [u8]),
+}
+
+// Appends what is before the value that comes next, if one does. Short names are tried first.
+#[inline(always)]
+fn begin_next<'k>(
+    object: bool,
+    is_first: bool,
+    bytes: &'k [u8],
+    buf: &mut Vec<u8>,
+) -> Result<Next<'k>, KeyError>
+    ensures begins { BeginsNext object is_first bytes.now result buf.old buf.new }
+    ensures within { IfOk result (NextIsWithin bytes.now) }
+    ensures preserves { Preserves buf.old buf.new }
+{
+    let named = append_short_name(object, is_first, bytes, buf);
+    if named > 0 {
+        return Ok(Next::Value(&bytes[named..]));
+    }
+    if let Some(others) = after_end(object, bytes) {
+        return Ok(Next::End(others));
+    }
+    match begin_part(object, is_first, bytes, buf) {
+        Ok(value) => Ok(Next::Value(value)),
+        Err(error) => Err(error),
+    }
+}
+
 #[inline(always)]
 fn append_opening(object: bool, buf: &mut Vec<u8>) -> Result<(), AllocError>
     ensures { Appends result buf.old buf.new (opening_text object ∷ []) }
@@ -215,9 +248,9 @@ fn append_parts<'k, Z: Zeros>(
     let mut is_first = true;
     let mut rest = bytes;
     'parts: loop {
-        let named = append_short_name(inside, is_first, rest, buf);
-        if named == 0 {
-            if let Some(others) = after_end(inside, rest) {
+        let next = begin_next(inside, is_first, rest, buf)?;
+        let value = match next {
+            Next::End(others) => {
                 append_closing(inside, buf)?;
                 depth -= 1;
                 if depth == 0 {
@@ -228,11 +261,7 @@ fn append_parts<'k, Z: Zeros>(
                 rest = others;
                 continue;
             }
-        }
-        let value = if named > 0 {
-            &rest[named..]
-        } else {
-            begin_part(inside, is_first, rest, buf)?
+            Next::Value(value) => value,
         };
         let Some((first, others)) = value.split_first() else {
             return Err(KeyError::Invalid);
