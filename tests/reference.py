@@ -673,11 +673,6 @@ class ReaderWithExponents(Reader):
         return ("number", "Decimal128", *number)
 
 
-def read_with_exponents(data):
-    """The tree of a text in extended mode, whose numbers may have exponents. Raises `Rejection`."""
-    return ReaderWithExponents(bytes(data)).document()
-
-
 # Where a text is rejected.
 
 def path_of(steps):
