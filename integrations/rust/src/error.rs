@@ -45,7 +45,7 @@ pub enum Code {
     ObjectDuplicateKey,
     /// The name of a member is a misspelled number.
     ObjectKeyInvalidNumber,
-    /// A byte that can't are in a name without quotes.
+    /// A byte that can't be in a name without quotes.
     ObjectKeyInvalidCharacter,
     /// A number isn't representable.
     NumberNotCarried,

@@ -62,6 +62,8 @@ extern "C" {
     pub fn vizhoniku_key_next(key: *const u8, key_size: usize, cursor: *mut KeyCursor, entry: *mut KeyEntry) -> u32;
     pub fn vizhoniku_key_string(key: *const u8, key_size: usize, buffer: *mut u8, buffer_size: usize, size: *mut usize) -> u32;
     pub fn vizhoniku_key_name(name: *const u8, name_size: usize, buffer: *mut u8, buffer_size: usize, size: *mut usize) -> u32;
+    pub fn vizhoniku_key_boolean(key: *const u8, key_size: usize, value: *mut u32) -> u32;
+    pub fn vizhoniku_key_integer(key: *const u8, key_size: usize, value: *mut i64) -> u32;
     pub fn vizhoniku_key_contains(key: *const u8, key_size: usize, other: *const u8, other_size: usize) -> u32;
     pub fn vizhoniku_key_set(key: *const u8, key_size: usize, path: *const u8, path_size: usize, part: *const u8, part_size: usize, create: u32, buffer: *mut u8, buffer_size: usize, size: *mut usize) -> u32;
     pub fn vizhoniku_key_remove(key: *const u8, key_size: usize, path: *const u8, path_size: usize, buffer: *mut u8, buffer_size: usize, size: *mut usize) -> u32;

@@ -314,15 +314,18 @@ impl KeyRef {
 
     /// The boolean. `None` for other kinds.
     pub fn as_bool(&self) -> Option<bool> {
-        if self.kind() != Kind::Boolean {
-            return None;
-        }
-        self.to_text().ok()?.parse().ok()
+        let mut value = 0;
+        // SAFETY: the key has its size.
+        let status = unsafe { ffi::vizhoniku_key_boolean(self.0.as_ptr(), self.0.len(), &mut value) };
+        (status == ffi::ACCEPTED).then_some(value != 0)
     }
 
     /// The number, where it is an integer of this type. `None` for others and for other kinds.
     pub fn as_i64(&self) -> Option<i64> {
-        self.digits()?.parse().ok()
+        let mut value = 0;
+        // SAFETY: the key has its size.
+        let status = unsafe { ffi::vizhoniku_key_integer(self.0.as_ptr(), self.0.len(), &mut value) };
+        (status == ffi::ACCEPTED).then_some(value)
     }
 
     /// The number, where it is an integer of this type. `None` for others and for other kinds.

@@ -5,12 +5,11 @@
 use std::collections::BTreeMap;
 use std::path::Path;
 
-const LEFT_OUT: [&str; 21] = [
+const LEFT_OUT: [&str; 19] = [
     "vizhoniku_lines",
     "vizhoniku_character",
     "vizhoniku_text_with_zeros",
     "vizhoniku_message",
-    "vizhoniku_key_boolean",
     "vizhoniku_key_of_string",
     "vizhoniku_path_step",
     "vizhoniku_document_compare",
@@ -18,7 +17,6 @@ const LEFT_OUT: [&str; 21] = [
     "vizhoniku_document_begin",
     "vizhoniku_document_next",
     "vizhoniku_is_strict",
-    "vizhoniku_key_integer",
     "vizhoniku_key_of_integer",
     "vizhoniku_document_without",
     "vizhoniku_document_strip_nulls",
