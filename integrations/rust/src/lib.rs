@@ -30,12 +30,14 @@ mod error;
 mod ffi;
 mod key;
 mod parse;
+mod value;
 
 pub use document::Document;
 pub use error::{Code, Error, Rejection};
 pub use key::{Items, Key, KeyRef, Kind, Members};
 use parse::parse;
 use std::cmp::Ordering;
+pub use value::{Number, Object, Value};
 
 /// The grammar that a text is parsed by.
 #[derive(Clone, Copy, Debug, PartialEq, Eq, Hash)]
