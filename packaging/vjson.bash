@@ -13,11 +13,11 @@ _vjson() {
             words='--extended --standard --progress --no-progress --help'
             case ${COMP_WORDS[1]} in
                 check) words="$words --lines --quiet" ;;
-                format) words="$words --lines --compact --indent" ;;
-                get) words="$words --lines --raw --default" ;;
+                format) words="$words --lines --compact --indent --line-buffered" ;;
+                get) words="$words --lines --raw --default --line-buffered" ;;
                 sort) words="$words --lines --unique --reverse --by --check --canonical" ;;
                 equal) words="$words --quiet" ;;
-                keys) words="$words --lines --by --canonical" ;;
+                keys) words="$words --lines --by --canonical --line-buffered" ;;
             esac
             mapfile -t COMPREPLY < <(compgen -W "$words" -- "$word")
             ;;

@@ -106,7 +106,13 @@ fn main(rt: HostRuntime) -> ExitCode {
             let _ = writeln!(rt.stdout(), "{VERSION}");
             ExitCode::SUCCESS
         }
-        Ok(Asked::Run(options)) => ExitCode::from(run(&rt, &options)),
+        Ok(Asked::Run(mut options)) => {
+            // A person reads each line as it comes.
+            if rt.stdout().is_terminal() {
+                options.block = 1;
+            }
+            ExitCode::from(run(&rt, &options))
+        }
         Err(message) => {
             let _ = writeln!(rt.stderr(), "vjson: {message}\nTry 'vjson --help'.");
             ExitCode::from(2)

@@ -32,6 +32,7 @@ standard input is read.
       --check            sort: only say whether the lines are in order
       --canonical        sort, keys: print the values' canonical text
   -q, --quiet            check, equal: the status alone
+      --line-buffered    format, get, keys: write each line at once, as from tail -f
       --progress, --no-progress
                          show on a terminal how much was read (after 2 seconds)
       --help, --version
@@ -39,6 +40,9 @@ standard input is read.
 Status: 0 done; 1 some text is rejected, a part is missing, values differ or lines
 are out of order; 2 wrong usage, or a file or memory failed.
 ";
+
+/// How many bytes of the output are held before they are written, where nothing else is asked for.
+pub const BLOCK: usize = 1 << 16;
 
 /// What is done with the texts.
 #[derive(Clone, Copy, PartialEq, Eq, Debug)]
@@ -75,6 +79,8 @@ pub struct Options {
     pub canonical: bool,
     pub quiet: bool,
     pub progress: Progress,
+    /// How many bytes of the output are held before they are written.
+    pub block: usize,
     pub default: Option<String>,
     pub pointer: Option<Vec<String>>,
     pub files: Vec<String>,
@@ -174,6 +180,7 @@ fn takes(command: Command, option: &str) -> bool {
         "--unique" | "--reverse" | "--check" => command == Command::Sort,
         "--by" | "--canonical" => matches!(command, Command::Sort | Command::Keys),
         "--quiet" => matches!(command, Command::Check | Command::Equal),
+        "--line-buffered" => matches!(command, Command::Format | Command::Get | Command::Keys),
         _ => true,
     }
 }
@@ -205,6 +212,7 @@ fn new_options(alloc: Global, command: Command) -> Options {
         canonical: false,
         quiet: false,
         progress: Progress::Late,
+        block: BLOCK,
         default: None,
         pointer: None,
         files: Vec::new(alloc),
@@ -238,6 +246,7 @@ impl Options {
             "--check" => self.check = true,
             "--canonical" => self.canonical = true,
             "--quiet" => self.quiet = true,
+            "--line-buffered" => self.block = 1,
             "--progress" => self.progress = Progress::Always,
             "--no-progress" => self.progress = Progress::Never,
             _ => return false,

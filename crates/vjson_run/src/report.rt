@@ -7,12 +7,10 @@ ghost use Rattle.vjson_run.specs.Output.{PrintsNothing, PrintsPart};
 
 use crate::lines::{Line, append_line};
 use crate::location::{append_shown, shown_line};
+use crate::options::BLOCK;
 use std::alloc::{AllocError, Global};
 use std::io;
 use std::io::Write;
-
-// How many bytes are held at most before they are written.
-const BLOCK: usize = 1 << 16;
 
 /// Standard output, with what isn't written yet, and the error by which it failed.
 #[derive(Drop)]
@@ -56,11 +54,11 @@ impl<W: Write> Output<W> {
         self.bytes.clear();
     }
 
-    /// Writes what is held, where it is much.
-    pub fn flush_much(&mut self)
+    /// Writes what is held, where it is as many bytes as a block.
+    pub fn flush_much(&mut self, block: usize)
         ensures nothing { PrintsNothing W.contents self.old self.new }
     {
-        if self.bytes.len() >= BLOCK {
+        if self.bytes.len() >= block {
             self.flush();
         }
     }
@@ -72,7 +70,7 @@ pub fn print_lines<W: Write>(lines: &[Line], out: &mut Output<W>) -> Result<(), 
 {
     'lines: for line in lines {
         append_line(&line.text, &mut out.bytes)?;
-        out.flush_much();
+        out.flush_much(BLOCK);
         if out.error().is_some() {
             return Ok(());
         }

@@ -274,7 +274,7 @@ impl<'o, W: Write, E: Write> Session<'o, W, E> {
     fn settle(&mut self)
         ensures { Takes W.contents self.old [] self.new }
     {
-        self.out.flush_much();
+        self.out.flush_much(self.options.block);
         if self.out.error().is_some() {
             self.over = true;
         }
