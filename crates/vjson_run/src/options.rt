@@ -199,6 +199,18 @@ fn long_name(word: &str) -> &str {
     }
 }
 
+// The long name of a letter behind others, as in -lr.
+fn name_of_letter(letter: u8) -> Option<&'static str> {
+    match letter {
+        b'l' => Some("--lines"),
+        b'c' => Some("--compact"),
+        b'r' => Some("--raw"),
+        b'u' => Some("--unique"),
+        b'q' => Some("--quiet"),
+        _ => None,
+    }
+}
+
 fn new_options(alloc: Global, command: Command) -> Options {
     Options {
         command,
@@ -290,6 +302,25 @@ struct Words<'w> {
 }
 
 impl Options {
+    // Takes several options of one letter, as -lr.
+    fn take_letters(
+        &mut self,
+        alloc: Global,
+        word: &str,
+        letters: &[u8],
+    ) -> Result<(), UsageError> {
+        'letters: for letter in letters {
+            let Some(name) = name_of_letter(*letter) else {
+                return Err(UsageError::UnknownOption(copy(alloc, word)?));
+            };
+            if !takes(self.command, name) {
+                return Err(UsageError::NotHere(copy(alloc, name)?));
+            }
+            self.set_flag(name);
+        }
+        Ok(())
+    }
+
     // Takes an option, whose value may be the first of the words behind it.
     fn take_option(
         &mut self,
@@ -297,6 +328,11 @@ impl Options {
         word: &str,
         words: &mut Words<'_>,
     ) -> Result<(), UsageError> {
+        if let [b'-', letters @ ..] = word.as_bytes() {
+            if letters.len() > 1 && letters[0] != b'-' {
+                return self.take_letters(alloc, word, letters);
+            }
+        }
         let (name, value) = match word.split_once("=") {
             Some((name, value)) => (name, Some(value)),
             None => (long_name(word), None),
