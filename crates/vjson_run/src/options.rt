@@ -102,6 +102,7 @@ pub enum UsageError {
     UnknownOption(String),
     NotHere(String),
     NoValue(String),
+    Twice(String),
     NoPointer(String),
     NoNumber(String),
     PointerMissing,
@@ -129,6 +130,7 @@ impl fmt::Display for UsageError {
             UsageError::UnknownOption(word) => write!(f, "no such option: {word}"),
             UsageError::NotHere(word) => write!(f, "this command doesn't take {word}"),
             UsageError::NoValue(word) => write!(f, "option {word} needs a value"),
+            UsageError::Twice(word) => write!(f, "option {word} is there twice"),
             UsageError::NoPointer(word) => write!(
                 f,
                 "not a JSON Pointer: {word} (write /a/0 for the first item of a, '' for the whole text)"
@@ -271,6 +273,7 @@ impl Options {
         match name {
             "--indent" => self.layout = Some(Layout::Indent(width_of(alloc, value)?)),
             "--default" => self.default = Some(copy(alloc, value)?),
+            "--by" if self.pointer.is_some() => return Err(UsageError::Twice(copy(alloc, name)?)),
             "--by" => self.pointer = Some(pointer_of(alloc, value)?),
             _ => return Ok(false),
         }
