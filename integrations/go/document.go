@@ -63,8 +63,13 @@ func (document Document) String() string {
 	return stringOf(text)
 }
 
-// MarshalJSON returns the text of the value.
-func (document Document) MarshalJSON() ([]byte, error) { return document.Text() }
+// MarshalJSON returns the text of the value, and null of the empty Document, which a field has that isn't set.
+func (document Document) MarshalJSON() ([]byte, error) {
+	if document == "" {
+		return []byte("null"), nil
+	}
+	return document.Text()
+}
 
 // UnmarshalJSON sets the document to that of the text, in extended mode.
 func (document *Document) UnmarshalJSON(text []byte) error {

@@ -31,6 +31,9 @@ func (kind Kind) String() string {
 // A Key is the sort key of a value: bytes that compare as the values do, and in which the keys of parts are. The parts
 // that its methods return share its memory.
 //
+// The keys of a map are no names for encoding/json: of a map[Key]T it writes the bytes, not all of which are UTF-8, and
+// reports no error. Take Text for a name.
+//
 // string(key) has the bytes to store, and KeyOf takes them back. Key(bytes) does so without a check: of bytes that are
 // no key the methods find nothing, or something in them, or return ErrKey.
 type Key string
@@ -70,8 +73,13 @@ func (key Key) String() string {
 	return stringOf(text)
 }
 
-// MarshalJSON returns the text of the value.
-func (key Key) MarshalJSON() ([]byte, error) { return key.Text() }
+// MarshalJSON returns the text of the value, and null of the empty Key, which a field has that isn't set.
+func (key Key) MarshalJSON() ([]byte, error) {
+	if key == "" {
+		return []byte("null"), nil
+	}
+	return key.Text()
+}
 
 // UnmarshalJSON sets the key to that of the text, in extended mode.
 func (key *Key) UnmarshalJSON(text []byte) error {

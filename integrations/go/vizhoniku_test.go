@@ -272,6 +272,12 @@ func TestJSON(t *testing.T) {
 	equal(t, []any{err, row.Body}, []any{nil, keyOf(t, "100000")})
 	err = json.Unmarshal([]byte(`{"body": 1e38}`), &row)
 	equal(t, fmt.Sprint(err), "line 1, column 4: number not carried")
+	var unset struct {
+		Key      Key
+		Document Document
+	}
+	written, err = json.Marshal(unset)
+	equal(t, []any{string(written), err}, []any{`{"Key":null,"Document":null}`, nil})
 }
 
 func documentOf(t *testing.T, text string) Document {
