@@ -414,9 +414,9 @@ uint32_t vizhoniku_text_with_zeros(const unsigned char *text, size_t text_size, 
  * document's key.
  *
  * Behind the key is an entry for each number with zeros at its end, in the order of the key: how many bytes of the key
- * come before the number's first one, since that of the last such number (LEB128), and how many zeros it has, in one
- * byte; then how many bytes all these entries are, as LEB128 written from the end; and the byte FF, with which no key
- * ends.
+ * are between the first byte of the last such number and this one's, or before the first one's (LEB128), and how many
+ * zeros it has, in one byte: for [1.50,1.50] 1, 1 and 1, 1. Then how many bytes all these entries are, as LEB128 written
+ * from the end; and the byte FF, with which no key ends.
  *
  * The calls over sort keys, above, take a document's key, which is its first bytes. The ranges that they give are those
  * of vizhoniku_document_range. Calls that write a document or a text write it to the start of the buffer:
@@ -604,7 +604,9 @@ uint32_t vizhoniku_masked_numbers(const unsigned char *text, size_t text_size, u
 
 /* Writes the path of the part of the text's value at which the text is rejected to the start of the buffer: a JSON
  * Pointer (RFC 6901), such as /values/17. It is that of the innermost item or member with the fault, and "" where that
- * is the whole. Where a key is wrong, or missing, it is that of the object, and of a repeated key that of the member.
+ * is the whole. Where a comma or the end of an array or an object is missing, it is that of the item or member before;
+ * where a comment without an end begins there, that of the item that would come next, or of the object. Where a key is
+ * wrong, or missing, it is that of the object, and of a repeated key that of the member.
  * The error is the one of this text and mode, or of the text with its numbers masked: in extended mode numbers with an
  * exponent are passed that are before the fault. The text is parsed once more.
  *

@@ -74,9 +74,9 @@ pub enum Fault {
 }
 
 /// The path (RFC 6901) of the part of the text's value at which the text is rejected: the innermost element or member
-/// that has the fault, or the container where that is between two; of a repeated key the member. In extended mode
-/// numbers with an exponent are passed, but for the one that has the fault. A text that isn't rejected has the path of
-/// the whole.
+/// that has the fault, which is the one before where a comma or an end is missing, and the next one, or the object, where
+/// a comment there has no end; of a repeated key the member. In extended mode numbers with an exponent are passed, but
+/// for the one that has the fault. A text that isn't rejected has the path of the whole.
 ///
 /// The text is parsed once more. The time is linear in the text.
 ///
