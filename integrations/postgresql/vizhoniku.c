@@ -757,7 +757,8 @@ report_no_path(Node *context, const char *path)
 	vjson_report(context,
 				 (errcode(ERRCODE_INVALID_PARAMETER_VALUE),
 				  errmsg("invalid path: \"%s\"", path),
-				  errdetail("A path is empty or begins with \"/\", and each \"~\" in it is followed by 0 or 1.")));
+				  errdetail("A path is empty or begins with \"/\", and each \"~\" in it is followed by 0 or 1."),
+				  errhint("Names and indexes in an array are a path too, as in '{a,0}'.")));
 }
 
 uint32
