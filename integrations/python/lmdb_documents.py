@@ -12,7 +12,7 @@ Numbers with an exponent are taken as vizhoniku takes them, and stored as decima
 """
 
 import hashlib
-from typing import Iterator, List, Optional
+from typing import Iterable, Iterator, List, Optional
 
 import lmdb
 
@@ -48,15 +48,25 @@ class Documents:
 
     def put(self, text: vizhoniku.Text) -> bool:
         """Stores the document, and returns whether it is new. One of an equal value stays as it was."""
-        document = vizhoniku.Document(text, self._mode)
-        key = bytes(document.key)
-        stored = self._stored(key)
-        value = bytes(document) if self._is_cut(stored) else bytes(document)[len(key):]
+        return self.put_all([text]) == 1
+
+    def put_all(self, texts: Iterable[vizhoniku.Text]) -> int:
+        """Stores the documents in one transaction, and returns how many are new, as put does each.
+
+        Nothing of them is stored where one of the texts is rejected.
+        """
+        new = 0
         with self._environment.begin(write=True) as transaction:
-            if transaction.put(stored, value, overwrite=False):
-                return True
-            self._find(transaction, key)
-            return False
+            for text in texts:
+                document = vizhoniku.Document(text, self._mode)
+                key = bytes(document.key)
+                stored = self._stored(key)
+                value = bytes(document) if self._is_cut(stored) else bytes(document)[len(key):]
+                if transaction.put(stored, value, overwrite=False):
+                    new += 1
+                else:
+                    self._find(transaction, key)
+        return new
 
     def get(self, text: vizhoniku.Text) -> Optional[str]:
         """The text of the stored document whose value equals the text's, or None."""

@@ -1737,6 +1737,15 @@ class InLmdb(unittest.TestCase):
             self.assertEqual([self.documents.put(text) for text in line], [True] + [False] * (len(line) - 1))
         self.assertEqual(list(self.documents), [v.text(line[0]) for line in IN_ORDER])
 
+    def test_put_all(self) -> None:
+        texts = [text for line in IN_ORDER for text in line]
+        self.assertEqual(self.documents.put_all(iter(texts)), len(IN_ORDER))
+        self.assertEqual(list(self.documents), [v.text(line[0]) for line in IN_ORDER])
+        self.assertEqual(self.documents.put_all(texts + ['["new"]']), 1)
+        self.assertEqual(self.documents.put_all([]), 0)
+        self.assertRaises(v.RejectedText, self.documents.put_all, ['["newer"]', "[1"])
+        self.assertIsNone(self.documents.get('["newer"]'))
+
     def test_get_by_value(self) -> None:
         self.documents.put('{"b": 2, "a": 1.0}')
         self.assertEqual(self.documents.get("{a: 0x1, b: 2.00}"), '{"a":1.0,"b":2}')
