@@ -84,9 +84,8 @@ call_by_jsonb(FunctionCallInfo fcinfo, PGFunction function, int documents, const
  * What a jsonpath looks at
  */
 
-/* Add the name at its location, if it isn't there yet. False if there are too many. */
-static bool
-add_name(VjsonWanted *wanted, Range name)
+bool
+vjson_want_name(VjsonWanted *wanted, Range name)
 {
 	Range	   *names = wanted->names;
 	int			location = wanted->count;
@@ -159,7 +158,7 @@ add_names_of_item(VjsonWanted *wanted, JsonPathItem *item)
 		case jpiDatetime:
 			return true;
 		case jpiKey:
-			return add_name(wanted, name_of_item(item));
+			return vjson_want_name(wanted, name_of_item(item));
 		case jpiAnd:
 		case jpiOr:
 		case jpiEqual:
@@ -243,9 +242,8 @@ know_steps(KnownPath *known, JsonPathItem item)
 	return true;
 }
 
-/* Note how the names begin. */
-static void
-note_first_bytes(VjsonWanted *wanted)
+void
+vjson_note_first_bytes(VjsonWanted *wanted)
 {
 	memset(wanted->first_bytes, 0, sizeof wanted->first_bytes);
 	wanted->last_first = -1;
@@ -269,7 +267,7 @@ know_path(VjsonKept *kept, struct varlena *path, bool answers_parts)
 	jspInit(&item, whole);
 	known->wanted.count = 0;
 	known->wants_all = !add_names(&known->wanted, item);
-	note_first_bytes(&known->wanted);
+	vjson_note_first_bytes(&known->wanted);
 	if (!know_steps(known, item) || known->steps == 0)
 		known->wants_all |= answers_parts;
 	known->wanted.steps = answers_parts ? known->steps : NO_STEPS;

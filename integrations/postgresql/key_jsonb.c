@@ -532,7 +532,12 @@ is_wanted(const VjsonWanted *wanted, Range name)
 static inline int
 steps_to(const Reader *reader, const Level *level, Range name)
 {
-	return level->steps >= 0 && same_bytes(reader->wanted->step[level->steps], name) ? level->steps + 1 : OTHER_STEPS;
+	const Range *step;
+
+	if (level->steps < 0)
+		return OTHER_STEPS;
+	step = &reader->wanted->step[level->steps];
+	return step->at == NULL || same_bytes(*step, name) ? level->steps + 1 : OTHER_STEPS;
 }
 
 /* Go to the next member that is wanted of the object round all others, by the table of its members. */

@@ -13,6 +13,7 @@
 #include "executor/executor.h"
 #include "fmgr.h"
 #include "funcapi.h"
+#include "mb/pg_wchar.h"
 #include "miscadmin.h"
 #include "utils/fmgrprotos.h"
 #include "utils/lsyscache.h"
@@ -121,6 +122,27 @@ put_rows(ReturnSetInfo *set, Tuplestorestate *rows, TupleDesc given, TupleDesc w
 	tuplestore_end(rows);
 }
 
+/* Want the members of which columns are made, whole. False if there are too many columns. */
+static bool
+want_columns(VjsonWanted *wanted, TupleDesc columns)
+{
+	wanted->count = 0;
+	for (int i = 0; i < columns->natts; i++)
+	{
+		char	   *words = NameStr(TupleDescAttr(columns, i)->attname);
+		char	   *utf8 = pg_server_to_any(words, (int) strlen(words), PG_UTF8);
+		Range		name = {(unsigned char *) utf8, strlen(utf8)};
+
+		if (!vjson_want_name(wanted, name))
+			return false;
+	}
+	vjson_note_first_bytes(wanted);
+	wanted->steps = 1;
+	wanted->step[0].at = NULL;
+	wanted->step[0].size = 0;
+	return true;
+}
+
 /*
  * The same call of jsonb's function, for the columns that the query names.  The
  * arguments of this call stay, since those that are constants come again.
@@ -131,12 +153,13 @@ call_for_rows(FunctionCallInfo fcinfo, PGFunction function)
 	LOCAL_FCINFO(call, 1);
 	ReturnSetInfo *set = (ReturnSetInfo *) fcinfo->resultinfo;
 	ReturnSetInfo rows = *set;
+	VjsonWanted wanted;
 	TupleDesc	given = columns_of_jsonb(fcinfo, set->expectedDesc);
 	Datum		result;
 
 	memcpy(call, fcinfo, SizeForFunctionCallInfo(1));
 	if (!PG_ARGISNULL(0))
-		call->args[0].value = vjson_jsonb(PG_GETARG_DATUM(0), NULL);
+		call->args[0].value = vjson_jsonb(PG_GETARG_DATUM(0), want_columns(&wanted, set->expectedDesc) ? &wanted : NULL);
 	if (given != NULL)
 	{
 		rows.expectedDesc = given;

@@ -165,7 +165,8 @@ extern void *vjson_keep(FunctionCallInfo fcinfo, const struct varlena *argument,
 /*
  * Which members of a document are wanted: those of the names, and all that are
  * within the parts to which the steps lead.  A step leads from an object to its
- * member of that name, and from an array by its items.  Names are in UTF-8.
+ * member of that name, or without a name to each that is wanted, and from an
+ * array by its items.  Names are in UTF-8.
  */
 typedef struct
 {
@@ -176,6 +177,12 @@ typedef struct
 	int			steps;			/* NO_STEPS where no part is wanted as a whole */
 	Range		step[MOST_NAMES];
 } VjsonWanted;
+
+/* Add the name at its location, if it isn't there yet. False if there are too many. */
+extern bool vjson_want_name(VjsonWanted *wanted, Range name);
+
+/* Note how the names begin, when all are there. */
+extern void vjson_note_first_bytes(VjsonWanted *wanted);
 
 /*
  * A document as a jsonb.  Where it is reported which members are wanted others may
