@@ -1,6 +1,7 @@
 -- A text whose lines are texts of their own: what is written of them, and which one is rejected.
-use Rattle.std.specs.Prelude.{◌≡◌, ◌⊎◌, ℕ, ◌+◌, ◌==◌, List, [], ◌∷◌, ◌++◌, length, if◌then◌else◌, Err}
+use Rattle.std.specs.Prelude.{◌≡◌, ◌⊎◌, ℕ, ◌+◌, ◌<◌, ◌==◌, List, [], ◌∷◌, ◌++◌, length, if◌then◌else◌, Err}
 use Rattle.jsonb_spec.specs.Ascii as ascii
+use Rattle.jsonb_spec.specs.Grammar.{IsDocument}
 use Rattle.jsonb_spec.specs.Mode.{Mode}
 use Rattle.jsonb_spec.specs.Text.{tree_text}
 use Rattle.jsonb_spec.specs.Tree.{Tree}
@@ -31,6 +32,20 @@ abbrev pub AppendsTextOfLines : Mode → List (List ℕ) → List ℕ → List �
 AppendsTextOfLines mode [] old new = new ≡ old
 AppendsTextOfLines mode (line ∷ lines) old new =
     (more : List ℕ) × AppendsTextOfLine mode line old more × AppendsTextOfLines mode lines more new
+
+-- The line is a document, and a buffer of this capacity with this many bytes has no space for its text and a line feed.
+pub record LacksCapacityForLine (mode : Mode) (line : List ℕ) (capacity len : ℕ) : Type 0 where
+  pub tree : Tree
+  pub document : IsDocument mode line tree
+  pub too_short : capacity < len + (length (tree_text tree) + 1)
+
+-- The lines up to one of them are documents, for whose texts such a buffer has no space.
+abbrev pub LacksCapacityForLines : Mode → List (List ℕ) → ℕ → ℕ → Type 0
+LacksCapacityForLines mode [] capacity len = ⊥
+LacksCapacityForLines mode (line ∷ lines) capacity len =
+    LacksCapacityForLine mode line capacity len
+    ⊎ ((tree : Tree) × IsDocument mode line tree
+    × LacksCapacityForLines mode lines capacity (len + (length (tree_text tree) + 1)))
 
 -- The line is rejected with this error, as a text of its own is.
 pub record IsRejectedLine (mode : Mode) (line : List ℕ) (error : Error) : Type 0 where

@@ -75,12 +75,14 @@ memory_wanting_of_two number left right (Text rejection) w a b = absurd (one_den
 memory_wanting_of_two number left right OutOfMemory w a b = refl
 memory_wanting_of_two number left right UnknownMode w a b = absurd (omega (arith, w, within a.read.chosen))
 
--- memory ran out where the error says so
-pub memory_said : {X Y : Type 0} (count : ℕ) (e : Error) (reason : Failure) → SaysError count e reason → ◌≡◌ {A = Result X Failure} (Err reason) (Err OutOfMemory) → ◌≡◌ {A = Result Y Error} (Err e) (Err errors.OutOfMemory)
-memory_said {X = X} count e reason says is =
+-- memory ran out where the reason says so
+pub ran_out : {X : Type 0} (count : ℕ) (e : Error) (reason : Failure) → SaysError count e reason → ◌≡◌ {A = Result X Failure} (Err reason) (Err OutOfMemory) → e ≡ errors.OutOfMemory
+ran_out {X = X} count e reason says is =
     let same : reason ≡ OutOfMemory = one_error is in
-    let memory : e ≡ errors.OutOfMemory = subst (SaysError count e) same says in
-    ap Err memory
+    subst (SaysError count e) same says
   where
     one_error : {a b : Failure} → ◌≡◌ {A = Result X Failure} (Err a) (Err b) → a ≡ b
     one_error e = cc
+
+pub memory_said : {X Y : Type 0} (count : ℕ) (e : Error) (reason : Failure) → SaysError count e reason → ◌≡◌ {A = Result X Failure} (Err reason) (Err OutOfMemory) → ◌≡◌ {A = Result Y Error} (Err e) (Err errors.OutOfMemory)
+memory_said count e reason says is = ap Err (ran_out count e reason says is)

@@ -2,14 +2,14 @@
 use Rattle.std.proofs.Common.{◌≡◌, inl, inr, ℕ, suc, ◌≤◌, List, [], ◌∷◌, All, refl, subst, sym, arith}
 use Rattle.jsonb_spec.specs.Mode.{Mode}
 use Rattle.jsonb_value.specs.declared.error.Error.{Error}
-use Rattle.jsonb.specs.Lines.{IsFirstOfLines, RejectsLine, lines_of}
+use Rattle.jsonb.specs.Lines.{IsFirstOfLines, LacksCapacityForLines, RejectsLine, lines_of}
 use Rattle.jsonb_c.specs.declared.Rejection.{Rejection}
 use Rattle.jsonb_c.specs.declared.Failure.{Failure}
 use Rattle.jsonb_c.specs.declared.Failure.TheVariants.{Text, OutOfMemory, UnknownMode}
 use Rattle.jsonb_c.specs.Interface.{IsAccepted, IsReason, IsRejected, NumberChooses, SaysError, status_of}
 use Rattle.jsonb_c.specs.Lines.{IsLineRejected}
 use Rattle.jsonb_c.proofs.Reasons.{denied, rejected_text, within}
-use Rattle.jsonb_c.proofs.Texts.{parsed_accepted}
+use Rattle.jsonb_c.proofs.Texts.{document_accepted, parsed_accepted}
 use Rattle.text_scan.specs.Answer.{IsTextError}
 
 -- such a line is another kind of line too, and so are those before it
@@ -56,3 +56,10 @@ pub line_error : (mode : Mode) (error : Error) (lines : List (List ℕ)) (offset
 line_error mode error [] offset none = absurd none
 line_error mode error (line ∷ lines) offset (inl (first, rejected)) = rejected.rejects.errors
 line_error mode error (line ∷ lines) offset (inr (passed, behind, sized, later)) = line_error mode error lines behind later
+
+-- where the buffer lacks the space for lines, the first one is accepted
+pub first_accepted : {mode : Mode} (number : ℕ) (lines : List (List ℕ)) (capacity len : ℕ) → NumberChooses number mode → LacksCapacityForLines mode lines capacity len
+    → (line : List ℕ) × (others : List (List ℕ)) × (lines ≡ line ∷ others) × IsAccepted number line
+first_accepted number [] capacity len chosen none = absurd none
+first_accepted number (line ∷ lines) capacity len chosen (inl lacks) = (line, lines, refl, document_accepted number line lacks.tree chosen lacks.document)
+first_accepted number (line ∷ lines) capacity len chosen (inr (tree, document, later)) = (line, lines, refl, document_accepted number line tree chosen document)

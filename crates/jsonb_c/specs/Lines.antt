@@ -1,7 +1,8 @@
 -- What the statuses say of a text whose lines are texts of their own.
-use Rattle.std.specs.Prelude.{ℕ, List, []}
+use Rattle.std.specs.Prelude.{◌≡◌, ◌⊎◌, ℕ, List, [], ◌∷◌}
 use Rattle.jsonb_spec.specs.Mode.{Mode}
 use Rattle.jsonb.specs.Lines.{AppendsTextOfLines, IsFirstOfLines, lines_of}
+use Rattle.text_scan.specs.Answer.{MayAllocate}
 use Rattle.jsonb_c.specs.Interface.{NumberChooses, IsAccepted, IsRejected}
 use Rattle.jsonb_c.specs.declared.Rejection.{Rejection}
 
@@ -16,3 +17,8 @@ pub record AreTextsOfLines (number : ℕ) (text bytes : List ℕ) : Type 0 where
 abbrev pub IsLineRejected : ℕ → List ℕ → ℕ → Rejection → Type 0
 IsLineRejected number text offset rejection =
     IsFirstOfLines (λ line. IsRejected number line 1 rejection) (IsAccepted number) (lines_of text) offset
+
+-- The text may allocate, or its first line is a document, of which something is written.
+abbrev pub LinesMayAllocate : ℕ → List ℕ → Type 0
+LinesMayAllocate number text = MayAllocate text
+    ⊎ ((line : List ℕ) × (lines : List (List ℕ)) × (lines_of text ≡ line ∷ lines) × IsAccepted number line)

@@ -1,8 +1,8 @@
 //! A text whose lines are texts of their own.
-ghost use Rattle.std.specs.Prelude.{◌≡◌, ◌≢◌, ◌⊎◌, ◌≤◌, All, IfErr, IfOk, MatchResult};
+ghost use Rattle.std.specs.Prelude.{◌≡◌, ◌≢◌, ◌⊎◌, ◌≤◌, All, IfOk, MatchResult};
 ghost use Rattle.jsonb.specs.Lines.{lines_of};
-ghost use Rattle.jsonb_c.specs.Interface.{FillsBuffer, IsAccepted, IsReason, IsStatus, Reports, status_of};
-ghost use Rattle.jsonb_c.specs.Lines.{AreTextsOfLines, IsLineRejected};
+ghost use Rattle.jsonb_c.specs.Interface.{FailsFor, FillsBuffer, IsAccepted, IsStatus, Reports, status_of};
+ghost use Rattle.jsonb_c.specs.Lines.{AreTextsOfLines, IsLineRejected, LinesMayAllocate};
 
 use crate::{
     ACCEPTED, Failure, NOTHING, OUT_OF_MEMORY, REJECTED, Rejection, TOO_SHORT, buffer_of,
@@ -29,6 +29,7 @@ pub extern "C" fn vizhoniku_lines(
     ensures status { IsStatus mode TOO_SHORT result }
     ensures accepted { mode ≤ 1 → All (IsAccepted mode) (lines_of text.now)
         → (result ≡ ACCEPTED) ⊎ (result ≡ TOO_SHORT) ⊎ (result ≡ OUT_OF_MEMORY) }
+    ensures memory { result ≡ OUT_OF_MEMORY → LinesMayAllocate mode text.now }
 
     // What is written is the text of each document's tree, and no other byte of the buffer changes.
     ensures fills { FillsBuffer (AreTextsOfLines mode text.now) ACCEPTED result size.new out.old out.new }
@@ -58,7 +59,7 @@ fn texts_of_lines(
     start: &mut usize,
 ) -> Result<Vec<u8>, Failure>
     ensures texts { IfOk result (λ bytes. AreTextsOfLines mode text.now bytes.items) }
-    ensures reason { IfErr result (IsReason mode (IsLineRejected mode text.now start.new)) }
+    ensures fails { FailsFor mode (IsLineRejected mode text.now start.new) (LinesMayAllocate mode text.now) result }
     ensures no_start { MatchResult result (λ _. start.new ≡ 0) (λ reason. status_of reason ≢ REJECTED → start.new ≡ 0) }
 {
     *start = 0;

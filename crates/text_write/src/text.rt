@@ -70,6 +70,7 @@ impl<'a> TextSink<'a> {
     /// A buffer to whose end a value is written.
     pub fn new(alloc: Global, text: &'a [u8], out: Vec<u8>) -> TextSink<'a>
         ensures base { base_of result ≡ out.items }
+        ensures out { result.written.out ≡ out }
         ensures holds { TextHolds text.entry.now result true [] [] }
     {
         let base = out.len();
@@ -84,6 +85,7 @@ impl<'a> TextSink<'a> {
     #[inline(always)]
     pub fn restart(&mut self, text: &'a [u8])
         ensures base { base_of self.new ≡ self.old.written.out.items }
+        ensures out { self.new.written.out ≡ self.old.written.out }
         ensures holds { TextHolds text.entry.now self.new true [] [] }
     {
         self.written.restart(text);
@@ -275,7 +277,7 @@ impl<'a> TextSink<'a> {
 
     /// The buffer, with all that is in it.
     pub fn into_buffer(self) -> Vec<u8>
-        ensures { result.items ≡ self.entry.written.out.items }
+        ensures { result ≡ self.entry.written.out }
     {
         let TextSink { written, .. } = self;
         let Written { out, .. } = written;

@@ -35,7 +35,7 @@ impl<'a> Written<'a> {
     pub fn new(text: &'a [u8], out: Vec<u8>) -> Written<'a>
         ensures bytes { bytes_of result ≡ out.items }
         ensures text { result.text ≡ text.entry }
-        ensures out { result.out.items ≡ out.items }
+        ensures out { result.out ≡ out }
     {
         Written {
             text,

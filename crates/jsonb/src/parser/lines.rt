@@ -1,13 +1,14 @@
 //! Texts whose lines are texts of their own, which are parsed one after the other for their serialized forms.
-ghost use Rattle.std.specs.Prelude.{◌≡◌, ◌⊎◌, ◌+◌, ◌<◌, [], ◌∷◌, length, IfErr, OnErr, OnOk};
+ghost use Rattle.std.specs.Prelude.{◌≡◌, ◌⊎◌, ◌+◌, ◌<◌, ◌≤◌, ℕ, [], ◌∷◌, length, Contains, Err, IfErr, OnErr, OnOk, vec_capacity, vec_len};
 ghost use Rattle.jsonb_spec.specs.Text.Appending.{Extends};
-ghost use Rattle.text_scan.specs.Answer.{mode_of};
+ghost use Rattle.text_scan.specs.Answer.{mode_of, MayAllocate};
+ghost use Rattle.jsonb.specs.Appends.{AppendsTextOf, LacksCapacityForText};
 ghost use Rattle.jsonb.specs.Follows.{FailsAsSpecified};
-ghost use Rattle.jsonb.specs.Lines.{AppendsTextOfLine, AppendsTextOfLines, RejectsLine, lines_of};
-ghost use Rattle.jsonb.specs.Parses.{Rejects};
+ghost use Rattle.jsonb.specs.Lines.{AppendsTextOfLine, AppendsTextOfLines, LacksCapacityForLine, LacksCapacityForLines, RejectsLine, lines_of};
+ghost use Rattle.jsonb.specs.Parses.{AppendsParsed, Rejects};
 
 use super::Mode;
-use super::straight::write_form;
+use super::straight::{may_allocate, write_form, write_form_of_value};
 use jsonb_value::error::{Error, Result};
 use memchr::memchr;
 use std::alloc::Global;
@@ -26,7 +27,8 @@ pub struct RejectedLine {
 /// buffer. The last line may lack its line feed. After an error `buf` has the same bytes as before.
 ///
 /// It is as if [`append_text`] were called for each line, but what that allocates beside the growth of `buf` is held
-/// from line to line. So short lines take less time.
+/// from line to line. So short lines take less time. Lines without `[`, `{` and backslashes take no memory but the
+/// space that `buf` lacks.
 ///
 /// ```
 /// let mut buf = Vec::new(rt.alloc());
@@ -48,6 +50,12 @@ pub fn append_text_lines(
     // Each line is a document, whose text is appended. After an error the buffer has its old bytes.
     ensures appends { OnOk result (AppendsTextOfLines (mode_of mode) (lines_of text.now) buf.old.items buf.new.items) }
     ensures preserves { OnErr result (buf.new.items ≡ buf.old.items) }
+
+    // Memory runs out only where the text may allocate, or where the space for the lines is missing. A buffer that has
+    // space holds it, where the text doesn't allocate.
+    ensures memory { IfErr result (λ e. e.error ≡ Error.OutOfMemory → MayAllocate text.now
+        ⊎ LacksCapacityForLines (mode_of mode) (lines_of text.now) (vec_capacity buf.old) (vec_len buf.old)) }
+    ensures capacity { MayAllocate text.now ⊎ (vec_capacity buf.old ≤ vec_capacity buf.new) }
 
     // An error is that of the parsers, of the first line that has one.
     ensures rejects { IfErr result (λ e. RejectsLine (mode_of mode) e.error (lines_of text.now) e.start) }
@@ -73,6 +81,11 @@ fn write_lines<'a>(
     ensures appends { OnOk result (AppendsTextOfLines (mode_of mode) (lines_of text.now) sink.old.written.out.items
         sink.new.written.out.items) }
     ensures retained { Extends sink.old.written.out.items sink.new.written.out.items }
+    ensures memory { IfErr result (λ e. e.error ≡ Error.OutOfMemory → MayAllocate text.now
+        ⊎ LacksCapacityForLines (mode_of mode) (lines_of text.now) (vec_capacity sink.old.written.out)
+        (vec_len sink.old.written.out)) }
+    ensures capacity { MayAllocate text.now
+        ⊎ (vec_capacity sink.old.written.out ≤ vec_capacity sink.new.written.out) }
     ensures rejects { IfErr result (λ e. RejectsLine (mode_of mode) e.error (lines_of text.now) e.start) }
 {
     let mut rest = text;
@@ -93,6 +106,7 @@ fn split_line(bytes: &[u8]) -> (&[u8], &[u8])
     ensures lines { lines_of bytes.now ≡ result.0.now ∷ lines_of result.1.now }
     ensures length { (result.1.now ≡ []) ⊎ (length bytes.now ≡ length result.0.now + 1 + length result.1.now) }
     ensures shorter { length result.1.now < length bytes.now }
+    ensures parts { (byte : ℕ) → Contains result.0.now byte ⊎ Contains result.1.now byte → Contains bytes.now byte }
 {
     match memchr(b'\n', bytes) {
         Some(end) => (&bytes[..end], &bytes[end + 1..]),
@@ -106,14 +120,38 @@ fn write_line<'a>(sink: &mut TextSink<'a>, alloc: Global, line: &'a [u8], mode: 
     ensures appends { OnOk result (AppendsTextOfLine (mode_of mode) line.now sink.old.written.out.items
         sink.new.written.out.items) }
     ensures retained { Extends sink.old.written.out.items sink.new.written.out.items }
+    ensures memory { result ≡ Err Error.OutOfMemory → MayAllocate line.now ⊎ LacksCapacityForLine (mode_of mode) line.now
+        (vec_capacity sink.old.written.out) (vec_len sink.old.written.out) }
+    ensures capacity { MayAllocate line.now
+        ⊎ (vec_capacity sink.old.written.out ≤ vec_capacity sink.new.written.out) }
     ensures rejects { Rejects (mode_of mode) line.now result }
     ensures follows { FailsAsSpecified (mode_of mode) line.now result }
 {
-    sink.restart(line);
-    write_form(sink, alloc, line, mode)?;
+    write_line_form(sink, alloc, line, mode)?;
     let written = &mut sink.written;
     match written.out.push(b'\n') {
         Ok(()) => Ok(()),
         Err(_) => Err(Error::OutOfMemory),
+    }
+}
+
+// Writes the serialized form of a line's value. A line that takes no memory goes by its value, as such a text does.
+#[inline(always)]
+fn write_line_form<'a>(
+    sink: &mut TextSink<'a>,
+    alloc: Global,
+    line: &'a [u8],
+    mode: Mode,
+) -> Result<()>
+    ensures appends { AppendsParsed (AppendsTextOf (mode_of mode) line.now)
+        (LacksCapacityForText (mode_of mode) line.now) line.now result sink.old.written.out sink.new.written.out }
+    ensures rejects { Rejects (mode_of mode) line.now result }
+    ensures follows { FailsAsSpecified (mode_of mode) line.now result }
+{
+    sink.restart(line);
+    if may_allocate(line) {
+        write_form(sink, alloc, line, mode)
+    } else {
+        write_form_of_value(sink, alloc, line, mode)
     }
 }

@@ -206,15 +206,14 @@ pub(super) fn write_form<'a>(
 // Writes it to the buffer of a sink, from a value that is made first.
 #[cold]
 #[inline(never)]
-fn write_form_of_value(
+pub(super) fn write_form_of_value(
     sink: &mut TextSink<'_>,
     alloc: Global,
     text: &[u8],
     mode: Mode,
 ) -> Result<()>
-    ensures appends { OnOk result (AppendsTextOf (mode_of mode) text.now sink.old.written.out.items
-        sink.new.written.out.items) }
-    ensures preserves { OnErr result (sink.new.written.out.items ≡ sink.old.written.out.items) }
+    ensures appends { AppendsParsed (AppendsTextOf (mode_of mode) text.now)
+        (LacksCapacityForText (mode_of mode) text.now) text.now result sink.old.written.out sink.new.written.out }
     ensures rejects { Rejects (mode_of mode) text.now result }
     ensures follows { FailsAsSpecified (mode_of mode) text.now result }
 {

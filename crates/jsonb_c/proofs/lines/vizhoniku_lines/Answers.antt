@@ -4,4 +4,4 @@ use Rattle.jsonb_c.proofs.lines.vizhoniku_lines.Goals as goal
 
 pub returns-in-Err-clause-accepted : goal.returns-in-Err-clause-accepted
 returns-in-Err-clause-accepted c =
-    λ known all. inr (inr (c.report.ensures.status ∙ lines_wanting c.args.mode c.args.text.now c.texts_of_lines.new.start c.in-Err.rejected known c.in-Err.ensures.reason all))
+    λ known all. inr (inr (c.report.ensures.status ∙ lines_wanting c.args.mode c.args.text.now c.texts_of_lines.new.start c.in-Err.rejected known c.in-Err.ensures.fails.reason all))

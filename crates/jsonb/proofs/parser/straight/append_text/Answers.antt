@@ -15,8 +15,8 @@ returns-clause-appends c =
     let may : MayAllocate text = search rules in
     record {
       ok = subst (λ old. OnOk result (AppendsTextOf (mode_of c.args.mode) text old out)) before
-          (subst (λ new. OnOk result (AppendsTextOf (mode_of c.args.mode) text (base_of sink) new)) (sym c.into_buffer.ensures) c.write_form-written.ensures.appends);
-      err = subst (λ old. OnErr result (out ≡ old)) before (subst (λ new. OnErr result (new ≡ base_of sink)) (sym c.into_buffer.ensures) c.write_form-written.ensures.preserves);
+          (subst (λ new. OnOk result (AppendsTextOf (mode_of c.args.mode) text (base_of sink) new)) (sym (ap (λ v. v.items) c.into_buffer.ensures)) c.write_form-written.ensures.appends);
+      err = subst (λ old. OnErr result (out ≡ old)) before (subst (λ new. OnErr result (new ≡ base_of sink)) (sym (ap (λ v. v.items) c.into_buffer.ensures)) c.write_form-written.ensures.preserves);
       memory = λ _. inl may;
       capacity = inl may;
     }
