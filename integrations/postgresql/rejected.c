@@ -23,8 +23,9 @@
 #include "key_walk.h"
 #include "vjson.h"
 
-/* The most digits that a number has. */
+/* The most digits that a number has, and those of a number that is rounded which say to what. */
 #define MOST_DIGITS		38
+#define MOST_ROUNDED	(MOST_DIGITS + 2)
 
 /* The columns of what is reported. */
 #define COLUMNS			5
@@ -166,31 +167,106 @@ whole_digits(const char *number)
 	return (int) strspn(number, "0123456789");
 }
 
-/*
- * Append a number of JSON: as it is where it is representable, without its
- * exponent where that is enough, and else rounded to the most decimals that are
- * representable.  One with more than 38 digits before the point stays as it
- * is, and is rejected.
- */
-static void
-append_rounded(StringInfo out, const char *number, size_t size)
+/* The number with its exponent written out. NULL where it takes too many digits so. */
+static char *
+written_out(const char *number, size_t size)
 {
-	Datum		exact;
-	char	   *words;
+	size_t		capacity = size + MOST_DIGITS + SPARE_ROOM;
+	char	   *plain = palloc(capacity + 1);
+	struct vizhoniku_error error;
 
-	if (is_carried(number, size))
+	if (vizhoniku_plain_numbers((const unsigned char *) number, size, (unsigned char *) plain, capacity, &size,
+								&error) != VIZHONIKU_ACCEPTED)
+		return NULL;
+	plain[size] = '\0';
+	return is_carried(plain, size) ? plain : NULL;
+}
+
+/* The exponent that begins here, of at most 32 bits: greater ones say no more of a number that fits into memory. */
+static int64
+exponent_at(const char *number, size_t size, size_t at)
+{
+	long		exponent = at < size ? strtol(pnstrdup(number + at + 1, size - at - 1), NULL, 10) : 0;
+
+	return Max(Min(exponent, PG_INT32_MAX), PG_INT32_MIN);
+}
+
+/* The digits of a number from the first one on that isn't 0: as 0.DIGITS times a power of 10. */
+typedef struct
+{
+	char		at[MOST_ROUNDED + 1];
+	int			count;
+	int64		power;
+} Digits;
+
+static Digits
+digits_of(const char *number, size_t size)
+{
+	Digits		digits = {{0}, 0, 0};
+	bool		is_behind_point = false;
+	size_t		at;
+
+	for (at = 0; at < size && number[at] != 'e' && number[at] != 'E'; at++)
 	{
-		appendBinaryStringInfo(out, number, (int) size);
-		return;
+		if (number[at] == '.')
+			is_behind_point = true;
+		if (number[at] < '0' || number[at] > '9')
+			continue;
+		if (digits.count == 0 && number[at] == '0')
+			digits.power -= is_behind_point;
+		else
+		{
+			digits.power += !is_behind_point;
+			if (digits.count < MOST_ROUNDED)
+				digits.at[digits.count++] = number[at];
+		}
 	}
-	exact = DirectFunctionCall3(numeric_in, CStringGetDatum(pnstrdup(number, size)), ObjectIdGetDatum(InvalidOid),
-								Int32GetDatum(-1));
+	digits.power += exponent_at(number, size, at);
+	return digits;
+}
+
+/* The number of these digits, rounded to the most decimals that are representable. NULL where it is too large. */
+static const char *
+rounded_digits(bool is_negative, const Digits *digits)
+{
+	char	   *words = psprintf("%s0.%se%d", is_negative ? "-" : "", digits->at, (int) digits->power);
+	Datum		exact = DirectFunctionCall3(numeric_in, CStringGetDatum(words), ObjectIdGetDatum(InvalidOid),
+										Int32GetDatum(-1));
+
 	words = text_of_numeric(exact);
 	for (int decimals = MOST_DIGITS - whole_digits(words); decimals >= 0 && !is_carried(words, strlen(words));
 		 decimals--)
 		words = text_of_numeric(DirectFunctionCall1(numeric_trim_scale,
 			DirectFunctionCall2(numeric_round, exact, Int32GetDatum(decimals))));
-	if (is_carried(words, strlen(words)))
+	return is_carried(words, strlen(words)) ? words : NULL;
+}
+
+/*
+ * A number of JSON without its exponent where that is enough, and else rounded.
+ * NULL where it has more than 38 digits before the point.  A numeric is made
+ * only of what it surely has place for, which isn't so for each number of JSON.
+ */
+static const char *
+rounded_number(const char *number, size_t size)
+{
+	const char *words = written_out(number, size);
+	Digits		digits;
+
+	if (words != NULL)
+		return words;
+	digits = digits_of(number, size);
+	if (digits.count == 0 || digits.power < -MOST_DIGITS)
+		return "0";
+	return digits.power <= MOST_DIGITS ? rounded_digits(*number == '-', &digits) : NULL;
+}
+
+/* Append a number as it is where it is representable, or can't be rounded so that it is, and else rounded. */
+static void
+append_rounded(StringInfo out, const char *number, size_t size)
+{
+	const char *words = is_carried(number, size) ? NULL : rounded_number(number, size);
+
+	if (words != NULL)
 		appendStringInfoString(out, words);
 	else
 		appendBinaryStringInfo(out, number, (int) size);

@@ -64,4 +64,5 @@ SELECT message, path FROM vjson_error('{"k":{"scores":[0.1,1e-60]}}'::jsonb);
 SELECT v FROM documents WHERE (vjson_error(v::text)).message IS NOT NULL OR (vjson_error(j)).message IS NOT NULL;
 SELECT vjson_rounded('{"a":[1e-07,1.5e+20,5e-324,1.50,-1E2],"1e5":"1e5"}'), vjson_rounded('0.' || repeat('3', 40)) AS rounded;
 SELECT vjson_rounded('[1,1e300]');
+SELECT vjson_rounded('[1e-20000,-5e-39]'), (vjson_error('[1e-20000,1e200000]', true)).*;
 SELECT vjson_rounded('[1e5,x]');
