@@ -2,17 +2,17 @@
 Python.
 
 A call is timed over a document of 20,000 parts and over one of 80,000, by the time of the processor, so that other
-work on the machine counts little. In proportion the second takes 4 times as long, with its square 16 times. Past 6
+work on the machine counts little. In proportion the second takes 4 times as long, with its square 16 times. Past 8
 times it grows too fast. Of several runs the shortest counts, and there are more of them before a call is found to grow
 too fast. The call is repeated until the small document takes at least FLOOR, so that what a clock doesn't resolve and
 what a call costs for any document count little.
 
-A call that takes less than QUICK for the large document isn't compared. It copies or compares the document's bytes
-whole, which costs more for each byte where they are past the caches of the processor. The square of 80,000 steps, of a
-tenth of a nanosecond each, is 640 ms.
+A call that takes less than QUICK for the large document isn't compared. The square of 80,000 steps, of a tenth of a
+nanosecond each, is 640 ms, and that of a fourth of them 40 ms. Less says nothing: each byte costs more where they are
+past the caches of the processor, which other work shares, so that calls in proportion of 2 to 20 ms were seen to take
+11 times as long, and longer ones 7 times.
 
-Where other tests run beside, which share these caches, a call in proportion was seen to take 8 times as long. There
-VIZHONIKU_MOST_TIMES says how many times are allowed in place of 6.
+Where other tests run beside, VIZHONIKU_MOST_TIMES says how many times are allowed in place of 8.
 
 Once calls have taken MOST_SPENT in all, the others aren't timed any more, which counts as a fault of each.
 """
@@ -21,10 +21,10 @@ import os
 from typing import Callable, Optional
 
 SMALL, LARGE = 20_000, 80_000
-MOST = float(os.environ.get("VIZHONIKU_MOST_TIMES", "6"))  # times
+MOST = float(os.environ.get("VIZHONIKU_MOST_TIMES", "8"))  # times
 FAR_TOO_MUCH = MOST + 4
-FLOOR = 0.005  # seconds
-QUICK = 0.002
+FLOOR = 0.01  # seconds
+QUICK = 0.03
 MOST_CALLS = 200
 RUNS, MORE_RUNS = 3, 12
 LONG = 0.5  # seconds, from which on a run isn't repeated for a shorter one
@@ -41,29 +41,32 @@ def too_fast(make_calls: Callable[[int, int], float]) -> Optional[str]:
     """What is told of a call that grows too fast, or None. make_calls(size, calls) makes so many calls over the
     document of that size, and returns the seconds of the processor that they took."""
 
-    def time_of(size: int, calls: int) -> float:
+    def time_of(size: int, calls: int = 1) -> float:
+        """The seconds of one call, where so many are made."""
         global spent
         took = make_calls(size, calls)
         spent += took
-        return took
+        return took / calls
 
     if spent > MOST_SPENT:
         return "not timed, since others have taken %.0f s" % spent
-    small, calls = time_of(SMALL, 1), 1
-    while small < FLOOR and calls < MOST_CALLS:
-        calls = min(MOST_CALLS, calls * (1 + int(1.2 * FLOOR / max(small, FLOOR / 50))))
+    large = time_of(LARGE)
+    if large < QUICK:
+        return None
+    small, calls = time_of(SMALL), 1
+    while small * calls < FLOOR and calls < MOST_CALLS:
+        calls = min(MOST_CALLS, calls * (1 + int(1.2 * FLOOR / max(small * calls, FLOOR / 50))))
         small = time_of(SMALL, calls)
     for _ in range(RUNS - 1):
         if small < LONG:
             small = min(small, time_of(SMALL, calls))
-    large = time_of(LARGE, calls)
     for run in range(MORE_RUNS):
-        if large <= MOST * small or large < QUICK * calls:
+        if large <= MOST * small or large < QUICK:
             return None
         if run > 1 and large > FAR_TOO_MUCH * small:
             break
         if small < LONG:
             small = min(small, time_of(SMALL, calls))
-            large = min(large, time_of(LARGE, calls))
+            large = min(large, time_of(LARGE))
     return "%.1f ms for %d parts, %.1f ms for %d: %.1f times" % (
-        1000 * small / calls, SMALL, 1000 * large / calls, LARGE, large / small)
+        1000 * small, SMALL, 1000 * large, LARGE, large / small)
