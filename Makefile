@@ -5,8 +5,8 @@
 #   make install [PREFIX=/usr/local] [DESTDIR=]
 #   make uninstall [PREFIX=/usr/local] [DESTDIR=]
 #
-# Needs the Rattle kit, cc, ld and objcopy. The library is proved before it is built, so the first time takes minutes.
-# With PROVED=FILE no kit is needed: the file is the build/proved.o of a folder where the library was proved.
+# Needs the Rattle kit, cc, ld and objcopy. What is built is proved first, which takes half an hour and more. With
+# PROVED=FILE no kit is needed: the file is the build/proved.o of a folder where the library was proved.
 PREFIX ?= /usr/local
 INCLUDEDIR ?= $(PREFIX)/include
 LIBDIR ?= $(PREFIX)/lib
