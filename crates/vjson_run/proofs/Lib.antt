@@ -14,3 +14,4 @@ pub mod PartKeys
 pub mod Parts
 pub mod Reading
 pub mod Taken
+pub mod Troubled

@@ -4,3 +4,4 @@ pub mod Input
 pub mod Lines
 pub mod Output
 pub mod Runs
+pub mod Trouble

@@ -1,9 +1,11 @@
 //! What the commands answer to one text, and print of it.
 
-ghost use Rattle.std.specs.Prelude.{◌≡◌, ◌≢◌, [], map, string_bytes, IfOk, IfErr, OnOk, MatchBool, None};
+ghost use Rattle.std.specs.Prelude.{◌≡◌, ◌≢◌, ◌⊎◌, [], false, map, string_bytes, IfOk, IfErr, OnOk, MatchBool, Err, None};
+ghost use Rattle.vjson_text.specs.Memory.{MayRunOut};
 ghost use Rattle.vjson_text.specs.Read.{Rejects};
 ghost use Rattle.vjson_text.specs.Json.{AppendsKeyOf, AppendsPartOf};
 ghost use Rattle.vjson_text.specs.declared.reader.Grammar.{Grammar};
+ghost use Rattle.vjson_run.specs.Trouble.{MayTakeMemory};
 ghost use Rattle.vjson_run.specs.Answers.{
   AppendsLine,
   IsFound,
@@ -74,6 +76,7 @@ pub fn check(
 ) -> Result<(), Fault>
     ensures ok { OnOk result (IsOne grammar text.now) }
     ensures rejected { Rejects grammar text.now result }
+    ensures memory { result ≡ Err Fault.NoMemory → MayRunOut grammar text.now }
 {
     vjson_text::check(alloc, grammar, text, &mut buffers.plain)
 }
@@ -93,6 +96,7 @@ pub fn format(
     ensures ok { OnOk result (Prints (IsLaidOut options.now text.now) out.old.items out.new.items) }
     ensures err { IfErr result (λ f. f ≢ Fault.NoMemory → out.new.items ≡ out.old.items) }
     ensures rejected { Rejects options.now.grammar text.now result }
+    ensures memory { result ≡ Err Fault.NoMemory → MayTakeMemory options.now.grammar text.now }
 {
     let layout = layout_of(options);
     let plain = &mut buffers.plain;
@@ -111,6 +115,7 @@ fn find_part(
 ) -> Result<bool, Fault>
     ensures ok { IfOk result (λ found. AppendsPartOf grammar (map string_bytes path.now) text.now [] buffers.new.part.items found) }
     ensures rejected { Rejects grammar text.now result }
+    ensures memory { result ≡ Err Fault.NoMemory → MayTakeMemory grammar text.now }
 {
     buffers.part.clear();
     vjson_text::append_part(
@@ -153,6 +158,7 @@ pub fn get(
         (LacksPart options.now text.now × (options.now.default ≡ None) × (out.new.items ≡ out.old.items))) }
     ensures err { IfErr result (λ f. f ≢ Fault.NoMemory → out.new.items ≡ out.old.items) }
     ensures rejected { Rejects options.now.grammar text.now result }
+    ensures memory { result ≡ Err Fault.NoMemory → MayTakeMemory options.now.grammar text.now }
 {
     let path = path_of(options);
     if find_part(alloc, options.grammar, path, text, buffers)? {
@@ -190,6 +196,7 @@ pub fn make_whole_key(
 ) -> Result<(), Fault>
     ensures ok { OnOk result (AppendsKeyOf grammar text.now [] buffers.new.key.items) }
     ensures rejected { Rejects grammar text.now result }
+    ensures memory { result ≡ Err Fault.NoMemory → MayTakeMemory grammar text.now }
 {
     buffers.key.clear();
     let plain = &mut buffers.plain;
@@ -209,6 +216,7 @@ pub fn make_key(
 ) -> Result<(), Fault>
     ensures ok { OnOk result (IsKeyOf options.now text.now buffers.new.key.items) }
     ensures rejected { Rejects options.now.grammar text.now result }
+    ensures memory { result ≡ Err Fault.NoMemory → MayTakeMemory options.now.grammar text.now }
 {
     let grammar = options.grammar;
     let Some(path) = &options.pointer else {
@@ -251,6 +259,8 @@ pub fn append_line(
     ensures key { buffers.new.key.items ≡ buffers.old.key.items }
     ensures err { IfErr result (λ f. f ≢ Fault.NoMemory → out.new.items ≡ out.old.items) }
     ensures rejected { Rejects options.now.grammar text.now result }
+    ensures memory { result ≡ Err Fault.NoMemory → MayTakeMemory options.now.grammar text.now
+        ⊎ (options.now.canonical ≡ false) }
 {
     if !options.canonical {
         out.extend_from_slice(text)?;
@@ -275,6 +285,7 @@ pub fn print_key(
     ensures ok { OnOk result (PrintsKeyed options.now text.now out.old.items out.new.items) }
     ensures err { IfErr result (λ f. f ≢ Fault.NoMemory → out.new.items ≡ out.old.items) }
     ensures rejected { Rejects options.now.grammar text.now result }
+    ensures memory { result ≡ Err Fault.NoMemory → MayTakeMemory options.now.grammar text.now }
 {
     make_key(alloc, options, text, buffers)?;
     if !options.canonical {

@@ -11,6 +11,7 @@ use crate::options::BLOCK;
 use std::alloc::{AllocError, Global};
 use std::io;
 use std::io::Write;
+use vjson_text::Message;
 
 /// Standard output, with what isn't written yet, and the error by which it failed.
 #[derive(Drop)]
@@ -126,7 +127,7 @@ fn try_report_fault<E: Write>(
     alloc: Global,
     err: &mut E,
     spot: Spot<'_>,
-    message: &str,
+    message: &Message,
     text: &[u8],
     offset: usize,
 ) -> Result<(), AllocError> {
@@ -135,7 +136,8 @@ fn try_report_fault<E: Write>(
     let (row, column) = (spot.line, spot.column);
     let numbers = format!(in alloc; ":{row}:{column}: ")?;
     line.push_str(numbers.as_str())?;
-    append_shown(message.as_bytes(), &mut line)?;
+    let words = format!(in alloc; "{message}")?;
+    append_shown(words.as_bytes(), &mut line)?;
     line.push('\n')?;
     line.push_str(shown_line(alloc, text, offset)?.as_str())?;
     line.push('\n')?;
@@ -148,7 +150,7 @@ pub fn report_fault<E: Write>(
     alloc: Global,
     err: &mut E,
     spot: Spot<'_>,
-    message: &str,
+    message: &Message,
     text: &[u8],
     offset: usize,
 ) {

@@ -1,12 +1,14 @@
 //! A run of the program over its files.
 
-ghost use Rattle.std.specs.Prelude.{◌≡◌, ◌≢◌, ◌≤◌, ◌∷◌, ◌==◌, [], List, ℕ, Option, OnOk, IfErr, IfSome, None, Some, if◌then◌else◌, true, false};
+ghost use Rattle.std.specs.Prelude.{◌≡◌, ◌≢◌, ◌⊎◌, ◌≤◌, ◌∷◌, ◌==◌, [], List, ℕ, Option, OnOk, IfErr, IfSome, Err, None, Some, if◌then◌else◌, true, false};
 ghost use Rattle.vjson_text.specs.Json.{IsNoTextOf};
+ghost use Rattle.vjson_text.specs.Memory.{MayRunOut};
 ghost use Rattle.vjson_text.specs.Read.{Rejects};
 ghost use Rattle.vjson_run.specs.Answers.{IsLaidOut, IsOne, Prints, PrintsKeyed, checks_order};
 ghost use Rattle.vjson_run.specs.InOrder.{is_wrong};
 ghost use Rattle.vjson_run.specs.Input.{text_lines, texts_of, without_mark};
 ghost use Rattle.vjson_run.specs.Output.{IsWritten};
+ghost use Rattle.vjson_run.specs.Trouble.{Advances, MayRunOutBy, MayTakeMemory, MayTroubleAtEnd, Troubles};
 ghost use Rattle.vjson_run.specs.Runs.{
   AddsLine,
   ChecksOrder,
@@ -30,11 +32,11 @@ use crate::input::{is_blank_line, read_line, without_end, without_mark};
 use crate::lines::{Line, arrange, may_follow};
 use crate::options::{Command, Options};
 use crate::report::{Output, Spot, print_lines, report_fault, report_memory, report_stream};
-use jsonb::line_and_column;
+use jsonb::{ParseErrorCode, line_and_column};
 use std::alloc::{AllocError, Global};
 use std::io;
 use std::io::{BufRead, ErrorKind, Write};
-use vjson_text::Fault;
+use vjson_text::{Fault, Message};
 
 // What the exit status says.
 #[derive(Clone, Copy, PartialEq, Eq, Debug)]
@@ -42,6 +44,17 @@ enum Status {
     Yes,
     No,
     Trouble,
+}
+
+// What is said of a text, by the line and the column of what is wrong: what is behind a text on a line of its own is
+// often a text of the next line.
+fn message_at(line: usize, column: usize, message: Message) -> Message {
+    match message {
+        Message::Code(ParseErrorCode::UnexpectedTrailingCharacters) if line > 1 && column == 1 => {
+            Message::Trailing
+        }
+        message => message,
+    }
 }
 
 /// A run of the program.
@@ -63,6 +76,7 @@ impl<'o, W: Write, E: Write> Session<'o, W, E> {
     /// A run with these options, over these streams, of which nothing is read yet.
     pub fn new(alloc: Global, options: &'o Options, out: W, err: E) -> Session<'o, W, E>
         ensures nothing { HasTaken W.contents (W.contents out) [] result }
+        ensures calm { result.status ≢ Status.Trouble }
     {
         Session {
             alloc,
@@ -101,7 +115,8 @@ impl<'o, W: Write, E: Write> Session<'o, W, E> {
     }
 
     fn no_memory(&mut self)
-        ensures { self.new.status ≡ Status.Trouble }
+        ensures trouble { self.new.status ≡ Status.Trouble }
+        ensures options { self.new.options ≡ self.old.options }
     {
         self.status = Status::Trouble;
         self.over = true;
@@ -116,6 +131,8 @@ impl<'o, W: Write, E: Write> Session<'o, W, E> {
     pub fn feed<R: BufRead>(&mut self, name: &str, input: &mut R) -> io::Result<()>
         ensures takes { OnOk result (IfSome (R.remaining input.old)
             (λ bytes. Takes W.contents self.old (texts_of self.old.options.now.lines bytes) self.new)) }
+        ensures trouble { OnOk result (IfSome (R.remaining input.old)
+            (λ bytes. Troubles self.old (texts_of self.old.options.now.lines bytes) self.new)) }
     {
         if self.options.lines {
             self.feed_lines(name, input)
@@ -126,7 +143,7 @@ impl<'o, W: Write, E: Write> Session<'o, W, E> {
 
     fn feed_whole<R: BufRead>(&mut self, name: &str, input: &mut R) -> io::Result<()>
         ensures { OnOk result (IfSome (R.remaining input.old)
-            (λ bytes. Takes W.contents self.old (without_mark bytes ∷ []) self.new)) }
+            (λ bytes. Advances W.contents self.old (without_mark bytes ∷ []) self.new)) }
     {
         let mut bytes = Vec::new(self.alloc);
         input.read_to_end(&mut bytes)?;
@@ -136,7 +153,7 @@ impl<'o, W: Write, E: Write> Session<'o, W, E> {
 
     // Takes all of an input.
     fn take_whole(&mut self, name: &str, text: &[u8])
-        ensures { Takes W.contents self.old (text.now ∷ []) self.new }
+        ensures { Advances W.contents self.old (text.now ∷ []) self.new }
     {
         match self.take(text) {
             Ok(()) => {}
@@ -148,23 +165,14 @@ impl<'o, W: Write, E: Write> Session<'o, W, E> {
                     line: u64::try_from(line).unwrap_or(u64::MAX),
                     column: u64::try_from(column).unwrap_or(u64::MAX),
                 };
-                // What is behind a text on a line of its own is often a text of the next line.
-                let message = if line > 1
-                    && column == 1
-                    && message.as_str() == "trailing characters"
-                {
-                    "trailing characters (one text a line? --lines)"
-                } else {
-                    message.as_str()
-                };
-                self.reject(spot, message, text, offset);
+                self.reject(spot, &message_at(line, column, message), text, offset);
             }
         }
     }
 
     fn feed_lines<R: BufRead>(&mut self, name: &str, input: &mut R) -> io::Result<()>
         ensures { OnOk result (IfSome (R.remaining input.old)
-            (λ bytes. Takes W.contents self.old (text_lines (without_mark bytes)) self.new)) }
+            (λ bytes. Advances W.contents self.old (text_lines (without_mark bytes)) self.new)) }
     {
         let mut bytes = Vec::new(self.alloc);
         if read_line(input, &mut bytes)? == 0 {
@@ -186,7 +194,7 @@ impl<'o, W: Write, E: Write> Session<'o, W, E> {
 
     // Takes a line, unless it is blank.
     fn take_line(&mut self, name: &str, number: u64, line: &[u8])
-        ensures { Takes W.contents self.old (line_texts line.now) self.new }
+        ensures { Advances W.contents self.old (line_texts line.now) self.new }
     {
         let text = without_end(line);
         if is_blank_line(text) {
@@ -197,7 +205,7 @@ impl<'o, W: Write, E: Write> Session<'o, W, E> {
 
     // Takes the text of a line.
     fn take_text(&mut self, name: &str, number: u64, text: &[u8])
-        ensures { Takes W.contents self.old (text.now ∷ []) self.new }
+        ensures { Advances W.contents self.old (text.now ∷ []) self.new }
     {
         match self.take(text) {
             Ok(()) => self.stop_out_of_order(name, number),
@@ -208,14 +216,14 @@ impl<'o, W: Write, E: Write> Session<'o, W, E> {
                     line: number,
                     column: u64::try_from(offset).unwrap_or(u64::MAX).saturating_add(1),
                 };
-                self.reject(spot, message.as_str(), text, offset);
+                self.reject(spot, &message, text, offset);
             }
         }
     }
 
     // Reports that the line isn't in order, where this is so, and reads no more.
     fn stop_out_of_order(&mut self, name: &str, number: u64)
-        ensures { Takes W.contents self.old [] self.new }
+        ensures { Advances W.contents self.old [] self.new }
     {
         if self.options.checks_order() && self.status == Status::No && !self.over {
             let _ = writeln!(self.err, "vjson: {name}:{number}: out of order");
@@ -224,8 +232,9 @@ impl<'o, W: Write, E: Write> Session<'o, W, E> {
     }
 
     // Reports that a text is rejected.
-    fn reject(&mut self, spot: Spot<'_>, message: &str, text: &[u8], offset: usize)
-        ensures { IsNoTextOf self.old.options.now.grammar text.now → Takes W.contents self.old (text.now ∷ []) self.new }
+    fn reject(&mut self, spot: Spot<'_>, message: &Message, text: &[u8], offset: usize)
+        ensures { IsNoTextOf self.old.options.now.grammar text.now
+            → Advances W.contents self.old (text.now ∷ []) self.new }
     {
         self.status = self.status_rejected();
         self.over = self.is_over_rejected();
@@ -264,6 +273,9 @@ impl<'o, W: Write, E: Write> Session<'o, W, E> {
         ensures ok { OnOk result (Takes W.contents self.old (text.now ∷ []) self.new) }
         ensures rejected { IfErr result (λ f. f ≢ Fault.NoMemory
             → IsNoTextOf self.old.options.now.grammar text.now × IsSame self.old self.new) }
+        ensures calm { Troubles self.old [] self.new }
+        ensures memory { result ≡ Err Fault.NoMemory
+            → MayRunOutBy self.old.options.now.command self.old.options.now.grammar text.now }
     {
         self.answer(text)?;
         self.settle();
@@ -272,7 +284,7 @@ impl<'o, W: Write, E: Write> Session<'o, W, E> {
 
     // Writes what is printed, where it is much. Where that fails no more is read.
     fn settle(&mut self)
-        ensures { Takes W.contents self.old [] self.new }
+        ensures { Advances W.contents self.old [] self.new }
     {
         self.out.flush_much(self.options.block);
         if self.out.error().is_some() {
@@ -285,6 +297,9 @@ impl<'o, W: Write, E: Write> Session<'o, W, E> {
         ensures ok { OnOk result (Takes W.contents self.old (text.now ∷ []) self.new) }
         ensures rejected { Rejects self.old.options.now.grammar text.now result }
         ensures same { IfErr result (λ f. f ≢ Fault.NoMemory → IsSame self.old self.new) }
+        ensures calm { Troubles self.old [] self.new }
+        ensures memory { result ≡ Err Fault.NoMemory
+            → MayRunOutBy self.old.options.now.command self.old.options.now.grammar text.now }
     {
         match self.options.command {
             Command::Check => self.answer_check(text),
@@ -300,6 +315,7 @@ impl<'o, W: Write, E: Write> Session<'o, W, E> {
         ensures ok { OnOk result (IsOne self.old.options.now.grammar text.now) }
         ensures rejected { Rejects self.old.options.now.grammar text.now result }
         ensures same { IsSame self.old self.new }
+        ensures memory { result ≡ Err Fault.NoMemory → MayRunOut self.old.options.now.grammar text.now }
     {
         let grammar = self.options.grammar;
         answers::check(self.alloc, grammar, text, &mut self.buffers)
@@ -311,6 +327,7 @@ impl<'o, W: Write, E: Write> Session<'o, W, E> {
         ensures err { IfErr result (λ f. f ≢ Fault.NoMemory → self.new.out.bytes.items ≡ self.old.out.bytes.items) }
         ensures rejected { Rejects self.old.options.now.grammar text.now result }
         ensures retained { IsRetained self.old self.new }
+        ensures memory { result ≡ Err Fault.NoMemory → MayTakeMemory self.old.options.now.grammar text.now }
     {
         let out = &mut self.out.bytes;
         answers::format(self.alloc, self.options, text, &mut self.buffers, out)
@@ -320,6 +337,8 @@ impl<'o, W: Write, E: Write> Session<'o, W, E> {
         ensures ok { OnOk result (Gets self.old text.now self.new) }
         ensures rejected { Rejects self.old.options.now.grammar text.now result }
         ensures same { IfErr result (λ f. f ≢ Fault.NoMemory → IsSame self.old self.new) }
+        ensures calm { Troubles self.old [] self.new }
+        ensures memory { result ≡ Err Fault.NoMemory → MayTakeMemory self.old.options.now.grammar text.now }
     {
         let out = &mut self.out.bytes;
         if !answers::get(self.alloc, self.options, text, &mut self.buffers, out)? {
@@ -334,6 +353,7 @@ impl<'o, W: Write, E: Write> Session<'o, W, E> {
         ensures err { IfErr result (λ f. f ≢ Fault.NoMemory → self.new.out.bytes.items ≡ self.old.out.bytes.items) }
         ensures rejected { Rejects self.old.options.now.grammar text.now result }
         ensures retained { IsRetained self.old self.new }
+        ensures memory { result ≡ Err Fault.NoMemory → MayTakeMemory self.old.options.now.grammar text.now }
     {
         let out = &mut self.out.bytes;
         answers::print_key(self.alloc, self.options, text, &mut self.buffers, out)
@@ -343,6 +363,8 @@ impl<'o, W: Write, E: Write> Session<'o, W, E> {
         ensures ok { OnOk result (Compares text.now self.old self.new) }
         ensures rejected { Rejects self.old.options.now.grammar text.now result }
         ensures same { IfErr result (λ f. f ≢ Fault.NoMemory → IsSame self.old self.new) }
+        ensures calm { Troubles self.old [] self.new }
+        ensures memory { result ≡ Err Fault.NoMemory → MayTakeMemory self.old.options.now.grammar text.now }
     {
         let grammar = self.options.grammar;
         answers::make_whole_key(self.alloc, grammar, text, &mut self.buffers)?;
@@ -373,6 +395,8 @@ impl<'o, W: Write, E: Write> Session<'o, W, E> {
         ensures rejected { Rejects self.old.options.now.grammar text.now result }
         ensures same { IfErr result (λ f. f ≢ Fault.NoMemory → IsSame self.old self.new) }
         ensures options { self.new.options ≡ self.old.options }
+        ensures calm { Troubles self.old [] self.new }
+        ensures memory { result ≡ Err Fault.NoMemory → MayTakeMemory self.old.options.now.grammar text.now }
     {
         answers::make_key(self.alloc, self.options, text, &mut self.buffers)?;
         let key = self.buffers.key.clone()?;
@@ -423,6 +447,8 @@ impl<'o, W: Write, E: Write> Session<'o, W, E> {
         ensures nothing { sorts self.old ≡ false → self.new ≡ self.old }
         ensures sorted { sorts self.old ≡ true → self.new.status ≢ Status.Trouble
             → WritesSorted W.contents self.old self.new }
+        ensures trouble { self.new.status ≡ Status.Trouble
+            → (self.old.status ≡ Status.Trouble) ⊎ (sorts self.old ≡ true) }
     {
         if self.sorts() && self.write_sorted().is_err() {
             self.no_memory();
@@ -435,6 +461,8 @@ impl<'o, W: Write, E: Write> Session<'o, W, E> {
         ensures lines { self.new.lines.items ≡ self.old.lines.items }
         ensures status { self.new.status ≢ Status.Trouble → self.new.status ≡ self.old.status }
         ensures written { self.new.status ≢ Status.Trouble → IsWritten W.contents self.old.out self.new.out }
+        ensures trouble { self.new.status ≡ Status.Trouble
+            → (self.old.status ≡ Status.Trouble) ⊎ (self.new.out.error ≢ None) }
     {
         self.out.flush();
         if let Some(error) = self.out.error() {
@@ -448,6 +476,7 @@ impl<'o, W: Write, E: Write> Session<'o, W, E> {
     /// Writes what is left to be written, and returns the exit status.
     pub fn finish(&mut self) -> u8
         ensures status { result ≤ 2 }
+        ensures trouble { result ≡ 2 → (self.old.status ≡ Status.Trouble) ⊎ MayTroubleAtEnd self.old self.new.out }
         ensures done { (start : Option (List ℕ)) (texts : List (List ℕ)) → HasTaken W.contents start texts self.old
             → result ≢ 2 → IsDone self.old.options.now texts start (W.contents self.new.out.writer) (result == 0)
             self.old.options.now.command }

@@ -2,6 +2,7 @@ pub mod Inverted
 pub mod JsonWords
 pub mod LaidOut
 pub mod LaidOutTexts
+pub mod Memory
 pub mod NumberTexts
 pub mod Numbers
 pub mod Pieces

@@ -18,7 +18,7 @@ accepted Json text read t h document = record { strict = h.0; written = read; is
 accepted Standard text read t h document = subst (λ bytes. IsDocument standard bytes t) h document
 accepted Extended text read t h document = subst (λ bytes. IsDocument extended bytes t) h document
 
-abbrev bytes_of : Result (List ℕ) ℕ → List ℕ
+abbrev pub bytes_of : Result (List ℕ) ℕ → List ℕ
 bytes_of (Ok bytes) = bytes
 bytes_of (Err offset) = []
 

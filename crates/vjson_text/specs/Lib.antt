@@ -1,4 +1,5 @@
 pub mod Json
+pub mod Memory
 pub mod Raw
 pub mod Read
 pub mod Texts

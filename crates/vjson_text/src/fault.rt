@@ -1,19 +1,56 @@
 //! What is wrong with a text, and where.
 
-ghost use Rattle.std.specs.Prelude.{◌≡◌};
+ghost use Rattle.std.specs.Prelude.{◌≡◌, ◌≢◌, ◌↔◌};
 
 use jsonb::{Error, ParseErrorCode, fault_index};
-use std::alloc::{AllocError, AllocFailed, Global};
+use std::alloc::{AllocError, AllocFailed};
+use std::fmt;
 
-// What to say of a number that is well formed.
-const NOT_CARRIED: &str =
-    "number out of range (38 digits, written out; with --standard, 64-bit integers)";
+/// What is wrong with a text. It takes no memory to say so.
+#[derive(Debug, Drop)]
+pub enum Message {
+    /// What the parser says by this code.
+    Code(ParseErrorCode),
+    /// A number is well formed, and out of range.
+    OutOfRange,
+    NotUtf8,
+    /// The text ends where RFC 8259's grammar has more.
+    EndsTooEarly,
+    ControlCharacter,
+    /// RFC 8259's grammar has no such escape.
+    Escape,
+    /// RFC 8259's grammar has no such thing.
+    NotJson,
+    NoDocument,
+    /// Behind a text on a line of its own is something, which may be the text of the next line.
+    Trailing,
+}
+
+impl fmt::Display for Message {
+    fn fmt<W: fmt::Write>(&self, f: &mut fmt::Formatter<W>) -> fmt::Result {
+        match self {
+            Message::Code(code) => write!(f, "{code}"),
+            Message::OutOfRange => f.write_str(
+                "number out of range (38 digits, written out; with --standard, 64-bit integers)",
+            ),
+            Message::NotUtf8 => f.write_str("not UTF-8"),
+            Message::EndsTooEarly => f.write_str("the text ends too early"),
+            Message::ControlCharacter => f.write_str(
+                "control character in a string: JSON writes it as \\u and four digits",
+            ),
+            Message::Escape => f.write_str("escape that JSON doesn't have"),
+            Message::NotJson => f.write_str("JSON doesn't have this (--extended may)"),
+            Message::NoDocument => f.write_str("not a document"),
+            Message::Trailing => f.write_str("trailing characters (one text a line? --lines)"),
+        }
+    }
+}
 
 /// Why a text is rejected.
 #[derive(Debug, Drop)]
 pub enum Fault {
     /// The offset of the byte to show, and what is wrong.
-    At(usize, String),
+    At(usize, Message),
     /// Memory ran out.
     NoMemory,
 }
@@ -40,14 +77,6 @@ impl<T: Drop> From<AllocFailed<T>> for Fault {
     }
 }
 
-/// A fault at an offset.
-pub fn fault_at(alloc: Global, offset: usize, message: &str) -> Fault {
-    match String::from_str(alloc, message) {
-        Ok(message) => Fault::At(offset, message),
-        Err(_) => Fault::NoMemory,
-    }
-}
-
 // The offset at which the text stops to be UTF-8, or 0.
 fn utf8_fault(text: &[u8]) -> usize {
     match str::from_utf8(text) {
@@ -56,25 +85,28 @@ fn utf8_fault(text: &[u8]) -> usize {
     }
 }
 
+// The fault of a code with its number, of this text.
+fn syntax_fault(text: &[u8], code: ParseErrorCode, position: usize) -> Fault
+    ensures { result ≢ Fault.NoMemory }
+{
+    let offset = fault_index(text, &code, position);
+    match code {
+        ParseErrorCode::InvalidStringValue if str::from_utf8(text).is_err() => {
+            Fault::At(utf8_fault(text), Message::NotUtf8)
+        }
+        ParseErrorCode::NumberNotCarried => Fault::At(offset, Message::OutOfRange),
+        _ => Fault::At(offset, Message::Code(code)),
+    }
+}
+
 /// The fault that an error of this text is.
-pub fn fault_of(alloc: Global, text: &[u8], error: &Error) -> Fault
-    ensures memory { error.now ≡ Error.OutOfMemory → result ≡ Fault.NoMemory }
+pub fn fault_of(text: &[u8], error: Error) -> Fault
+    ensures memory { (result ≡ Fault.NoMemory) ↔ (error ≡ Error.OutOfMemory) }
 {
     match error {
         Error::OutOfMemory => Fault::NoMemory,
-        Error::Syntax(ParseErrorCode::InvalidStringValue, _) if str::from_utf8(text).is_err() => {
-            fault_at(alloc, utf8_fault(text), "not UTF-8")
-        }
-        Error::Syntax(ParseErrorCode::NumberNotCarried, position) => fault_at(
-            alloc,
-            fault_index(text, &ParseErrorCode::NumberNotCarried, *position),
-            NOT_CARRIED,
-        ),
-        Error::Syntax(code, position) => match format!(in alloc; "{code}") {
-            Ok(message) => Fault::At(fault_index(text, code, *position), message),
-            Err(_) => Fault::NoMemory,
-        },
-        Error::InvalidUtf8 => fault_at(alloc, utf8_fault(text), "not UTF-8"),
-        _ => fault_at(alloc, 0, "not a document"),
+        Error::Syntax(code, position) => syntax_fault(text, code, position),
+        Error::InvalidUtf8 => Fault::At(utf8_fault(text), Message::NotUtf8),
+        _ => Fault::At(0, Message::NoDocument),
     }
 }

@@ -6,5 +6,5 @@ pub mod laws;
 pub mod mask;
 pub mod reader;
 
-pub use fault::Fault;
+pub use fault::{Fault, Message};
 pub use reader::{Grammar, Layout, append, append_key, append_part, append_raw, check};

@@ -1,6 +1,8 @@
 use Rattle.std.proofs.lemmas.Result.{on_ok_weaker}
 use Rattle.vjson_run.proofs.Lists.{on_ok_both}
 use Rattle.vjson_run.proofs.Taken.{checked_taken, compared_taken, gets_taken, keyed_taken, laid_taken, sorted_taken}
+use Rattle.vjson_run.proofs.Troubled.{by_command}
+use Rattle.vjson_run.specs.declared.options.Command.TheVariants.{Get, Sort, Equal}
 use Rattle.vjson_run.proofs.session.Session.answer.Goals as goal
 
 pub returns-in-Check-clause-ok : goal.returns-in-Check-clause-ok
@@ -20,3 +22,12 @@ returns-in-Sort-clause-ok g c = on_ok_both c.take_sort.result (λ added checks. 
 
 pub returns-in-Equal-clause-ok : goal.returns-in-Equal-clause-ok
 returns-in-Equal-clause-ok g c = on_ok_weaker c.take_equal.result (λ compares. compared_taken g.W.Write.contents c.args.self.now c.take_equal.new.self c.args.text.now c.in-Equal.is compares) c.take_equal.ensures.ok
+
+pub returns-in-Get-clause-memory : goal.returns-in-Get-clause-memory
+returns-in-Get-clause-memory g c = λ lack. by_command Get c.args.self.now.options.now.command c.args.self.now.options.now.grammar c.args.text.now c.in-Get.is (λ e. cc) (c.answer_get.ensures.memory lack)
+
+pub returns-in-Sort-clause-memory : goal.returns-in-Sort-clause-memory
+returns-in-Sort-clause-memory g c = λ lack. by_command Sort c.args.self.now.options.now.command c.args.self.now.options.now.grammar c.args.text.now c.in-Sort.is (λ e. cc) (c.take_sort.ensures.memory lack)
+
+pub returns-in-Equal-clause-memory : goal.returns-in-Equal-clause-memory
+returns-in-Equal-clause-memory g c = λ lack. by_command Equal c.args.self.now.options.now.command c.args.self.now.options.now.grammar c.args.text.now c.in-Equal.is (λ e. cc) (c.take_equal.ensures.memory lack)

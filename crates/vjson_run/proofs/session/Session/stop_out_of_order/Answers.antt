@@ -1,5 +1,5 @@
-use Rattle.vjson_run.proofs.Taken.{nothing_taken}
+use Rattle.vjson_run.proofs.Troubled.{advances_nowhere}
 use Rattle.vjson_run.proofs.session.Session.stop_out_of_order.Goals as goal
 
 pub returns-else-checks_order : goal.returns-else-checks_order
-returns-else-checks_order g c = nothing_taken g.W.Write.contents c.args.self.now
+returns-else-checks_order g c = advances_nowhere g.W.Write.contents c.args.self.now

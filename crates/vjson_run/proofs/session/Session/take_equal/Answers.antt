@@ -1,7 +1,10 @@
-use Rattle.std.proofs.Common.{true, false, [], ap, refl, sym, subst}
+use Rattle.std.proofs.Common.{true, false, [], Some, ap, refl, sym, subst}
 use Rattle.std.proofs.lemmas.List.Elements.{same_from_all_zip}
 use Rattle.vjson_text.specs.Json.{AppendsKeyOf}
 use Rattle.vjson_run.specs.Runs.{Differs}
+use Rattle.vjson_text.specs.declared.fault.Fault.TheVariants.{NoMemory}
+use Rattle.std.proofs.Common.{◌≡◌, inr, rules, Err}
+use Rattle.vjson_run.proofs.Troubled.{once_denied}
 use Rattle.vjson_run.proofs.session.Session.take_equal.Goals as goal
 
 pub returns-then-differs-clause-ok : goal.returns-then-differs-clause-ok
@@ -29,3 +32,14 @@ returns-clause-ok g c = record {
   status = refl;
   over = λ _. refl;
 }
+
+pub returns-in_err-make_whole_key-clause-memory : goal.returns-in_err-make_whole_key-clause-memory
+returns-in_err-make_whole_key-clause-memory g c = λ is.
+    let lack : c.make_whole_key.result ≡ Err NoMemory = search rules in
+    c.make_whole_key.ensures.memory lack
+
+pub returns-in_err-key-clause-memory : goal.returns-in_err-key-clause-memory
+returns-in_err-key-clause-memory g c = λ is. inr (c.in_ok-make_whole_key.ensures.ok.tree, c.in_ok-make_whole_key.ensures.ok.is_text)
+
+pub returns-then-differs-clause-calm : goal.returns-then-differs-clause-calm
+returns-then-differs-clause-calm g c = once_denied c.args.self.now (record c.deny.new.self { over = true; last = Some c.in_ok-key.key }) (ap (λ x. x.options) c.deny.ensures) (ap (λ x. x.status) c.deny.ensures)

@@ -4,6 +4,9 @@ use Rattle.std.proofs.lemmas.Result.{err_from_is_err_and}
 use Rattle.vjson_text.specs.Read.{Rejects}
 use Rattle.vjson_run.proofs.Parts.{line_alone}
 use Rattle.vjson_run.specs.Answers.{AppendsLine, IsKeyOf}
+use Rattle.vjson_text.specs.declared.fault.Fault.TheVariants.{NoMemory}
+use Rattle.std.proofs.Common.{◌≡◌, inr, rules, Err}
+use Rattle.vjson_run.proofs.Troubled.{keyed_one}
 use Rattle.vjson_run.proofs.session.Session.take_sort.Goals as goal
 
 pub returns-clause-ok : goal.returns-clause-ok
@@ -36,3 +39,17 @@ pub returns-in_err-push-clause-rejected : goal.returns-in_err-push-clause-reject
 returns-in_err-push-clause-rejected g c =
     let p = err_from_is_err_and c.from_residual-in_err-push.result c.from_residual-in_err-push.ensures.1 in
     subst (Rejects c.args.self.now.options.now.grammar c.args.text.now) (sym p.1) (λ other. absurd (other p.2))
+
+pub returns-in_err-make_key-clause-memory : goal.returns-in_err-make_key-clause-memory
+returns-in_err-make_key-clause-memory g c = λ is.
+    let lack : c.make_key.result ≡ Err NoMemory = search rules in
+    c.make_key.ensures.memory lack
+
+pub returns-in_err-key-clause-memory : goal.returns-in_err-key-clause-memory
+returns-in_err-key-clause-memory g c = λ is. inr (keyed_one c.args.self.now.options.now c.args.text.now c.make_key.new.buffers.key.items c.in_ok-make_key.ensures.ok)
+
+pub returns-in_err-append_line-clause-memory : goal.returns-in_err-append_line-clause-memory
+returns-in_err-append_line-clause-memory g c = λ is. inr (keyed_one c.args.self.now.options.now c.args.text.now c.make_key.new.buffers.key.items c.in_ok-make_key.ensures.ok)
+
+pub returns-in_err-push-clause-memory : goal.returns-in_err-push-clause-memory
+returns-in_err-push-clause-memory g c = λ is. inr (keyed_one c.args.self.now.options.now c.args.text.now c.make_key.new.buffers.key.items c.in_ok-make_key.ensures.ok)

@@ -1,9 +1,17 @@
 use Rattle.std.proofs.Common.{[], ◌∷◌}
-use Rattle.vjson_run.proofs.Taken.{error_taken, takes_no_more}
+use Rattle.vjson_run.proofs.Troubled.{advances_error, advances_no_more}
+use Rattle.vjson_text.specs.declared.fault.Fault.TheVariants.{NoMemory}
+use Rattle.std.proofs.Common.{◌≡◌, rules, Err}
+use Rattle.vjson_run.proofs.Troubled.{advances_out_of_memory}
 use Rattle.vjson_run.proofs.session.Session.take_text.Goals as goal
 
 pub returns-in-Ok : goal.returns-in-Ok
-returns-in-Ok g c = takes_no_more g.W.Write.contents c.args.self.now c.take.new.self c.stop_out_of_order.new.self (c.args.text.now ∷ []) c.in-Ok.ensures.ok c.stop_out_of_order.ensures
+returns-in-Ok g c = advances_no_more g.W.Write.contents c.args.self.now c.take.new.self c.stop_out_of_order.new.self (c.args.text.now ∷ []) c.in-Ok.ensures.ok c.take.ensures.calm c.stop_out_of_order.ensures
 
 pub returns-in-Err-At : goal.returns-in-Err-At
-returns-in-Err-At g c = error_taken g.W.Write.contents c.args.self.now c.take.new.self c.reject.new.self c.args.text.now (c.in-Err-At.ensures.rejected (λ e. cc)) c.reject.ensures
+returns-in-Err-At g c = advances_error g.W.Write.contents c.args.self.now c.take.new.self c.reject.new.self c.args.text.now (c.in-Err-At.ensures.rejected (λ e. cc)) c.reject.ensures
+
+pub returns-in-Err-NoMemory : goal.returns-in-Err-NoMemory
+returns-in-Err-NoMemory g c =
+    let lack : c.take.result ≡ Err NoMemory = search rules in
+    advances_out_of_memory g.W.Write.contents c.args.self.now c.take.new.self c.no_memory.new.self c.args.text.now c.take.ensures.calm c.no_memory.ensures.trouble c.no_memory.ensures.options (c.take.ensures.memory lack)

@@ -1,0 +1,147 @@
+-- A session that is in trouble, and for what; and what memory is taken for.
+use Rattle.std.proofs.Common.{◌≡◌, ◌⊎◌, inl, inr, ℕ, suc, Bool, true, false, List, [], ◌∷◌, ◌++◌, Option, None, Some, IfSome, OnOk, Result, Ok, Err, if◌then◌else◌, refl, sym, subst, ◌∙◌, arith, append-nil}
+use Rattle.std.specs.List.{Any}
+use Rattle.jsonb_spec.specs.Tree.{Tree}
+use Rattle.vjson_text.specs.Json.{IsNoTextOf}
+use Rattle.vjson_text.specs.Memory.{LacksSpace, LacksSpaceForPart, MayRunOut}
+use Rattle.vjson_text.specs.declared.reader.Grammar.{Grammar}
+use Rattle.vjson_run.proofs.Lists.{any_before, any_last}
+use Rattle.vjson_run.proofs.Taken.{Flushed, Rejected, error_taken, rejected_taken, flushed_taken, nothing_taken, over_taken, takes_no_more, takes_then, trouble_taken}
+use Rattle.vjson_run.specs.Answers.{IsKeyOf, IsOne, no_key, part_key, whole_key}
+use Rattle.vjson_run.specs.Runs.{IsSame, Takes, denied}
+use Rattle.vjson_run.specs.Trouble.{Advances, MayRunOutBy, MayTakeMemory, MayTrouble, Troubles}
+use Rattle.vjson_run.specs.declared.options.Command.{Command}
+use Rattle.vjson_run.specs.declared.options.Command.TheVariants.{Check, Format, Get, Sort, Equal, Keys}
+use Rattle.vjson_run.specs.declared.options.Options.{Options}
+use Rattle.vjson_run.specs.declared.session.Session.{Session}
+use Rattle.vjson_run.specs.declared.session.Status.{Status}
+use Rattle.vjson_run.specs.declared.session.Status.TheVariants.{Yes, No, Trouble}
+
+-- ---- memory
+
+pub space_taken : (g : Grammar) (made : Tree → List ℕ) (text : List ℕ) (capacity len : ℕ) → MayRunOut g text ⊎ LacksSpace g made text capacity len → MayTakeMemory g text
+space_taken g made text capacity len (inl may) = inl may
+space_taken g made text capacity len (inr lacks) = inr (lacks.tree, lacks.is_text)
+
+pub part_space_taken : (g : Grammar) (keys : List (List ℕ)) (text : List ℕ) (capacity len : ℕ) → MayRunOut g text ⊎ LacksSpaceForPart g keys text capacity len → MayTakeMemory g text
+part_space_taken g keys text capacity len (inl may) = inl may
+part_space_taken g keys text capacity len (inr lacks) = inr (lacks.tree, lacks.is_text)
+
+-- a text with a key is one of the grammar
+pub keyed_one : (o : Options) (text key : List ℕ) → IsKeyOf o text key → IsOne o.grammar text
+keyed_one o text key (whole_key none h) = (h.tree, h.is_text)
+keyed_one o text key (part_key path part is h e) = (h.tree, h.is_text)
+keyed_one o text key (no_key path is h e) = (h.tree, h.is_text)
+
+-- what runs out by each command
+pub by_command : (command own : Command) (g : Grammar) (text : List ℕ) → own ≡ command → (command ≡ Check → ⊥) → MayTakeMemory g text → MayRunOutBy own g text
+by_command Check own g text is other may = absurd (other refl)
+by_command Format own g text is other may = subst (λ c. MayRunOutBy c g text) (sym is) may
+by_command Get own g text is other may = subst (λ c. MayRunOutBy c g text) (sym is) may
+by_command Sort own g text is other may = subst (λ c. MayRunOutBy c g text) (sym is) may
+by_command Equal own g text is other may = subst (λ c. MayRunOutBy c g text) (sym is) may
+by_command Keys own g text is other may = subst (λ c. MayRunOutBy c g text) (sym is) may
+
+-- ---- trouble
+
+pub any_behind : {A : Type 0} (P : A → Type 0) (xs ys : List A) → Any P ys → Any P (xs ++ ys)
+any_behind P [] ys h = h
+any_behind P (x ∷ xs) ys h =
+    let k = any_behind P xs ys h in
+    (suc k.0, k.1, omega (arith, k.2), k.3, k.4)
+
+denied_trouble : (status : Status) → denied status ≡ Trouble → status ≡ Trouble
+denied_trouble Yes e = cc
+denied_trouble No e = cc
+denied_trouble Trouble e = refl
+
+module _ {W E : Type 0} where
+  pub as_before : (s t : Session W E) → t.options ≡ s.options → t.status ≡ s.status → Troubles s [] t
+  as_before s t options status = record { options = options; only = λ e. inl (sym status ∙ e) }
+
+  pub once_denied : (s t : Session W E) → t.options ≡ s.options → t.status ≡ denied s.status → Troubles s [] t
+  once_denied s t options status = record { options = options; only = λ e. inl (denied_trouble s.status (sym status ∙ e)) }
+
+  pub where_denied : (wrong : Bool) (s t : Session W E) → t.options ≡ s.options → t.status ≡ (if wrong then denied s.status else s.status) → Troubles s [] t
+  where_denied true s t options status = once_denied s t options status
+  where_denied false s t options status = as_before s t options status
+
+  pub troubles_then : (s t u : Session W E) (xs ys : List (List ℕ)) → Troubles s xs t → Troubles t ys u → Troubles s (xs ++ ys) u
+  troubles_then s t u xs ys h k = record { options = k.options ∙ h.options; only = λ e. by_last (k.only e) }
+    where
+      by_first : (s.status ≡ Trouble) ⊎ Any (MayTrouble s.options.now) xs → (s.status ≡ Trouble) ⊎ Any (MayTrouble s.options.now) (xs ++ ys)
+      by_first (inl was) = inl was
+      by_first (inr any) = inr (any_before (MayTrouble s.options.now) xs ys any)
+
+      by_last : (t.status ≡ Trouble) ⊎ Any (MayTrouble t.options.now) ys → (s.status ≡ Trouble) ⊎ Any (MayTrouble s.options.now) (xs ++ ys)
+      by_last (inl was) = by_first (h.only was)
+      by_last (inr any) = inr (any_behind (MayTrouble s.options.now) xs ys (subst (λ o. Any (MayTrouble o.now) ys) h.options any))
+
+  pub troubles_no_more : (s t u : Session W E) (xs : List (List ℕ)) → Troubles s xs t → Troubles t [] u → Troubles s xs u
+  troubles_no_more s t u xs h k = subst (λ l. Troubles s l u) (append-nil xs) (troubles_then s t u xs [] h k)
+
+  pub troubles_of_more : (s t : Session W E) (xs ys : List (List ℕ)) → Troubles s xs t → Troubles s (xs ++ ys) t
+  troubles_of_more s t xs ys h = troubles_then s t t xs ys h (record { options = refl; only = λ e. inl e })
+
+  -- memory ran out at a text
+  pub out_of_memory : (s t u : Session W E) (text : List ℕ) → Troubles s [] t → u.options ≡ t.options → MayRunOutBy s.options.now.command s.options.now.grammar text → Troubles s (text ∷ []) u
+  out_of_memory s t u text h options may = record { options = options ∙ h.options; only = λ e. inr (any_last (MayTrouble s.options.now) [] text (inl may)) }
+
+  module _ (contents : W → Option (List ℕ)) where
+    pub advances_then : (s t u : Session W E) (xs ys : List (List ℕ)) → Advances contents s xs t → Advances contents t ys u → Advances contents s (xs ++ ys) u
+    advances_then s t u xs ys h k = record { takes = takes_then contents s t u xs ys h.takes k.takes; troubles = troubles_then s t u xs ys h.troubles k.troubles }
+
+    pub advances_no_more : (s t u : Session W E) (xs : List (List ℕ)) → Takes contents s xs t → Troubles s [] t → Advances contents t [] u → Advances contents s xs u
+    advances_no_more s t u xs takes calm k = record {
+      takes = takes_no_more contents s t u xs takes k.takes;
+      troubles = troubles_of_more s u [] xs (troubles_no_more s t u [] calm k.troubles);
+    }
+
+    pub advances_nowhere : (s : Session W E) → Advances contents s [] s
+    advances_nowhere s = record { takes = nothing_taken contents s; troubles = as_before s s refl refl }
+
+    pub advances_flushed : (s t : Session W E) → Flushed contents s t → Advances contents s [] t
+    advances_flushed s t h = record { takes = flushed_taken contents s t h; troubles = as_before s t h.options h.status }
+
+    -- no more is read
+    pub advances_over : (s t : Session W E) (xs ys : List (List ℕ)) → t.over ≡ true → Advances contents s xs t → Advances contents s (xs ++ ys) t
+    advances_over s t xs ys over h = record { takes = over_taken contents s t xs ys over h.takes; troubles = troubles_of_more s t xs ys h.troubles }
+
+    -- memory ran out
+    pub advances_out_of_memory : (s t u : Session W E) (text : List ℕ) → Troubles s [] t → u.status ≡ Trouble → u.options ≡ t.options → MayRunOutBy s.options.now.command s.options.now.grammar text
+        → Advances contents s (text ∷ []) u
+    advances_out_of_memory s t u text h is options may = record { takes = trouble_taken contents s u (text ∷ []) is; troubles = out_of_memory s t u text h options may }
+
+    rejected_by : (command : Command) (s t : Session W E) (text : List ℕ) → s.options.now.command ≡ command → IsNoTextOf s.options.now.grammar text → Rejected contents s t → Troubles s (text ∷ []) t
+    rejected_by Equal s t text is none h = record { options = h.options; only = λ e. inr (any_last (MayTrouble s.options.now) [] text (inr (is, none))) }
+    rejected_by Check s t text is none h = troubles_of_more s t [] (text ∷ []) (once_denied s t h.options (h.status (λ e. let f : Check ≡ Equal = sym is ∙ e in cc)))
+    rejected_by Format s t text is none h = troubles_of_more s t [] (text ∷ []) (once_denied s t h.options (h.status (λ e. let f : Format ≡ Equal = sym is ∙ e in cc)))
+    rejected_by Get s t text is none h = troubles_of_more s t [] (text ∷ []) (once_denied s t h.options (h.status (λ e. let f : Get ≡ Equal = sym is ∙ e in cc)))
+    rejected_by Sort s t text is none h = troubles_of_more s t [] (text ∷ []) (once_denied s t h.options (h.status (λ e. let f : Sort ≡ Equal = sym is ∙ e in cc)))
+    rejected_by Keys s t text is none h = troubles_of_more s t [] (text ∷ []) (once_denied s t h.options (h.status (λ e. let f : Keys ≡ Equal = sym is ∙ e in cc)))
+
+    -- a text is rejected
+    pub advances_rejected : (s t : Session W E) (text : List ℕ) → IsNoTextOf s.options.now.grammar text → Rejected contents s t → Advances contents s (text ∷ []) t
+    advances_rejected s t text none h = record { takes = rejected_taken contents s t text none h; troubles = rejected_by s.options.now.command s t text refl none h }
+
+    -- and it is reported
+    pub advances_error : (s t u : Session W E) (text : List ℕ) → IsNoTextOf s.options.now.grammar text × IsSame s t → (IsNoTextOf t.options.now.grammar text → Advances contents t (text ∷ []) u)
+        → Advances contents s (text ∷ []) u
+    advances_error s t u text h rejects = record {
+      takes = error_taken contents s t u text h (λ none. (rejects none).takes);
+      troubles = troubles_then s t u [] (text ∷ []) (as_before s t h.1.retained.options h.1.retained.status)
+          (rejects (subst (λ o. IsNoTextOf o.now.grammar text) (sym h.1.retained.options) h.0)).troubles;
+    }
+
+    -- of an input that was read the texts are taken, and the trouble is for them
+    pub fed_takes : {X F : Type 0} (r : Result X F) (known : Option (List ℕ)) (s t : Session W E) (texts : List ℕ → List (List ℕ)) → OnOk r (IfSome known (λ bytes. Advances contents s (texts bytes) t))
+        → OnOk r (IfSome known (λ bytes. Takes contents s (texts bytes) t))
+    fed_takes (Err e) known s t texts h = tt
+    fed_takes (Ok x) None s t texts h = tt
+    fed_takes (Ok x) (Some bytes) s t texts h = h.takes
+
+    pub fed_troubles : {X F : Type 0} (r : Result X F) (known : Option (List ℕ)) (s t : Session W E) (texts : List ℕ → List (List ℕ)) → OnOk r (IfSome known (λ bytes. Advances contents s (texts bytes) t))
+        → OnOk r (IfSome known (λ bytes. Troubles s (texts bytes) t))
+    fed_troubles (Err e) known s t texts h = tt
+    fed_troubles (Ok x) None s t texts h = tt
+    fed_troubles (Ok x) (Some bytes) s t texts h = h.troubles
