@@ -2,6 +2,7 @@
 //! text in hexadecimal. Each call has a line of its own: its name, a space, and the text of its answer or what is
 //! printed of the error.
 
+use crate::{documents, numbers};
 use jsonb::{Error, JsonAst, Mode, Result, Value, append_part};
 use jsonb_path::read_keys;
 use key_value::{KeyError, value_of_sort_key};
@@ -62,7 +63,9 @@ fn report_text<W: Write>(alloc: Global, mode: Mode, text: &[u8], out: &mut W) ->
     say(out, "keys", keys(alloc, mode, text))?;
     say(out, "without_room", without_capacity(alloc, mode, text))?;
     say(out, "with_room", with_capacity(alloc, mode, text))?;
-    say(out, "body", body(alloc, text))
+    say(out, "body", body(alloc, text))?;
+    documents::report(alloc, mode, text, out)?;
+    numbers::report(alloc, mode, text, out)
 }
 
 fn read(alloc: Global, mode: Mode, text: &[u8]) -> Result<Value<'_>> {
@@ -130,7 +133,8 @@ fn straight_key(alloc: Global, mode: Mode, text: &[u8]) -> Result<Vec<u8>> {
     Ok(Vec::from_slice(alloc, key.as_bytes())?)
 }
 
-fn bytes_or_error(alloc: Global, done: Result<()>, buffer: Vec<u8>) -> Result<Vec<u8>> {
+/// The bytes, or the error. Then the buffer holds what it held.
+pub fn bytes_or_error(alloc: Global, done: Result<()>, buffer: Vec<u8>) -> Result<Vec<u8>> {
     match done {
         Err(_) if &buffer[..] != b"x".as_slice() => Ok(Vec::from_slice(
             alloc,

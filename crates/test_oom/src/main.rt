@@ -3,7 +3,9 @@
 #![tactic(auto)]
 
 mod calls;
+mod documents;
 mod messages;
+mod numbers;
 
 use std::io;
 use std::io::{BufRead, BufReader, BufWriter, Write};
