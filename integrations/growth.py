@@ -8,9 +8,9 @@ too fast. The call is repeated until the small document takes at least FLOOR, so
 what a call costs for any document count little.
 
 A call that takes less than QUICK for the large document isn't compared. The square of 80,000 steps, of a tenth of a
-nanosecond each, is 640 ms, and that of a fourth of them 40 ms. Less says nothing: each byte costs more where they are
-past the caches of the processor, which other work shares, so that calls in proportion of 2 to 20 ms were seen to take
-11 times as long, and longer ones 7 times.
+nanosecond each, is 640 ms, and that of a third of them 70 ms. Less says nothing: each byte costs more where they are
+past the caches of the processor, which other work shares, so that calls in proportion of 2 to 40 ms were seen to take
+13 times as long, and longer ones 7 times.
 
 Where other tests run beside, VIZHONIKU_MOST_TIMES says how many times are allowed in place of 8.
 
@@ -24,7 +24,7 @@ SMALL, LARGE = 20_000, 80_000
 MOST = float(os.environ.get("VIZHONIKU_MOST_TIMES", "8"))  # times
 FAR_TOO_MUCH = MOST + 4
 FLOOR = 0.01  # seconds
-QUICK = 0.03
+QUICK = 0.06
 MOST_CALLS = 200
 RUNS, MORE_RUNS = 3, 12
 LONG = 0.5  # seconds, from which on a run isn't repeated for a shorter one
