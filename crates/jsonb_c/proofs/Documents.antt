@@ -3,7 +3,7 @@ use Rattle.std.proofs.Common.{◌≡◌, ℕ, List, sym, ap, ◌∙◌}
 use Rattle.key_value.proofs.Texts.{some_same}
 use Rattle.key_value.specs.Readable.{IsAnyNumber, IsReadable}
 use Rattle.jsonb_spec.specs.Grammar.{max_depth, IsDocument}
-use Rattle.jsonb_spec.specs.Mode.{Mode, standard, extended}
+use Rattle.jsonb_spec.specs.Mode.{Mode, standard, extended, json, extended_json}
 use Rattle.jsonb_spec.specs.SortKey.{key_of}
 use Rattle.jsonb_spec.specs.Text.{tree_text}
 use Rattle.jsonb_spec.specs.Text.Range.{HasFewDigits, IsIntegral}
@@ -15,6 +15,8 @@ use Rattle.jsonb_c.specs.Interface.{IsTextOf}
 pub document_readable : (mode : Mode) (bytes : List ℕ) (t : Tree) → IsDocument mode bytes t → IsReadable t
 document_readable standard bytes t d = let x = document_in_range standard bytes t d in record { proper = x.1; within = widened IsIntegral IsAnyNumber (λ n p w. tt) t max_depth x.1 x.0 }
 document_readable extended bytes t d = let x = document_in_range extended bytes t d in record { proper = x.1; within = widened HasFewDigits IsAnyNumber (λ n p w. tt) t max_depth x.1 x.0 }
+document_readable json bytes t d = let x = document_in_range json bytes t d in record { proper = x.1; within = widened HasFewDigits IsAnyNumber (λ n p w. tt) t max_depth x.1 x.0 }
+document_readable extended_json bytes t d = let x = document_in_range extended_json bytes t d in record { proper = x.1; within = widened HasFewDigits IsAnyNumber (λ n p w. tt) t max_depth x.1 x.0 }
 
 -- the text is that of a tree that is decoded from its key
 pub text_of_tree : (number : ℕ) (text form : List ℕ) (x : IsTextOf number text form) → IsReadable x.tree × (form ≡ tree_text x.tree)

@@ -3,7 +3,7 @@ use Rattle.std.proofs.Common.{◌≡◌, ℕ, zero, suc, Bool, true, false, ◌�
 use Rattle.std.specs.Str.{bytes_eq}
 use Rattle.jsonb_spec.specs.Accessors.{find_member, item_at}
 use Rattle.jsonb_spec.specs.Grammar.{max_depth, IsDocument}
-use Rattle.jsonb_spec.specs.Mode.{Mode, standard, extended}
+use Rattle.jsonb_spec.specs.Mode.{Mode, standard, extended, json, extended_json}
 use Rattle.jsonb_spec.specs.Proper.{IsProper, AreProper, HaveProperParts}
 use Rattle.jsonb_spec.specs.Text.Range.{IsWithin, AreWithin, HaveWithin, IsIntegral, IsInRangeOf, HasFewDigits}
 use Rattle.jsonb_spec.specs.Text.ReadsBack.{ReadsBackAs}
@@ -99,6 +99,8 @@ part_proper t (key ∷ keys) part (u, child, at) p = part_proper u keys part at 
 part_in_range : (mode : Mode) (t : Tree) (keys : List (List ℕ)) (part : Tree) → IsAt t keys part → IsInRangeOf mode t → IsInRangeOf mode part
 part_in_range standard t keys part is w = part_within IsIntegral t keys part max_depth is w
 part_in_range extended t keys part is w = part_within HasFewDigits t keys part max_depth is w
+part_in_range json t keys part is w = part_within HasFewDigits t keys part max_depth is w
+part_in_range extended_json t keys part is w = part_within HasFewDigits t keys part max_depth is w
 
 -- the text of a part of a document is a document of the part with the same text
 pub part_reads_back : (mode : Mode) (document : List ℕ) (t : Tree) → IsDocument mode document t → (keys : List (List ℕ)) (part : Tree) → IsAt t keys part → (bytes : List ℕ) → text_of part ≡ Some bytes → ReadsBackAs mode bytes part

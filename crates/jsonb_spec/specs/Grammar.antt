@@ -2,6 +2,7 @@
 -- 2, 4 and 5, for the standard ones).
 pub mod BareKey
 pub mod Whitespace
+pub mod ExactNumber
 pub mod ExtendedNumber
 pub mod Quoted
 pub mod Scalar
@@ -11,7 +12,7 @@ pub mod StringFault
 use Rattle.std.specs.Prelude.{◌≡◌, ◌≢◌, ℕ, zero, suc, List, [], ◌∷◌, ◌++◌, map, ⊤}
 use Rattle.std.specs.List.{AllByRecursion}
 use Rattle.jsonb_spec.specs.Ascii as ascii
-use Rattle.jsonb_spec.specs.Mode.{Mode, extended}
+use Rattle.jsonb_spec.specs.Mode.{Mode, IsLenient}
 use Rattle.jsonb_spec.specs.Tree.{Mark, Tree, null, array, object, no_members, trees_of, Member, put_all}
 use Rattle.jsonb_spec.specs.Grammar.Whitespace.{IsWhitespace, IsLastWhitespace}
 use Rattle.jsonb_spec.specs.Grammar.Scalar.{IsScalar, IsKey}
@@ -27,10 +28,10 @@ pub data IsJoined {A : Type 0} (Encodes : List ℕ → A → Type 0) : List ℕ 
   more_parts : {first rest : List ℕ} {a : A} {others : List A} → Encodes first a → IsJoined Encodes rest others
       → IsJoined Encodes (first ++ ascii.comma ∷ rest) (a ∷ others)
 
--- An element of an array: a value with whitespace round it. In extended mode whitespace alone means null.
+-- An element of an array: a value with whitespace round it. In a lenient mode whitespace alone means null.
 pub data IsElement (mode : Mode) (Value : List ℕ → Tree → Type 0) : List ℕ → Tree → Type 0 where
   whole_element : {bytes : List ℕ} {t : Tree} → IsPadded mode Value bytes t → IsElement mode Value bytes t
-  empty_element : {bytes : List ℕ} → mode ≡ extended → IsWhitespace mode bytes → IsElement mode Value bytes null
+  empty_element : {bytes : List ℕ} → IsLenient mode → IsWhitespace mode bytes → IsElement mode Value bytes null
 
 -- A member of an object: a key, a colon and a value, with whitespace round the key and round the value.
 pub data IsMember (mode : Mode) (Value : List ℕ → Tree → Type 0) : List ℕ → Member → Type 0 where
@@ -64,11 +65,11 @@ Derives mode (suc depth) bytes t = IsValue mode (Derives mode depth) bytes t
 abbrev pub max_depth : ℕ
 max_depth = 512
 
--- A whole text: a value with whitespace round it. In extended mode whitespace alone means null.
+-- A whole text: a value with whitespace round it. In a lenient mode whitespace alone means null.
 pub data IsDocument (mode : Mode) : List ℕ → Tree → Type 0 where
   value_alone : {before core after : List ℕ} {t : Tree} → IsWhitespace mode before → Derives mode max_depth core t
       → IsLastWhitespace mode after → IsDocument mode (before ++ (core ++ after)) t
-  whitespace_alone : {bytes : List ℕ} → mode ≡ extended → IsLastWhitespace mode bytes → IsDocument mode bytes null
+  whitespace_alone : {bytes : List ℕ} → IsLenient mode → IsLastWhitespace mode bytes → IsDocument mode bytes null
 
 -- the text is a document of no tree
 abbrev pub IsNoDocument : Mode → List ℕ → Type 0

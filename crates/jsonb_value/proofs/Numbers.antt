@@ -2,6 +2,7 @@
 pub mod DecimalTexts
 pub mod Fractions
 pub mod InRange
+pub mod StandardTexts
 pub mod Integers
 pub mod IntegersReadBack
 pub mod Narrowed

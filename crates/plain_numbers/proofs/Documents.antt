@@ -130,7 +130,7 @@ blank_piece : (b : ℕ) → IsBlank b → IsWhitespacePiece extended (b ∷ [])
 blank_piece b (inl e) = subst (λ (n : ℕ). IsWhitespacePiece extended (n ∷ [])) (sym e) space
 blank_piece b (inr (inl e)) = subst (λ (n : ℕ). IsWhitespacePiece extended (n ∷ [])) (sym e) tab
 blank_piece b (inr (inr (inl e))) = subst (λ (n : ℕ). IsWhitespacePiece extended (n ∷ [])) (sym e) line_feed
-blank_piece b (inr (inr (inr (inl e)))) = subst (λ (n : ℕ). IsWhitespacePiece extended (n ∷ [])) (sym e) form_feed
+blank_piece b (inr (inr (inr (inl e)))) = subst (λ (n : ℕ). IsWhitespacePiece extended (n ∷ [])) (sym e) (form_feed tt)
 blank_piece b (inr (inr (inr (inr e)))) = subst (λ (n : ℕ). IsWhitespacePiece extended (n ∷ [])) (sym e) carriage_return
 
 blanks_white : (bytes : List ℕ) → AreBlanks bytes → IsWhitespace extended bytes
@@ -142,12 +142,12 @@ one_blank : (piece left : List ℕ) (b : ℕ) (rest : List ℕ) → IsBlank b �
 one_blank piece left b rest h space e = tails 32 b left rest e
 one_blank piece left b rest h tab e = tails 9 b left rest e
 one_blank piece left b rest h line_feed e = tails 10 b left rest e
-one_blank piece left b rest h form_feed e = tails 12 b left rest e
+one_blank piece left b rest h (form_feed beyond) e = tails 12 b left rest e
 one_blank piece left b rest h carriage_return e = tails 13 b left rest e
-one_blank piece left b rest h written_line_feed e = absurd (⊎_elim (λ q. omega (arith, q, heads 92 b (110 ∷ left) rest e)) (λ q. omega (arith, q, heads 92 b (110 ∷ left) rest e)) (blank_number b h))
-one_blank piece left b rest h written_carriage_return e = absurd (⊎_elim (λ q. omega (arith, q, heads 92 b (114 ∷ left) rest e)) (λ q. omega (arith, q, heads 92 b (114 ∷ left) rest e)) (blank_number b h))
-one_blank piece left b rest h written_tab e = absurd (⊎_elim (λ q. omega (arith, q, heads 92 b (116 ∷ left) rest e)) (λ q. omega (arith, q, heads 92 b (116 ∷ left) rest e)) (blank_number b h))
-one_blank piece left b rest h written_form_feed e = absurd (⊎_elim (λ q. omega (arith, q, heads 92 b (120 ∷ 48 ∷ 67 ∷ left) rest e)) (λ q. omega (arith, q, heads 92 b (120 ∷ 48 ∷ 67 ∷ left) rest e)) (blank_number b h))
+one_blank piece left b rest h (written_line_feed beyond) e = absurd (⊎_elim (λ q. omega (arith, q, heads 92 b (110 ∷ left) rest e)) (λ q. omega (arith, q, heads 92 b (110 ∷ left) rest e)) (blank_number b h))
+one_blank piece left b rest h (written_carriage_return beyond) e = absurd (⊎_elim (λ q. omega (arith, q, heads 92 b (114 ∷ left) rest e)) (λ q. omega (arith, q, heads 92 b (114 ∷ left) rest e)) (blank_number b h))
+one_blank piece left b rest h (written_tab beyond) e = absurd (⊎_elim (λ q. omega (arith, q, heads 92 b (116 ∷ left) rest e)) (λ q. omega (arith, q, heads 92 b (116 ∷ left) rest e)) (blank_number b h))
+one_blank piece left b rest h (written_form_feed beyond) e = absurd (⊎_elim (λ q. omega (arith, q, heads 92 b (120 ∷ 48 ∷ 67 ∷ left) rest e)) (λ q. omega (arith, q, heads 92 b (120 ∷ 48 ∷ 67 ∷ left) rest e)) (blank_number b h))
 one_blank piece left b rest h (block_comment inside m lacks) e = absurd (⊎_elim (λ q. omega (arith, q, heads 47 b (42 ∷ ((inside ++ 42 ∷ 47 ∷ []) ++ left)) rest e)) (λ q. omega (arith, q, heads 47 b (42 ∷ ((inside ++ 42 ∷ 47 ∷ []) ++ left)) rest e)) (blank_number b h))
 one_blank piece left b rest h (line_comment inside last m one ends) e = absurd (⊎_elim (λ q. omega (arith, q, heads 47 b (47 ∷ ((inside ++ last ∷ []) ++ left)) rest e)) (λ q. omega (arith, q, heads 47 b (47 ∷ ((inside ++ last ∷ []) ++ left)) rest e)) (blank_number b h))
 
@@ -211,7 +211,7 @@ by_recursion [] h = tt
 by_recursion (d ∷ ds) h = (h 0 0 (omega arith), by_recursion ds (λ k x low. h (suc k) x (omega (arith, low))))
 
 inside_item : (item : Item) → IsItem extended item → item ≢ raw 34 → Inside (encoding item)
-inside_item (raw b) is no_quote = inside_byte b (λ e. no_quote (ap raw e)) is
+inside_item (raw b) is no_quote = inside_byte b (λ e. no_quote (ap raw e)) is.0
 inside_item (escape letter byte) is no_quote = inside_escape letter
 inside_item (unit braces digits) is no_quote = inside_then (92 ∷ 117 ∷ []) (after_u braces digits) (inside_escape 117) (inside_bytes (after_u braces digits) (inner_unit braces digits (by_recursion digits is.1)))
 

@@ -5,13 +5,13 @@ use Rattle.std.proofs.lemmas.Bool.{cond-false, cond-true}
 use Rattle.text_parse.specs.declared.parser.Parser.{Parser}
 use Rattle.jsonb_spec.specs.Code.Code.{invalid_eof, unexpected_trailing_characters}
 use Rattle.jsonb_spec.specs.Grammar.{max_depth}
-use Rattle.jsonb_spec.specs.Mode.{Mode, extended}
+use Rattle.jsonb_spec.specs.Mode.{Mode, strictness, IsLenient}
 use Rattle.text_scan.specs.Answer.{mode_of}
 use Rattle.text_parse.specs.Parser.{Advances, rest_of, size_of}
 use Rattle.jsonb_spec.specs.Source.{Source, null_source}
 use Rattle.text_scan.specs.Parsing.{Fault, fault, ◌>>=◌}
 use Rattle.text_scan.specs.Parsing.Whitespace.{opens_comment, skip_closed_whitespace}
-use Rattle.text_scan.specs.Parsing.Document.{at_end, comment_at, source_from, value_at, value_to_end}
+use Rattle.text_scan.specs.Parsing.Document.{at_end, comment_at, nothing_at, source_from, value_at, value_to_end}
 use Rattle.text_parse.proofs.Steps.Cursors.{nothing_left}
 use Rattle.text_parse.proofs.Steps.Outcomes.{same_size}
 
@@ -19,13 +19,13 @@ use Rattle.text_parse.proofs.Steps.Outcomes.{same_size}
 abbrev pub ended : ℕ → Mode → Source × List ℕ → Result Source Fault
 ended size mode x = at_end size mode x.0 (skip_closed_whitespace mode x.1)
 
-from_some : (size : ℕ) (mode : Mode) (r : List ℕ) → 0 < length r → opens_comment mode r ≡ false → source_from size mode r ≡ value_to_end size mode r
+from_some : (size : ℕ) (mode : Mode) (r : List ℕ) → 0 < length r → opens_comment (strictness mode) r ≡ false → source_from size mode r ≡ value_to_end size mode r
 from_some size mode [] h e = absurd (omega arith)
-from_some size mode (b ∷ r) h e = cond-false (opens_comment mode (b ∷ r)) (comment_at size null_source r) (value_to_end size mode (b ∷ r)) e
+from_some size mode (b ∷ r) h e = cond-false (opens_comment (strictness mode) (b ∷ r)) (comment_at size null_source r) (value_to_end size mode (b ∷ r)) e
 
-from_comment : (size : ℕ) (mode : Mode) (r : List ℕ) → 0 < length r → opens_comment mode r ≡ true → source_from size mode r ≡ comment_at size null_source (drop 1 r)
+from_comment : (size : ℕ) (mode : Mode) (r : List ℕ) → 0 < length r → opens_comment (strictness mode) r ≡ true → source_from size mode r ≡ comment_at size null_source (drop 1 r)
 from_comment size mode [] h e = absurd (omega arith)
-from_comment size mode (b ∷ r) h e = cond-true (opens_comment mode (b ∷ r)) (comment_at size null_source r) (value_to_end size mode (b ∷ r)) e
+from_comment size mode (b ∷ r) h e = cond-true (opens_comment (strictness mode) (b ∷ r)) (comment_at size null_source r) (value_to_end size mode (b ∷ r)) e
 
 -- what is left after the whitespace, in the same input
 document_same : (p q : Parser) → rest_of q ≡ skip_closed_whitespace (mode_of p.mode) (rest_of p) → Advances p q
@@ -35,17 +35,17 @@ document_same p q e a =
     ∙ ap (λ (n : ℕ). source_from n (mode_of p.mode) (rest_of q)) (sym (same_size p q a)) ∙ ap (λ (m : Mode). source_from (size_of q) m (rest_of q)) (sym (ap mode_of a.mode))
 
 -- a text with more than whitespace
-pub document_some : (p q : Parser) → rest_of q ≡ skip_closed_whitespace (mode_of p.mode) (rest_of p) → Advances p q → q.offset < size_of q → opens_comment (mode_of q.mode) (rest_of q) ≡ false
+pub document_some : (p q : Parser) → rest_of q ≡ skip_closed_whitespace (mode_of p.mode) (rest_of p) → Advances p q → q.offset < size_of q → opens_comment (strictness (mode_of q.mode)) (rest_of q) ≡ false
     → source_from (size_of p) (mode_of p.mode) (skip_closed_whitespace (mode_of p.mode) (rest_of p)) ≡ (value_at (size_of q) (mode_of q.mode) max_depth (rest_of q) >>= ended (size_of q) (mode_of q.mode))
 document_some p q e a within closed = document_same p q e a ∙ from_some (size_of q) (mode_of q.mode) (rest_of q) (omega (arith, length-drop q.offset q.buf.now)) closed
 
 -- a text with no more than whitespace
-pub document_none : (p q : Parser) → rest_of q ≡ skip_closed_whitespace (mode_of p.mode) (rest_of p) → Advances p q → size_of q ≤ q.offset → mode_of q.mode ≡ extended
+pub document_none : (p q : Parser) → rest_of q ≡ skip_closed_whitespace (mode_of p.mode) (rest_of p) → Advances p q → size_of q ≤ q.offset → IsLenient (mode_of q.mode)
     → source_from (size_of p) (mode_of p.mode) (skip_closed_whitespace (mode_of p.mode) (rest_of p)) ≡ Ok null_source
-document_none p q e a past is = document_same p q e a ∙ ap (λ (m : Mode). source_from (size_of q) m (rest_of q)) is ∙ ap (λ (r : List ℕ). source_from (size_of q) extended r) (nothing_left q.buf.now q.offset past)
+document_none p q e a past is = document_same p q e a ∙ ap (λ (r : List ℕ). source_from (size_of q) (mode_of q.mode) r) (nothing_left q.buf.now q.offset past) ∙ ap (nothing_at (size_of q)) is
 
 -- a text that ends in a comment
-pub document_comment : (p q : Parser) → rest_of q ≡ skip_closed_whitespace (mode_of p.mode) (rest_of p) → Advances p q → q.offset < size_of q → opens_comment (mode_of q.mode) (rest_of q) ≡ true
+pub document_comment : (p q : Parser) → rest_of q ≡ skip_closed_whitespace (mode_of p.mode) (rest_of p) → Advances p q → q.offset < size_of q → opens_comment (strictness (mode_of q.mode)) (rest_of q) ≡ true
     → source_from (size_of p) (mode_of p.mode) (skip_closed_whitespace (mode_of p.mode) (rest_of p)) ≡ comment_at (size_of q) null_source (drop 1 (rest_of q))
 document_comment p q e a within opens = document_same p q e a ∙ from_comment (size_of q) (mode_of q.mode) (rest_of q) (omega (arith, length-drop q.offset q.buf.now)) opens
 
@@ -58,22 +58,22 @@ ending_same p q t e a =
     ap (λ (r : List ℕ). at_end (size_of p) (mode_of p.mode) t r) (sym e)
     ∙ ap (λ (n : ℕ). at_end n (mode_of p.mode) t (rest_of q)) (sym (same_size p q a)) ∙ ap (λ (m : Mode). at_end (size_of q) m t (rest_of q)) (sym (ap mode_of a.mode))
 
-past_end : (size : ℕ) (mode : Mode) (t : Source) (r : List ℕ) (i : ℕ) → length r + i ≡ size → 0 < length r → opens_comment mode r ≡ false → at_end size mode t r ≡ Err (record { code = unexpected_trailing_characters; offset = i + 1 })
+past_end : (size : ℕ) (mode : Mode) (t : Source) (r : List ℕ) (i : ℕ) → length r + i ≡ size → 0 < length r → opens_comment (strictness mode) r ≡ false → at_end size mode t r ≡ Err (record { code = unexpected_trailing_characters; offset = i + 1 })
 past_end size mode t [] i e h closed = absurd (omega arith)
 past_end size mode t (b ∷ r) i e h closed =
-    cond-false (opens_comment mode (b ∷ r)) (comment_at size t r) (fault unexpected_trailing_characters (size - length (b ∷ r) + 1)) closed
+    cond-false (opens_comment (strictness mode) (b ∷ r)) (comment_at size t r) (fault unexpected_trailing_characters (size - length (b ∷ r) + 1)) closed
     ∙ ap (λ (k : ℕ). Err (record { code = unexpected_trailing_characters; offset = k })) (let same : size - length (b ∷ r) + 1 ≡ i + 1 = omega (arith, e) in same)
 
-comment_end : (size : ℕ) (mode : Mode) (t : Source) (r : List ℕ) → 0 < length r → opens_comment mode r ≡ true → at_end size mode t r ≡ comment_at size t (drop 1 r)
+comment_end : (size : ℕ) (mode : Mode) (t : Source) (r : List ℕ) → 0 < length r → opens_comment (strictness mode) r ≡ true → at_end size mode t r ≡ comment_at size t (drop 1 r)
 comment_end size mode t [] h opens = absurd (omega arith)
-comment_end size mode t (b ∷ r) h opens = cond-true (opens_comment mode (b ∷ r)) (comment_at size t r) (fault unexpected_trailing_characters (size - length (b ∷ r) + 1)) opens
+comment_end size mode t (b ∷ r) h opens = cond-true (opens_comment (strictness mode) (b ∷ r)) (comment_at size t r) (fault unexpected_trailing_characters (size - length (b ∷ r) + 1)) opens
 
-pub ends_trailing : (p q : Parser) (t : Source) → rest_of q ≡ skip_closed_whitespace (mode_of p.mode) (rest_of p) → Advances p q → q.offset < size_of q → opens_comment (mode_of q.mode) (rest_of q) ≡ false
+pub ends_trailing : (p q : Parser) (t : Source) → rest_of q ≡ skip_closed_whitespace (mode_of p.mode) (rest_of p) → Advances p q → q.offset < size_of q → opens_comment (strictness (mode_of q.mode)) (rest_of q) ≡ false
     → at_end (size_of p) (mode_of p.mode) t (skip_closed_whitespace (mode_of p.mode) (rest_of p)) ≡ Err (record { code = unexpected_trailing_characters; offset = q.offset + 1 })
 ends_trailing p q t e a within closed =
     ending_same p q t e a ∙ past_end (size_of q) (mode_of q.mode) t (rest_of q) q.offset (omega (arith, length-drop q.offset q.buf.now)) (omega (arith, length-drop q.offset q.buf.now)) closed
 
-pub ends_comment : (p q : Parser) (t : Source) → rest_of q ≡ skip_closed_whitespace (mode_of p.mode) (rest_of p) → Advances p q → q.offset < size_of q → opens_comment (mode_of q.mode) (rest_of q) ≡ true
+pub ends_comment : (p q : Parser) (t : Source) → rest_of q ≡ skip_closed_whitespace (mode_of p.mode) (rest_of p) → Advances p q → q.offset < size_of q → opens_comment (strictness (mode_of q.mode)) (rest_of q) ≡ true
     → at_end (size_of p) (mode_of p.mode) t (skip_closed_whitespace (mode_of p.mode) (rest_of p)) ≡ comment_at (size_of q) t (drop 1 (rest_of q))
 ends_comment p q t e a within opens = ending_same p q t e a ∙ comment_end (size_of q) (mode_of q.mode) t (rest_of q) (omega (arith, length-drop q.offset q.buf.now)) opens
 

@@ -3,7 +3,7 @@ use Rattle.std.specs.Prelude.{◌≡◌, ◌⊎◌, ℕ, suc, ◌-◌, Bool, tru
 use Rattle.jsonb_spec.specs.Ascii as ascii
 use Rattle.jsonb_value.specs.declared.error.Error.{Error}
 use Rattle.jsonb_spec.specs.Grammar.{max_depth}
-use Rattle.jsonb_spec.specs.Mode.{Mode}
+use Rattle.jsonb_spec.specs.Mode.{Mode, strictness}
 use Rattle.jsonb_spec.specs.Tree.{Tree}
 use Rattle.jsonb_spec.specs.Tree.Tree.{null}
 use Rattle.text_parse.specs.Handler.{ElseFails}
@@ -26,7 +26,8 @@ OpensContainer bytes = (begins ascii.open_bracket bytes ≡ true) ⊎ (begins as
 
 -- a value that holds no others, or null where an element is left out
 abbrev pub scalar_or_null : ℕ → Mode → List ℕ → Parse Tree
-scalar_or_null size mode bytes = if is_left_out mode bytes then Ok (null, bytes) else scalar_at size mode bytes
+scalar_or_null size mode bytes =
+    if is_left_out (strictness mode) bytes then Ok (null, bytes) else scalar_at size mode bytes
 
 -- ---- what is left to parse
 

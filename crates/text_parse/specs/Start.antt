@@ -2,7 +2,7 @@
 use Rattle.std.specs.Prelude.{◌≡◌, ℕ, true, false, List, drop, codes}
 use Rattle.jsonb_spec.specs.Ascii as ascii
 use Rattle.jsonb_spec.specs.Code.{expected_some_value}
-use Rattle.jsonb_spec.specs.Mode.{Mode}
+use Rattle.jsonb_spec.specs.Mode.{Mode, strictness}
 use Rattle.jsonb_spec.specs.Tree.{Tree, boolean}
 use Rattle.text_scan.specs.Parsing.{Parse, begins, reject}
 use Rattle.text_scan.specs.Parsing.Scalar.{null_at, number_value_at, quoted_at, scalar_at, word_at}
@@ -14,8 +14,8 @@ abbrev pub scalar_from : Start → ℕ → Mode → List ℕ → Parse Tree
 scalar_from variants.DoubleQuote size mode bytes = quoted_at size mode ascii.quote (drop 1 bytes)
 scalar_from variants.SingleQuote size mode bytes = quoted_at size mode ascii.single_quote (drop 1 bytes)
 scalar_from variants.Null size mode bytes = null_at size mode bytes
-scalar_from variants.True size mode bytes = word_at size mode (codes "true") (boolean true) bytes
-scalar_from variants.False size mode bytes = word_at size mode (codes "false") (boolean false) bytes
+scalar_from variants.True size mode bytes = word_at size (strictness mode) (codes "true") (boolean true) bytes
+scalar_from variants.False size mode bytes = word_at size (strictness mode) (codes "false") (boolean false) bytes
 scalar_from variants.Number size mode bytes = number_value_at size mode bytes
 scalar_from variants.Array size mode bytes = reject size expected_some_value 1 bytes
 scalar_from variants.Object size mode bytes = reject size expected_some_value 1 bytes

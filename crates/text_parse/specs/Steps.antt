@@ -3,7 +3,7 @@ use Rattle.std.specs.Prelude.{◌≡◌, ℕ, ◌<◌, ◌≤◌, Bool, false, L
 use Rattle.jsonb_spec.specs.Ascii as ascii
 use Rattle.jsonb_spec.specs.Code.{Code}
 use Rattle.jsonb_spec.specs.Grammar.{max_depth}
-use Rattle.jsonb_spec.specs.Mode.{Mode}
+use Rattle.jsonb_spec.specs.Mode.{Mode, strictness}
 use Rattle.jsonb_spec.specs.Tree.{Mark, Tree}
 use Rattle.jsonb_spec.specs.Source.{Source}
 use Rattle.jsonb_value.specs.declared.error.Error.TheVariants.{OutOfMemory}
@@ -77,7 +77,7 @@ module _ {V R I M K : Type 0} (h : Ghosts V R I M K) where
     pub same_sink : filled ≡ sink
     pub same_frame : after ≡ before
     pub opens : OpensContainer (rest_of start)
-    pub is_there : is_left_out (mode_of start.mode) (rest_of start) ≡ false
+    pub is_there : is_left_out (strictness (mode_of start.mode)) (rest_of start) ≡ false
 
   -- A scalar that this function parses here was put in.
   pub record PutsThere (read : ℕ → Mode → List ℕ → Parse Tree) (start new : Parser) (sink filled : R)

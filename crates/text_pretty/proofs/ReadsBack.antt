@@ -7,7 +7,7 @@ use Rattle.jsonb_spec.specs.Grammar.Whitespace.{IsWhitespacePiece, space, tab, l
 use Rattle.jsonb_spec.specs.Grammar.Scalar.{IsKey, quoted_key}
 use Rattle.jsonb_spec.specs.Grammar.{IsPadded, padded, IsJoined, one_part, more_parts, IsElement, whole_element, empty_element, IsMember, key_and_value, full_array, full_object, Derives, max_depth, IsDocument, value_alone}
 use Rattle.jsonb_spec.specs.Keys.{KeysAscend}
-use Rattle.jsonb_spec.specs.Mode.{Mode, standard, extended}
+use Rattle.jsonb_spec.specs.Mode.{Mode, standard, extended, json, extended_json, strictness}
 use Rattle.jsonb_spec.specs.Order.ByContent.{pairs_of}
 use Rattle.jsonb_spec.specs.Order.{bytes_cmp, tree_cmp, trees_cmp, members_cmp}
 use Rattle.jsonb_spec.specs.Proper.{IsProperNumber, IsProper, AreProper, HaveProperParts}
@@ -16,7 +16,7 @@ use Rattle.jsonb_spec.specs.Text.NumberText.{number_text}
 use Rattle.jsonb_spec.specs.Text.StringText.{quoted_text}
 use Rattle.jsonb_spec.specs.Text.{tree_text, with_commas}
 use Rattle.jsonb_spec.specs.Tree.{Num, Tree, null, boolean, string, number, array, object, binary, date, timestamp, timestamp_tz, interval, Trees, no_trees, more_trees, trees_of, Members, no_members, more_members, Member}
-use Rattle.jsonb_value.proofs.Numbers.InRange.{in_texts_short, integral_short, integer_reads_back, extended_reads_back}
+use Rattle.jsonb_value.proofs.Numbers.InRange.{in_texts_short, integral_short, integer_reads_back, extended_reads_back, json_reads_back, extended_json_reads_back}
 use Rattle.jsonb_value.proofs.Numbers.Texts.{Begins}
 use Rattle.jsonb_value.proofs.Strings.Writing.{reads_back}
 use Rattle.jsonb_value.proofs.Trees.MembersInOrder.{distinct_keys, put_all-ascending}
@@ -45,12 +45,12 @@ behind_piece : (mode : Mode) (piece rest : List ℕ) (b : ℕ) (bytes : List ℕ
 behind_piece mode piece rest b bytes space e low others = subst (IsWhitespace mode) (tails 32 b rest bytes e) others
 behind_piece mode piece rest b bytes tab e low others = subst (IsWhitespace mode) (tails 9 b rest bytes e) others
 behind_piece mode piece rest b bytes line_feed e low others = subst (IsWhitespace mode) (tails 10 b rest bytes e) others
-behind_piece mode piece rest b bytes form_feed e low others = subst (IsWhitespace mode) (tails 12 b rest bytes e) others
+behind_piece mode piece rest b bytes (form_feed beyond) e low others = subst (IsWhitespace mode) (tails 12 b rest bytes e) others
 behind_piece mode piece rest b bytes carriage_return e low others = subst (IsWhitespace mode) (tails 13 b rest bytes e) others
-behind_piece mode piece rest b bytes written_line_feed e low others = absurd (omega (arith, heads 92 b (110 ∷ rest) bytes e, low))
-behind_piece mode piece rest b bytes written_carriage_return e low others = absurd (omega (arith, heads 92 b (114 ∷ rest) bytes e, low))
-behind_piece mode piece rest b bytes written_tab e low others = absurd (omega (arith, heads 92 b (116 ∷ rest) bytes e, low))
-behind_piece mode piece rest b bytes written_form_feed e low others = absurd (omega (arith, heads 92 b (120 ∷ 48 ∷ 67 ∷ rest) bytes e, low))
+behind_piece mode piece rest b bytes (written_line_feed beyond) e low others = absurd (omega (arith, heads 92 b (110 ∷ rest) bytes e, low))
+behind_piece mode piece rest b bytes (written_carriage_return beyond) e low others = absurd (omega (arith, heads 92 b (114 ∷ rest) bytes e, low))
+behind_piece mode piece rest b bytes (written_tab beyond) e low others = absurd (omega (arith, heads 92 b (116 ∷ rest) bytes e, low))
+behind_piece mode piece rest b bytes (written_form_feed beyond) e low others = absurd (omega (arith, heads 92 b (120 ∷ 48 ∷ 67 ∷ rest) bytes e, low))
 behind_piece mode piece rest b bytes (block_comment inside m lacks) e low others = absurd (omega (arith, heads 47 b (42 ∷ ((inside ++ 42 ∷ 47 ∷ []) ++ rest)) bytes e, low))
 behind_piece mode piece rest b bytes (line_comment inside last m one ends) e low others = absurd (omega (arith, heads 47 b (47 ∷ ((inside ++ last ∷ []) ++ rest)) bytes e, low))
 
@@ -113,7 +113,7 @@ member_line mode Value margin k bytes t utf8 h =
     let key = reads_back mode k utf8 in
     subst (λ b. IsMember mode Value b (k, t)) (append_assoc (new_line margin) (quoted_text k) (58 ∷ 32 ∷ bytes))
     (key_and_value {left = new_line margin ++ quoted_text k} {right = 32 ∷ bytes} {key = (key.0, k)} {t = t}
-    (pad_before mode (IsKey mode) (new_line margin) (quoted_text k) (key.0, k) (line_is_piece mode margin) (quoted_key {quote = 34} (double_quote mode) key.1))
+    (pad_before mode (IsKey mode) (new_line margin) (quoted_text k) (key.0, k) (line_is_piece mode margin) (quoted_key {quote = 34} (double_quote (strictness mode)) key.1))
     (pad_before mode Value (32 ∷ []) bytes t (more_whitespace space no_whitespace) h))
 
 -- ---- values
@@ -357,8 +357,12 @@ module _ (mode : Mode) (IsIn : Num → Type 0) (short : (n : Num) → IsProperNu
 pub range_represents : (mode : Mode) (indent : ℕ) (t : Tree) → IsProper t → IsInRangeOf mode t → Represents mode (indented_text indent 0 t) t
 range_represents standard indent t p w = lines_represent standard IsIntegral integral_short integer_reads_back indent t p w
 range_represents extended indent t p w = lines_represent extended HasFewDigits in_texts_short extended_reads_back indent t p w
+range_represents json indent t p w = lines_represent json HasFewDigits in_texts_short json_reads_back indent t p w
+range_represents extended_json indent t p w = lines_represent extended_json HasFewDigits in_texts_short extended_json_reads_back indent t p w
 
 -- and of a tree with the same lines
 pub range_lines_again : (mode : Mode) (indent : ℕ) (t : Tree) → IsProper t → IsInRangeOf mode t → ReadsBackOverLines mode indent (indented_text indent 0 t)
 range_lines_again standard indent t p w = lines_read_back standard IsIntegral integral_short integer_reads_back indent t p w
 range_lines_again extended indent t p w = lines_read_back extended HasFewDigits in_texts_short extended_reads_back indent t p w
+range_lines_again json indent t p w = lines_read_back json HasFewDigits in_texts_short json_reads_back indent t p w
+range_lines_again extended_json indent t p w = lines_read_back extended_json HasFewDigits in_texts_short extended_json_reads_back indent t p w

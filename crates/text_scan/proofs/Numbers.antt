@@ -6,6 +6,8 @@ pub mod DecimalStates
 pub mod DigitRuns
 pub mod DigitValues
 pub mod Ends
+pub mod Exact
+pub mod ExactNumbers
 pub mod Extended
 pub mod ExtendedParts
 pub mod ExtendedTexts
@@ -16,6 +18,8 @@ pub mod HexadecimalTexts
 pub mod HexadecimalValues
 pub mod Verbatim
 pub mod VerbatimDecimals
+pub mod Read
+pub mod Reading
 pub mod Runs
 pub mod Scan
 pub mod ScanStates

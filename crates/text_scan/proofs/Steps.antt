@@ -1,2 +1,3 @@
 -- Small steps that all layers take.
+pub mod Modes
 pub mod Tests

@@ -35,7 +35,7 @@ pub record IsDecodedUpTo (mode : Mode) (bytes rest : List ℕ) : Type 0 where
   pub text : List ℕ
   pub decodes : DecodesUpTo mode bytes rest text
 
--- the letters of escapes in both modes: `"`, `\`, `/`, b, f, n, r and t
+-- the letters of escapes in every mode: `"`, `\`, `/`, b, f, n, r and t
 abbrev pub IsShortLetter : ℕ → Type 0
 IsShortLetter letter =
     (letter ≡ ascii.quote) ⊎ ((letter ≡ ascii.backslash) ⊎ ((letter ≡ ascii.slash) ⊎ ((letter ≡ ascii.lower_b)
@@ -48,18 +48,18 @@ pub record Adds (mode : Mode) (bytes rest old new : List ℕ) : Type 0 where
   pub decodes : DecodesUpTo mode bytes rest text
 
 -- a bad unit, at which so many of the bytes are left
-pub record StopsInUnit (bytes : List ℕ) (code : Code) (left : ℕ) : Type 0 where
+pub record StopsInUnit (mode : Mode) (bytes : List ℕ) (code : Code) (left : ℕ) : Type 0 where
   pub steps : ℕ
-  pub bad : BadUnit bytes code steps
+  pub bad : BadUnit mode bytes code steps
   pub count : left + steps ≡ length bytes
 
--- items and a bad escape, at which so many of the bytes are left
+-- items and a bad one, at which so many of the bytes are left
 pub record StopsAtEscape (mode : Mode) (bytes : List ℕ) (code : Code) (left : ℕ) : Type 0 where
   pub read : ℕ
   pub cut : IsCutShort mode bytes code read
   pub count : left + read ≡ length bytes
 
--- The bytes are contents of a string: no bad escape is among them.
+-- The bytes are contents of a string: no bad item is among them.
 abbrev pub AreContents : Mode → List ℕ → Type 0
 AreContents mode bytes = (code : Code) → (left : ℕ) → StopsAtEscape mode bytes code left → ⊥
 

@@ -4,12 +4,14 @@ pub mod BareKey
 pub mod Whitespace
 pub mod Container
 pub mod Document
+pub mod ExactNumber
 pub mod ExtendedNumber
 pub mod Number
 pub mod Scalar
 pub mod String
 use Rattle.std.specs.Prelude.{ℕ, ◌+◌, ◌-◌, Bool, true, false, List, [], ◌∷◌, length, Result, Ok, Err, ◌==◌, if◌then◌else◌}
 use Rattle.jsonb_spec.specs.Code.{Code, invalid_eof}
+use Rattle.jsonb_spec.specs.Mode.{Mode, standard, extended, json, extended_json}
 
 -- A fault, and the offset in the whole input that it names.
 pub record Fault : Type 0 where
@@ -46,3 +48,12 @@ fault_at size code step (b ∷ bytes) = record { code = code; offset = size - le
 
 abbrev pub reject : {A : Type 0} → ℕ → Code → ℕ → List ℕ → Result A Fault
 reject size code step bytes = Err (fault_at size code step bytes)
+
+-- ---- modes
+
+-- whether the mode has whitespace that RFC 8259 hasn't, and digits of a unit in braces
+abbrev pub goes_beyond_json : Mode → Bool
+goes_beyond_json standard = true
+goes_beyond_json extended = true
+goes_beyond_json json = false
+goes_beyond_json extended_json = true

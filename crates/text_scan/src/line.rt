@@ -54,7 +54,8 @@ fn bytes_past(code: &ParseErrorCode) -> usize
         | ParseErrorCode::InvalidStringValue
         | ParseErrorCode::ObjectDuplicateKey(_)
         | ParseErrorCode::NumberNotCarried => 1,
-        ParseErrorCode::InvalidEscaped(_)
+        ParseErrorCode::ControlCharacterWhileParsingString
+        | ParseErrorCode::InvalidEscaped(_)
         | ParseErrorCode::InvalidHex(_)
         | ParseErrorCode::UnexpectedEndOfHexEscape => 2,
         _ => 0,

@@ -4,7 +4,7 @@ use Rattle.std.proofs.lemmas.List.{append_assoc, append-nil, take-append-drop, d
 use Rattle.std.proofs.lemmas.List.Concat.{flat_map-append}
 use Rattle.std.proofs.Math.Seq.{take-add, drop-append_seam}
 use Rattle.std.specs.List.{flat_map}
-use Rattle.jsonb_spec.specs.Mode.{Mode, standard, extended}
+use Rattle.jsonb_spec.specs.Mode.{Mode, Strictness, strict, lenient, strictness, GoesBeyondJson}
 use Rattle.jsonb_spec.specs.Grammar.StringBody.{escaped_byte}
 use Rattle.jsonb_spec.specs.Text.StringText.{ArePlain, byte_text}
 use Rattle.text_scan.specs.Decoding.{DecodesUpTo, IsDecodedUpTo, SeesNoBackslash}
@@ -52,11 +52,11 @@ plain_clear (b ∷ bytes) h zero low = (plain_rest b bytes h).0
 plain_clear (b ∷ bytes) h (suc k) low = plain_clear bytes (plain_rest b bytes h).1 k (omega (arith, low))
 
 -- bytes that are written as they are, and the rest
-pub writes_run : (mode : Mode) (run rest : List ℕ) → ArePlain run → WritesItems mode (run ++ rest) rest [] run
-writes_run mode run rest h = record { text = run; decodes = decoded_run mode run rest (plain_clear run h); written = sym h }
+pub writes_run : (mode : Mode) (run rest : List ℕ) → GoesBeyondJson mode → ArePlain run → WritesItems mode (run ++ rest) rest [] run
+writes_run mode run rest beyond h = record { text = run; decodes = decoded_run mode run rest beyond (plain_clear run h); written = sym h }
 
-pub writes_plain : (mode : Mode) (bytes : List ℕ) (count : ℕ) → ArePlain (take count bytes) → WritesItems mode bytes (drop count bytes) [] (take count bytes)
-writes_plain mode bytes count h = subst (λ (u : List ℕ). WritesItems mode u (drop count bytes) [] (take count bytes)) (take-append-drop count bytes) (writes_run mode (take count bytes) (drop count bytes) h)
+pub writes_plain : (mode : Mode) (bytes : List ℕ) (count : ℕ) → GoesBeyondJson mode → ArePlain (take count bytes) → WritesItems mode bytes (drop count bytes) [] (take count bytes)
+writes_plain mode bytes count beyond h = subst (λ (u : List ℕ). WritesItems mode u (drop count bytes) [] (take count bytes)) (take-append-drop count bytes) (writes_run mode (take count bytes) (drop count bytes) beyond h)
 
 -- a part behind the first bytes
 pub writes_on : (mode : Mode) (bytes : List ℕ) (n m : ℕ) → WritesItems mode bytes (drop n bytes) [] (take n bytes) → WritesItems mode (drop n bytes) (drop m (drop n bytes)) [] (take m (drop n bytes)) → WritesItems mode bytes (drop (n + m) bytes) [] (take (n + m) bytes)
@@ -67,20 +67,20 @@ writes_on mode bytes n m p q =
 
 -- ---- escapes
 
-verbatim_byte : (mode : Mode) (letter : ℕ) (rest : List ℕ) (byte : ℕ) → escaped_byte mode letter ≡ Some byte → byte_text byte ≡ 92 ∷ letter ∷ [] → WritesItems mode (92 ∷ letter ∷ rest) rest [] (92 ∷ letter ∷ [])
+verbatim_byte : (mode : Mode) (letter : ℕ) (rest : List ℕ) (byte : ℕ) → escaped_byte (strictness mode) letter ≡ Some byte → byte_text byte ≡ 92 ∷ letter ∷ [] → WritesItems mode (92 ∷ letter ∷ rest) rest [] (92 ∷ letter ∷ [])
 verbatim_byte mode letter rest byte is written = record { text = byte ∷ []; decodes = decoded_escape mode letter byte rest is; written = sym (append-nil (byte_text byte) ∙ written) }
 
-by_mode : (letter byte : ℕ) → escaped_byte standard letter ≡ Some byte → escaped_byte extended letter ≡ Some byte → (mode : Mode) → escaped_byte mode letter ≡ Some byte
-by_mode letter byte p q standard = p
-by_mode letter byte p q extended = q
+by_strictness : (letter byte : ℕ) → escaped_byte strict letter ≡ Some byte → escaped_byte lenient letter ≡ Some byte → (s : Strictness) → escaped_byte s letter ≡ Some byte
+by_strictness letter byte p q strict = p
+by_strictness letter byte p q lenient = q
 
 verbatim_letter : (mode : Mode) (letter : ℕ) (rest : List ℕ) → IsVerbatimLetter letter → WritesItems mode (92 ∷ letter ∷ rest) rest [] (92 ∷ letter ∷ [])
 verbatim_letter mode letter rest is =
-    ⊎_elim (λ e. at 34 34 e (verbatim_byte mode 34 rest 34 (by_mode 34 34 refl refl mode) refl)) (λ is2.
-    ⊎_elim (λ e. at 92 92 e (verbatim_byte mode 92 rest 92 (by_mode 92 92 refl refl mode) refl)) (λ is3.
-    ⊎_elim (λ e. at 110 10 e (verbatim_byte mode 110 rest 10 (by_mode 110 10 refl refl mode) refl)) (λ is4.
-    ⊎_elim (λ e. at 114 13 e (verbatim_byte mode 114 rest 13 (by_mode 114 13 refl refl mode) refl))
-    (λ e. at 116 9 e (verbatim_byte mode 116 rest 9 (by_mode 116 9 refl refl mode) refl)) is4) is3) is2) is
+    ⊎_elim (λ e. at 34 34 e (verbatim_byte mode 34 rest 34 (by_strictness 34 34 refl refl (strictness mode)) refl)) (λ is2.
+    ⊎_elim (λ e. at 92 92 e (verbatim_byte mode 92 rest 92 (by_strictness 92 92 refl refl (strictness mode)) refl)) (λ is3.
+    ⊎_elim (λ e. at 110 10 e (verbatim_byte mode 110 rest 10 (by_strictness 110 10 refl refl (strictness mode)) refl)) (λ is4.
+    ⊎_elim (λ e. at 114 13 e (verbatim_byte mode 114 rest 13 (by_strictness 114 13 refl refl (strictness mode)) refl))
+    (λ e. at 116 9 e (verbatim_byte mode 116 rest 9 (by_strictness 116 9 refl refl (strictness mode)) refl)) is4) is3) is2) is
   where
     at : (n byte : ℕ) → letter ≡ n → WritesItems mode (92 ∷ n ∷ rest) rest [] (92 ∷ n ∷ []) → WritesItems mode (92 ∷ letter ∷ rest) rest [] (92 ∷ letter ∷ [])
     at n byte e p = subst (λ (l : ℕ). WritesItems mode (92 ∷ l ∷ rest) rest [] (92 ∷ l ∷ [])) (sym e) p
@@ -99,10 +99,10 @@ where_so false f p = tt
 -- ---- items
 
 -- a raw byte
-pub writes_raw : (mode : Mode) (byte : ℕ) (rest old new : List ℕ) → byte ≢ 92 → new ≡ old ++ byte_text byte → WritesItems mode (byte ∷ rest) rest old new
-writes_raw mode byte rest old new other written = record {
+pub writes_raw : (mode : Mode) (byte : ℕ) (rest old new : List ℕ) → GoesBeyondJson mode → byte ≢ 92 → new ≡ old ++ byte_text byte → WritesItems mode (byte ∷ rest) rest old new
+writes_raw mode byte rest old new beyond other written = record {
   text = byte ∷ [];
-  decodes = decoded_run mode (byte ∷ []) rest (one_clear byte other);
+  decodes = decoded_run mode (byte ∷ []) rest beyond (one_clear byte other);
   written = written ∙ ap (λ (u : List ℕ). old ++ u) (sym (append-nil (byte_text byte)));
 }
   where
@@ -125,6 +125,6 @@ quoted_bytes old front middle last text first second closed =
 pub writes_slash : (mode : Mode) (bytes rest old new : List ℕ) → bytes ≡ 92 ∷ 47 ∷ rest → new ≡ old ++ 47 ∷ [] → WritesItems mode bytes rest old new
 writes_slash mode bytes rest old new is written = record {
   text = 47 ∷ [];
-  decodes = subst (λ (u : List ℕ). DecodesUpTo mode u rest (47 ∷ [])) (sym is) (decoded_escape mode 47 47 rest (by_mode 47 47 refl refl mode));
+  decodes = subst (λ (u : List ℕ). DecodesUpTo mode u rest (47 ∷ [])) (sym is) (decoded_escape mode 47 47 rest (by_strictness 47 47 refl refl (strictness mode)));
   written = written;
 }

@@ -3,7 +3,7 @@
 ghost use Rattle.std.specs.Prelude.{◌≡◌, List, ℕ, ◌+◌, ◌-◌, ◌≤◌, ◌<◌, ◌++◌, ◌∷◌, [], drop, length, take, IfOk, IfSome, MatchBool, OnOk};
 ghost use Rattle.std.specs.List.{flat_map};
 ghost use Rattle.jsonb_spec.specs.Ascii as ascii;
-ghost use Rattle.jsonb_spec.specs.Mode.{Mode as GrammarMode};
+ghost use Rattle.jsonb_spec.specs.Mode.{Mode as GrammarMode, GoesBeyondJson};
 ghost use Rattle.jsonb_spec.specs.Text.Appending.{Extends};
 ghost use Rattle.jsonb_spec.specs.Text.StringText.{byte_text};
 ghost use Rattle.text_scan.specs.Answer.{mode_of};
@@ -48,7 +48,7 @@ fn begins_verbatim(bytes: &[u8]) -> bool
 #[inline(always)]
 pub(crate) fn entry_len(bytes: &[u8]) -> usize
     ensures within { result ≤ length bytes.now }
-    ensures retained { (mode : GrammarMode)
+    ensures retained { (mode : GrammarMode) → GoesBeyondJson mode
         → WritesItems mode bytes.now (drop result bytes.now) [] (take result bytes.now) }
 {
     // One unit often follows another.
@@ -74,7 +74,7 @@ pub(crate) fn entry_len(bytes: &[u8]) -> usize
 #[inline(never)]
 fn verbatim_tail(bytes: &[u8]) -> usize
     ensures within { result ≤ length bytes.now }
-    ensures retained { (mode : GrammarMode)
+    ensures retained { (mode : GrammarMode) → GoesBeyondJson mode
         → WritesItems mode bytes.now (drop result bytes.now) [] (take result bytes.now) }
 {
     let mut len = 0;

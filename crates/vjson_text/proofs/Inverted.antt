@@ -15,7 +15,7 @@ use Rattle.jsonb_spec.specs.Grammar.Scalar.{IsScalar, literal_value, string_valu
 use Rattle.jsonb_spec.specs.Grammar.StringBody.{Item, raw, escape, unit, encoding, escaped_byte, standard_escape, IsItem}
 use Rattle.jsonb_spec.specs.Grammar.Whitespace.{space, tab, line_feed, form_feed, carriage_return, written_line_feed, written_carriage_return, written_tab, written_form_feed, block_comment, line_comment, IsWhitespace, no_whitespace, more_whitespace, IsLastWhitespace, whitespace_to_end, line_to_end}
 use Rattle.jsonb_spec.specs.Grammar.{IsPadded, padded, IsJoined, one_part, more_parts, IsElement, whole_element, empty_element, IsMember, key_and_value, IsValue, scalar, empty_array, full_array, empty_object, full_object, Derives, max_depth, IsDocument, value_alone, whitespace_alone}
-use Rattle.jsonb_spec.specs.Mode.{standard, extended}
+use Rattle.jsonb_spec.specs.Mode.{standard, extended, lenient}
 use Rattle.jsonb_spec.specs.Tree.{Mark, Tree}
 use Rattle.vjson_text.proofs.JsonWords.{IsGood, json_good}
 use Rattle.vjson_text.proofs.Numbers.{digit_word}
@@ -200,11 +200,11 @@ spaces_back spaces rest last (more_whitespace {rest = more} line_feed others) fi
     space_more last 10 more rest (inr (inr (inl refl)), tt) (spaces_back more rest (blank_after last) others (blank_fits last (more ++ rest)) h)
 spaces_back spaces rest last (more_whitespace {rest = more} carriage_return others) fits h =
     space_more last 13 more rest (inr (inr (inr refl)), tt) (spaces_back more rest (blank_after last) others (blank_fits last (more ++ rest)) h)
-spaces_back spaces rest last (more_whitespace {rest = more} form_feed others) fits h = absurd (bad_first last 12 (more ++ rest) fits refl (not_good 12 12 refl (inl refl)) h)
-spaces_back spaces rest last (more_whitespace {rest = more} written_line_feed others) fits h = absurd (bad_first last 92 (110 ∷ (more ++ rest)) fits refl (not_good 92 92 refl (inr (inl refl))) h)
-spaces_back spaces rest last (more_whitespace {rest = more} written_carriage_return others) fits h = absurd (bad_first last 92 (114 ∷ (more ++ rest)) fits refl (not_good 92 92 refl (inr (inl refl))) h)
-spaces_back spaces rest last (more_whitespace {rest = more} written_tab others) fits h = absurd (bad_first last 92 (116 ∷ (more ++ rest)) fits refl (not_good 92 92 refl (inr (inl refl))) h)
-spaces_back spaces rest last (more_whitespace {rest = more} written_form_feed others) fits h = absurd (bad_first last 92 (120 ∷ 48 ∷ 67 ∷ (more ++ rest)) fits refl (not_good 92 92 refl (inr (inl refl))) h)
+spaces_back spaces rest last (more_whitespace {rest = more} (form_feed beyond) others) fits h = absurd (bad_first last 12 (more ++ rest) fits refl (not_good 12 12 refl (inl refl)) h)
+spaces_back spaces rest last (more_whitespace {rest = more} (written_line_feed beyond) others) fits h = absurd (bad_first last 92 (110 ∷ (more ++ rest)) fits refl (not_good 92 92 refl (inr (inl refl))) h)
+spaces_back spaces rest last (more_whitespace {rest = more} (written_carriage_return beyond) others) fits h = absurd (bad_first last 92 (114 ∷ (more ++ rest)) fits refl (not_good 92 92 refl (inr (inl refl))) h)
+spaces_back spaces rest last (more_whitespace {rest = more} (written_tab beyond) others) fits h = absurd (bad_first last 92 (116 ∷ (more ++ rest)) fits refl (not_good 92 92 refl (inr (inl refl))) h)
+spaces_back spaces rest last (more_whitespace {rest = more} (written_form_feed beyond) others) fits h = absurd (bad_first last 92 (120 ∷ 48 ∷ 67 ∷ (more ++ rest)) fits refl (not_good 92 92 refl (inr (inl refl))) h)
 spaces_back spaces rest last (more_whitespace {rest = more} (block_comment inside m lacks) others) fits h =
     absurd (bad_first last 47 (42 ∷ (((inside ++ 42 ∷ 47 ∷ []) ++ more) ++ rest)) fits refl (not_good 47 47 refl (inr (inr (inl refl)))) h)
 spaces_back spaces rest last (more_whitespace {rest = more} (line_comment inside last_byte m one ends) others) fits h =
@@ -219,11 +219,11 @@ spaces_clean spaces rest (more_whitespace space others) clean = outside 32 refl
 spaces_clean spaces rest (more_whitespace tab others) clean = outside 9 refl
 spaces_clean spaces rest (more_whitespace line_feed others) clean = outside 10 refl
 spaces_clean spaces rest (more_whitespace carriage_return others) clean = outside 13 refl
-spaces_clean spaces rest (more_whitespace form_feed others) clean = λ _. not_good 12 12 refl (inl refl)
-spaces_clean spaces rest (more_whitespace written_line_feed others) clean = λ _. not_good 92 92 refl (inr (inl refl))
-spaces_clean spaces rest (more_whitespace written_carriage_return others) clean = λ _. not_good 92 92 refl (inr (inl refl))
-spaces_clean spaces rest (more_whitespace written_tab others) clean = λ _. not_good 92 92 refl (inr (inl refl))
-spaces_clean spaces rest (more_whitespace written_form_feed others) clean = λ _. not_good 92 92 refl (inr (inl refl))
+spaces_clean spaces rest (more_whitespace (form_feed beyond) others) clean = λ _. not_good 12 12 refl (inl refl)
+spaces_clean spaces rest (more_whitespace (written_line_feed beyond) others) clean = λ _. not_good 92 92 refl (inr (inl refl))
+spaces_clean spaces rest (more_whitespace (written_carriage_return beyond) others) clean = λ _. not_good 92 92 refl (inr (inl refl))
+spaces_clean spaces rest (more_whitespace (written_tab beyond) others) clean = λ _. not_good 92 92 refl (inr (inl refl))
+spaces_clean spaces rest (more_whitespace (written_form_feed beyond) others) clean = λ _. not_good 92 92 refl (inr (inl refl))
 spaces_clean spaces rest (more_whitespace (block_comment inside m lacks) others) clean = λ _. not_good 47 47 refl (inr (inr (inl refl)))
 spaces_clean spaces rest (more_whitespace (line_comment inside last_byte m one ends) others) clean = λ _. not_good 47 47 refl (inr (inr (inl refl)))
 
@@ -313,7 +313,7 @@ no_unit : (byte : ℕ) → None ≡ Some byte → ⊥
 no_unit byte e = cc
 
 -- the letter of an escape is one of RFC 8259
-standard_letter : (letter byte : ℕ) → escaped_byte extended letter ≡ Some byte → is_some (standard_escape letter) ≡ true → standard_escape letter ≡ Some byte
+standard_letter : (letter byte : ℕ) → escaped_byte lenient letter ≡ Some byte → is_some (standard_escape letter) ≡ true → standard_escape letter ≡ Some byte
 standard_letter letter byte is some =
     let other : letter ≢ 39 = λ e. true≢false (sym some ∙ ap (λ (n : ℕ). is_some (standard_escape n)) e) in
     sym (cond-false (letter == 39) _ _ (ne_eqb letter 39 other)) ∙ is
@@ -325,10 +325,10 @@ digits_back (d ∷ digits) more h = digits_back digits more (and_parts (is_ascii
 -- an item, and what is behind it
 item_back : (item : Item) (more : List ℕ) → IsItem extended item → item ≢ raw 34 → in_string 0 (encoding item ++ more) ≡ true → IsItem standard item × IsStrictItem item × (in_string 0 more ≡ true)
 item_back (raw b) more is no_quote h =
-    let both = and_parts (is_plain b) (in_string 0 more) (sym (one_byte b more (λ e. no_quote (ap raw e)) is) ∙ h) in
+    let both = and_parts (is_plain b) (in_string 0 more) (sym (one_byte b more (λ e. no_quote (ap raw e)) is.0) ∙ h) in
     (is, leb-true 32 b both.0, both.1)
 item_back (escape letter byte) more is no_quote h =
-    let other : (letter == 117) ≡ false = ne_eqb letter 117 (λ e. no_unit byte (sym (ap (escaped_byte extended) e) ∙ is)) in
+    let other : (letter == 117) ≡ false = ne_eqb letter 117 (λ e. no_unit byte (sym (ap (escaped_byte lenient) e) ∙ is)) in
     let both = and_parts (is_some (standard_escape letter)) (in_string 0 more) (sym (cond-false (letter == 117) _ _ other) ∙ h) in
     (standard_letter letter byte is both.0, tt, both.1)
 item_back (unit true digits) more is no_quote h = absurd (true≢false (sym h))

@@ -97,7 +97,7 @@ digits_found (d ∷ digits) text offset left h e =
 
 item_found : (item : Item) (text : List ℕ) (offset : ℕ) (left : List ℕ) → IsItem standard item → item ≢ raw 34 → IsStrictItem item → expanded_at offset (in_string text) ≡ Ok (encoding item ++ left) → InString (encoding item) text left
 item_found (raw b) text offset left is no_quote strict e =
-    let f = in_other b (λ q. no_quote (ap raw q)) is text offset left e in
+    let f = in_other b (λ q. no_quote (ap raw q)) is.0 text offset left e in
     record { rest = f.0; offset = offset + 1; split = f.1; found = f.2 }
 item_found (escape letter byte) text offset left is no_quote strict e =
     let f = in_found 92 text offset (letter ∷ left) e in

@@ -155,7 +155,7 @@ none_is : (byte : ℕ) → None ≡ Some byte → ⊥
 none_is byte e = cc
 
 item_passed : (item : Item) (more : List ℕ) → IsItem standard item → item ≢ raw 34 → IsStrictItem item → in_string 0 (encoding item ++ more) ≡ in_string 0 more
-item_passed (raw b) more is no_quote strict = at_other b more strict (λ e. no_quote (ap raw e)) is
+item_passed (raw b) more is no_quote strict = at_other b more strict (λ e. no_quote (ap raw e)) is.0
 item_passed (escape letter byte) more is no_quote strict =
     cond-false (letter == 117) _ _ (ne_eqb letter 117 (λ e. none_is byte (sym (ap standard_escape e) ∙ is))) ∙ ap (λ o. is_some o && in_string 0 more) is
 item_passed (unit false digits) more is no_quote strict =

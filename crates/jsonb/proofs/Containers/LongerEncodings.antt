@@ -2,8 +2,7 @@
 use Rattle.std.proofs.Common.{◌≡◌, ◌≢◌, ℕ, zero, suc, ◌≤◌, true≢false, List, [], ◌∷◌, ◌++◌, codes, None, ⊎_elim, refl, sym, ap, subst, ◌∙◌, eq-eqb, arith}
 use Rattle.jsonb_spec.specs.Grammar.{Derives, IsValue}
 use Rattle.jsonb_spec.specs.Grammar.IsValue.{empty_array, empty_object, full_array, full_object, scalar}
-use Rattle.jsonb_spec.specs.Mode.{Mode}
-use Rattle.jsonb_spec.specs.Mode.Mode.{extended}
+use Rattle.jsonb_spec.specs.Mode.{Mode, strictness, IsLenient}
 use Rattle.jsonb_spec.specs.Accessors.{as_number}
 use Rattle.jsonb_spec.specs.Grammar.Scalar.{IsQuote, IsScalar}
 use Rattle.jsonb_spec.specs.Grammar.Scalar.IsLiteral.{false_word, null_word, true_word}
@@ -50,21 +49,21 @@ other_first : (mode : Mode) (b : ℕ) (rest : List ℕ) → (IsApart b → ⊥) 
 unfolding BeginsOther
 other_first mode b rest none s = none (subst IsApart (let both : b ∷ rest ≡ s.first ∷ s.others = s.whole in let same : s.first ≡ b = cc in same) s.apart)
 
-word_other : (mode : Mode) (c : ℕ) (bytes : List ℕ) → 97 ≤ c → StartsWord mode c bytes → BeginsOther mode bytes
+word_other : (mode : Mode) (c : ℕ) (bytes : List ℕ) → 97 ≤ c → StartsWord (strictness mode) c bytes → BeginsOther mode bytes
 unfolding BeginsOther
 word_other mode c bytes low s =
-    subst (BeginsOther mode) (sym s.whole) (other_first mode s.first s.others (λ a. true≢false (sym (eq-eqb (fold_letter mode s.first) c s.letter) ∙ a.no_letter mode c low)))
+    subst (BeginsOther mode) (sym s.whole) (other_first mode s.first s.others (λ a. true≢false (sym (eq-eqb (fold_letter (strictness mode) s.first) c s.letter) ∙ a.no_letter (strictness mode) c low)))
 
-quote_other : (mode : Mode) (quote : ℕ) (bytes inner : List ℕ) → IsQuote mode quote → bytes ≡ quote ∷ inner → BeginsOther mode bytes
+quote_other : (mode : Mode) (quote : ℕ) (bytes inner : List ℕ) → IsQuote (strictness mode) quote → bytes ≡ quote ∷ inner → BeginsOther mode bytes
 quote_other mode quote bytes inner is e =
     ⊎_elim (λ (q : quote ≡ 34). subst (BeginsOther mode) (sym (e ∙ ap (λ (c : ℕ). c ∷ inner) q)) (other_first mode 34 inner (λ a. true≢false a.no_quote)))
-    (λ (q : (mode ≡ extended) × (quote ≡ 39)). subst (BeginsOther mode) (sym (e ∙ ap (λ (c : ℕ). c ∷ inner) q.1)) (other_first mode 39 inner (λ a. true≢false a.no_single)))
-    (quote_is mode quote is)
+    (λ (q : IsLenient mode × (quote ≡ 39)). subst (BeginsOther mode) (sym (e ∙ ap (λ (c : ℕ). c ∷ inner) q.1)) (other_first mode 39 inner (λ a. true≢false a.no_single)))
+    (quote_is (strictness mode) quote is)
 
 scalar_other : (mode : Mode) (bytes : List ℕ) (t : Tree) → IsScalar mode bytes t → as_number t ≡ None → BeginsOther mode bytes
-scalar_other mode bytes t (literal_value (null_word is)) e = word_other mode 110 bytes (omega arith) (word_starts mode 110 (codes "ull") bytes is)
-scalar_other mode bytes t (literal_value (true_word is)) e = word_other mode 116 bytes (omega arith) (word_starts mode 116 (codes "rue") bytes is)
-scalar_other mode bytes t (literal_value (false_word is)) e = word_other mode 102 bytes (omega arith) (word_starts mode 102 (codes "alse") bytes is)
+scalar_other mode bytes t (literal_value (null_word is)) e = word_other mode 110 bytes (omega arith) (word_starts (strictness mode) 110 (codes "ull") bytes is)
+scalar_other mode bytes t (literal_value (true_word is)) e = word_other mode 116 bytes (omega arith) (word_starts (strictness mode) 116 (codes "rue") bytes is)
+scalar_other mode bytes t (literal_value (false_word is)) e = word_other mode 102 bytes (omega arith) (word_starts (strictness mode) 102 (codes "alse") bytes is)
 scalar_other mode bytes t (string_value {quote = quote} {text = text} {mark = mark} is q) e = let o = quoted_starts mode quote bytes text mark q in quote_other mode quote bytes o.0 is o.1
 scalar_other mode bytes t (number_value is) e = absurd (let never : as_number t ≡ None = e in cc)
 

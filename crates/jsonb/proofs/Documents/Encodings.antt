@@ -12,8 +12,7 @@ use Rattle.jsonb_spec.specs.Grammar.IsMember.{key_and_value}
 use Rattle.jsonb_spec.specs.Grammar.IsPadded.{padded}
 use Rattle.jsonb_spec.specs.Grammar.IsValue.{empty_array, empty_object, full_array, full_object, scalar}
 use Rattle.jsonb_spec.specs.Code.Code.{unexpected_trailing_characters}
-use Rattle.jsonb_spec.specs.Mode.{Mode}
-use Rattle.jsonb_spec.specs.Mode.Mode.{extended}
+use Rattle.jsonb_spec.specs.Mode.{Mode, IsLenient, strictness}
 use Rattle.jsonb_spec.specs.Tree.{Member, Tree}
 use Rattle.jsonb_spec.specs.Source.{Source, null_source, tree_of_source}
 use Rattle.text_scan.specs.Parsing.{Fault, Parse, fault, ◌>>=◌}
@@ -33,8 +32,8 @@ follows-whitespace (line_to_end inside is no_whitespace one) = before (ends_at 4
 follows-whitespace (line_to_end inside is (more_whitespace {piece = piece} {rest = others} b bs) one) = before (subst Ends (sym (append_assoc piece others (47 ∷ 47 ∷ inside))) (ends-piece b (others ++ 47 ∷ 47 ∷ inside)))
 
 -- a line comment that ends a text
-comment_line : (size : ℕ) (mode : Mode) (t : Source) (line : List ℕ) → opens_comment mode (47 ∷ 47 ∷ line) ≡ true → at_end size mode t (47 ∷ 47 ∷ line) ≡ Ok t
-comment_line size mode t line opens = cond-true (opens_comment mode (47 ∷ 47 ∷ line)) (comment_at size t (47 ∷ line)) (fault unexpected_trailing_characters (size - length (47 ∷ 47 ∷ line) + 1)) opens
+comment_line : (size : ℕ) (mode : Mode) (t : Source) (line : List ℕ) → opens_comment (strictness mode) (47 ∷ 47 ∷ line) ≡ true → at_end size mode t (47 ∷ 47 ∷ line) ≡ Ok t
+comment_line size mode t line opens = cond-true (opens_comment (strictness mode) (47 ∷ 47 ∷ line)) (comment_at size t (47 ∷ line)) (fault unexpected_trailing_characters (size - length (47 ∷ 47 ∷ line) + 1)) opens
 
 end_read : (size : ℕ) (mode : Mode) (t : Source) {after : List ℕ} (b : IsLastWhitespace mode after) → at_end size mode t (skip_closed_whitespace mode after) ≡ Ok t
 end_read size mode t {after} b = by_end (ends_passed b)
@@ -57,19 +56,19 @@ value_document mode size {front} {after} core t b d c =
       r.0,
       r.1,
       ap (source_from size mode) passed
-          ∙ cond-false (opens_comment mode (st.first ∷ (st.others ++ after))) (comment_at size null_source (st.others ++ after)) (value_to_end size mode (st.first ∷ (st.others ++ after))) (opens-stop mode st.first (st.others ++ after) piece)
+          ∙ cond-false (opens_comment (strictness mode) (st.first ∷ (st.others ++ after))) (comment_at size null_source (st.others ++ after)) (value_to_end size mode (st.first ∷ (st.others ++ after))) (opens-stop (strictness mode) st.first (st.others ++ after) piece)
           ∙ ap (value_to_end size mode) (sym opened)
           ∙ ap (λ (q : Parse Source). q >>= λ (x : Source × List ℕ). at_end size mode x.0 (skip_closed_whitespace mode x.1)) r.2
           ∙ end_read size mode r.0 c,
     )
 
-whitespace_document : (mode : Mode) (size : ℕ) {bytes : List ℕ} → mode ≡ extended → IsLastWhitespace mode bytes → source_from size mode (skip_closed_whitespace mode bytes) ≡ Ok null_source
+whitespace_document : (mode : Mode) (size : ℕ) {bytes : List ℕ} → IsLenient mode → IsLastWhitespace mode bytes → source_from size mode (skip_closed_whitespace mode bytes) ≡ Ok null_source
 whitespace_document mode size {bytes} is b = by_end (ends_passed b)
   where
     by_end : EndsPassed mode bytes → source_from size mode (skip_closed_whitespace mode bytes) ≡ Ok null_source
-    by_end (all_passed e) = ap (source_from size mode) e ∙ ap (λ (m : Mode). nothing_at size m) is
+    by_end (all_passed e) = ap (source_from size mode) e ∙ ap (nothing_at size) is
     by_end (line_left line opens e) =
-        ap (source_from size mode) e ∙ cond-true (opens_comment mode (47 ∷ 47 ∷ line)) (comment_at size null_source (47 ∷ line)) (value_to_end size mode (47 ∷ 47 ∷ line)) opens
+        ap (source_from size mode) e ∙ cond-true (opens_comment (strictness mode) (47 ∷ 47 ∷ line)) (comment_at size null_source (47 ∷ line)) (value_to_end size mode (47 ∷ 47 ∷ line)) opens
 
 source_complete : (mode : Mode) (bytes : List ℕ) (t : Tree) → IsDocument mode bytes t → (s : Source) × (tree_of_source s ≡ t) × (source_of mode bytes ≡ Ok s)
 unfolding source_of
@@ -101,7 +100,7 @@ lift mode V W more = wider
 
     wider_element : {bytes : List ℕ} {t : Tree} (e : IsElement mode V bytes t) → IsElement mode W bytes t
     wider_element (whole_element p) = whole_element (wider_padded p)
-    wider_element (empty_element is_extended b) = empty_element is_extended b
+    wider_element (empty_element is_lenient b) = empty_element is_lenient b
 
     wider_member : {bytes : List ℕ} {m : Member} (e : IsMember mode V bytes m) → IsMember mode W bytes m
     wider_member (key_and_value k p) = key_and_value k (wider_padded p)

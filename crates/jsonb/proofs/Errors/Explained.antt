@@ -6,7 +6,7 @@ use Rattle.jsonb_spec.specs.Code.{Code}
 use Rattle.jsonb_spec.specs.Code.Code.{depth_limit_exceeded, expected_array_comma_or_end, expected_colon, expected_object_comma_or_end, expected_some_value, invalid_eof, number_not_carried, object_duplicate_key}
 use Rattle.jsonb_spec.specs.Grammar.{Derives, IsElement, IsMember, IsPadded, IsValue}
 use Rattle.jsonb_spec.specs.Grammar.IsValue.{empty_array, empty_object, full_array, full_object, scalar}
-use Rattle.jsonb_spec.specs.Mode.{Mode}
+use Rattle.jsonb_spec.specs.Mode.{Mode, strictness}
 use Rattle.jsonb_spec.specs.Grammar.Scalar.{IsKey, IsScalar}
 use Rattle.jsonb_spec.specs.Tree.{Mark, Member, Tree}
 use Rattle.text_scan.specs.Parsing.{Fault, Parse, begins, on_byte, reject, ◌>>=◌}
@@ -242,8 +242,8 @@ module _ (mode : Mode) (depth size : ℕ) (read : List ℕ → Parse Source) (so
 
   element_rejected : (bytes : List ℕ) (f : Fault) → length bytes ≤ size → element_at mode read bytes ≡ Err f → IsReported f.code → IsRejectedAt mode depth size bytes f
   element_rejected bytes f h e reported =
-      elim (bind_err (value_or_null mode read (skip_whitespace mode bytes)) (λ (x : Source × List ℕ). Ok (x.0, skip_whitespace mode x.1)) f e) [
-        | inl g ↦ elim (chosen (is_left_out mode (skip_whitespace mode bytes)) (Ok (null_source, skip_whitespace mode bytes)) (read (skip_whitespace mode bytes)) (Err f) g) [
+      elim (bind_err (value_or_null (strictness mode) read (skip_whitespace mode bytes)) (λ (x : Source × List ℕ). Ok (x.0, skip_whitespace mode x.1)) f e) [
+        | inl g ↦ elim (chosen (is_left_out (strictness mode) (skip_whitespace mode bytes)) (Ok (null_source, skip_whitespace mode bytes)) (read (skip_whitespace mode bytes)) (Err f) g) [
           | inl k ↦ absurd (let never : ◌≡◌ {A = Parse Source} (Ok (null_source, skip_whitespace mode bytes)) (Err f) = k.1 in cc)
           | inr k ↦ value_rejected bytes f h k.1 reported
         ]
@@ -256,7 +256,7 @@ module _ (mode : Mode) (depth size : ℕ) (read : List ℕ → Parse Source) (so
         | inl g ↦ absurd (let never : ◌≡◌ {A = Parse Source} (Ok (array_source no_sources, g.0)) (Err f) = g.2 in cc)
         | inr g ↦ elim (bind_err (joined_at size expected_array_comma_or_end 93 (element_at mode read) (suc (length bytes)) (skip_whitespace mode bytes)) (λ (x : List Source × List ℕ). Ok (array_source_of x.0, x.1)) f g.1) [
           | inl k ↦
-              let again = sym (joined-skip size expected_array_comma_or_end 93 (Seen (IsElement mode (IsEncoding mode))) (element_at mode read) mode (λ u. ap (λ (w : List ℕ). value_or_null mode read w >>= λ (x : Source × List ℕ). Ok (x.0, skip_whitespace mode x.1)) (skip-skip mode u)) (suc (length bytes)) bytes) ∙ k in
+              let again = sym (joined-skip size expected_array_comma_or_end 93 (Seen (IsElement mode (IsEncoding mode))) (element_at mode read) mode (λ u. ap (λ (w : List ℕ). value_or_null (strictness mode) read w >>= λ (x : Source × List ℕ). Ok (x.0, skip_whitespace mode x.1)) (skip-skip mode u)) (suc (length bytes)) bytes) ∙ k in
               let p = joined_rejected size expected_array_comma_or_end 93 (Seen (IsElement mode (IsEncoding mode))) (element_at mode read) (element_sound mode (IsEncoding mode) read sound) (λ n. n) (suc (length bytes)) bytes f again reported in
               let within : length p.rest ≤ size = rest_within size bytes p.passed p.rest (omega (arith, h)) p.whole in
               stops_in_array mode depth size bytes p.passed p.rest f (passed_seen tree_of_source (IsElement mode (IsEncoding mode)) p.are_passed) p.whole (element_rejected p.rest f within p.fails reported)

@@ -1,48 +1,44 @@
 -- What the faults of scalars and keys say, and that no scalar goes past what is parsed.
-use Rattle.std.proofs.Common.{◌≡◌, ℕ, zero, suc, ◌+◌, ◌-◌, ◌<◌, ◌≤◌, Bool, true, false, true≢false, cond, ◌⊎◌, ◌||◌, ⊎_elim, inl, inr, List, [], ◌∷◌, ◌++◌, length, take, drop, codes, get_or, Option, Some, None, Result, Ok, Err, refl, sym, ap, subst, ◌∙◌, arith, eqb, eq-eqb, leb, length-append}
+use Rattle.std.proofs.Common.{◌≡◌, ℕ, zero, suc, ◌+◌, ◌-◌, ◌<◌, ◌≤◌, Bool, true, false, true≢false, cond, ◌⊎◌, ◌||◌, ◌&&◌, ⊎_elim, inl, inr, List, [], ◌∷◌, ◌++◌, length, take, drop, codes, get_or, Option, Some, None, Result, Ok, Err, refl, sym, ap, subst, ◌∙◌, arith, eqb, eq-eqb, leb, length-append}
 use Rattle.std.specs.Char.{is_ascii_digit}
 use Rattle.std.specs.Str.{is_utf8}
 use Rattle.std.specs.Bool.{nat_lt}
 use Rattle.std.proofs.lemmas.Bool.{cases_lt, cond-true}
 use Rattle.jsonb_spec.specs.Code.{Code}
 use Rattle.jsonb_spec.specs.Code.Code.{expected_some_ident, expected_some_value, invalid_eof, invalid_string_value, number_not_carried, object_key_invalid_character, object_key_invalid_number}
-use Rattle.jsonb_spec.specs.Mode.{Mode}
-use Rattle.jsonb_spec.specs.Mode.Mode.{extended, standard}
+use Rattle.jsonb_spec.specs.Mode.{Mode, Strictness, strict, lenient, strictness, IsLenient}
 use Rattle.jsonb_spec.specs.Grammar.Scalar.{IsNumber, IsQuote, IsScalar, IsUnrepresentable, IsNumberText}
 use Rattle.jsonb_spec.specs.Grammar.Scalar.IsLiteral.{false_word, null_word, true_word}
 use Rattle.jsonb_spec.specs.Grammar.Scalar.IsScalar.{literal_value, number_value, string_value}
 use Rattle.jsonb_spec.specs.Grammar.StringBody.{Item, escaped_byte, meaning, encoding}
 use Rattle.jsonb_spec.specs.Tree.{Mark, plain, Num, Tree}
 use Rattle.jsonb_spec.specs.Tree.Tree.{boolean, null, number, string}
-use Rattle.text_scan.specs.Parsing.{Fault, Parse, begins, fault, fault_at, reject}
+use Rattle.text_scan.specs.Parsing.{Fault, Parse, begins, fault, fault_at, goes_beyond_json, reject}
 use Rattle.text_scan.specs.Parsing.BareKey.{bare_key_at, key_end, key_to, text_key}
-use Rattle.text_scan.specs.Parsing.Scalar.{begins_letter, begins_number, false_at, fold_letter, key_at, letters_at, null_at, number_at, number_or_fault, number_value_at, on_single_quote, or_else, quoted_at, scalar_at, true_or_false_at, unquoted_at, word_at, words_at}
-use Rattle.text_scan.specs.Parsing.String.{Body, body_of, checked_unit, string_up_to, string_of_body, escape_at, item_at, items_within, known_escape, meaning_of, non_digit, onto, quote_end, string_at, then_items, unit_at}
+use Rattle.text_scan.specs.Parsing.Scalar.{begins_letter, begins_number, false_at, fold_letter, key_at, letters_at, null_at, null_or, number_at, number_or_fault, number_value_at, on_single_quote, or_else, quoted_at, scalar_at, true_or_false_at, unquoted_at, word_at, words_at}
+use Rattle.text_scan.specs.Parsing.String.{Body, body_of, checked_unit, string_up_to, string_of_body, escape_at, item_at, items_within, known_escape, may_be_raw, meaning_of, non_digit, onto, quote_end, string_at, then_items, unit_at}
 use Rattle.text_scan.proofs.Steps.Tests.{bind_ok, chosen, same_read}
 use Rattle.jsonb.proofs.Errors.Codes.{IsReported, bind_err, same_err, silent_fault, silent_rejected}
 use Rattle.text_scan.proofs.Containers.JoinedParts.{on_byte_cases}
-use Rattle.text_scan.proofs.Numbers.Extended.{ExtendedFault, ExtendedUnrepresentable, extended_faults, extended_sound}
-use Rattle.text_scan.proofs.Numbers.Extended.ExtendedFault.{no_text, unrepresentable_text}
-use Rattle.text_scan.proofs.Numbers.ExtendedParts.{extended_is_text}
-use Rattle.text_scan.proofs.Numbers.ExtendedTexts.{IsNumberCode}
+use Rattle.text_scan.proofs.Numbers.Read.{number_faults_of, number_sound_of, number_text_of}
+use Rattle.text_scan.proofs.Numbers.Reading.{FaultRead, IsFaultCode, UnrepresentableRead, no_number, not_representable}
 use Rattle.text_parse.proofs.Scalars.Encodings.{IsNumberTree, StartsWord, number_opens, on_letter_cases, quote_is, quoted_starts, scalar-number, scalar_complete, single_cases, word_starts}
-use Rattle.text_scan.proofs.Numbers.Standard.{FaultRead, UnrepresentableRead, number_faults, number_longest, standard_is_text}
-use Rattle.text_scan.proofs.Numbers.Standard.FaultRead.{no_number, not_representable}
+use Rattle.text_parse.proofs.Scalars.Starts.{none_starts}
 
 -- ---- words, strings and keys are silent
 
-letters_silent : (size : ℕ) (mode : Mode) (word bytes : List ℕ) (f : Fault) → letters_at size mode word bytes ≡ Err f → IsReported f.code → ⊥
-letters_silent size mode [] bytes f e reported = absurd cc
-letters_silent size mode (c ∷ cs) bytes f e reported =
-    elim (on_letter_cases mode c bytes (letters_at size mode cs) (reject size expected_some_ident 1 bytes) (Err f) e) [
-      | inl t ↦ letters_silent size mode cs t.1 f t.4 reported
+letters_silent : (size : ℕ) (strictness : Strictness) (word bytes : List ℕ) (f : Fault) → letters_at size strictness word bytes ≡ Err f → IsReported f.code → ⊥
+letters_silent size strictness [] bytes f e reported = absurd cc
+letters_silent size strictness (c ∷ cs) bytes f e reported =
+    elim (on_letter_cases strictness c bytes (letters_at size strictness cs) (reject size expected_some_ident 1 bytes) (Err f) e) [
+      | inl t ↦ letters_silent size strictness cs t.1 f t.4 reported
       | inr g ↦ silent_rejected {B = List ℕ} size expected_some_ident 1 bytes f g.1 (λ n. n) reported
     ]
 
-word_silent : (size : ℕ) (mode : Mode) (word : List ℕ) (t : Tree) (bytes : List ℕ) (f : Fault) → word_at size mode word t bytes ≡ Err f → IsReported f.code → ⊥
-word_silent size mode word t bytes f e reported =
-    elim (bind_err (letters_at size mode word bytes) (λ (r : List ℕ). Ok (t, r)) f e) [
-      | inl h ↦ letters_silent size mode word bytes f h reported
+word_silent : (size : ℕ) (strictness : Strictness) (word : List ℕ) (t : Tree) (bytes : List ℕ) (f : Fault) → word_at size strictness word t bytes ≡ Err f → IsReported f.code → ⊥
+word_silent size strictness word t bytes f e reported =
+    elim (bind_err (letters_at size strictness word bytes) (λ (r : List ℕ). Ok (t, r)) f e) [
+      | inl h ↦ letters_silent size strictness word bytes f h reported
       | inr h ↦ absurd (let never : ◌≡◌ {A = Parse Tree} (Ok (t, h.0)) (Err f) = h.2 in cc)
     ]
 
@@ -60,11 +56,11 @@ choice_silent : {A : Type 0} (b : Bool) (x y : Body A) → IsSilentBody x → Is
 choice_silent true x y p q = p
 choice_silent false x y p q = q
 
-unit_silent : (bytes : List ℕ) → IsSilentBody (unit_at bytes)
+unit_silent : (mode : Mode) (bytes : List ℕ) → IsSilentBody (unit_at mode bytes)
 unfolding unit_at IsSilentBody
-unit_silent bytes =
+unit_silent mode bytes =
     choice_silent (nat_lt (length bytes) 4) _ _ (λ n. n)
-    (choice_silent (eqb (get_or bytes 0 0) 123) _ _ (choice_silent (eqb (get_or bytes 5 0) 125) _ _ (checked_silent true (take 4 (drop 1 bytes)) (non_digit (take 4 (drop 1 bytes)))) (λ n. n)) (checked_silent false (take 4 bytes) (non_digit (take 4 bytes))))
+    (choice_silent (goes_beyond_json mode && eqb (get_or bytes 0 0) 123) _ _ (choice_silent (eqb (get_or bytes 5 0) 125) _ _ (checked_silent true (take 4 (drop 1 bytes)) (non_digit (take 4 (drop 1 bytes)))) (λ n. n)) (checked_silent false (take 4 bytes) (non_digit (take 4 bytes))))
 
 known_silent : (letter : ℕ) (found : Option ℕ) → IsSilentBody (known_escape letter found)
 unfolding IsSilentBody
@@ -74,11 +70,11 @@ known_silent letter (Some byte) = tt
 escape_silent : (mode : Mode) (bytes : List ℕ) → IsSilentBody (escape_at mode bytes)
 unfolding escape_at IsSilentBody
 escape_silent mode [] = λ n. n
-escape_silent mode (letter ∷ bytes) = choice_silent (eqb letter 117) _ _ (unit_silent bytes) (known_silent letter (escaped_byte mode letter))
+escape_silent mode (letter ∷ bytes) = choice_silent (eqb letter 117) _ _ (unit_silent mode bytes) (known_silent letter (escaped_byte (strictness mode) letter))
 
 item_silent : (mode : Mode) (byte : ℕ) (bytes : List ℕ) → IsSilentBody (item_at mode byte bytes)
 unfolding item_at IsSilentBody
-item_silent mode byte bytes = choice_silent (eqb byte 92) _ _ (escape_silent mode bytes) tt
+item_silent mode byte bytes = choice_silent (eqb byte 92) _ _ (escape_silent mode bytes) (choice_silent (may_be_raw mode byte) _ _ tt (λ n. n))
 
 onto_silent : (x : Item) (r : Body (List Item)) → IsSilentBody r → IsSilentBody (onto x r)
 unfolding IsSilentBody
@@ -135,18 +131,18 @@ bare_silent size (b ∷ bytes) f e reported =
           ]
         ]
 
-unquoted_silent : (size : ℕ) (mode : Mode) (bytes : List ℕ) (f : Fault) → unquoted_at size mode bytes ≡ Err f → IsReported f.code → ⊥
-unquoted_silent size standard bytes f e reported = silent_rejected {B = (Mark × List ℕ) × List ℕ} size expected_some_ident 1 bytes f e (λ n. n) reported
-unquoted_silent size extended bytes f e reported = bare_silent size bytes f e reported
+unquoted_silent : (size : ℕ) (strictness : Strictness) (bytes : List ℕ) (f : Fault) → unquoted_at size strictness bytes ≡ Err f → IsReported f.code → ⊥
+unquoted_silent size strict bytes f e reported = silent_rejected {B = (Mark × List ℕ) × List ℕ} size expected_some_ident 1 bytes f e (λ n. n) reported
+unquoted_silent size lenient bytes f e reported = bare_silent size bytes f e reported
 
 pub key_silent : (size : ℕ) (mode : Mode) (bytes : List ℕ) (f : Fault) → key_at size mode bytes ≡ Err f → IsReported f.code → ⊥
 unfolding key_at
 key_silent size mode bytes f e reported =
-    elim (on_byte_cases 34 bytes (string_at size mode 34) (on_single_quote mode bytes (string_at size mode 39) (unquoted_at size mode bytes)) (Err f) e) [
+    elim (on_byte_cases 34 bytes (string_at size mode 34) (on_single_quote (strictness mode) bytes (string_at size mode 39) (unquoted_at size (strictness mode) bytes)) (Err f) e) [
       | inl q ↦ string_silent size mode 34 q.0 f q.2 reported
-      | inr d ↦ elim (single_cases mode bytes (string_at size mode 39) (unquoted_at size mode bytes) (Err f) d.1) [
+      | inr d ↦ elim (single_cases (strictness mode) bytes (string_at size mode 39) (unquoted_at size (strictness mode) bytes) (Err f) d.1) [
         | inl q ↦ string_silent size mode 39 q.0 f q.3 reported
-        | inr g ↦ unquoted_silent size mode bytes f g.1 reported
+        | inr g ↦ unquoted_silent size (strictness mode) bytes f g.1 reported
       ]
     ]
 
@@ -166,7 +162,7 @@ pub record NotRepresentable (mode : Mode) (size : ℕ) (bytes : List ℕ) (offse
   pub others : List ℕ
   pub whole : bytes ≡ text ++ others
   pub is_unrepresentable : IsUnrepresentable mode text
-  pub longest : (longer rest : List ℕ) → text ++ others ≡ longer ++ rest → length text < length longer → IsNumberText mode longer → ⊥
+  pub longest : (longer rest : List ℕ) → text ++ others ≡ longer ++ rest → length text < length longer → IsNumberText (strictness mode) longer → ⊥
   pub after_text : offset ≡ size - length others
 
 -- what a fault of a scalar says of the bytes
@@ -177,46 +173,46 @@ WrongScalar mode size bytes other offset = ⊥
 
 -- how a scalar begins
 data FirstOf (mode : Mode) (bytes : List ℕ) : Type 0 where
-  with_letter : (c : ℕ) → (c ≡ 110) ⊎ ((c ≡ 116) ⊎ (c ≡ 102)) → begins_letter mode c bytes ≡ true → FirstOf mode bytes
-  with_quote : (quote : ℕ) (rest : List ℕ) → IsQuote mode quote → bytes ≡ quote ∷ rest → FirstOf mode bytes
-  with_number : begins_number mode bytes ≡ true → FirstOf mode bytes
+  with_letter : (c : ℕ) → (c ≡ 110) ⊎ ((c ≡ 116) ⊎ (c ≡ 102)) → begins_letter (strictness mode) c bytes ≡ true → FirstOf mode bytes
+  with_quote : (quote : ℕ) (rest : List ℕ) → IsQuote (strictness mode) quote → bytes ≡ quote ∷ rest → FirstOf mode bytes
+  with_number : begins_number (strictness mode) bytes ≡ true → FirstOf mode bytes
 
-number_begins : (mode : Mode) (bytes : List ℕ) (n : Num) → IsNumber mode bytes n → begins_number mode bytes ≡ true
-number_begins mode bytes n is = let s = number_opens mode bytes n is in ap (λ (u : List ℕ). begins_number mode u) s.whole ∙ s.begun s.others
+number_begins : (mode : Mode) (bytes : List ℕ) (n : Num) → IsNumber mode bytes n → begins_number (strictness mode) bytes ≡ true
+number_begins mode bytes n is = let s = number_opens mode bytes n is in ap (λ (u : List ℕ). begins_number (strictness mode) u) s.whole ∙ s.begun s.others
 
-letter_begins : (mode : Mode) (c : ℕ) (bytes : List ℕ) → StartsWord mode c bytes → begins_letter mode c bytes ≡ true
-letter_begins mode c bytes s = ap (begins_letter mode c) s.whole ∙ cond-true (eqb (fold_letter mode s.first) c) true false (eq-eqb (fold_letter mode s.first) c s.letter)
+letter_begins : (strictness : Strictness) (c : ℕ) (bytes : List ℕ) → StartsWord strictness c bytes → begins_letter strictness c bytes ≡ true
+letter_begins strictness c bytes s = ap (begins_letter strictness c) s.whole ∙ cond-true (eqb (fold_letter strictness s.first) c) true false (eq-eqb (fold_letter strictness s.first) c s.letter)
 
 scalar_first : (mode : Mode) (bytes : List ℕ) (t : Tree) → IsScalar mode bytes t → FirstOf mode bytes
-scalar_first mode bytes t (literal_value (null_word is)) = with_letter 110 (inl refl) (letter_begins mode 110 bytes (word_starts mode 110 (codes "ull") bytes is))
-scalar_first mode bytes t (literal_value (true_word is)) = with_letter 116 (inr (inl refl)) (letter_begins mode 116 bytes (word_starts mode 116 (codes "rue") bytes is))
-scalar_first mode bytes t (literal_value (false_word is)) = with_letter 102 (inr (inr refl)) (letter_begins mode 102 bytes (word_starts mode 102 (codes "alse") bytes is))
+scalar_first mode bytes t (literal_value (null_word is)) = with_letter 110 (inl refl) (letter_begins (strictness mode) 110 bytes (word_starts (strictness mode) 110 (codes "ull") bytes is))
+scalar_first mode bytes t (literal_value (true_word is)) = with_letter 116 (inr (inl refl)) (letter_begins (strictness mode) 116 bytes (word_starts (strictness mode) 116 (codes "rue") bytes is))
+scalar_first mode bytes t (literal_value (false_word is)) = with_letter 102 (inr (inr refl)) (letter_begins (strictness mode) 102 bytes (word_starts (strictness mode) 102 (codes "alse") bytes is))
 scalar_first mode bytes t (string_value {quote = quote} {text = text} {mark = mark} is q) = let o = quoted_starts mode quote bytes text mark q in with_quote quote o.0 is o.1
 scalar_first mode bytes t (number_value {n = n} is) = with_number (number_begins mode bytes n is)
 
 -- None of what begins a scalar is at the front of the bytes.
 record BeginsNoScalar (mode : Mode) (bytes : List ℕ) : Type 0 where
   pub double : begins 34 bytes ≡ false
-  pub single : mode ≡ extended → begins 39 bytes ≡ false
-  pub null_letter : begins_letter mode 110 bytes ≡ false
-  pub true_letter : begins_letter mode 116 bytes ≡ false
-  pub false_letter : begins_letter mode 102 bytes ≡ false
-  pub number_byte : begins_number mode bytes ≡ false
+  pub single : IsLenient mode → begins 39 bytes ≡ false
+  pub null_letter : begins_letter (strictness mode) 110 bytes ≡ false
+  pub true_letter : begins_letter (strictness mode) 116 bytes ≡ false
+  pub false_letter : begins_letter (strictness mode) 102 bytes ≡ false
+  pub number_byte : begins_number (strictness mode) bytes ≡ false
 
 not_first : (mode : Mode) (bytes : List ℕ) → BeginsNoScalar mode bytes → FirstOf mode bytes → ⊥
 not_first mode bytes n (with_letter c is found) =
-    ⊎_elim (λ (e : c ≡ 110). true≢false (sym found ∙ ap (λ (d : ℕ). begins_letter mode d bytes) e ∙ n.null_letter))
+    ⊎_elim (λ (e : c ≡ 110). true≢false (sym found ∙ ap (λ (d : ℕ). begins_letter (strictness mode) d bytes) e ∙ n.null_letter))
     (λ (h : (c ≡ 116) ⊎ (c ≡ 102)).
-    ⊎_elim (λ (e : c ≡ 116). true≢false (sym found ∙ ap (λ (d : ℕ). begins_letter mode d bytes) e ∙ n.true_letter))
-    (λ (e : c ≡ 102). true≢false (sym found ∙ ap (λ (d : ℕ). begins_letter mode d bytes) e ∙ n.false_letter)) h) is
+    ⊎_elim (λ (e : c ≡ 116). true≢false (sym found ∙ ap (λ (d : ℕ). begins_letter (strictness mode) d bytes) e ∙ n.true_letter))
+    (λ (e : c ≡ 102). true≢false (sym found ∙ ap (λ (d : ℕ). begins_letter (strictness mode) d bytes) e ∙ n.false_letter)) h) is
 not_first mode bytes n (with_quote quote rest is opened) =
     ⊎_elim (λ (e : quote ≡ 34). true≢false (sym (ap (begins 34) (opened ∙ ap (λ (c : ℕ). c ∷ rest) e)) ∙ n.double))
-    (λ (e : (mode ≡ extended) × (quote ≡ 39)). true≢false (sym (ap (begins 39) (opened ∙ ap (λ (c : ℕ). c ∷ rest) e.1)) ∙ n.single e.0)) (quote_is mode quote is)
+    (λ (e : IsLenient mode × (quote ≡ 39)). true≢false (sym (ap (begins 39) (opened ∙ ap (λ (c : ℕ). c ∷ rest) e.1)) ∙ n.single e.0)) (quote_is (strictness mode) quote is)
 not_first mode bytes n (with_number begun) = true≢false (sym begun ∙ n.number_byte)
 
-begins_other : (mode : Mode) (b : ℕ) (rest more : List ℕ) → begins_number mode (b ∷ rest) ≡ begins_number mode (b ∷ more)
-begins_other standard b rest more = refl
-begins_other extended b rest more = refl
+begins_other : (strictness : Strictness) (b : ℕ) (rest more : List ℕ) → begins_number strictness (b ∷ rest) ≡ begins_number strictness (b ∷ more)
+begins_other strict b rest more = refl
+begins_other lenient b rest more = refl
 
 -- the first byte decides
 same_first : (mode : Mode) (b : ℕ) (rest more : List ℕ) → BeginsNoScalar mode (b ∷ rest) → BeginsNoScalar mode (b ∷ more)
@@ -227,7 +223,7 @@ same_first mode b rest more n =
       null_letter = n.null_letter;
       true_letter = n.true_letter;
       false_letter = n.false_letter;
-      number_byte = begins_other mode b more rest ∙ n.number_byte;
+      number_byte = begins_other (strictness mode) b more rest ∙ n.number_byte;
     }
 
 no_scalar : (mode : Mode) (size : ℕ) (bytes : List ℕ) (f : Fault) → BeginsNoScalar mode bytes → ◌≡◌ {A = Parse Tree} (reject size expected_some_value 1 bytes) (Err f) → IsReported f.code → WrongScalar mode size bytes f.code f.offset
@@ -238,9 +234,9 @@ no_scalar mode size (b ∷ bytes) f n e reported =
 
 -- a fault of a number
 number_wrong : (size : ℕ) (mode : Mode) (bytes : List ℕ) (f : Fault) → number_at size mode bytes ≡ Err f → IsReported f.code → WrongScalar mode size bytes f.code f.offset
-number_wrong size extended bytes f e reported = by_fault (extended_faults size bytes f e)
+number_wrong size mode bytes f e reported = by_fault (number_faults_of size mode bytes f e)
   where
-    wrong : ExtendedUnrepresentable size bytes f.offset → NotRepresentable extended size bytes f.offset
+    wrong : UnrepresentableRead mode size bytes f.offset → NotRepresentable mode size bytes f.offset
     wrong u = record {
       text = u.text;
       others = u.rest;
@@ -250,29 +246,15 @@ number_wrong size extended bytes f e reported = by_fault (extended_faults size b
       after_text = u.offset_is;
     }
 
-    silent : (code : Code) → IsNumberCode code → IsReported code → ⊥
-    silent code (inl is) h = subst IsReported is h
-    silent code (inr (inl is)) h = subst IsReported is h
-    silent code (inr (inr is)) h = subst IsReported is h
+    silent : (s : Strictness) (code : Code) → IsFaultCode s code → IsReported code → ⊥
+    silent strict code is h = subst IsReported is h
+    silent lenient code (inl is) h = subst IsReported is h
+    silent lenient code (inr (inl is)) h = subst IsReported is h
+    silent lenient code (inr (inr is)) h = subst IsReported is h
 
-    by_fault : ExtendedFault size bytes f → WrongScalar extended size bytes f.code f.offset
-    by_fault (unrepresentable_text is u) = subst (λ (c : Code). WrongScalar extended size bytes c f.offset) (sym is) (wrong u)
-    by_fault (no_text is none) = absurd (silent f.code is reported)
-number_wrong size standard bytes f e reported = by_fault (number_faults size bytes f e)
-  where
-    wrong : UnrepresentableRead size bytes f.offset → NotRepresentable standard size bytes f.offset
-    wrong u = record {
-      text = u.text;
-      others = u.rest;
-      whole = u.joined;
-      is_unrepresentable = u.unrepresentable;
-      longest = λ longer rest same more text. u.longest longer rest (u.joined ∙ same) (omega (arith, more, ap length same, length-append u.text u.rest, length-append longer rest)) text;
-      after_text = u.offset_is;
-    }
-
-    by_fault : FaultRead size bytes f → WrongScalar standard size bytes f.code f.offset
-    by_fault (not_representable is u) = subst (λ (c : Code). WrongScalar standard size bytes c f.offset) (sym is) (wrong u)
-    by_fault (no_number is none) = absurd (subst IsReported is reported)
+    by_fault : FaultRead mode size bytes f → WrongScalar mode size bytes f.code f.offset
+    by_fault (not_representable is u) = subst (λ (c : Code). WrongScalar mode size bytes c f.offset) (sym is) (wrong u)
+    by_fault (no_number is none) = absurd (silent (strictness mode) f.code is reported)
 
 number_value_wrong : (size : ℕ) (mode : Mode) (bytes : List ℕ) (f : Fault) → number_value_at size mode bytes ≡ Err f → IsReported f.code → WrongScalar mode size bytes f.code f.offset
 number_value_wrong size mode bytes f e reported =
@@ -286,8 +268,11 @@ or_else_err {A} (Ok x) other f e = absurd (let never : ◌≡◌ {A = Result A F
 or_else_err (Err d) other f e = e
 
 null_wrong : (size : ℕ) (mode : Mode) (bytes : List ℕ) (f : Fault) → null_at size mode bytes ≡ Err f → IsReported f.code → WrongScalar mode size bytes f.code f.offset
-null_wrong size standard bytes f e reported = absurd (word_silent size standard (codes "null") null bytes f e reported)
-null_wrong size extended bytes f e reported = number_value_wrong size extended bytes f (or_else_err (word_at size extended (codes "null") null bytes) (number_value_at size extended bytes) f e) reported
+null_wrong size mode bytes f e reported = by_strictness (strictness mode) e
+  where
+    by_strictness : (strictness : Strictness) → null_or size strictness (number_value_at size mode) bytes ≡ Err f → WrongScalar mode size bytes f.code f.offset
+    by_strictness strict h = absurd (word_silent size strict (codes "null") null bytes f h reported)
+    by_strictness lenient h = number_value_wrong size mode bytes f (or_else_err (word_at size lenient (codes "null") null bytes) (number_value_at size mode bytes) f h) reported
 
 -- a string's faults are not reported
 quoted_silent : (size : ℕ) (mode : Mode) (quote : ℕ) (bytes : List ℕ) (f : Fault) → quoted_at size mode quote bytes ≡ Err f → IsReported f.code → ⊥
@@ -301,17 +286,17 @@ quoted_silent size mode quote bytes f e reported =
 pub scalar_rejected : (size : ℕ) (mode : Mode) (bytes : List ℕ) (f : Fault) → scalar_at size mode bytes ≡ Err f → IsReported f.code → WrongScalar mode size bytes f.code f.offset
 unfolding scalar_at
 scalar_rejected size mode bytes f e reported =
-    elim (on_byte_cases 34 bytes (quoted_at size mode 34) (on_single_quote mode bytes (quoted_at size mode 39) (words_at size mode bytes)) (Err f) e) [
+    elim (on_byte_cases 34 bytes (quoted_at size mode 34) (on_single_quote (strictness mode) bytes (quoted_at size mode 39) (words_at size mode bytes)) (Err f) e) [
       | inl q ↦ absurd (quoted_silent size mode 34 q.0 f q.2 reported)
-      | inr d ↦ elim (single_cases mode bytes (quoted_at size mode 39) (words_at size mode bytes) (Err f) d.1) [
+      | inr d ↦ elim (single_cases (strictness mode) bytes (quoted_at size mode 39) (words_at size mode bytes) (Err f) d.1) [
         | inl q ↦ absurd (quoted_silent size mode 39 q.0 f q.3 reported)
-        | inr q ↦ elim (chosen (begins_letter mode 110 bytes) (null_at size mode bytes) (true_or_false_at size mode bytes) (Err f) q.1) [
+        | inr q ↦ elim (chosen (begins_letter (strictness mode) 110 bytes) (null_at size mode bytes) (true_or_false_at size mode bytes) (Err f) q.1) [
           | inl w ↦ null_wrong size mode bytes f w.1 reported
-          | inr n ↦ elim (chosen (begins_letter mode 116 bytes) (word_at size mode (codes "true") (boolean true) bytes) (false_at size mode bytes) (Err f) n.1) [
-            | inl w ↦ absurd (word_silent size mode (codes "true") (boolean true) bytes f w.1 reported)
-            | inr t ↦ elim (chosen (begins_letter mode 102 bytes) (word_at size mode (codes "false") (boolean false) bytes) (number_or_fault size mode bytes) (Err f) t.1) [
-              | inl w ↦ absurd (word_silent size mode (codes "false") (boolean false) bytes f w.1 reported)
-              | inr g ↦ elim (chosen (begins_number mode bytes) (number_value_at size mode bytes) (reject size expected_some_value 1 bytes) (Err f) g.1) [
+          | inr n ↦ elim (chosen (begins_letter (strictness mode) 116 bytes) (word_at size (strictness mode) (codes "true") (boolean true) bytes) (false_at size mode bytes) (Err f) n.1) [
+            | inl w ↦ absurd (word_silent size (strictness mode) (codes "true") (boolean true) bytes f w.1 reported)
+            | inr t ↦ elim (chosen (begins_letter (strictness mode) 102 bytes) (word_at size (strictness mode) (codes "false") (boolean false) bytes) (number_or_fault size mode bytes) (Err f) t.1) [
+              | inl w ↦ absurd (word_silent size (strictness mode) (codes "false") (boolean false) bytes f w.1 reported)
+              | inr g ↦ elim (chosen (begins_number (strictness mode) bytes) (number_value_at size mode bytes) (reject size expected_some_value 1 bytes) (Err f) g.1) [
                 | inl m ↦ number_value_wrong size mode bytes f m.1 reported
                 | inr m ↦
                     no_scalar mode size bytes f
@@ -327,8 +312,7 @@ scalar_rejected size mode bytes f e reported =
 pub scalar_some : (size : ℕ) (mode : Mode) (bytes : List ℕ) (f : Fault) → scalar_at size mode bytes ≡ Err f → IsReported f.code → 0 < length bytes
 unfolding scalar_at
 scalar_some size mode (b ∷ bytes) f e reported = omega arith
-scalar_some size standard [] f e reported = absurd (silent_fault {B = Tree × List ℕ} invalid_eof size f e (λ x. x) reported)
-scalar_some size extended [] f e reported = absurd (silent_fault {B = Tree × List ℕ} invalid_eof size f e (λ x. x) reported)
+scalar_some size mode [] f e reported = absurd (silent_fault {B = Tree × List ℕ} invalid_eof size f (sym ((none_starts mode).scalar size) ∙ e) (λ x. x) reported)
 
 -- ---- what is parsed is the longest
 
@@ -342,23 +326,16 @@ number_past : (size : ℕ) (mode : Mode) (core : List ℕ) (n : Num) (rest : Lis
 number_past size mode core n rest t after is e =
     let s = number_opens mode core n is in
     let opened : core ++ rest ≡ s.first ∷ (s.others ++ rest) = ap (λ (u : List ℕ). u ++ rest) s.whole in
-    let begun : begins_number mode (core ++ rest) ≡ true = ap (λ (u : List ℕ). begins_number mode u) opened ∙ s.begun (s.others ++ rest) in
+    let begun : begins_number (strictness mode) (core ++ rest) ≡ true = ap (λ (u : List ℕ). begins_number (strictness mode) u) opened ∙ s.begun (s.others ++ rest) in
     let read : number_or_fault size mode (core ++ rest) ≡ Ok (t, after) = sym (scalar-number size mode core n rest is) ∙ e in
-    elim (chosen (begins_number mode (core ++ rest)) (number_value_at size mode (core ++ rest)) (reject size expected_some_value 1 (core ++ rest)) (Ok (t, after)) read) [
+    elim (chosen (begins_number (strictness mode) (core ++ rest)) (number_value_at size mode (core ++ rest)) (reject size expected_some_value 1 (core ++ rest)) (Ok (t, after)) read) [
       | inl m ↦
           let b = bind_ok (number_at size mode (core ++ rest)) (λ (x : Num × List ℕ). Ok (number x.0, x.1)) (t, after) m.1 in
           let same = same_read (number b.0.0) t b.0.1 after b.2 in
-          by_mode mode is b.0.0 b.0.1 same.rest b.1
+          ⊎_elim (λ (longer : length rest < length after). absurd ((number_sound_of size mode (core ++ rest) b.0.0 b.0.1 b.1).longest core rest refl (omega (arith, longer, ap length same.rest)) (number_text_of mode core n is)))
+          (λ (fits : length after ≤ length rest). fits) (cases_lt (length rest) (length after))
       | inr m ↦ absurd (true≢false (sym begun ∙ m.0))
     ]
-  where
-    by_mode : (m : Mode) → IsNumber m core n → (k : Num) (middle : List ℕ) → middle ≡ after → number_at size m (core ++ rest) ≡ Ok (k, middle) → length after ≤ length rest
-    by_mode standard is_number k middle same h =
-        ⊎_elim (λ (longer : length rest < length after). absurd (number_longest size (core ++ rest) k middle h core rest refl (omega (arith, longer, ap length same)) (standard_is_text core n is_number)))
-        (λ (fits : length after ≤ length rest). fits) (cases_lt (length rest) (length after))
-    by_mode extended is_number k middle same h =
-        ⊎_elim (λ (longer : length rest < length after). absurd ((extended_sound size (core ++ rest) k middle h).longest core rest refl (omega (arith, longer, ap length same)) (extended_is_text core n is_number)))
-        (λ (fits : length after ≤ length rest). fits) (cases_lt (length rest) (length after))
 
 -- No encoding of a scalar goes past what is parsed.
 pub scalar_longest : (size : ℕ) (mode : Mode) (core : List ℕ) (u : Tree) (rest : List ℕ) (t : Tree) (after : List ℕ) → IsScalar mode core u → scalar_at size mode (core ++ rest) ≡ Ok (t, after) → length after ≤ length rest

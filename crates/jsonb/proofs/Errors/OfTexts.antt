@@ -9,8 +9,7 @@ use Rattle.jsonb_spec.specs.Code.Code.{depth_limit_exceeded, expected_some_value
 use Rattle.jsonb_spec.specs.Grammar.{Derives, IsDocument, IsValue, max_depth}
 use Rattle.jsonb_spec.specs.Grammar.IsDocument.{whitespace_alone, value_alone}
 use Rattle.jsonb_spec.specs.Grammar.IsValue.{empty_array, empty_object, full_array, full_object, scalar}
-use Rattle.jsonb_spec.specs.Mode.{Mode}
-use Rattle.jsonb_spec.specs.Mode.Mode.{extended, standard}
+use Rattle.jsonb_spec.specs.Mode.{Mode, Strictness, strict, lenient, strictness}
 use Rattle.jsonb_spec.specs.Grammar.Scalar.{IsScalar}
 use Rattle.jsonb_spec.specs.Tree.{Tree}
 use Rattle.jsonb_spec.specs.Source.{Source, null_source, source_alone, tree_of_source}
@@ -142,7 +141,7 @@ follows_last (line_to_end inside is (more_whitespace {piece = piece} {rest = oth
 
 -- Nor does one with whitespace after it go past the whitespace after what is parsed.
 whitespace_within : (size : ℕ) (mode : Mode) (depth : ℕ) (core : List ℕ) (u : Tree) (rest : List ℕ) (t : Source) (after : List ℕ) {last : List ℕ} → IsLastWhitespace mode last → Derives mode depth core u
-    → value_at size mode depth (core ++ (last ++ rest)) ≡ Ok (t, after) → opens_comment mode (skip_closed_whitespace mode after) ≡ false → length (skip_closed_whitespace mode after) ≤ length rest
+    → value_at size mode depth (core ++ (last ++ rest)) ≡ Ok (t, after) → opens_comment (strictness mode) (skip_closed_whitespace mode after) ≡ false → length (skip_closed_whitespace mode after) ≤ length rest
 whitespace_within size mode depth core u rest t after {last} b d e closed =
     elim (follows_last b rest) [
       | inl none ↦
@@ -153,7 +152,7 @@ whitespace_within size mode depth core u rest t after {last} b d e closed =
           let same = same_read c.0 t (last ++ rest) after (sym c.2 ∙ e) in
           elim (last_within b rest) [
             | inl within ↦ omega (arith, within, ap length (ap (λ (w : List ℕ). skip_closed_whitespace mode w) same.rest))
-            | inr opens ↦ absurd (true≢false (sym opens ∙ ap (λ (w : List ℕ). opens_comment mode (skip_closed_whitespace mode w)) same.rest ∙ closed))
+            | inr opens ↦ absurd (true≢false (sym opens ∙ ap (λ (w : List ℕ). opens_comment (strictness mode) (skip_closed_whitespace mode w)) same.rest ∙ closed))
           ]
     ]
 
@@ -164,7 +163,7 @@ skip-front mode {front} core last rest b s =
     ∙ ap (λ (w : List ℕ). skip_whitespace mode w) (append_assoc core last rest) ∙ skip-starts mode (core ++ (last ++ rest)) (starts-append core (last ++ rest) s)
 
 value_within : (size : ℕ) (mode : Mode) (depth : ℕ) {front last : List ℕ} (core : List ℕ) (u : Tree) (rest : List ℕ) (t : Source) (after : List ℕ) → IsWhitespace mode front → Derives mode depth core u → IsLastWhitespace mode last
-    → value_at size mode depth (skip_whitespace mode ((front ++ (core ++ last)) ++ rest)) ≡ Ok (t, after) → opens_comment mode (skip_closed_whitespace mode after) ≡ false → length (skip_closed_whitespace mode after) ≤ length rest
+    → value_at size mode depth (skip_whitespace mode ((front ++ (core ++ last)) ++ rest)) ≡ Ok (t, after) → opens_comment (strictness mode) (skip_closed_whitespace mode after) ≡ false → length (skip_closed_whitespace mode after) ≤ length rest
 value_within size mode depth {front} {last} core u rest t after b d c e closed =
     let skipped = skip-front mode core last rest b ((value_is_complete size mode depth).starts core u d) in
     whitespace_within size mode depth core u rest t after c d (subst (λ (w : List ℕ). value_at size mode depth w ≡ Ok (t, after)) skipped e) closed
@@ -179,20 +178,20 @@ value_some mode depth core last u rest b d =
 last_skipped : (mode : Mode) {last : List ℕ} (b : IsLastWhitespace mode last) (more : List ℕ) → length (skip_whitespace mode (last ++ more)) ≤ length more
 last_skipped mode {last} b more =
     elim (last_within b more) [
-      | inl within ↦ omega (arith, within, length-past mode (skip_closed_whitespace mode (last ++ more)))
-      | inr opens ↦ omega (arith, ap length (cond-true (opens_comment mode (skip_closed_whitespace mode (last ++ more))) [] (skip_closed_whitespace mode (last ++ more)) opens))
+      | inl within ↦ omega (arith, within, length-past (strictness mode) (skip_closed_whitespace mode (last ++ more)))
+      | inr opens ↦ omega (arith, ap length (cond-true (opens_comment (strictness mode) (skip_closed_whitespace mode (last ++ more))) [] (skip_closed_whitespace mode (last ++ more)) opens))
     ]
 
-document_within : (mode : Mode) (input first rest longer more : List ℕ) (t : Source) (u : Tree) (after : List ℕ) → input ≡ first ++ rest → length rest < length (skip_whitespace mode input) → skip_closed_whitespace mode after ≡ rest → opens_comment mode rest ≡ false
+document_within : (mode : Mode) (input first rest longer more : List ℕ) (t : Source) (u : Tree) (after : List ℕ) → input ≡ first ++ rest → length rest < length (skip_whitespace mode input) → skip_closed_whitespace mode after ≡ rest → opens_comment (strictness mode) rest ≡ false
     → value_at (length input) mode max_depth (skip_whitespace mode input) ≡ Ok (t, after) → input ≡ longer ++ more → length first < length longer → IsDocument mode longer u → ⊥
 document_within mode input first rest longer more t u after whole some end closed e split long (value_alone {core = core} b d c) =
     let least : length (skip_closed_whitespace mode after) ≤ length more =
-    value_within (length input) mode max_depth core u more t after b d c (subst (λ (w : List ℕ). value_at (length input) mode max_depth (skip_whitespace mode w) ≡ Ok (t, after)) split e) (ap (opens_comment mode) end ∙ closed) in
+    value_within (length input) mode max_depth core u more t after b d c (subst (λ (w : List ℕ). value_at (length input) mode max_depth (skip_whitespace mode w) ≡ Ok (t, after)) split e) (ap (opens_comment (strictness mode)) end ∙ closed) in
     omega (arith, least, long, ap length end, ap length whole, ap length split, length-append first rest, length-append longer more)
 document_within mode input first rest longer more t u after whole some end closed e split long (whitespace_alone is b) =
     omega (arith, some, long, ap length (ap (λ (w : List ℕ). skip_whitespace mode w) split), last_skipped mode b more, ap length whole, ap length split, length-append first rest, length-append longer more)
 
-trails : (mode : Mode) (input : List ℕ) (t : Source) (after : List ℕ) (c : ℕ) (others : List ℕ) → value_at (length input) mode max_depth (skip_whitespace mode input) ≡ Ok (t, after) → 0 < length (skip_whitespace mode input) → skip_closed_whitespace mode after ≡ c ∷ others → opens_comment mode (c ∷ others) ≡ false
+trails : (mode : Mode) (input : List ℕ) (t : Source) (after : List ℕ) (c : ℕ) (others : List ℕ) → value_at (length input) mode max_depth (skip_whitespace mode input) ≡ Ok (t, after) → 0 < length (skip_whitespace mode input) → skip_closed_whitespace mode after ≡ c ∷ others → opens_comment (strictness mode) (c ∷ others) ≡ false
     → Trails mode input (length input - length (c ∷ others) + 1)
 trails mode input t after c others e left end closed =
     let front = skips mode input left in
@@ -233,16 +232,16 @@ holds_after : (mode : Mode) (input : List ℕ) (t : Source) (after rest : List �
     → at_end (length input) mode t rest ≡ Err f → IsReported f.code → Applies mode input f.code f.offset
 holds_after mode input t after [] f e left end g reported = absurd cc
 holds_after mode input t after (c ∷ others) f e left end g reported =
-    elim (chosen (opens_comment mode (c ∷ others)) (comment_at (length input) t others) (fault unexpected_trailing_characters (length input - length (c ∷ others) + 1)) (Err f) g) [
+    elim (chosen (opens_comment (strictness mode) (c ∷ others)) (comment_at (length input) t others) (fault unexpected_trailing_characters (length input - length (c ∷ others) + 1)) (Err f) g) [
       | inl h ↦ absurd (comment_silent (length input) t others f h.1 reported)
       | inr h ↦
           let is : record { code = unexpected_trailing_characters; offset = length input - length (c ∷ others) + 1 } ≡ f = same_err {B = Source} (record { code = unexpected_trailing_characters; offset = length input - length (c ∷ others) + 1 }) f h.1 in
           subst (λ (d : Fault). Applies mode input d.code d.offset) is (trails mode input t after c others e left end h.0)
     ]
 
-nothing_silent : (mode : Mode) (size : ℕ) (f : Fault) → nothing_at size mode ≡ Err f → IsReported f.code → ⊥
-nothing_silent standard size f e reported = silent_fault {B = Source} invalid_eof size f e (λ n. n) reported
-nothing_silent extended size f e reported = absurd (let never : ◌≡◌ {A = Result Source Fault} (Ok null_source) (Err f) = e in cc)
+nothing_silent : (strictness : Strictness) (size : ℕ) (f : Fault) → nothing_at size strictness ≡ Err f → IsReported f.code → ⊥
+nothing_silent strict size f e reported = silent_fault {B = Source} invalid_eof size f e (λ n. n) reported
+nothing_silent lenient size f e reported = absurd (let never : ◌≡◌ {A = Result Source Fault} (Ok null_source) (Err f) = e in cc)
 
 value_reported : (mode : Mode) (input : List ℕ) (b : ℕ) (rest : List ℕ) (f : Fault) → skip_whitespace mode input ≡ b ∷ rest → value_to_end (length input) mode (b ∷ rest) ≡ Err f → IsReported f.code → Applies mode input f.code f.offset
 value_reported mode input b rest f skipped e reported =
@@ -258,9 +257,9 @@ value_reported mode input b rest f skipped e reported =
     ]
 
 document_reported : (mode : Mode) (input rest : List ℕ) (f : Fault) → skip_closed_whitespace mode input ≡ rest → source_from (length input) mode rest ≡ Err f → IsReported f.code → Applies mode input f.code f.offset
-document_reported mode input [] f passed e reported = absurd (nothing_silent mode (length input) f e reported)
+document_reported mode input [] f passed e reported = absurd (nothing_silent (strictness mode) (length input) f e reported)
 document_reported mode input (b ∷ rest) f passed e reported =
-    elim (chosen (opens_comment mode (b ∷ rest)) (comment_at (length input) null_source rest) (value_to_end (length input) mode (b ∷ rest)) (Err f) e) [
+    elim (chosen (opens_comment (strictness mode) (b ∷ rest)) (comment_at (length input) null_source rest) (value_to_end (length input) mode (b ∷ rest)) (Err f) e) [
       | inl h ↦ absurd (comment_silent (length input) null_source rest f h.1 reported)
       | inr h ↦ value_reported mode input b rest f (skip-passed mode input b rest passed h.0) h.1 reported
     ]

@@ -6,8 +6,7 @@ use Rattle.jsonb_spec.specs.Code.{Code}
 use Rattle.jsonb_spec.specs.Code.Code.{expected_array_comma_or_end, expected_colon, expected_object_comma_or_end}
 use Rattle.jsonb_spec.specs.Grammar.{Derives, IsElement, max_depth}
 use Rattle.jsonb_spec.specs.Grammar.Whitespace.{IsLastWhitespace}
-use Rattle.jsonb_spec.specs.Mode.{Mode}
-use Rattle.jsonb_spec.specs.Mode.Mode.{extended, standard}
+use Rattle.jsonb_spec.specs.Mode.{Mode, Strictness, strict, lenient, strictness}
 use Rattle.jsonb_spec.specs.Grammar.Scalar.{IsKey}
 use Rattle.jsonb_spec.specs.Tree.{Mark, Tree}
 use Rattle.jsonb_spec.specs.Located.{AreElementsAt, AreMembersAt, Has, HasWhitespace, HasByte, IsElementAt, IsMemberAt, IsLocated, IsValueAt, SourceKeysAscend}
@@ -28,7 +27,7 @@ use Rattle.text_scan.proofs.Steps.Tests.{bind_ok, chosen, rejected_fails, same_o
 use Rattle.text_scan.proofs.Text.Whitespace.{ends_all, passes, skip-whitespace, skip-skip, skip-stop, skips}
 use Rattle.text_common.proofs.Repeats.{AreSorted, apart, below, sorted-sort}
 use Rattle.text_common.proofs.Shuffles.{permutes, sort-shuffles, spots-sort}
-use Rattle.text_parse.proofs.Containers.Values.{IsFound, Seen, comment_ends, element_sound, ended, is_extended_if, member_skip, member_sound, object_of, value_sound}
+use Rattle.text_parse.proofs.Containers.Values.{IsFound, Seen, comment_ends, element_sound, ended, is_lenient_if, member_skip, member_sound, object_of, value_sound}
 use Rattle.text_parse.proofs.Scalars.Encodings.{key_sound, scalar_sound}
 
 -- ---- keys in strictly ascending order
@@ -160,15 +159,15 @@ module _ (mode : Mode) (input : List ℕ) where
     element_located : (bytes : List ℕ) (s : Source) (rest : List ℕ) → IsRest bytes → element_at mode read bytes ≡ Ok (s, rest) → 0 < length rest → IsElementAt mode input (at bytes) s (at rest)
     element_located bytes s rest r e left =
         let here : List ℕ = skip_whitespace mode bytes in
-        let b = bind_ok (value_or_null mode read here) (λ (x : Source × List ℕ). Ok (x.0, skip_whitespace mode x.1)) (s, rest) e in
+        let b = bind_ok (value_or_null (strictness mode) read here) (λ (x : Source × List ℕ). Ok (x.0, skip_whitespace mode x.1)) (s, rest) e in
         let out = same_read b.0.0 s (skip_whitespace mode b.0.1) rest b.2 in
-        elim (chosen (is_left_out mode here) (Ok (null_source, here)) (read here) (Ok b.0) b.1) [
+        elim (chosen (is_left_out (strictness mode) here) (Ok (null_source, here)) (read here) (Ok b.0) b.1) [
           | inl h ↦
               let same = same_read null_source b.0.0 here b.0.1 h.1 in
               let rest-is : here ≡ rest = sym (skip-skip mode bytes) ∙ ap (λ (u : List ℕ). skip_whitespace mode u) same.rest ∙ out.rest in
               let front = skips mode bytes (omega (arith, left, ap length rest-is)) in
               let whitespace = has r front.whitespace rest (front.whole ∙ ap (λ (u : List ℕ). front.whitespace ++ u) rest-is) front.is_whitespace in
-              subst (λ (v : Source). IsElementAt mode input (at bytes) v (at rest)) (same.value ∙ out.value) (empty_element (is_extended_if mode here h.0) whitespace)
+              subst (λ (v : Source). IsElementAt mode input (at bytes) v (at rest)) (same.value ∙ out.value) (empty_element (is_lenient_if (strictness mode) here h.0) whitespace)
           | inr h ↦
               let p = round (Seen Value) read sound r b.0.0 b.0.1 rest h.1 out.rest left in
               subst (λ (v : Source). IsElementAt mode input (at bytes) v (at rest)) out.value (whole_element p.front (offsets here b.0.0 b.0.1 p.begins_at h.1) p.back)
@@ -213,7 +212,7 @@ module _ (mode : Mode) (input : List ℕ) where
           | inr h ↦
               let element : List ℕ → Parse Source = element_at mode read in
               let b = bind_ok (joined_at (length input) expected_array_comma_or_end 93 element (suc (length bytes)) (skip_whitespace mode bytes)) (λ (x : List Source × List ℕ). Ok (array_source_of x.0, x.1)) (s, rest) h.1 in
-              let again = sym (joined-skip (length input) expected_array_comma_or_end 93 (Seen (IsElement mode Value)) element mode (λ u. ap (λ (w : List ℕ). value_or_null mode read w >>= λ (x : Source × List ℕ). Ok (x.0, skip_whitespace mode x.1)) (skip-skip mode u)) (suc (length bytes)) bytes) ∙ b.1 in
+              let again = sym (joined-skip (length input) expected_array_comma_or_end 93 (Seen (IsElement mode Value)) element mode (λ u. ap (λ (w : List ℕ). value_or_null (strictness mode) read w >>= λ (x : Source × List ℕ). Ok (x.0, skip_whitespace mode x.1)) (skip-skip mode u)) (suc (length bytes)) bytes) ∙ b.1 in
               let j = joined_sound (length input) expected_array_comma_or_end 93 (Seen (IsElement mode Value)) element (element_sound mode Value read sound) (suc (length bytes)) bytes b.0.0 b.0.1 again in
               let all = joined_located (AreElementsAt mode input) (IsElementAt mode input) (λ from to a h. one_element h) (λ from comma to a others h c hs. more_elements h c hs) (length input) expected_array_comma_or_end 93 (Seen (IsElement mode Value)) element (element_sound mode Value read sound) element_located (suc (length bytes)) bytes b.0.0 b.0.1 inside again in
               let same = same_read (array_source_of b.0.0) s b.0.1 rest b.2 in
@@ -290,9 +289,12 @@ module _ (mode : Mode) (input : List ℕ) where
 
 -- ---- whole texts
 
-nothing_located : (mode : Mode) (input : List ℕ) (s : Source) (size : ℕ) → IsLastWhitespace mode input → nothing_at size mode ≡ Ok s → IsLocated mode input s
-nothing_located standard input s size b e = absurd cc
-nothing_located extended input s size b e = subst (λ (u : Source). IsLocated extended input u) (same_ok null_source s e) (whitespace_alone refl b)
+nothing_located : (mode : Mode) (input : List ℕ) (s : Source) (size : ℕ) → IsLastWhitespace mode input → nothing_at size (strictness mode) ≡ Ok s → IsLocated mode input s
+nothing_located mode input s size b e = by_strictness (strictness mode) refl e
+  where
+    by_strictness : (asked : Strictness) → strictness mode ≡ asked → nothing_at size asked ≡ Ok s → IsLocated mode input s
+    by_strictness strict is h = absurd cc
+    by_strictness lenient is h = subst (λ (u : Source). IsLocated mode input u) (same_ok null_source s h) (whitespace_alone is b)
 
 pub source_located : (mode : Mode) (input : List ℕ) (s : Source) → source_of mode input ≡ Ok s → IsLocated mode input s
 unfolding source_of
@@ -317,7 +319,7 @@ source_located mode input s e = go (skip_closed_whitespace mode input) refl e
     go : (rest : List ℕ) → skip_closed_whitespace mode input ≡ rest → source_from (length input) mode rest ≡ Ok s → IsLocated mode input s
     go [] passed e = nothing_located mode input s (length input) (ends_all mode input passed) e
     go (b ∷ rest) passed e =
-        elim (chosen (opens_comment mode (b ∷ rest)) (comment_at (length input) null_source rest) (value_to_end (length input) mode (b ∷ rest)) (Ok s) e) [
+        elim (chosen (opens_comment (strictness mode) (b ∷ rest)) (comment_at (length input) null_source rest) (value_to_end (length input) mode (b ∷ rest)) (Ok s) e) [
           | inl h ↦ let c = comment_ends mode (length input) input b rest null_source s passed h.0 h.1 in subst (λ (u : Source). IsLocated mode input u) c.2 (whitespace_alone c.0 c.1)
           | inr h ↦ value_read b rest passed h.1
         ]

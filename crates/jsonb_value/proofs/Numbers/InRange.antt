@@ -1,12 +1,13 @@
 -- Numbers in range round-trip, and the numbers of texts are in range.
-use Rattle.std.proofs.Common.{◌≡◌, ℕ, zero, suc, ◌<◌, ◌≤◌, ◌^◌, List, [], ◌∷◌, ◌++◌, length, length-append, Bool, true, false, ◌&&◌, Some, None, refl, sym, subst, arith, inl, inr, ltb-true, eqb-true, ℤ, pos, negsuc, neg_ℤ, ◌-◌}
+use Rattle.std.proofs.Common.{◌≡◌, ℕ, zero, suc, ◌<◌, ◌≤◌, ◌^◌, List, [], ◌∷◌, ◌++◌, length, length-append, Bool, true, false, ◌&&◌, Some, None, refl, sym, subst, arith, inl, inr, ltb-true, eqb-true, ℤ, pos, negsuc, neg_ℤ, ◌-◌, ap, ◌∙◌, ◌+◌, ◌*◌, append-nil}
 use Rattle.std.specs.Prelude.{unsigned_abs, FitsSigned, ◌==◌, nat_lt, nat_le, if◌then◌else◌, int_le, int_lt}
 use Rattle.std.specs.Int.{w64, w128, FitsUnsignedBits}
 use Rattle.std.specs.Str.Parse.{AllDigits, digits_value, starts_with_minus}
 use Rattle.std.proofs.lemmas.Bool.{leb-true, and_parts}
 use Rattle.std.proofs.lemmas.Str.Parse.{IsNumeralModel, numerals_by_value, tells_digits, digits_value_short}
 use Rattle.jsonb_spec.specs.Grammar.ExtendedNumber.{decimal_form, decimal_number, IsDecimalNumber, hexadecimal_number, IsExtendedNumber}
-use Rattle.jsonb_spec.specs.Mode.{standard, extended}
+use Rattle.jsonb_spec.specs.Mode.{standard, extended, json, extended_json}
+use Rattle.jsonb_spec.specs.Grammar.ExactNumber.{exact_form, exact_number, moved_number, no_exponent, IsExactDecimal, IsJsonNumber, IsExtendedJsonNumber}
 use Rattle.jsonb_spec.specs.Text.NumberText.{text_of_parts, number_text}
 use Rattle.jsonb_spec.specs.Proper.{FitsScale, FitsWhole, IsProperNumber}
 use Rattle.jsonb_spec.specs.Text.Range.{IsIntegerForm, IsIntegral, HasFewDigits}
@@ -15,6 +16,7 @@ use Rattle.jsonb_spec.specs.Grammar.StandardNumber.{IsInteger, IsStandardNumber}
 use Rattle.jsonb_spec.specs.Number.Signed.{signed_by}
 use Rattle.jsonb_spec.specs.Tree.{Form, int64, uint64, decimal64, decimal128, Num}
 use Rattle.jsonb_value.proofs.Numbers.DecimalTexts.{reads_back_as_decimal}
+use Rattle.jsonb_value.proofs.Numbers.StandardTexts.{standard_text as rfc_text}
 use Rattle.jsonb_value.proofs.Numbers.Nearest.{unsigned_abs-signed}
 use Rattle.jsonb_value.proofs.Trees.OneText.{IsShort}
 use Rattle.jsonb_value.proofs.Numbers.IntegersReadBack.{signed_reads_back, unsigned_reads_back}
@@ -175,3 +177,86 @@ hexadecimal_ranged true m n is = signed (nat_le m (2 ^ 63)) (nat_lt m (10 ^ 38))
 pub extended_number : (bytes : List ℕ) (n : Num) → IsExtendedNumber bytes n → HasFewDigits n × IsProperNumber n
 extended_number bytes n (inl d) = decimal_text bytes n d
 extended_number bytes n (inr (sign, mark, whole, parts, is)) = hexadecimal_ranged (starts_with_minus sign) (digits_value 16 whole) n is
+
+-- a number of few digits, in the first form that holds it
+exact_ranged : (b : Bool) (m scale : ℕ) → scale ≤ 38 → m < 10 ^ 38 → IsRanged (exact_number scale (signed_by b m))
+unfolding exact_form
+exact_ranged b m scale few short =
+    let value = signed_by b m in
+    let magnitude : unsigned_abs value < 10 ^ 38 = subst (λ k. k < 10 ^ 38) (sym (unsigned_abs-signed b m)) short in
+    let few_digits : (scale ≤ 38) × (unsigned_abs value < 10 ^ 38) = (few, magnitude) in
+    picked ((scale == 0) && (int_le (pos 0) value && int_lt value (pos (2 ^ 64)))) ((scale == 0) && (int_le (neg_ℤ (pos (2 ^ 63))) value && int_lt value (pos 0))) (nat_le scale 18 && nat_lt (unsigned_abs value) (10 ^ 18)) scale value IsRanged
+    (λ h. let tests = and_parts (scale == 0) (int_le (pos 0) value && int_lt value (pos (2 ^ 64))) h in (few_digits, (eqb-true scale 0 tests.0, unsigned_fits value tests.1)))
+    (λ h. let tests = and_parts (scale == 0) (int_le (neg_ℤ (pos (2 ^ 63))) value && int_lt value (pos 0)) h in (few_digits, (eqb-true scale 0 tests.0, signed_fits value tests.1)))
+    (λ h.
+    let tests = and_parts (nat_le scale 18) (nat_lt (unsigned_abs value) (10 ^ 18)) h in
+    let small : unsigned_abs value < 10 ^ 18 = ltb-true (unsigned_abs value) (10 ^ 18) tests.1 in
+    (few_digits, (omega (arith, few), small_signed b m (subst (λ k. k < 10 ^ 18) (unsigned_abs-signed b m) small))))
+    (few_digits, (omega (arith, few), wide_signed b m short))
+
+-- an exact decimal
+pub exact_decimal : (bytes : List ℕ) (n : Num) → IsExactDecimal bytes n → HasFewDigits n × IsProperNumber n
+unfolding moved_number
+exact_decimal bytes n d =
+    let negative = starts_with_minus d.sign in
+    let behind : ℕ = length (fraction_digits d.fraction) in
+    let magnitude : ℕ = digits_value 10 (d.whole ++ fraction_digits d.fraction) * 10 ^ (d.right - behind) in
+    let scale : ℕ = (behind + d.left) - d.right in
+    let is : n ≡ exact_number scale (signed_by negative magnitude) = d.value in
+    let short : magnitude < 10 ^ 38 = subst (λ k. k < 10 ^ 38) (ap (λ (m : Num). unsigned_abs m.whole) is ∙ unsigned_abs-signed negative magnitude) d.few in
+    let few : scale ≤ 38 = subst (λ k. k ≤ 38) (ap (λ (m : Num). m.scale) is) d.few_behind in
+    subst IsRanged (sym is) (exact_ranged negative magnitude scale few short)
+
+pub json_number : (bytes : List ℕ) (n : Num) → IsJsonNumber bytes n → HasFewDigits n × IsProperNumber n
+json_number bytes n is = exact_decimal bytes n is.1
+
+pub extended_json_number : (bytes : List ℕ) (n : Num) → IsExtendedJsonNumber bytes n → HasFewDigits n × IsProperNumber n
+extended_json_number bytes n (inl d) = exact_decimal bytes n d
+extended_json_number bytes n (inr (sign, mark, whole, parts, is)) = hexadecimal_ranged (starts_with_minus sign) (digits_value 16 whole) n is
+
+-- ---- what is written is read again
+
+-- a decimal with no exponent is an exact one of the same scale and whole number
+exact_of_decimal : (bytes : List ℕ) (n m : Num) → HasFewDigits n → IsDecimalNumber bytes m → m.scale ≡ n.scale → m.whole ≡ n.whole → (k : Num) × IsExactDecimal bytes k × (k.scale ≡ n.scale) × (k.whole ≡ n.whole)
+unfolding moved_number
+exact_of_decimal bytes n m w (sign, zeros, whole, fraction, parts, (precise, is)) s h =
+    let negative : Bool = starts_with_minus sign in
+    let behind : ℕ = length (fraction_digits fraction) in
+    let value : ℕ = digits_value 10 (whole ++ fraction_digits fraction) in
+    let none : 0 - behind ≡ 0 = omega arith in
+    let same : value * 10 ^ (0 - behind) ≡ value = ap (λ e. value * 10 ^ e) none ∙ omega arith in
+    let scales : (behind + 0) - 0 ≡ n.scale = omega (arith, ap (λ (x : Num). x.scale) is, s) in
+    let wholes : signed_by negative (value * 10 ^ (0 - behind)) ≡ n.whole = ap (signed_by negative) same ∙ sym (ap (λ (x : Num). x.whole) is) ∙ h in (
+      moved_number negative value behind 0 0,
+      record {
+        front = bytes;
+        exponent = [];
+        joined = sym (append-nil bytes);
+        sign = sign;
+        zeros = zeros;
+        whole = whole;
+        fraction = fraction;
+        parts = parts;
+        right = 0;
+        left = 0;
+        moves = no_exponent;
+        value = refl;
+        few_behind = omega (arith, scales, w.0);
+        few = subst (λ z. unsigned_abs z < 10 ^ 38) (sym wholes) w.1;
+      },
+      scales,
+      wholes,
+    )
+
+pub json_reads_back : (n : Num) → IsProperNumber n → HasFewDigits n → EncodesSameNumber json (number_text n) n
+json_reads_back n p w =
+    let r = reads_back_as_decimal n w in
+    let e = exact_of_decimal (number_text n) n r.0 w r.1 r.2 r.3 in
+    let text = rfc_text n w in
+    record { read = e.0; is_number = (text.0, e.1); scales = e.2; wholes = e.3 }
+
+pub extended_json_reads_back : (n : Num) → IsProperNumber n → HasFewDigits n → EncodesSameNumber extended_json (number_text n) n
+extended_json_reads_back n p w =
+    let r = reads_back_as_decimal n w in
+    let e = exact_of_decimal (number_text n) n r.0 w r.1 r.2 r.3 in
+    record { read = e.0; is_number = inl e.1; scales = e.2; wholes = e.3 }

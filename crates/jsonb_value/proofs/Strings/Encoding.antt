@@ -3,18 +3,18 @@ use Rattle.std.proofs.Common.{List, [], ◌∷◌, ◌≡◌, ◌≢◌, ℕ, �
 use Rattle.std.proofs.lemmas.List.{append_assoc, append-nil, take_at, drop_at, append_cancel_right}
 use Rattle.std.specs.List.{flat_map, AllByRecursion}
 use Rattle.jsonb_spec.specs.Mode.{Mode}
-use Rattle.jsonb_spec.specs.Mode.{standard, extended}
+use Rattle.jsonb_spec.specs.Mode.{Strictness, strict, lenient, strictness}
 use Rattle.jsonb_spec.specs.Grammar.StringBody.{Item, raw, escape, unit, after_u, encoding, IsItem, IsHexDigit, escaped_byte}
 use Rattle.jsonb_value.proofs.Strings.Units.{length-after_u}
 use Rattle.jsonb_value.specs.StringStep.{unit_step, escape_step, item_step}
 
-u_is_no_escape : (mode : Mode) → escaped_byte mode 117 ≡ None
-u_is_no_escape standard = refl
-u_is_no_escape extended = refl
+u_is_no_escape : (s : Strictness) → escaped_byte s 117 ≡ None
+u_is_no_escape strict = refl
+u_is_no_escape lenient = refl
 
-pub escape_is_not_u : (mode : Mode) (letter byte : ℕ) → escaped_byte mode letter ≡ Some byte → letter ≢ 117
+pub escape_is_not_u : (mode : Mode) (letter byte : ℕ) → escaped_byte (strictness mode) letter ≡ Some byte → letter ≢ 117
 escape_is_not_u mode letter byte is e =
-    let none : escaped_byte mode letter ≡ None = ap (escaped_byte mode) e ∙ u_is_no_escape mode in cc
+    let none : escaped_byte (strictness mode) letter ≡ None = ap (escaped_byte (strictness mode)) e ∙ u_is_no_escape (strictness mode) in cc
 
 -- the first of four digits is no brace
 first_no_brace : (digits : List ℕ) → length digits ≡ 4 → ((k d : ℕ) → k < length digits → IsHexDigit (get_or digits k d)) → (first : ℕ) (rest : List ℕ) → digits ≡ first ∷ rest → first ≢ 123
@@ -31,7 +31,7 @@ unit_step-after_u mode false (first ∷ rest) more item =
     ap (λ b. cond b 6 4) other ∙ sym item.0
 
 pub item_step-encoding : (mode : Mode) (item : Item) (more : List ℕ) → IsItem mode item → item_step (encoding item ++ more) ≡ length (encoding item)
-item_step-encoding mode (raw byte) more is = ap (λ b. cond b (1 + escape_step more) 1) (ne_eqb byte 92 is)
+item_step-encoding mode (raw byte) more is = ap (λ b. cond b (1 + escape_step more) 1) (ne_eqb byte 92 is.0)
 item_step-encoding mode (escape letter byte) more is =
     let other : eqb letter 117 ≡ false = ne_eqb letter 117 (escape_is_not_u mode letter byte is) in
     ap (λ b. 1 + cond b (1 + unit_step more) 1) other

@@ -1,5 +1,5 @@
 -- A written string round-trips.
-use Rattle.std.proofs.Common.{List, [], ◌∷◌, ◌≡◌, ◌≢◌, ℕ, ◌/◌, ◌%◌, ◌<◌, ◌++◌, map, Bool, true, false, cond, eqb, ltb, Some, sym, ap, ◌∙◌, subst, arith, refl, eqb-true, ltb-true, ◌||◌, All}
+use Rattle.std.proofs.Common.{List, [], ◌∷◌, ◌≡◌, ◌≢◌, ℕ, ◌/◌, ◌%◌, ◌<◌, ◌≤◌, ◌++◌, map, Bool, true, false, cond, eqb, ltb, Some, sym, ap, ◌∙◌, subst, arith, refl, eqb-true, ltb-true, ltb-false, ◌||◌, All}
 use Rattle.std.proofs.lemmas.Str.{encode_ascii, digit_value-digit_char}
 use Rattle.std.proofs.lemmas.Bool.Decides.{nat_tests}
 use Rattle.std.proofs.lemmas.List.Elements.{All-from_recursion}
@@ -7,9 +7,8 @@ use Rattle.std.proofs.lemmas.Bool.{eqb-false}
 use Rattle.std.specs.Str.{IsUtf8}
 use Rattle.std.specs.Char.{digit_char, digit_value, encode_utf8}
 use Rattle.std.specs.List.{flat_map, AllByRecursion}
-use Rattle.jsonb_spec.specs.Mode.{Mode}
-use Rattle.jsonb_spec.specs.Mode.{standard, extended}
-use Rattle.jsonb_spec.specs.Grammar.StringBody.{Item, raw, escape, unit, encoding, escaped_byte, IsItem, IsHexDigit, alone, meaning}
+use Rattle.jsonb_spec.specs.Mode.{Mode, standard, extended, json, extended_json, Strictness, strict, lenient, strictness}
+use Rattle.jsonb_spec.specs.Grammar.StringBody.{Item, raw, escape, unit, encoding, escaped_byte, IsItem, IsHexDigit, alone, meaning, MayBeRaw}
 use Rattle.jsonb_spec.specs.Grammar.Quoted.{mark_of, Quoted}
 use Rattle.jsonb_spec.specs.Tree.{Mark}
 use Rattle.jsonb_spec.specs.Text.StringText.{control_text, byte_text, quoted_text}
@@ -33,9 +32,16 @@ pick : (P : Item → List ℕ → Type 0) (b : Bool) (x y : Item) (s t : List �
 pick P true x y s t f g = f refl
 pick P false x y s t f g = g refl
 
+-- a byte that is no control character may mean itself in each mode
+pub high_may_be_raw : (mode : Mode) (byte : ℕ) → 32 ≤ byte → MayBeRaw mode byte
+high_may_be_raw standard byte high = tt
+high_may_be_raw extended byte high = tt
+high_may_be_raw json byte high = high
+high_may_be_raw extended_json byte high = tt
+
 -- What holds of each way to write a byte holds of the item of a byte.
 by_cases : (P : ℕ → Item → List ℕ → Type 0) (byte : ℕ) → P 34 (escape 34 34) (92 ∷ 34 ∷ []) → P 92 (escape 92 92) (92 ∷ 92 ∷ []) → P 10 (escape 110 10) (92 ∷ 110 ∷ []) → P 13 (escape 114 13) (92 ∷ 114 ∷ []) → P 9 (escape 116 9) (92 ∷ 116 ∷ [])
-    → (byte < 32 → P byte (unit false (control_digits byte)) (control_text byte)) → (byte ≢ 34 → byte ≢ 92 → P byte (raw byte) (byte ∷ [])) → P byte (item_of byte) (byte_text byte)
+    → (byte < 32 → P byte (unit false (control_digits byte)) (control_text byte)) → (byte ≢ 34 → byte ≢ 92 → 32 ≤ byte → P byte (raw byte) (byte ∷ [])) → P byte (item_of byte) (byte_text byte)
 by_cases P byte quote backslash feed return tab control other =
     let at = λ (n : ℕ) (x : Item) (s : List ℕ) (holds : P n x s) (same : eqb byte n ≡ true). subst (λ b. P b x s) (sym (eqb-true byte n same)) holds in
     pick (P byte) (eqb byte 34) _ _ _ _ (at 34 _ _ quote) (λ no_quote.
@@ -43,14 +49,14 @@ by_cases P byte quote backslash feed return tab control other =
     pick (P byte) (eqb byte 10) _ _ _ _ (at 10 _ _ feed) (λ no_feed.
     pick (P byte) (eqb byte 13) _ _ _ _ (at 13 _ _ return) (λ no_return.
     pick (P byte) (eqb byte 9) _ _ _ _ (at 9 _ _ tab) (λ no_tab.
-    pick (P byte) (ltb byte 32) _ _ _ _ (λ low. control (ltb-true byte 32 low)) (λ high. other (eqb-false byte 34 no_quote) (eqb-false byte 92 no_backslash)))))))
+    pick (P byte) (ltb byte 32) _ _ _ _ (λ low. control (ltb-true byte 32 low)) (λ high. other (eqb-false byte 34 no_quote) (eqb-false byte 92 no_backslash) (ltb-false byte 32 high)))))))
 
 pub encoding-item_of : (byte : ℕ) → encoding (item_of byte) ≡ byte_text byte
-encoding-item_of byte = by_cases (λ b item text. encoding item ≡ text) byte refl refl refl refl refl (λ low. refl) (λ no_quote no_backslash. refl)
+encoding-item_of byte = by_cases (λ b item text. encoding item ≡ text) byte refl refl refl refl refl (λ low. refl) (λ no_quote no_backslash high. refl)
 
-escapes_as : (mode : Mode) → (escaped_byte mode 34 ≡ Some 34) × (escaped_byte mode 92 ≡ Some 92) × (escaped_byte mode 110 ≡ Some 10) × (escaped_byte mode 114 ≡ Some 13) × (escaped_byte mode 116 ≡ Some 9)
-escapes_as standard = (refl, refl, refl, refl, refl)
-escapes_as extended = (refl, refl, refl, refl, refl)
+escapes_as : (mode : Strictness) → (escaped_byte mode 34 ≡ Some 34) × (escaped_byte mode 92 ≡ Some 92) × (escaped_byte mode 110 ≡ Some 10) × (escaped_byte mode 114 ≡ Some 13) × (escaped_byte mode 116 ≡ Some 9)
+escapes_as strict = (refl, refl, refl, refl, refl)
+escapes_as lenient = (refl, refl, refl, refl, refl)
 
 control_values : (byte : ℕ) → byte < 32 → (digit_value (digit_char (byte / 16)) ≡ byte / 16) × (digit_value (digit_char (byte % 16)) ≡ byte % 16)
 control_values byte low = (digit_value-digit_char (byte / 16) (omega arith), digit_value-digit_char (byte % 16) (omega arith))
@@ -65,13 +71,13 @@ control_each byte low =
 
 pub item-item_of : (mode : Mode) (byte : ℕ) → IsItem mode (item_of byte)
 item-item_of mode byte =
-    let e = escapes_as mode in
-    by_cases (λ b item text. IsItem mode item) byte e.0 e.1 e.2 e.3 e.4 (λ low. (refl, control_each byte low)) (λ no_quote no_backslash. no_backslash)
+    let e = escapes_as (strictness mode) in
+    by_cases (λ b item text. IsItem mode item) byte e.0 e.1 e.2 e.3 e.4 (λ low. (refl, control_each byte low, λ e. cc)) (λ no_quote no_backslash high. (no_backslash, high_may_be_raw mode byte high))
 
 pub inside-item_of : (byte : ℕ) → item_of byte ≢ raw 34
 inside-item_of byte =
     by_cases (λ b item text. item ≢ raw 34) byte (λ e. cc) (λ e. cc) (λ e. cc) (λ e. cc) (λ e. cc) (λ low e. cc)
-    (λ no_quote no_backslash e. no_quote (let same : byte ≡ 34 = cc in same))
+    (λ no_quote no_backslash high e. no_quote (let same : byte ≡ 34 = cc in same))
 
 unit_value-control : (byte : ℕ) → byte < 32 → digits_value 16 (control_digits byte) ≡ byte
 unit_value-control byte low = let values = control_values byte low in omega (arith, values.0, values.1)
@@ -93,7 +99,7 @@ pub meaning-item_of : (byte : ℕ) (tail : List Item) → meaning (item_of byte 
 meaning-item_of byte tail =
     by_cases (λ b item text. meaning (item ∷ tail) ≡ b ∷ meaning tail) byte (meaning-escape 34 34 tail) (meaning-escape 92 92 tail) (meaning-escape 110 10 tail) (meaning-escape 114 13 tail) (meaning-escape 116 9 tail)
     (λ low. meaning-alone false (control_digits byte) tail (ap is_high_surrogate (unit_value-control byte low) ∙ not_high byte low) ∙ ap (λ front. front ++ meaning tail) (alone-control byte low))
-    (λ no_quote no_backslash. meaning-raw byte tail)
+    (λ no_quote no_backslash high. meaning-raw byte tail)
 
 -- ---- a whole text
 

@@ -8,13 +8,13 @@ use Rattle.std.specs.Str.{IsUtf8, encode_utf8_all}
 use Rattle.std.proofs.lemmas.Str.{IsUtf8-nil, IsUtf8-append, IsUtf8-encode}
 use Rattle.jsonb_spec.specs.Grammar.{IsPadded, padded, IsElement, whole_element, empty_element, IsMember, key_and_value, IsValue, scalar, empty_array, full_array, empty_object, full_object, Derives, max_depth, IsDocument, value_alone, whitespace_alone}
 use Rattle.jsonb_spec.specs.Keys.{IsBelowKeys, KeysAscend}
-use Rattle.jsonb_spec.specs.Mode.{Mode, standard, extended}
+use Rattle.jsonb_spec.specs.Mode.{Mode, standard, extended, json, extended_json}
 use Rattle.jsonb_spec.specs.Proper.{IsProperNumber, IsProper, AreProper, HaveProperParts}
 use Rattle.jsonb_spec.specs.Text.Range.{IsWithin, AreWithin, HaveWithin, IsIntegral, IsInRange, IsIntegerRange, HasFewDigits}
 use Rattle.jsonb_spec.specs.Grammar.Scalar.{IsNumber, IsScalar, literal_value, string_value, number_value, null_word, true_word, false_word, IsKey, quoted_key, bare_key}
 use Rattle.jsonb_spec.specs.Tree.{Mark, Num, Tree, trees_of, Members, no_members, more_members, Member, put, put_all}
 use Rattle.jsonb_value.proofs.Trees.DocumentTexts.{joined-all}
-use Rattle.jsonb_value.proofs.Numbers.InRange.{standard_number, extended_number}
+use Rattle.jsonb_value.proofs.Numbers.InRange.{standard_number, extended_number, json_number, extended_json_number}
 
 -- ---- keys that are put in
 
@@ -145,3 +145,10 @@ standard_in_range = document_holds standard IsIntegral standard_number
 -- what is read in extended mode is in range
 pub extended_in_range : (bytes : List ℕ) (t : Tree) → IsDocument extended bytes t → IsInRange t × IsProper t
 extended_in_range = document_holds extended HasFewDigits extended_number
+
+-- what is read in the other two is in range
+pub json_in_range : (bytes : List ℕ) (t : Tree) → IsDocument json bytes t → IsInRange t × IsProper t
+json_in_range = document_holds json HasFewDigits json_number
+
+pub extended_json_in_range : (bytes : List ℕ) (t : Tree) → IsDocument extended_json bytes t → IsInRange t × IsProper t
+extended_json_in_range = document_holds extended_json HasFewDigits extended_json_number

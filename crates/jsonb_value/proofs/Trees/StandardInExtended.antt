@@ -15,7 +15,7 @@ use Rattle.std.proofs.lemmas.List.{nil_from_length}
 use Rattle.jsonb_spec.specs.Grammar.Whitespace.{IsWhitespacePiece, space, tab, line_feed, form_feed, carriage_return, written_line_feed, written_carriage_return, written_tab, written_form_feed, block_comment, line_comment, IsWhitespace, no_whitespace, more_whitespace, IsLastWhitespace, whitespace_to_end, line_to_end}
 use Rattle.jsonb_spec.specs.Grammar.ExtendedNumber.{decimal_number}
 use Rattle.jsonb_spec.specs.Grammar.{IsPadded, padded, IsJoined, one_part, more_parts, IsElement, whole_element, empty_element, IsMember, key_and_value, AreDistinct, IsValue, scalar, empty_array, full_array, empty_object, full_object, Derives, max_depth, IsDocument, value_alone, whitespace_alone}
-use Rattle.jsonb_spec.specs.Mode.{standard, extended}
+use Rattle.jsonb_spec.specs.Mode.{standard, extended, strict, lenient}
 use Rattle.jsonb_spec.specs.Order.{bytes_cmp, tree_cmp, trees_cmp, members_cmp, Same}
 use Rattle.jsonb_value.specs.Order.Laws.{tree_cmp_total}
 use Rattle.jsonb_spec.specs.Grammar.Quoted.{Quoted}
@@ -33,7 +33,7 @@ use Rattle.jsonb_value.proofs.Trees.Runs.{heads}
 use Rattle.jsonb_value.proofs.Trees.TextsReadBack.{EncodesSameNumber, no_whitespace_alone}
 
 -- the modes differ
-two_modes : {A : Type 0} → standard ≡ extended → A
+two_modes : {A : Type 0} → strict ≡ lenient → A
 two_modes e = cc
 
 -- ---- whitespace
@@ -42,12 +42,12 @@ wider_piece : (piece : List ℕ) → IsWhitespacePiece standard piece → IsWhit
 wider_piece piece space = space
 wider_piece piece tab = tab
 wider_piece piece line_feed = line_feed
-wider_piece piece form_feed = form_feed
+wider_piece piece (form_feed beyond) = form_feed beyond
 wider_piece piece carriage_return = carriage_return
-wider_piece piece written_line_feed = written_line_feed
-wider_piece piece written_carriage_return = written_carriage_return
-wider_piece piece written_tab = written_tab
-wider_piece piece written_form_feed = written_form_feed
+wider_piece piece (written_line_feed beyond) = written_line_feed beyond
+wider_piece piece (written_carriage_return beyond) = written_carriage_return beyond
+wider_piece piece (written_tab beyond) = written_tab beyond
+wider_piece piece (written_form_feed beyond) = written_form_feed beyond
 wider_piece piece (block_comment inside m lacks) = two_modes m
 wider_piece piece (line_comment inside last m one ends) = two_modes m
 
@@ -81,12 +81,12 @@ unfolding after_piece after_backslash
 plain_piece piece rest space = record { first = 32; others = rest; joined = refl; no_slash = λ e. absurd (omega (arith, e)); after = refl }
 plain_piece piece rest tab = record { first = 9; others = rest; joined = refl; no_slash = λ e. absurd (omega (arith, e)); after = refl }
 plain_piece piece rest line_feed = record { first = 10; others = rest; joined = refl; no_slash = λ e. absurd (omega (arith, e)); after = refl }
-plain_piece piece rest form_feed = record { first = 12; others = rest; joined = refl; no_slash = λ e. absurd (omega (arith, e)); after = refl }
+plain_piece piece rest (form_feed beyond) = record { first = 12; others = rest; joined = refl; no_slash = λ e. absurd (omega (arith, e)); after = refl }
 plain_piece piece rest carriage_return = record { first = 13; others = rest; joined = refl; no_slash = λ e. absurd (omega (arith, e)); after = refl }
-plain_piece piece rest written_line_feed = record { first = 92; others = 110 ∷ rest; joined = refl; no_slash = λ e. absurd (omega (arith, e)); after = refl }
-plain_piece piece rest written_carriage_return = record { first = 92; others = 114 ∷ rest; joined = refl; no_slash = λ e. absurd (omega (arith, e)); after = refl }
-plain_piece piece rest written_tab = record { first = 92; others = 116 ∷ rest; joined = refl; no_slash = λ e. absurd (omega (arith, e)); after = refl }
-plain_piece piece rest written_form_feed = record { first = 92; others = 120 ∷ 48 ∷ 67 ∷ rest; joined = refl; no_slash = λ e. absurd (omega (arith, e)); after = refl }
+plain_piece piece rest (written_line_feed beyond) = record { first = 92; others = 110 ∷ rest; joined = refl; no_slash = λ e. absurd (omega (arith, e)); after = refl }
+plain_piece piece rest (written_carriage_return beyond) = record { first = 92; others = 114 ∷ rest; joined = refl; no_slash = λ e. absurd (omega (arith, e)); after = refl }
+plain_piece piece rest (written_tab beyond) = record { first = 92; others = 116 ∷ rest; joined = refl; no_slash = λ e. absurd (omega (arith, e)); after = refl }
+plain_piece piece rest (written_form_feed beyond) = record { first = 92; others = 120 ∷ 48 ∷ 67 ∷ rest; joined = refl; no_slash = λ e. absurd (omega (arith, e)); after = refl }
 plain_piece piece rest (block_comment inside m lacks) = two_modes m
 plain_piece piece rest (line_comment inside last m one ends) = two_modes m
 
@@ -96,12 +96,12 @@ unfolding after_piece after_backslash
 extended_piece piece rest space = inl refl
 extended_piece piece rest tab = inl refl
 extended_piece piece rest line_feed = inl refl
-extended_piece piece rest form_feed = inl refl
+extended_piece piece rest (form_feed beyond) = inl refl
 extended_piece piece rest carriage_return = inl refl
-extended_piece piece rest written_line_feed = inl refl
-extended_piece piece rest written_carriage_return = inl refl
-extended_piece piece rest written_tab = inl refl
-extended_piece piece rest written_form_feed = inl refl
+extended_piece piece rest (written_line_feed beyond) = inl refl
+extended_piece piece rest (written_carriage_return beyond) = inl refl
+extended_piece piece rest (written_tab beyond) = inl refl
+extended_piece piece rest (written_form_feed beyond) = inl refl
 extended_piece piece rest (block_comment inside m lacks) = inr (42 ∷ ((inside ++ 42 ∷ 47 ∷ []) ++ rest), refl)
 extended_piece piece rest (line_comment inside last m one ends) = inr (47 ∷ ((inside ++ last ∷ []) ++ rest), refl)
 
@@ -182,11 +182,11 @@ standard_is_decimal bytes n (negative, whole, joined, is_whole, is) =
 
 -- ---- strings and words
 
-wider_escape : (letter byte : ℕ) → escaped_byte standard letter ≡ Some byte → escaped_byte extended letter ≡ Some byte
+wider_escape : (letter byte : ℕ) → escaped_byte strict letter ≡ Some byte → escaped_byte lenient letter ≡ Some byte
 wider_escape letter byte is = picked (eqb letter 39) (eqb-true letter 39)
   where
     picked : (b : Bool) → (b ≡ true → letter ≡ 39) → cond b (Some 39) (standard_escape letter) ≡ Some byte
-    picked true quote = let none : escaped_byte standard letter ≡ None = ap (escaped_byte standard) (quote refl) in cc
+    picked true quote = let none : escaped_byte strict letter ≡ None = ap (escaped_byte strict) (quote refl) in cc
     picked false quote = is
 
 wider_item : (item : Item) → IsItem standard item → IsItem extended item

@@ -9,7 +9,7 @@ use Rattle.std.specs.Str.{IsUtf8}
 use Rattle.jsonb_spec.specs.Grammar.Whitespace.{IsWhitespacePiece, space, tab, line_feed, form_feed, carriage_return, written_line_feed, written_carriage_return, written_tab, written_form_feed, block_comment, line_comment, IsWhitespace, no_whitespace, more_whitespace, whitespace_to_end}
 use Rattle.jsonb_spec.specs.Grammar.{IsPadded, padded, IsJoined, one_part, more_parts, IsElement, whole_element, IsMember, key_and_value, scalar, empty_array, full_array, empty_object, full_object, Derives, max_depth, IsDocument, value_alone}
 use Rattle.jsonb_spec.specs.Keys.{IsBelowKeys, KeysAscend}
-use Rattle.jsonb_spec.specs.Mode.{Mode, standard, extended}
+use Rattle.jsonb_spec.specs.Mode.{Mode, standard, extended, Strictness, strict, lenient, strictness}
 use Rattle.jsonb_spec.specs.Text.NumberText.{text_of_parts, number_text}
 use Rattle.jsonb_spec.specs.Order.{bytes_cmp, tree_cmp, trees_cmp, members_cmp}
 use Rattle.jsonb_spec.specs.Order.ByContent.{items_of, pairs_of}
@@ -35,12 +35,12 @@ piece_is_no_text : (mode : Mode) (piece rest : List ℕ) (b : ℕ) (bytes : List
 piece_is_no_text mode piece rest b bytes space e text = absurd (omega (arith, heads 32 b rest bytes e, text))
 piece_is_no_text mode piece rest b bytes tab e text = absurd (omega (arith, heads 9 b rest bytes e, text))
 piece_is_no_text mode piece rest b bytes line_feed e text = absurd (omega (arith, heads 10 b rest bytes e, text))
-piece_is_no_text mode piece rest b bytes form_feed e text = absurd (omega (arith, heads 12 b rest bytes e, text))
+piece_is_no_text mode piece rest b bytes (form_feed beyond) e text = absurd (omega (arith, heads 12 b rest bytes e, text))
 piece_is_no_text mode piece rest b bytes carriage_return e text = absurd (omega (arith, heads 13 b rest bytes e, text))
-piece_is_no_text mode piece rest b bytes written_line_feed e text = absurd (omega (arith, heads 92 b (110 ∷ rest) bytes e, text))
-piece_is_no_text mode piece rest b bytes written_carriage_return e text = absurd (omega (arith, heads 92 b (114 ∷ rest) bytes e, text))
-piece_is_no_text mode piece rest b bytes written_tab e text = absurd (omega (arith, heads 92 b (116 ∷ rest) bytes e, text))
-piece_is_no_text mode piece rest b bytes written_form_feed e text = absurd (omega (arith, heads 92 b (120 ∷ 48 ∷ 67 ∷ rest) bytes e, text))
+piece_is_no_text mode piece rest b bytes (written_line_feed beyond) e text = absurd (omega (arith, heads 92 b (110 ∷ rest) bytes e, text))
+piece_is_no_text mode piece rest b bytes (written_carriage_return beyond) e text = absurd (omega (arith, heads 92 b (114 ∷ rest) bytes e, text))
+piece_is_no_text mode piece rest b bytes (written_tab beyond) e text = absurd (omega (arith, heads 92 b (116 ∷ rest) bytes e, text))
+piece_is_no_text mode piece rest b bytes (written_form_feed beyond) e text = absurd (omega (arith, heads 92 b (120 ∷ 48 ∷ 67 ∷ rest) bytes e, text))
 piece_is_no_text mode piece rest b bytes (block_comment inside m lacks) e text = absurd (omega (arith, heads 47 b (42 ∷ ((inside ++ 42 ∷ 47 ∷ []) ++ rest)) bytes e, text))
 piece_is_no_text mode piece rest b bytes (line_comment inside last m one ends) e text = absurd (omega (arith, heads 47 b (47 ∷ ((inside ++ last ∷ []) ++ rest)) bytes e, text))
 
@@ -58,13 +58,13 @@ trees_of-items_of no_trees = refl
 trees_of-items_of (more_trees t ts) = ap (more_trees t) (trees_of-items_of ts)
 
 -- double quotes and words in lower case are in each mode
-pub double_quote : (mode : Mode) → IsQuote mode 34
-double_quote standard = refl
-double_quote extended = inl refl
+pub double_quote : (s : Strictness) → IsQuote s 34
+double_quote strict = refl
+double_quote lenient = inl refl
 
-own_word : (mode : Mode) (word : List ℕ) → map to_ascii_lowercase word ≡ word → IsWord mode word word
-own_word standard word low = refl
-own_word extended word low = low
+own_word : (s : Strictness) (word : List ℕ) → map to_ascii_lowercase word ≡ word → IsWord s word word
+own_word strict word low = refl
+own_word lenient word low = low
 
 -- a scalar is at each depth
 at_depth : (mode : Mode) (depth : ℕ) (bytes : List ℕ) (t : Tree) → IsScalar mode bytes t → Derives mode depth bytes t
@@ -124,7 +124,7 @@ member_encoded : (mode : Mode) (Value : List ℕ → Tree → Type 0) (k l : Lis
 member_encoded mode Value k l text u e utf8 h =
     let key = reads_back mode k utf8 in
     subst (λ name. IsMember mode Value (quoted_text k ++ 58 ∷ text) (name, u)) e
-    (key_and_value {left = quoted_text k} {right = text} {key = (key.0, k)} {t = u} (pad mode (IsKey mode) (quoted_text k) (key.0, k) (quoted_key {quote = 34} (double_quote mode) key.1)) (pad mode Value text u h))
+    (key_and_value {left = quoted_text k} {right = text} {key = (key.0, k)} {t = u} (pad mode (IsKey mode) (quoted_text k) (key.0, k) (quoted_key {quote = 34} (double_quote (strictness mode)) key.1)) (pad mode Value text u h))
 
 joined_members : (mode : Mode) (Value : List ℕ → Tree → Type 0) (k : List ℕ) (t : Tree) (ms : Members) (l : List ℕ) (u : Tree) (ns : Members) → HaveProperParts (more_members k t ms) → HaveEncoded Value (more_members k t ms) (more_members l u ns)
     → IsJoined (IsMember mode Value) (with_commas ((quoted_text k ++ 58 ∷ tree_text t) ∷ member_texts ms)) ((l, u) ∷ pairs_of ns)
@@ -155,18 +155,18 @@ same_ascent Value (more_members k t ms) (more_members l u ns) h a = (same_below 
 
 module _ (mode : Mode) (IsIn : Num → Type 0) (short : (n : Num) → IsProperNumber n → IsIn n → IsShort n) (number_reads_back : (n : Num) → IsProperNumber n → IsIn n → EncodesSameNumber mode (number_text n) n) where
   read_null : (depth : ℕ) → EncodesSameTree mode depth null
-  read_null depth = record { tree = null; derived = at_depth mode depth _ null (literal_value (null_word (own_word mode (codes "null") refl))); same = refl; text = refl }
+  read_null depth = record { tree = null; derived = at_depth mode depth _ null (literal_value (null_word (own_word (strictness mode) (codes "null") refl))); same = refl; text = refl }
 
   read_boolean : (b : Bool) (depth : ℕ) → EncodesSameTree mode depth (boolean b)
-  read_boolean true depth = record { tree = boolean true; derived = at_depth mode depth _ (boolean true) (literal_value (true_word (own_word mode (codes "true") refl))); same = refl; text = refl }
-  read_boolean false depth = record { tree = boolean false; derived = at_depth mode depth _ (boolean false) (literal_value (false_word (own_word mode (codes "false") refl))); same = refl; text = refl }
+  read_boolean true depth = record { tree = boolean true; derived = at_depth mode depth _ (boolean true) (literal_value (true_word (own_word (strictness mode) (codes "true") refl))); same = refl; text = refl }
+  read_boolean false depth = record { tree = boolean false; derived = at_depth mode depth _ (boolean false) (literal_value (false_word (own_word (strictness mode) (codes "false") refl))); same = refl; text = refl }
 
   read_string : (mark : Mark) (bytes : List ℕ) (depth : ℕ) → IsUtf8 bytes → EncodesSameTree mode depth (string mark bytes)
   read_string mark bytes depth utf8 =
       let r = reads_back mode bytes utf8 in
       record {
         tree = string r.0 bytes;
-        derived = at_depth mode depth (quoted_text bytes) (string r.0 bytes) (string_value {quote = 34} (double_quote mode) r.1);
+        derived = at_depth mode depth (quoted_text bytes) (string r.0 bytes) (string_value {quote = 34} (double_quote (strictness mode)) r.1);
         same = same_bytes bytes bytes refl;
         text = refl;
       }

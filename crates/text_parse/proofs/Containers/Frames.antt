@@ -5,7 +5,7 @@ use Rattle.std.proofs.lemmas.List.{reverse-append}
 use Rattle.jsonb_spec.specs.Code.{Code}
 use Rattle.jsonb_spec.specs.Code.Code.{depth_limit_exceeded, expected_array_comma_or_end, expected_object_comma_or_end}
 use Rattle.jsonb_spec.specs.Grammar.{max_depth}
-use Rattle.jsonb_spec.specs.Mode.{Mode, standard, extended}
+use Rattle.jsonb_spec.specs.Mode.{Mode, Strictness, strict, lenient, strictness}
 use Rattle.jsonb_spec.specs.Tree.{Mark, Tree}
 use Rattle.jsonb_spec.specs.Tree.Mark.{plain}
 use Rattle.jsonb_spec.specs.Tree.Tree.{null}
@@ -88,11 +88,11 @@ module _ (size : ℕ) (mode : Mode) (depth : ℕ) where
 -- ---- a turn of the loops over parts
 
 -- an element is due
-pub element_stops : (p l s : Parser) (depth : ℕ) (front : List Source) → Advances p l → Advances l s → rest_of s ≡ skip_whitespace (mode_of l.mode) (rest_of l) → is_left_out (mode_of s.mode) (rest_of s) ≡ false
+pub element_stops : (p l s : Parser) (depth : ℕ) (front : List Source) → Advances p l → Advances l s → rest_of s ≡ skip_whitespace (mode_of l.mode) (rest_of l) → is_left_out (strictness (mode_of s.mode)) (rest_of s) ≡ false
     → elements_from (size_of p) (mode_of p.mode) depth front (rest_of l) ≡ (value_at (size_of p) (mode_of p.mode) depth (rest_of s) >>= finish_open (size_of p) (mode_of p.mode) depth (elements_so_far front))
 element_stops p l s depth front a b skipped due =
     let here : rest_of s ≡ skip_whitespace (mode_of p.mode) (rest_of l) = skipped ∙ sym (skip_same p l (rest_of l) a) in
-    element-due (size_of p) (mode_of p.mode) depth front (rest_of l) (ap₂ (λ m r. is_left_out m r) (sym (ap mode_of (goes_on p l s a b).mode)) (sym here) ∙ due)
+    element-due (size_of p) (mode_of p.mode) depth front (rest_of l) (ap₂ (λ m r. is_left_out (strictness m) r) (sym (ap mode_of (goes_on p l s a b).mode)) (sym here) ∙ due)
     ∙ ap (λ r. value_at (size_of p) (mode_of p.mode) depth r >>= finish_open (size_of p) (mode_of p.mode) depth (elements_so_far front)) (sym here)
 
 -- the part that ends here, and what is left of the container
@@ -113,10 +113,10 @@ element_turn p l s depth front a b skipped no_array no_object =
     let here : rest_of s ≡ skip_whitespace (mode_of p.mode) (rest_of l) = skipped ∙ sym (skip_same p l (rest_of l) a) in
     elements-turn (size_of p) (mode_of p.mode) depth front (rest_of l)
     ∙ ap (λ x. x >>= finish_open (size_of p) (mode_of p.mode) depth (elements_so_far front))
-    (ap (λ u. value_or_null (mode_of p.mode) (value_at (size_of p) (mode_of p.mode) depth) u) (sym here)
-    ∙ ap (λ v. cond (is_left_out (mode_of p.mode) (rest_of s)) (Ok (null_source, rest_of s)) v) (value_alone p s depth on no_array no_object)
-    ∙ ap (λ m. cond (is_left_out (mode_of m) (rest_of s)) (Ok (null_source, rest_of s)) (alone_at (scalar_at (size_of s) (mode_of s.mode) (rest_of s)))) (sym on.mode)
-    ∙ or_null_alone (is_left_out (mode_of s.mode) (rest_of s)) (rest_of s) (scalar_at (size_of s) (mode_of s.mode) (rest_of s)))
+    (ap (λ u. value_or_null (strictness (mode_of p.mode)) (value_at (size_of p) (mode_of p.mode) depth) u) (sym here)
+    ∙ ap (λ v. cond (is_left_out (strictness (mode_of p.mode)) (rest_of s)) (Ok (null_source, rest_of s)) v) (value_alone p s depth on no_array no_object)
+    ∙ ap (λ m. cond (is_left_out (strictness (mode_of m)) (rest_of s)) (Ok (null_source, rest_of s)) (alone_at (scalar_at (size_of s) (mode_of s.mode) (rest_of s)))) (sym on.mode)
+    ∙ or_null_alone (is_left_out (strictness (mode_of s.mode)) (rest_of s)) (rest_of s) (scalar_at (size_of s) (mode_of s.mode) (rest_of s)))
     ∙ then-then read (λ (x : Tree × List ℕ). Ok (source_alone x.0, x.1)) (finish_open (size_of p) (mode_of p.mode) depth (elements_so_far front))
     ∙ then-same read (λ (x : Tree × List ℕ). finish_open (size_of p) (mode_of p.mode) depth (elements_so_far front) (source_alone x.0, x.1)) (after_element p depth front)
     (λ x. element_ends (size_of p) (mode_of p.mode) depth (front ++ source_alone x.0 ∷ []) (skip_whitespace (mode_of p.mode) x.1))
@@ -510,9 +510,9 @@ put_new Q (Err f) e h = cc
 
 -- ---- an array whose next element is an array
 
-bracket-there : (mode : Mode) (rest : List ℕ) → is_left_out mode (91 ∷ rest) ≡ false
-bracket-there standard rest = refl
-bracket-there extended rest = refl
+bracket-there : (strictness : Strictness) (rest : List ℕ) → is_left_out strictness (91 ∷ rest) ≡ false
+bracket-there strict rest = refl
+bracket-there lenient rest = refl
 
 -- it waits for that
 pub array_awaits : {I M K : Type 0} (Before After : Bool → List (Frame I M K) → List Open → Type 0) (p : Parser) (items more : I) → begins 91 (rest_of p) ≡ true → (depth : ℕ) (o : Open) (fs : List (Frame I M K)) (cs : List Open) → ((ss : List Source) → Before false (variants.Array items ∷ fs) (elements_so_far ss ∷ cs) → After true (variants.Array more ∷ fs) (elements_so_far ss ∷ cs)) → IsArray o → Before false (variants.Array items ∷ fs) (o ∷ cs)
@@ -525,6 +525,6 @@ array_awaits Before After p items more next depth (elements_so_far ss) fs cs due
       so_far = elements_so_far ss;
       fits = tt;
       held = due ss held;
-      parses = element_stops p p p depth ss (stays p) (stays p) (e ∙ sym (ap (skip_whitespace mode) e ∙ skip-stop mode 91 rest refl)) (ap (is_left_out mode) e ∙ bracket-there mode rest);
+      parses = element_stops p p p depth ss (stays p) (stays p) (e ∙ sym (ap (skip_whitespace mode) e ∙ skip-stop mode 91 rest refl)) (ap (is_left_out (strictness mode)) e ∙ bracket-there (strictness mode) rest);
     }
 array_awaits Before After p items more next depth (members_so_far ms k offset) fs cs due fits held = absurd fits

@@ -4,7 +4,7 @@ use Rattle.jsonb_spec.specs.Code.{Code}
 use Rattle.jsonb_spec.specs.Code.Code.{expected_array_comma_or_end, expected_colon, expected_object_comma_or_end}
 use Rattle.std.proofs.lemmas.Bool.{cases_lt, cond-false}
 use Rattle.jsonb_spec.specs.Grammar.{Derives, IsElement}
-use Rattle.jsonb_spec.specs.Mode.{Mode}
+use Rattle.jsonb_spec.specs.Mode.{Mode, strictness}
 use Rattle.jsonb_spec.specs.Tree.{Mark}
 use Rattle.text_scan.specs.Parsing.{Fault, Parse, begins, on_byte, reject, ◌>>=◌}
 use Rattle.text_scan.specs.Parsing.Whitespace.{skip_whitespace}
@@ -109,17 +109,17 @@ module _ (size : ℕ) (mode : Mode) (depth : ℕ) where
   member-shrinks = sound-shrinks (IsFound mode (Derives mode depth) (value_at size mode depth)) (member_at size mode (value_at size mode depth)) (member_sound mode (Derives mode depth) (value_at size mode depth) size (value_sound size mode depth))
 
   pub elements-turn : (front : List Source) (bytes : List ℕ) → elements_from size mode depth front bytes
-      ≡ (value_or_null mode (value_at size mode depth) (skip_whitespace mode bytes) >>= finish_open size mode depth (elements_so_far front))
+      ≡ (value_or_null (strictness mode) (value_at size mode depth) (skip_whitespace mode bytes) >>= finish_open size mode depth (elements_so_far front))
   elements-turn front bytes =
       parts-turn size expected_array_comma_or_end 93 (element_at mode (value_at size mode depth)) element-shrinks array_end front bytes
-      ∙ then-then (value_or_null mode (value_at size mode depth) (skip_whitespace mode bytes)) (λ (x : Source × List ℕ). Ok (x.0, skip_whitespace mode x.1))
+      ∙ then-then (value_or_null (strictness mode) (value_at size mode depth) (skip_whitespace mode bytes)) (λ (x : Source × List ℕ). Ok (x.0, skip_whitespace mode x.1))
       (λ (x : Source × List ℕ). parts_after size expected_array_comma_or_end 93 (element_at mode (value_at size mode depth)) array_end (front ++ x.0 ∷ []) x.1)
 
-  pub element-due : (front : List Source) (bytes : List ℕ) → is_left_out mode (skip_whitespace mode bytes) ≡ false
+  pub element-due : (front : List Source) (bytes : List ℕ) → is_left_out (strictness mode) (skip_whitespace mode bytes) ≡ false
       → elements_from size mode depth front bytes ≡ (value_at size mode depth (skip_whitespace mode bytes) >>= finish_open size mode depth (elements_so_far front))
   element-due front bytes e =
       elements-turn front bytes
-      ∙ ap (λ (r : Parse Source). r >>= finish_open size mode depth (elements_so_far front)) (cond-false (is_left_out mode (skip_whitespace mode bytes)) (Ok (null_source, skip_whitespace mode bytes)) (value_at size mode depth (skip_whitespace mode bytes)) e)
+      ∙ ap (λ (r : Parse Source). r >>= finish_open size mode depth (elements_so_far front)) (cond-false (is_left_out (strictness mode) (skip_whitespace mode bytes)) (Ok (null_source, skip_whitespace mode bytes)) (value_at size mode depth (skip_whitespace mode bytes)) e)
 
   pub array-begun : (bytes : List ℕ) → begins 93 (skip_whitespace mode bytes) ≡ false → array_at size mode (value_at size mode depth) bytes ≡ elements_from size mode depth [] (skip_whitespace mode bytes)
   array-begun bytes e =

@@ -9,8 +9,7 @@ use Rattle.jsonb_spec.specs.Grammar.IsElement.{empty_element, whole_element}
 use Rattle.jsonb_spec.specs.Grammar.IsJoined.{more_parts, one_part}
 use Rattle.jsonb_spec.specs.Grammar.IsMember.{key_and_value}
 use Rattle.jsonb_spec.specs.Grammar.IsValue.{empty_array, empty_object, full_array, full_object, scalar}
-use Rattle.jsonb_spec.specs.Mode.{Mode}
-use Rattle.jsonb_spec.specs.Mode.Mode.{extended, standard}
+use Rattle.jsonb_spec.specs.Mode.{Mode, Strictness, strict, lenient, strictness, IsLenient}
 use Rattle.jsonb_spec.specs.Grammar.Scalar.{IsKey, IsScalar}
 use Rattle.jsonb_spec.specs.Tree.{Mark, Member, Tree, put_all, trees_of}
 use Rattle.jsonb_spec.specs.Tree.Members.{no_members}
@@ -68,9 +67,9 @@ alone_sound size mode bytes s rest e =
 
 -- ---- elements
 
-left_out-none : (mode : Mode) (b : ℕ) (rest : List ℕ) → IsOther b → is_left_out mode (b ∷ rest) ≡ false
-left_out-none standard b rest o = refl
-left_out-none extended b rest o = if-false-or (eqb b 44) (eqb b 93) o.comma o.bracket
+left_out-none : (strictness : Strictness) (b : ℕ) (rest : List ℕ) → IsOther b → is_left_out strictness (b ∷ rest) ≡ false
+left_out-none strict b rest o = refl
+left_out-none lenient b rest o = if-false-or (eqb b 44) (eqb b 93) o.comma o.bracket
   where
     if-false-or : (x y : Bool) → x ≡ false → y ≡ false → (x || y) ≡ false
     if-false-or true y p q = p
@@ -89,20 +88,20 @@ pub object_of : (o : Option Spot) (fs : List Found) (r : List ℕ) (t : Source) 
 object_of None fs r t rest e = (refl, same_read (object_source_of fs) t r rest e)
 object_of (Some s) fs r t rest e = absurd cc
 
-pub is_extended_if : (mode : Mode) (bytes : List ℕ) → is_left_out mode bytes ≡ true → mode ≡ extended
-is_extended_if standard bytes e = absurd cc
-is_extended_if extended bytes e = refl
+pub is_lenient_if : (strictness : Strictness) (bytes : List ℕ) → is_left_out strictness bytes ≡ true → strictness ≡ lenient
+is_lenient_if strict bytes e = absurd cc
+is_lenient_if lenient bytes e = refl
 
 module _ (mode : Mode) (Value : List ℕ → Tree → Type 0) (read : List ℕ → Parse Source) where
-  value_or_null-parses : (bytes : List ℕ) → Starts bytes → value_or_null mode read bytes ≡ read bytes
+  value_or_null-parses : (bytes : List ℕ) → Starts bytes → value_or_null (strictness mode) read bytes ≡ read bytes
   value_or_null-parses bytes s =
-      cond-false (is_left_out mode bytes) (Ok (null_source, bytes)) (read bytes)
-      (ap (λ (u : List ℕ). is_left_out mode u) s.whole ∙ left_out-none mode s.first s.others (other s.first s.is_start))
+      cond-false (is_left_out (strictness mode) bytes) (Ok (null_source, bytes)) (read bytes)
+      (ap (λ (u : List ℕ). is_left_out (strictness mode) u) s.whole ∙ left_out-none (strictness mode) s.first s.others (other s.first s.is_start))
 
   value_complete : IsValueComplete Value read → IsShown tree_of_source Value read
   value_complete c = record { starts = c.starts; parses = λ core t rest s e. c.parses core t rest s (λ n. before e) }
 
-  value_or_null_complete : IsValueComplete Value read → IsShown tree_of_source Value (value_or_null mode read)
+  value_or_null_complete : IsValueComplete Value read → IsShown tree_of_source Value (value_or_null (strictness mode) read)
   value_or_null_complete c =
       record {
         starts = c.starts;
@@ -117,14 +116,14 @@ module _ (mode : Mode) (Value : List ℕ → Tree → Type 0) (read : List ℕ �
 
   element_reads : IsValueComplete Value read → (bytes : List ℕ) (t : Tree) (c : ℕ) (rest : List ℕ) → IsElement mode Value bytes t
       → (eqb c 44 || eqb c 93) ≡ true → is_break c ≡ true → is_whitespace_start c ≡ false → (s : Source) × (tree_of_source s ≡ t) × (element_at mode read (bytes ++ c ∷ rest) ≡ Ok (s, c ∷ rest))
-  element_reads complete bytes t c rest (whole_element p) ends is_end is_none = padded_complete tree_of_source mode Value (value_or_null mode read) (value_or_null_complete complete) bytes t c rest p is_end is_none
-  element_reads complete bytes t c rest (empty_element is_extended b) ends is_end is_none =
+  element_reads complete bytes t c rest (whole_element p) ends is_end is_none = padded_complete tree_of_source mode Value (value_or_null (strictness mode) read) (value_or_null_complete complete) bytes t c rest p is_end is_none
+  element_reads complete bytes t c rest (empty_element is_lenient b) ends is_end is_none =
       let k : skip_whitespace mode (c ∷ rest) ≡ c ∷ rest = skip-stop mode c rest is_none in
-      let left_out : is_left_out mode (c ∷ rest) ≡ true = ap (λ (m : Mode). is_left_out m (c ∷ rest)) is_extended ∙ ends in (
+      let left_out : is_left_out (strictness mode) (c ∷ rest) ≡ true = ap (λ (s : Strictness). is_left_out s (c ∷ rest)) is_lenient ∙ ends in (
         null_source,
         refl,
-        ap (λ (u : List ℕ). value_or_null mode read u >>= λ (x : Source × List ℕ). Ok (x.0, skip_whitespace mode x.1)) (skip-whitespace b (c ∷ rest) ∙ k)
-            ∙ ap (λ (r : Parse Source). r >>= λ (x : Source × List ℕ). Ok (x.0, skip_whitespace mode x.1)) (cond-true (is_left_out mode (c ∷ rest)) (Ok (null_source, c ∷ rest)) (read (c ∷ rest)) left_out)
+        ap (λ (u : List ℕ). value_or_null (strictness mode) read u >>= λ (x : Source × List ℕ). Ok (x.0, skip_whitespace mode x.1)) (skip-whitespace b (c ∷ rest) ∙ k)
+            ∙ ap (λ (r : Parse Source). r >>= λ (x : Source × List ℕ). Ok (x.0, skip_whitespace mode x.1)) (cond-true (is_left_out (strictness mode) (c ∷ rest)) (Ok (null_source, c ∷ rest)) (read (c ∷ rest)) left_out)
             ∙ ap (λ (u : List ℕ). Ok (null_source, u)) k,
       )
 
@@ -138,8 +137,8 @@ module _ (mode : Mode) (Value : List ℕ → Tree → Type 0) (read : List ℕ �
 
   pub element_sound : IsSound (Seen Value) read → IsSoundBefore (Seen (IsElement mode Value)) (element_at mode read)
   element_sound sound bytes t rest e left =
-      let b = bind_ok (value_or_null mode read (skip_whitespace mode bytes)) (λ (x : Source × List ℕ). Ok (x.0, skip_whitespace mode x.1)) (t, rest) e in
-      elim (chosen (is_left_out mode (skip_whitespace mode bytes)) (Ok (null_source, skip_whitespace mode bytes)) (read (skip_whitespace mode bytes)) (Ok b.0) b.1) [
+      let b = bind_ok (value_or_null (strictness mode) read (skip_whitespace mode bytes)) (λ (x : Source × List ℕ). Ok (x.0, skip_whitespace mode x.1)) (t, rest) e in
+      elim (chosen (is_left_out (strictness mode) (skip_whitespace mode bytes)) (Ok (null_source, skip_whitespace mode bytes)) (read (skip_whitespace mode bytes)) (Ok b.0) b.1) [
         | inl h ↦
             let same = same_read null_source b.0.0 (skip_whitespace mode bytes) b.0.1 h.1 in
             let out = same_read b.0.0 t (skip_whitespace mode b.0.1) rest b.2 in
@@ -147,7 +146,7 @@ module _ (mode : Mode) (Value : List ℕ → Tree → Type 0) (read : List ℕ �
             let front = skips mode bytes (omega (arith, left, ap length rest-is)) in
             record {
               core = front.whitespace;
-              encodes = subst (λ (v : Source). Seen (IsElement mode Value) front.whitespace v) (same.value ∙ out.value) (empty_element (is_extended_if mode (skip_whitespace mode bytes) h.0) front.is_whitespace);
+              encodes = subst (λ (v : Source). Seen (IsElement mode Value) front.whitespace v) (same.value ∙ out.value) (empty_element (is_lenient_if (strictness mode) (skip_whitespace mode bytes) h.0) front.is_whitespace);
               whole = front.whole ∙ ap (λ (u : List ℕ). front.whitespace ++ u) rest-is;
             }
         | inr h ↦
@@ -260,7 +259,7 @@ module _ (mode : Mode) (Value : List ℕ → Tree → Type 0) (read : List ℕ �
             }
         | inr h ↦
             let b = bind_ok (joined_at size expected_array_comma_or_end 93 (element_at mode read) (suc (length bytes)) (skip_whitespace mode bytes)) (λ (x : List Source × List ℕ). Ok (array_source_of x.0, x.1)) (t, rest) h.1 in
-            let again = sym (joined-skip size expected_array_comma_or_end 93 (Seen (IsElement mode Value)) (element_at mode read) mode (λ u. ap (λ (w : List ℕ). value_or_null mode read w >>= λ (x : Source × List ℕ). Ok (x.0, skip_whitespace mode x.1)) (skip-skip mode u)) (suc (length bytes)) bytes) ∙ b.1 in
+            let again = sym (joined-skip size expected_array_comma_or_end 93 (Seen (IsElement mode Value)) (element_at mode read) mode (λ u. ap (λ (w : List ℕ). value_or_null (strictness mode) read w >>= λ (x : Source × List ℕ). Ok (x.0, skip_whitespace mode x.1)) (skip-skip mode u)) (suc (length bytes)) bytes) ∙ b.1 in
             let j = joined_sound size expected_array_comma_or_end 93 (Seen (IsElement mode Value)) (element_at mode read) (element_sound sound) (suc (length bytes)) bytes b.0.0 b.0.1 again in
             let same = same_read (array_source_of b.0.0) t b.0.1 rest b.2 in
             let whole : bytes ≡ j.0 ++ 93 ∷ rest = j.2 ∙ ap (λ (u : List ℕ). j.0 ++ 93 ∷ u) same.rest in
@@ -284,7 +283,7 @@ module _ (mode : Mode) (Value : List ℕ → Tree → Type 0) (read : List ℕ �
         array_tree c.0 ∙ ap (λ (us : List Tree). array (trees_of us)) c.1,
         on_byte-none 93 (skip_whitespace mode bytes) (λ (r : List ℕ). Ok (array_source no_sources, r)) (elements_at size mode read bytes) (elements_begin complete j rest not_piece)
             ∙ ap (λ (r : Parse (List Source)). r >>= λ (x : List Source × List ℕ). Ok (array_source_of x.0, x.1))
-            (joined-skip size expected_array_comma_or_end 93 (Seen (IsElement mode Value)) (element_at mode read) mode (λ u. ap (λ (w : List ℕ). value_or_null mode read w >>= λ (x : Source × List ℕ). Ok (x.0, skip_whitespace mode x.1)) (skip-skip mode u)) (suc (length bytes)) bytes ∙ c.2),
+            (joined-skip size expected_array_comma_or_end 93 (Seen (IsElement mode Value)) (element_at mode read) mode (λ u. ap (λ (w : List ℕ). value_or_null (strictness mode) read w >>= λ (x : Source × List ℕ). Ok (x.0, skip_whitespace mode x.1)) (skip-skip mode u)) (suc (length bytes)) bytes ∙ c.2),
       )
 
   empty_array_complete : (size : ℕ) {before : List ℕ} (b : IsWhitespace mode before) (rest : List ℕ) → array_at size mode read (before ++ 93 ∷ rest) ≡ Ok (array_source no_sources, rest)
@@ -402,18 +401,18 @@ value_is_complete size mode (suc depth) = containers_complete mode (Derives mode
 -- ---- whole texts
 
 -- where a comment begins
-opens_is : (mode : Mode) (b : ℕ) (rest : List ℕ) → opens_comment mode (b ∷ rest) ≡ true → (mode ≡ extended) × (b ≡ 47)
-opens_is standard b rest e = absurd (true≢false (sym e))
-opens_is extended b rest e =
+opens_is : (strictness : Strictness) (b : ℕ) (rest : List ℕ) → opens_comment strictness (b ∷ rest) ≡ true → (strictness ≡ lenient) × (b ≡ 47)
+opens_is strict b rest e = absurd (true≢false (sym e))
+opens_is lenient b rest e =
     elim (chosen (eqb b 47) (begins 42 rest || begins 47 rest) false true e) [
       | inl t ↦ (refl, eqb-true b 47 t.0)
       | inr f ↦ absurd (true≢false (sym f.1))
     ]
 
 -- a comment that ends a text is a line
-pub comment_ends : (mode : Mode) (size : ℕ) (bytes : List ℕ) (b : ℕ) (rest : List ℕ) (t u : Source) → skip_closed_whitespace mode bytes ≡ b ∷ rest → opens_comment mode (b ∷ rest) ≡ true → comment_at size t rest ≡ Ok u → (mode ≡ extended) × IsLastWhitespace mode bytes × (t ≡ u)
+pub comment_ends : (mode : Mode) (size : ℕ) (bytes : List ℕ) (b : ℕ) (rest : List ℕ) (t u : Source) → skip_closed_whitespace mode bytes ≡ b ∷ rest → opens_comment (strictness mode) (b ∷ rest) ≡ true → comment_at size t rest ≡ Ok u → IsLenient mode × IsLastWhitespace mode bytes × (t ≡ u)
 comment_ends mode size bytes b rest t u passed opens e =
-    let is = opens_is mode b rest opens in
+    let is = opens_is (strictness mode) b rest opens in
     elim (chosen (begins 47 rest) (Ok t) (fault invalid_eof size) (Ok u) e) [
       | inl h ↦
           let line = begins_found rest h.0 in
@@ -425,14 +424,18 @@ comment_ends mode size bytes b rest t u passed opens e =
 pub ended : (size : ℕ) (mode : Mode) (t : Source) (bytes rest : List ℕ) (u : Source) → skip_closed_whitespace mode bytes ≡ rest → at_end size mode t rest ≡ Ok u → IsLastWhitespace mode bytes × (t ≡ u)
 ended size mode t bytes [] u passed e = (ends_all mode bytes passed, same_ok t u e)
 ended size mode t bytes (b ∷ rest) u passed e =
-    elim (chosen (opens_comment mode (b ∷ rest)) (comment_at size t rest) (fault unexpected_trailing_characters (size - length (b ∷ rest) + 1)) (Ok u) e) [
+    elim (chosen (opens_comment (strictness mode) (b ∷ rest)) (comment_at size t rest) (fault unexpected_trailing_characters (size - length (b ∷ rest) + 1)) (Ok u) e) [
       | inl h ↦ let c = comment_ends mode size bytes b rest t u passed h.0 h.1 in (c.1, c.2)
       | inr h ↦ absurd (let never : ◌≡◌ {A = Result Source Fault} (fault unexpected_trailing_characters (size - length (b ∷ rest) + 1)) (Ok u) = h.1 in cc)
     ]
 
-nothing_read : (mode : Mode) (bytes : List ℕ) (s : Source) (size : ℕ) → IsLastWhitespace mode bytes → nothing_at size mode ≡ Ok s → Seen (IsDocument mode) bytes s
-nothing_read standard bytes s size b e = absurd cc
-nothing_read extended bytes s size b e = subst (λ (u : Source). Seen (IsDocument extended) bytes u) (same_ok null_source s e) (whitespace_alone refl b)
+-- where whitespace alone is a text, it means null
+nothing_is : (strictness : Strictness) (size : ℕ) (s : Source) → nothing_at size strictness ≡ Ok s → (strictness ≡ lenient) × (null_source ≡ s)
+nothing_is strict size s e = absurd cc
+nothing_is lenient size s e = (refl, same_ok null_source s e)
+
+nothing_read : (mode : Mode) (bytes : List ℕ) (s : Source) (size : ℕ) → IsLastWhitespace mode bytes → nothing_at size (strictness mode) ≡ Ok s → Seen (IsDocument mode) bytes s
+nothing_read mode bytes s size b e = let is = nothing_is (strictness mode) size s e in subst (λ (u : Source). Seen (IsDocument mode) bytes u) is.1 (whitespace_alone is.0 b)
 
 source_sound : (mode : Mode) (bytes : List ℕ) (s : Source) → source_of mode bytes ≡ Ok s → Seen (IsDocument mode) bytes s
 unfolding source_of
@@ -449,7 +452,7 @@ source_sound mode bytes t e = go (skip_closed_whitespace mode bytes) refl e
     go : (rest : List ℕ) → skip_closed_whitespace mode bytes ≡ rest → source_from (length bytes) mode rest ≡ Ok t → Seen (IsDocument mode) bytes t
     go [] passed e = nothing_read mode bytes t (length bytes) (ends_all mode bytes passed) e
     go (b ∷ rest) passed e =
-        elim (chosen (opens_comment mode (b ∷ rest)) (comment_at (length bytes) null_source rest) (value_to_end (length bytes) mode (b ∷ rest)) (Ok t) e) [
+        elim (chosen (opens_comment (strictness mode) (b ∷ rest)) (comment_at (length bytes) null_source rest) (value_to_end (length bytes) mode (b ∷ rest)) (Ok t) e) [
           | inl h ↦ let c = comment_ends mode (length bytes) bytes b rest null_source t passed h.0 h.1 in subst (λ (u : Source). Seen (IsDocument mode) bytes u) c.2 (whitespace_alone c.0 c.1)
           | inr h ↦ value_read b rest (subst (λ (u : List ℕ). Passes mode bytes u) passed (passes mode bytes)) h.1
         ]

@@ -5,15 +5,14 @@ use Rattle.std.proofs.Math.Seq.{take-append_seam}
 use Rattle.std.proofs.lemmas.Bool.{cases_Bool, cond-false, eqb-true}
 use Rattle.jsonb_value.specs.declared.error.Error.{Error}
 use Rattle.jsonb_value.specs.declared.error.Error.TheVariants.{Syntax, OutOfMemory}
-use Rattle.jsonb_spec.specs.Mode.{Mode, standard, extended}
+use Rattle.jsonb_spec.specs.Mode.{Mode, Strictness, strict, lenient, strictness, IsLenient}
 use Rattle.text_scan.specs.declared.parser.number.ShortInteger.{ShortInteger}
 use Rattle.jsonb_spec.specs.Tree.{Mark, Num, Tree, int64, uint64, null, boolean, number, string}
 use Rattle.text_parse.specs.declared.parser.Parser.{Parser}
 use Rattle.text_scan.specs.Answer.{Fails, mode_of}
 use Rattle.text_scan.specs.Parsing.{Fault, Parse, begins, ◌>>=◌}
-use Rattle.text_scan.specs.Parsing.ExtendedNumber.{extended_number_at}
-use Rattle.text_scan.specs.Parsing.Number.{is_number_start, standard_number_at}
-use Rattle.text_scan.specs.Parsing.Scalar.{begins_number, letters_at, null_at, number_value_at, or_else, other_scalar_at, quoted_at, scalar_at}
+use Rattle.text_scan.specs.Parsing.Number.{is_number_start}
+use Rattle.text_scan.specs.Parsing.Scalar.{begins_number, letters_at, null_at, null_or, number_at, number_value_at, or_else, other_scalar_at, quoted_at, scalar_at}
 use Rattle.text_scan.specs.Parsing.String.{string_at}
 use Rattle.text_scan.specs.Open.{Open}
 use Rattle.jsonb_spec.specs.Source.{Source, number_source, source_alone}
@@ -39,7 +38,8 @@ use Rattle.jsonb_spec.specs.Text.NumberText.{number_text}
 use Rattle.std.proofs.lemmas.List.{drop_more}
 use Rattle.text_common.specs.VerbatimScalar.{IsIntegerAt}
 use Rattle.text_common.specs.declared.verbatim.Verbatim.{Verbatim}
-use Rattle.text_parse.proofs.Scalars.FirstBytes.{extended_number, standard_number}
+use Rattle.text_parse.proofs.Scalars.Encodings.{null_or_word}
+use Rattle.text_parse.proofs.Scalars.FirstBytes.{number_here, scalar_as, scalar_is}
 use Rattle.text_scan.proofs.Containers.JoinedParts.{on_byte-none}
 use Rattle.text_parse.proofs.Steps.Failures.{memory_misses, unreported_misses}
 use Rattle.text_parse.proofs.Steps.Outcomes.{same_size}
@@ -51,16 +51,18 @@ string_read size mode quote bytes x rest read = ap (λ (r : Parse (Mark × List 
 
 -- ---- words
 
-pub null_read : (size : ℕ) (mode : Mode) (bytes rest : List ℕ) → letters_at size mode (codes "null") bytes ≡ Ok rest → null_at size mode bytes ≡ Ok (null, rest)
-null_read size standard bytes rest read = ap (λ (r : Result (List ℕ) Fault). r >>= λ rest. Ok (null, rest)) read
-null_read size extended bytes rest read = ap (λ (r : Result (List ℕ) Fault). or_else (r >>= λ rest. Ok (null, rest)) (number_value_at size extended bytes)) read
+pub null_read : (size : ℕ) (mode : Mode) (bytes rest : List ℕ) → letters_at size (strictness mode) (codes "null") bytes ≡ Ok rest → null_at size mode bytes ≡ Ok (null, rest)
+null_read size mode bytes rest read = null_or_word size (strictness mode) (number_value_at size mode) bytes (null, rest) (ap (λ (r : Result (List ℕ) Fault). r >>= λ rest. Ok (null, rest)) read)
 
--- no word begins here, in extended mode
-pub null_missed : (size : ℕ) (mode : Mode) (bytes : List ℕ) (e : Error) → mode ≡ extended → e ≢ OutOfMemory → Fails e (letters_at size mode (codes "null") bytes) → null_at size mode bytes ≡ number_value_at size mode bytes
-null_missed size standard bytes e is other h = cc
-null_missed size extended bytes (Syntax code offset) is other h = ap (λ (r : Result (List ℕ) Fault). or_else (r >>= λ rest. Ok (null, rest)) (number_value_at size extended bytes)) h
-null_missed size extended bytes OutOfMemory is other h = absurd (other refl)
-null_missed size extended bytes e is other h = absurd h
+null_or_missed : (size : ℕ) (strictness : Strictness) (at_number : List ℕ → Parse Tree) (bytes : List ℕ) (e : Error) → strictness ≡ lenient → e ≢ OutOfMemory → Fails e (letters_at size strictness (codes "null") bytes) → null_or size strictness at_number bytes ≡ at_number bytes
+null_or_missed size strict at_number bytes e is other h = cc
+null_or_missed size lenient at_number bytes (Syntax code offset) is other h = ap (λ (r : Result (List ℕ) Fault). or_else (r >>= λ rest. Ok (null, rest)) (at_number bytes)) h
+null_or_missed size lenient at_number bytes OutOfMemory is other h = absurd (other refl)
+null_or_missed size lenient at_number bytes e is other h = absurd h
+
+-- no word begins here, in a lenient mode
+pub null_missed : (size : ℕ) (mode : Mode) (bytes : List ℕ) (e : Error) → IsLenient mode → e ≢ OutOfMemory → Fails e (letters_at size (strictness mode) (codes "null") bytes) → null_at size mode bytes ≡ number_value_at size mode bytes
+null_missed size mode bytes e is other h = null_or_missed size (strictness mode) (number_value_at size mode) bytes e is other h
 
 -- ---- numbers
 
@@ -162,23 +164,29 @@ cut_key bytes (texts.Decoded t) from after cut holds = tt
 
 -- ---- what is parsed at once
 
+null_as : (size : ℕ) (mode : Mode) (s : Strictness) (rest : List ℕ) → scalar_as size mode s (110 ∷ 117 ∷ 108 ∷ 108 ∷ rest) ≡ Ok (null, rest)
+null_as size mode strict rest = refl
+null_as size mode lenient rest = refl
+
 pub null_at_once : (size : ℕ) (mode : Mode) (rest : List ℕ) → scalar_at size mode (110 ∷ 117 ∷ 108 ∷ 108 ∷ rest) ≡ Ok (null, rest)
-unfolding scalar_at
-null_at_once size standard rest = refl
-null_at_once size extended rest = refl
+null_at_once size mode rest = scalar_is size mode (110 ∷ 117 ∷ 108 ∷ 108 ∷ rest) ∙ null_as size mode (strictness mode) rest
+
+true_as : (size : ℕ) (mode : Mode) (s : Strictness) (rest : List ℕ) → scalar_as size mode s (116 ∷ 114 ∷ 117 ∷ 101 ∷ rest) ≡ Ok (boolean true, rest)
+true_as size mode strict rest = refl
+true_as size mode lenient rest = refl
 
 pub true_at_once : (size : ℕ) (mode : Mode) (rest : List ℕ) → scalar_at size mode (116 ∷ 114 ∷ 117 ∷ 101 ∷ rest) ≡ Ok (boolean true, rest)
-unfolding scalar_at
-true_at_once size standard rest = refl
-true_at_once size extended rest = refl
+true_at_once size mode rest = scalar_is size mode (116 ∷ 114 ∷ 117 ∷ 101 ∷ rest) ∙ true_as size mode (strictness mode) rest
+
+false_as : (size : ℕ) (mode : Mode) (s : Strictness) (rest : List ℕ) → scalar_as size mode s (102 ∷ 97 ∷ 108 ∷ 115 ∷ 101 ∷ rest) ≡ Ok (boolean false, rest)
+false_as size mode strict rest = refl
+false_as size mode lenient rest = refl
 
 pub false_at_once : (size : ℕ) (mode : Mode) (rest : List ℕ) → scalar_at size mode (102 ∷ 97 ∷ 108 ∷ 115 ∷ 101 ∷ rest) ≡ Ok (boolean false, rest)
-unfolding scalar_at
-false_at_once size standard rest = refl
-false_at_once size extended rest = refl
+false_at_once size mode rest = scalar_is size mode (102 ∷ 97 ∷ 108 ∷ 115 ∷ 101 ∷ rest) ∙ false_as size mode (strictness mode) rest
 
 -- the first byte is a digit or a minus
-starts_number : (bytes : List ℕ) → is_number_start (slice_index bytes 0) ≡ true → (begins 34 bytes ≡ false) × (begins_number standard bytes ≡ true)
+starts_number : (bytes : List ℕ) → is_number_start (slice_index bytes 0) ≡ true → (begins 34 bytes ≡ false) × (begins_number strict bytes ≡ true)
 starts_number [] e = absurd (true≢false (sym e))
 starts_number (b ∷ bytes) e = (no_quote, e)
   where
@@ -188,23 +196,13 @@ starts_number (b ∷ bytes) e = (no_quote, e)
       | inr other ↦ cond-false (eqb b 34) true false other
     ]
 
--- an integer of a standard text
-pub integer_at_once : (size : ℕ) (mode : Mode) (bytes : List ℕ) (n : Num) (rest : List ℕ) → mode ≡ standard → is_number_start (slice_index bytes 0) ≡ true → standard_number_at size bytes ≡ Ok (n, rest)
-    → scalar_at size mode bytes ≡ Ok (number n, rest)
+-- a number that begins as integers do
+pub number_at_once : (size : ℕ) (mode : Mode) (bytes : List ℕ) (n : Num) (rest : List ℕ) → is_number_start (slice_index bytes 0) ≡ true → number_at size mode bytes ≡ Ok (n, rest) → scalar_at size mode bytes ≡ Ok (number n, rest)
 unfolding scalar_at
-integer_at_once size mode bytes n rest is first read =
+number_at_once size mode bytes n rest first read =
     let begun = starts_number bytes first in
     on_byte-none 34 bytes (quoted_at size mode 34) (other_scalar_at size mode bytes) begun.0
-    ∙ standard_number size mode bytes is begun.1 ∙ ap (λ (r : Parse Num). r >>= λ x. Ok (number x.0, x.1)) read
-
--- a number of an extended text that begins as integers do
-pub extended_at_once : (size : ℕ) (mode : Mode) (bytes : List ℕ) (n : Num) (rest : List ℕ) → mode ≡ extended → is_number_start (slice_index bytes 0) ≡ true → extended_number_at size bytes ≡ Ok (n, rest)
-    → scalar_at size mode bytes ≡ Ok (number n, rest)
-unfolding scalar_at
-extended_at_once size mode bytes n rest is first read =
-    let begun = starts_number bytes first in
-    on_byte-none 34 bytes (quoted_at size mode 34) (other_scalar_at size mode bytes) begun.0
-    ∙ extended_number size mode bytes is begun.1 ∙ ap (λ (r : Parse Num). r >>= λ x. Ok (number x.0, x.1)) read
+    ∙ number_here size mode bytes begun.1 ∙ ap (λ (r : Parse Num). r >>= λ x. Ok (number x.0, x.1)) read
 
 -- what the parser parses where it paused
 pub scalar_still : (p q : Parser) → q ≡ p → scalar_at (size_of p) (mode_of p.mode) (rest_of p) ≡ scalar_at (size_of q) (mode_of q.mode) (rest_of q)

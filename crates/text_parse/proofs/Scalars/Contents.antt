@@ -13,6 +13,7 @@ use Rattle.text_scan.specs.QuotedString.{DecodesContents, IsClear}
 use Rattle.text_scan.specs.Parsing.Scalar.{quoted_at}
 use Rattle.text_scan.specs.Parsing.String.{Body, body_of, quote_end, string_at}
 use Rattle.jsonb_spec.specs.Source.{Source}
+use Rattle.text_scan.proofs.Steps.Modes.{code_goes_beyond}
 use Rattle.text_scan.proofs.Strings.Bodies.{body-raw, body_fails, contains_after, found_end, reports_taken, search_start, search_to, string-closed}
 use Rattle.text_scan.proofs.Strings.Ends.{quote_split, quote_within}
 use Rattle.text_parse.specs.declared.parser.Parser.{Parser}
@@ -30,7 +31,7 @@ module _ (p q : Parser) (quote len : ℕ) (body : List ℕ) (within : len < leng
       let mode = mode_of p.mode in
       let found : quote_end quote rest ≡ Ok len = found_end quote rest len within closed (search_to quote rest 0 len (omega arith) (omega (arith, within)) before (search_start quote rest)) in
       let clear : ReportsBackslash (take len rest) (length (take len rest)) false = reports_taken rest len false (omega (arith, within)) (λ k high. (before k (omega arith) high).1) in
-      string-closed (size_of p) mode quote rest len (plain, take len rest) found (body-raw mode (take len rest) clear (subst IsUtf8 cut.is cut.utf8))
+      string-closed (size_of p) mode quote rest len (plain, take len rest) found (body-raw mode (take len rest) (code_goes_beyond p.mode) clear (subst IsUtf8 cut.is cut.utf8))
       ∙ ap₂ (λ (s u : List ℕ). Ok ((plain, s), u)) (sym cut.is) (sym cut.rest)
 
   pub cut_encoded : rest_of p ≡ body ++ quote ∷ rest_of q

@@ -1,7 +1,7 @@
 -- An element that is a string in double quotes, with no whitespace before it.
 use Rattle.std.proofs.Common.{◌≡◌, false, List, ℕ, ◌∷◌, Ok, refl, ap, sym, ◌∙◌}
 use Rattle.std.proofs.lemmas.Bool.{cond-false}
-use Rattle.jsonb_spec.specs.Mode.{Mode, standard, extended}
+use Rattle.jsonb_spec.specs.Mode.{Strictness, strict, lenient, strictness}
 use Rattle.jsonb_spec.specs.Tree.{null}
 use Rattle.text_scan.specs.Answer.{mode_of}
 use Rattle.text_scan.specs.Parsing.{begins}
@@ -16,15 +16,15 @@ use Rattle.text_parse.specs.Steps.{NoneOpens}
 use Rattle.text_parse.proofs.Steps.Advancing.{stays}
 use Rattle.text_parse.proofs.Steps.Outcomes.{scalar_quoted}
 
-quote-there : (mode : Mode) (rest : List ℕ) → is_left_out mode (34 ∷ rest) ≡ false
-quote-there standard rest = refl
-quote-there extended rest = refl
+quote-there : (strictness : Strictness) (rest : List ℕ) → is_left_out strictness (34 ∷ rest) ≡ false
+quote-there strict rest = refl
+quote-there lenient rest = refl
 
 module _ (p o : Parser) (e : rest_of p ≡ 34 ∷ rest_of o) where
   -- it is parsed as a string
   pub quoted_element : Advances p o → parse_at scalar_or_null p ≡ parse_at (λ size mode. quoted_at size mode 34) o
   quoted_element on =
-      cond-false (is_left_out (mode_of p.mode) (rest_of p)) (Ok (null, rest_of p)) (scalar_at (size_of p) (mode_of p.mode) (rest_of p)) (ap (is_left_out (mode_of p.mode)) e ∙ quote-there (mode_of p.mode) (rest_of o))
+      cond-false (is_left_out (strictness (mode_of p.mode)) (rest_of p)) (Ok (null, rest_of p)) (scalar_at (size_of p) (mode_of p.mode) (rest_of p)) (ap (is_left_out (strictness (mode_of p.mode))) e ∙ quote-there (strictness (mode_of p.mode)) (rest_of o))
       ∙ scalar_quoted p o on e
 
   -- nothing is skipped

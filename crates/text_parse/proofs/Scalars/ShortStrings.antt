@@ -1,21 +1,22 @@
 -- Strings in double quotes whose escapes are of one letter: what their contents mean, and where they end.
-use Rattle.std.proofs.Common.{◌≡◌, ℕ, suc, ◌+◌, ◌-◌, ◌<◌, ◌≤◌, Bool, true, List, [], ◌∷◌, ◌++◌, length, map, take, drop, get_or, Some, Ok, refl, sym, ap, ap₂, subst, ◌∙◌, arith, append-nil, drop-drop, slice_range, eqb}
+use Rattle.std.proofs.Common.{◌≡◌, ℕ, suc, ◌+◌, ◌-◌, ◌<◌, ◌≤◌, Bool, true, false, cond, ltb, inl, inr, List, [], ◌∷◌, ◌++◌, length, map, take, drop, get_or, Some, Ok, refl, sym, ap, ap₂, subst, ◌∙◌, arith, append-nil, drop-drop, slice_range, eqb}
 use Rattle.std.specs.List.{flat_map, AllByRecursion}
 use Rattle.std.specs.Str.{IsUtf8}
 use Rattle.std.proofs.Math.Seq.{take-add}
-use Rattle.std.proofs.lemmas.Bool.{cond-false, ne_eqb}
+use Rattle.std.proofs.lemmas.Bool.{cases_lt, cond-false, cond-true, lt-ltb, ne_eqb}
 use Rattle.std.proofs.lemmas.List.{drop_more, length-drop, take_more, length-take-le, map-append, take-append-drop}
 use Rattle.std.proofs.lemmas.List.Concat.{flat_map-append}
-use Rattle.jsonb_spec.specs.Mode.{Mode, standard, extended}
+use Rattle.jsonb_spec.specs.Mode.{Mode, standard, Strictness, strict, lenient, strictness}
 use Rattle.jsonb_spec.specs.Grammar.Quoted.{mark_of}
 use Rattle.jsonb_spec.specs.Grammar.StringBody.{Item, raw, escape, unit, encoding, IsItem, meaning, standard_escape, escaped_byte}
-use Rattle.jsonb_spec.specs.Text.StringText.{ArePlain, byte_text}
+use Rattle.jsonb_spec.specs.Text.StringText.{ArePlain, byte_text, control_text}
 use Rattle.jsonb_value.proofs.Strings.Encoding.{item_step-encoding}
 use Rattle.text_scan.specs.Parsing.String.{body_of, further, quote_end}
 use Rattle.text_scan.proofs.Strings.Ends.{quote_end-here, quote_end-step}
 use Rattle.text_scan.proofs.Strings.Items.{body_complete}
 use Rattle.text_scan.proofs.Strings.Utf8.{meaning_utf8}
 use Rattle.text_common.specs.ShortString.{IsShort, IsShortItem, short_byte}
+use Rattle.jsonb_value.proofs.Strings.Writing.{high_may_be_raw}
 use Rattle.jsonb_value.proofs.Strings.PlainTexts.{no_mark, one_plain, rest_plain}
 use Rattle.text_parse.specs.ShortString.{IsShortEnd, IsShortFront, PassesShort}
 use Rattle.text_parse.specs.Parser.{IsBehind, rest_of, size_of}
@@ -54,17 +55,31 @@ short_run (b ∷ run) h = short_join {a = b ∷ []} {s = b ∷ []} (record { ite
 short_letter : (letter byte : ℕ) → standard_escape letter ≡ Some byte → IsShort (92 ∷ letter ∷ []) (byte ∷ [])
 short_letter letter byte is = record { items = escape letter byte ∷ []; each = (is, tt); encoded = refl; means = refl }
 
-in_mode : (mode : Mode) (letter byte : ℕ) → standard_escape letter ≡ Some byte → escaped_byte mode letter ≡ Some byte
-in_mode standard letter byte is = is
-in_mode extended letter byte is =
+in_mode : (strictness : Strictness) (letter byte : ℕ) → standard_escape letter ≡ Some byte → escaped_byte strictness letter ≡ Some byte
+in_mode strict letter byte is = is
+in_mode lenient letter byte is =
     cond-false (eqb letter 39) _ _ (ne_eqb letter 39 (λ e. absurd (no_quote (sym (ap standard_escape e) ∙ is)))) ∙ is
   where
     no_quote : standard_escape 39 ≡ Some byte → ⊥
     no_quote h = cc
 
+longer : (t : Bool) (xs ys : List ℕ) → 1 < length xs → 1 < length ys → 1 < length (cond t xs ys)
+longer true xs ys p q = p
+longer false xs ys p q = q
+
+-- a control character isn't written as it is
+no_control : (b : ℕ) → byte_text b ≡ b ∷ [] → 32 ≤ b
+no_control b is = elim (cases_lt b 32) [
+  | inl low ↦
+      let long : 1 < length (byte_text b) =
+      longer (eqb b 34) _ _ (omega arith) (longer (eqb b 92) _ _ (omega arith) (longer (eqb b 10) _ _ (omega arith) (longer (eqb b 13) _ _ (omega arith) (longer (eqb b 9) _ _ (omega arith) (subst (λ (xs : List ℕ). 1 < length xs) (sym (cond-true (ltb b 32) (control_text b) (b ∷ []) (lt-ltb b 32 low))) (omega arith)))))) in
+      absurd (omega (arith, long, ap length is))
+  | inr high ↦ high
+]
+
 item_in_mode : (mode : Mode) (x : Item) → IsShortItem x → IsItem mode x
-item_in_mode mode (raw b) is = no_mark 92 b (omega arith) is
-item_in_mode mode (escape letter byte) is = in_mode mode letter byte is
+item_in_mode mode (raw b) is = (no_mark 92 b (omega arith) is, high_may_be_raw mode b (no_control b is))
+item_in_mode mode (escape letter byte) is = in_mode (strictness mode) letter byte is
 item_in_mode mode (unit braces digits) is = absurd is
 
 items_in_mode : (mode : Mode) (xs : List Item) → AllByRecursion IsShortItem xs → AllByRecursion (IsItem mode) xs

@@ -14,7 +14,7 @@ use Rattle.jsonb_value.proofs.Numbers.InRange.{extended_reads_back, standard_num
 use Rattle.text_scan.specs.Parsing.Whitespace.{is_break}
 use Rattle.text_scan.specs.Parsing.ExtendedNumber.{EndsExtended, extended_number_at}
 use Rattle.text_scan.specs.Parsing.Number.{is_number_start}
-use Rattle.text_scan.specs.Parsing.Scalar.{scalar_at}
+use Rattle.text_scan.specs.Parsing.Scalar.{number_at, scalar_at}
 use Rattle.text_scan.specs.ShortInteger.{IsVerbatimInteger, short_view}
 use Rattle.text_scan.proofs.Numbers.Extended.{extended_complete}
 use Rattle.text_scan.proofs.Numbers.Standard.{number_sound}
@@ -22,7 +22,7 @@ use Rattle.text_parse.proofs.VerbatimTexts.{verbatim_text}
 use Rattle.text_parse.specs.declared.parser.Parser.{Parser}
 use Rattle.text_parse.specs.Parser.{Advances, PassesNumber, rest_of, size_of}
 use Rattle.text_scan.specs.Answer.{mode_of}
-use Rattle.text_parse.proofs.Scalars.Built.{between, extended_at_once, verbatim_at}
+use Rattle.text_parse.proofs.Scalars.Built.{between, number_at_once, verbatim_at}
 use Rattle.text_parse.proofs.Scalars.Encodings.{break_ends_extended}
 
 -- The bytes begin with an integer as it is written, and a parser of this mode parses it there.
@@ -65,7 +65,7 @@ extended_integer size mode bytes end is first verbatim ends =
       value = same.read;
       core = sound.core;
       joined = sound.joined;
-      parses = extended_at_once size mode bytes same.read rest is first found;
+      parses = number_at_once size mode bytes same.read rest first (ap (λ m. number_at size m bytes) is ∙ found);
       integer = n;
       digits = sound.number;
       scale = same.scales;
@@ -83,7 +83,7 @@ extended_decimal size mode bytes end is first verbatim ends =
     record {
       value = same.0;
       joined = joined ∙ ap (λ core. core ++ rest) (sym (ap₂ text_of_parts same.2 same.3));
-      parses = extended_at_once size mode bytes same.0 rest is first found;
+      parses = number_at_once size mode bytes same.0 rest first (ap (λ m. number_at size m bytes) is ∙ found);
       short = record {
         point = subst (λ scale. 0 < scale) (sym same.2) verbatim.point;
         few = subst (λ scale. scale < 18) (sym same.2) verbatim.few;

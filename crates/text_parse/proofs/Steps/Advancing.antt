@@ -5,7 +5,7 @@ use Rattle.text_scan.specs.Answer.{Fails, NamesFault}
 use Rattle.text_parse.specs.Parser.{Advances}
 use Rattle.text_scan.specs.Parsing.{Fault, reject}
 use Rattle.text_scan.specs.Parsing.Scalar.{begins_letter, begins_single_quote, fold_letter, letters_at, on_letter, on_single_quote}
-use Rattle.jsonb_spec.specs.Mode.{Mode, standard, extended}
+use Rattle.jsonb_spec.specs.Mode.{Strictness, strict, lenient}
 use Rattle.text_scan.proofs.Steps.Tests.{chosen}
 use Rattle.text_scan.proofs.Containers.JoinedParts.{on_byte-none}
 use Rattle.std.proofs.lemmas.List.{get_or-drop}
@@ -30,31 +30,31 @@ goes_on p q r a b = record { buf = b.buf ∙ a.buf; mode = b.mode ∙ a.mode; on
 
 -- ---- words
 
-pub on_letter-true : {X : Type 0} (mode : Mode) (c : ℕ) (bytes : List ℕ) (found : List ℕ → X) (other : X) → begins_letter mode c bytes ≡ true → on_letter mode c bytes found other ≡ found (drop 1 bytes)
-on_letter-true mode c [] found other e = absurd (true≢false (sym e))
-on_letter-true mode c (b ∷ bytes) found other e =
-    elim (chosen (eqb (fold_letter mode b) c) true false true e) [
-      | inl t ↦ cond-true (eqb (fold_letter mode b) c) (found bytes) other t.0
+pub on_letter-true : {X : Type 0} (strictness : Strictness) (c : ℕ) (bytes : List ℕ) (found : List ℕ → X) (other : X) → begins_letter strictness c bytes ≡ true → on_letter strictness c bytes found other ≡ found (drop 1 bytes)
+on_letter-true strictness c [] found other e = absurd (true≢false (sym e))
+on_letter-true strictness c (b ∷ bytes) found other e =
+    elim (chosen (eqb (fold_letter strictness b) c) true false true e) [
+      | inl t ↦ cond-true (eqb (fold_letter strictness b) c) (found bytes) other t.0
       | inr f ↦ absurd (true≢false (sym f.1))
     ]
 
-pub letters-step : (size : ℕ) (mode : Mode) (c : ℕ) (cs bytes : List ℕ) → begins_letter mode c bytes ≡ true → letters_at size mode (c ∷ cs) bytes ≡ letters_at size mode cs (drop 1 bytes)
-letters-step size mode c cs bytes e = on_letter-true mode c bytes (letters_at size mode cs) (reject size expected_some_ident 1 bytes) e
+pub letters-step : (size : ℕ) (strictness : Strictness) (c : ℕ) (cs bytes : List ℕ) → begins_letter strictness c bytes ≡ true → letters_at size strictness (c ∷ cs) bytes ≡ letters_at size strictness cs (drop 1 bytes)
+letters-step size strictness c cs bytes e = on_letter-true strictness c bytes (letters_at size strictness cs) (reject size expected_some_ident 1 bytes) e
 
 -- ---- single quotes
 
-pub single-true : {X : Type 0} (mode : Mode) (bytes : List ℕ) (found : List ℕ → X) (other : X) → begins_single_quote mode bytes ≡ true → on_single_quote mode bytes found other ≡ found (drop 1 bytes)
-single-true standard bytes found other e = absurd (true≢false (sym e))
-single-true extended [] found other e = absurd (true≢false (sym e))
-single-true extended (b ∷ bytes) found other e =
+pub single-true : {X : Type 0} (strictness : Strictness) (bytes : List ℕ) (found : List ℕ → X) (other : X) → begins_single_quote strictness bytes ≡ true → on_single_quote strictness bytes found other ≡ found (drop 1 bytes)
+single-true strict bytes found other e = absurd (true≢false (sym e))
+single-true lenient [] found other e = absurd (true≢false (sym e))
+single-true lenient (b ∷ bytes) found other e =
     elim (chosen (eqb b 39) true false true e) [
       | inl t ↦ cond-true (eqb b 39) (found bytes) other t.0
       | inr f ↦ absurd (true≢false (sym f.1))
     ]
 
-pub single-false : {X : Type 0} (mode : Mode) (bytes : List ℕ) (found : List ℕ → X) (other : X) → begins_single_quote mode bytes ≡ false → on_single_quote mode bytes found other ≡ other
-single-false standard bytes found other e = refl
-single-false extended bytes found other e = on_byte-none 39 bytes found other e
+pub single-false : {X : Type 0} (strictness : Strictness) (bytes : List ℕ) (found : List ℕ → X) (other : X) → begins_single_quote strictness bytes ≡ false → on_single_quote strictness bytes found other ≡ other
+single-false strict bytes found other e = refl
+single-false lenient bytes found other e = on_byte-none 39 bytes found other e
 
 -- ---- the byte that comes next is in the input
 

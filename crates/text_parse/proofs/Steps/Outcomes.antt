@@ -4,7 +4,7 @@ use Rattle.std.proofs.lemmas.Bool.{cond-false}
 use Rattle.text_parse.specs.declared.parser.Parser.{Parser}
 use Rattle.jsonb_value.specs.declared.error.Error.{Error}
 use Rattle.jsonb_value.specs.declared.error.Error.TheVariants.{Syntax, OutOfMemory}
-use Rattle.jsonb_spec.specs.Mode.{Mode}
+use Rattle.jsonb_spec.specs.Mode.{Mode, strictness}
 use Rattle.jsonb_spec.specs.Tree.Tree.{boolean}
 use Rattle.jsonb_value.specs.declared.value.Value.{Value}
 use Rattle.text_scan.specs.Answer.{Fails, mode_of}
@@ -43,30 +43,30 @@ pub key_quoted : (p q : Parser) {bytes : List ℕ} → Advances p q → bytes �
 unfolding key_at
 key_quoted p q a e =
     ap (λ (u : List ℕ). key_at (size_of p) (mode_of p.mode) u) e
-    ∙ on_byte-found 34 (rest_of q) (string_at (size_of p) (mode_of p.mode) 34) (on_single_quote (mode_of p.mode) (34 ∷ rest_of q) (string_at (size_of p) (mode_of p.mode) 39) (unquoted_at (size_of p) (mode_of p.mode) (34 ∷ rest_of q)))
+    ∙ on_byte-found 34 (rest_of q) (string_at (size_of p) (mode_of p.mode) 34) (on_single_quote (strictness (mode_of p.mode)) (34 ∷ rest_of q) (string_at (size_of p) (mode_of p.mode) 39) (unquoted_at (size_of p) (strictness (mode_of p.mode)) (34 ∷ rest_of q)))
     ∙ sym (ap₂ (λ n m. string_at n m 34 (rest_of q)) (same_size p q a) (ap mode_of a.mode))
 
-key-single : (size : ℕ) (mode : Mode) (bytes : List ℕ) → begins 34 bytes ≡ false → begins_single_quote mode bytes ≡ true → key_at size mode bytes ≡ string_at size mode 39 (drop 1 bytes)
+key-single : (size : ℕ) (mode : Mode) (bytes : List ℕ) → begins 34 bytes ≡ false → begins_single_quote (strictness mode) bytes ≡ true → key_at size mode bytes ≡ string_at size mode 39 (drop 1 bytes)
 unfolding key_at
 key-single size mode bytes none single =
-    on_byte-none 34 bytes (string_at size mode 34) (on_single_quote mode bytes (string_at size mode 39) (unquoted_at size mode bytes)) none ∙ single-true mode bytes (string_at size mode 39) (unquoted_at size mode bytes) single
+    on_byte-none 34 bytes (string_at size mode 34) (on_single_quote (strictness mode) bytes (string_at size mode 39) (unquoted_at size (strictness mode) bytes)) none ∙ single-true (strictness mode) bytes (string_at size mode 39) (unquoted_at size (strictness mode) bytes) single
 
-key-unquoted : (size : ℕ) (mode : Mode) (bytes : List ℕ) → begins 34 bytes ≡ false → begins_single_quote mode bytes ≡ false → key_at size mode bytes ≡ unquoted_at size mode bytes
+key-unquoted : (size : ℕ) (mode : Mode) (bytes : List ℕ) → begins 34 bytes ≡ false → begins_single_quote (strictness mode) bytes ≡ false → key_at size mode bytes ≡ unquoted_at size (strictness mode) bytes
 unfolding key_at
 key-unquoted size mode bytes none single =
-    on_byte-none 34 bytes (string_at size mode 34) (on_single_quote mode bytes (string_at size mode 39) (unquoted_at size mode bytes)) none ∙ single-false mode bytes (string_at size mode 39) (unquoted_at size mode bytes) single
+    on_byte-none 34 bytes (string_at size mode 34) (on_single_quote (strictness mode) bytes (string_at size mode 39) (unquoted_at size (strictness mode) bytes)) none ∙ single-false (strictness mode) bytes (string_at size mode 39) (unquoted_at size (strictness mode) bytes) single
 
-pub key_single : (p q r : Parser) → q ≡ p → begins 34 (rest_of p) ≡ false → Advances q r → begins_single_quote (mode_of q.mode) (rest_of q) ≡ true → rest_of q ≡ 39 ∷ rest_of r
+pub key_single : (p q r : Parser) → q ≡ p → begins 34 (rest_of p) ≡ false → Advances q r → begins_single_quote (strictness (mode_of q.mode)) (rest_of q) ≡ true → rest_of q ≡ 39 ∷ rest_of r
     → key_at (size_of p) (mode_of p.mode) (rest_of p) ≡ string_at (size_of r) (mode_of r.mode) 39 (rest_of r)
 key_single p q r same none a single e =
-    key-single (size_of p) (mode_of p.mode) (rest_of p) none (unmoved p q same (λ o. begins_single_quote (mode_of o.mode) (rest_of o)) ∙ single)
+    key-single (size_of p) (mode_of p.mode) (rest_of p) none (unmoved p q same (λ o. begins_single_quote (strictness (mode_of o.mode)) (rest_of o)) ∙ single)
     ∙ unmoved p q same (λ o. string_at (size_of o) (mode_of o.mode) 39 (drop 1 (rest_of o))) ∙ read_past q r 39 (λ n m u. string_at n m 39 u) a e
 
-pub key_bare : (p q r : Parser) → q ≡ p → begins 34 (rest_of p) ≡ false → r ≡ q → begins_single_quote (mode_of q.mode) (rest_of q) ≡ false
-    → key_at (size_of p) (mode_of p.mode) (rest_of p) ≡ unquoted_at (size_of r) (mode_of r.mode) (rest_of r)
+pub key_bare : (p q r : Parser) → q ≡ p → begins 34 (rest_of p) ≡ false → r ≡ q → begins_single_quote (strictness (mode_of q.mode)) (rest_of q) ≡ false
+    → key_at (size_of p) (mode_of p.mode) (rest_of p) ≡ unquoted_at (size_of r) (strictness (mode_of r.mode)) (rest_of r)
 key_bare p q r same none still single =
-    key-unquoted (size_of p) (mode_of p.mode) (rest_of p) none (unmoved p q same (λ o. begins_single_quote (mode_of o.mode) (rest_of o)) ∙ single)
-    ∙ unmoved p q same (λ o. unquoted_at (size_of o) (mode_of o.mode) (rest_of o)) ∙ unmoved q r still (λ o. unquoted_at (size_of o) (mode_of o.mode) (rest_of o))
+    key-unquoted (size_of p) (mode_of p.mode) (rest_of p) none (unmoved p q same (λ o. begins_single_quote (strictness (mode_of o.mode)) (rest_of o)) ∙ single)
+    ∙ unmoved p q same (λ o. unquoted_at (size_of o) (strictness (mode_of o.mode)) (rest_of o)) ∙ unmoved q r still (λ o. unquoted_at (size_of o) (strictness (mode_of o.mode)) (rest_of o))
 
 -- ---- scalars
 
@@ -74,16 +74,16 @@ pub scalar_quoted : (p q : Parser) → Advances p q → rest_of p ≡ 34 ∷ res
 unfolding scalar_at
 scalar_quoted p q a e =
     ap (λ (u : List ℕ). scalar_at (size_of p) (mode_of p.mode) u) e
-    ∙ on_byte-found 34 (rest_of q) (quoted_at (size_of p) (mode_of p.mode) 34) (on_single_quote (mode_of p.mode) (34 ∷ rest_of q) (quoted_at (size_of p) (mode_of p.mode) 39) (words_at (size_of p) (mode_of p.mode) (34 ∷ rest_of q)))
+    ∙ on_byte-found 34 (rest_of q) (quoted_at (size_of p) (mode_of p.mode) 34) (on_single_quote (strictness (mode_of p.mode)) (34 ∷ rest_of q) (quoted_at (size_of p) (mode_of p.mode) 39) (words_at (size_of p) (mode_of p.mode) (34 ∷ rest_of q)))
     ∙ sym (ap₂ (λ n m. quoted_at n m 34 (rest_of q)) (same_size p q a) (ap mode_of a.mode))
 
 -- where no word begins
 module _ (size : ℕ) (mode : Mode) (bytes : List ℕ) where
-  pub words_number : begins_letter mode 110 bytes ≡ false → begins_letter mode 116 bytes ≡ false → begins_letter mode 102 bytes ≡ false → words_at size mode bytes ≡ number_or_fault size mode bytes
+  pub words_number : begins_letter (strictness mode) 110 bytes ≡ false → begins_letter (strictness mode) 116 bytes ≡ false → begins_letter (strictness mode) 102 bytes ≡ false → words_at size mode bytes ≡ number_or_fault size mode bytes
   words_number n t f =
-      cond-false (begins_letter mode 110 bytes) (null_at size mode bytes) (true_or_false_at size mode bytes) n
-      ∙ cond-false (begins_letter mode 116 bytes) (word_at size mode (codes "true") (boolean true) bytes) (false_at size mode bytes) t
-      ∙ cond-false (begins_letter mode 102 bytes) (word_at size mode (codes "false") (boolean false) bytes) (number_or_fault size mode bytes) f
+      cond-false (begins_letter (strictness mode) 110 bytes) (null_at size mode bytes) (true_or_false_at size mode bytes) n
+      ∙ cond-false (begins_letter (strictness mode) 116 bytes) (word_at size (strictness mode) (codes "true") (boolean true) bytes) (false_at size mode bytes) t
+      ∙ cond-false (begins_letter (strictness mode) 102 bytes) (word_at size (strictness mode) (codes "false") (boolean false) bytes) (number_or_fault size mode bytes) f
 
 -- what an error for want of memory says beside its code
 pub rejected_container : {A : Type 0} (Q : Type 0) (r : Result A Error) → IfErr r (λ e. (e ≡ OutOfMemory) × Q) → r ≡ Err OutOfMemory → Q

@@ -1,7 +1,7 @@
 //! Values that hold no others.
 ghost use Rattle.std.specs.Prelude.{◌≡◌, ◌≢◌, ◌<◌, ◌≤◌, ◌∷◌, ◌++◌, drop, length, MatchBool, Err, IfSome, Some, true, false, ◌^◌, pos, neg_ℤ};
 ghost use Rattle.jsonb_spec.specs.Ascii as ascii;
-ghost use Rattle.jsonb_spec.specs.Mode.{standard, extended};
+ghost use Rattle.jsonb_spec.specs.Mode.{standard, extended, strictness};
 ghost use Rattle.jsonb_value.specs.View.{number_view};
 ghost use Rattle.text_scan.specs.Answer.{mode_of, Gives};
 ghost use Rattle.text_parse.specs.Scalars.{IsGiven};
@@ -24,7 +24,7 @@ use text_common::verbatim::Verbatim;
 // A letter as words have it: in extended mode in lower case.
 #[inline(always)]
 fn fold(letter: u8, mode: Mode) -> u8
-    ensures { result ≡ fold_letter (mode_of mode) letter }
+    ensures { result ≡ fold_letter (strictness (mode_of mode)) letter }
 {
     match mode {
         Mode::Standard => letter,
@@ -301,8 +301,8 @@ impl<'a> Parser<'a> {
     // A word that means this boolean.
     #[inline(always)]
     fn parse_bool<V: Handler<'a>>(&mut self, word: &[u8], value: bool) -> Result<V, Failed>
-        ensures { MakesScalar V.Handler (λ size mode. word_at size mode word.now (boolean value)) result self.old
-            self.new }
+        ensures { MakesScalar V.Handler (λ size mode. word_at size (strictness mode) word.now (boolean value)) result
+            self.old self.new }
     {
         match self.parse_word(word) {
             Ok(()) => Ok(V::scalar(Scalar::Bool(value))),
@@ -384,8 +384,8 @@ impl<'a> Parser<'a> {
     // Passes a single quote, where one comes next that begins a string.
     #[inline(always)]
     pub(super) fn take_single_quote(&mut self) -> bool
-        ensures { TakesByte ascii.single_quote (begins_single_quote (mode_of self.old.mode) (rest_of self.old)) result
-            self.old self.new }
+        ensures { TakesByte ascii.single_quote (begins_single_quote (strictness (mode_of self.old.mode))
+            (rest_of self.old)) result self.old self.new }
     {
         match self.mode {
             Mode::Standard => false,
@@ -432,7 +432,7 @@ impl<'a> Parser<'a> {
     // A word, byte by byte.
     fn parse_word(&mut self, word: &[u8]) -> std::result::Result<(), Error>
         ensures parses { Gives (λ _. rest_of self.new) result
-            (letters_at (size_of self.old) (mode_of self.old.mode) word.now (rest_of self.old)) }
+            (letters_at (size_of self.old) (strictness (mode_of self.old.mode)) word.now (rest_of self.old)) }
         ensures takes_no_memory { result ≢ Err Error.OutOfMemory }
         ensures advances { Advances self.old self.new }
     {
@@ -448,7 +448,7 @@ impl<'a> Parser<'a> {
     // Whether this letter comes next.
     #[inline(always)]
     pub(super) fn next_is_letter(&self, letter: u8) -> bool
-        ensures found { result ≡ begins_letter (mode_of self.now.mode) letter (rest_of self.now) }
+        ensures found { result ≡ begins_letter (strictness (mode_of self.now.mode)) letter (rest_of self.now) }
         ensures within { MatchBool result (self.now.offset < size_of self.now) (Unit {0}) }
     {
         matches!(self.peek(), Some(next) if fold(next, self.mode) == letter)

@@ -1,6 +1,7 @@
 //! What a value is, by its first byte.
 ghost use Rattle.std.specs.Prelude.{◌≡◌, false, ℕ, List, ◌∷◌, MatchBool};
 ghost use Rattle.jsonb_spec.specs.Ascii as ascii;
+ghost use Rattle.jsonb_spec.specs.Mode.{strictness};
 ghost use Rattle.text_scan.specs.Answer.{mode_of};
 ghost use Rattle.text_scan.specs.Parsing.{begins};
 ghost use Rattle.text_scan.specs.Parsing.Container.{is_left_out};
@@ -70,7 +71,7 @@ impl<'a> Parser<'a> {
     // alone.
     #[inline(always)]
     pub(super) fn begins_container(&self) -> bool
-        ensures other { MatchBool result (is_left_out (mode_of self.now.mode) (rest_of self.now) ≡ false)
+        ensures other { MatchBool result (is_left_out (strictness (mode_of self.now.mode)) (rest_of self.now) ≡ false)
             ((begins ascii.open_bracket (rest_of self.now) ≡ false)
             × (begins ascii.open_brace (rest_of self.now) ≡ false)) }
         ensures opens { MatchBool result (OpensContainer (rest_of self.now)) (Unit {0}) }

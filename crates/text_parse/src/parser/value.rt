@@ -2,6 +2,7 @@
 ghost use Rattle.std.specs.Prelude.{◌≡◌, ◌+◌, ◌<◌, ◌≤◌, ℕ, false, true, length, List, MatchBool, OnOk, IfErr, MatchResult, None, Ok, Some, [], ◌∷◌, if◌then◌else◌};
 ghost use Rattle.jsonb_spec.specs.Ascii as ascii;
 ghost use Rattle.jsonb_spec.specs.Grammar.{max_depth};
+ghost use Rattle.jsonb_spec.specs.Mode.{strictness};
 ghost use Rattle.jsonb_value.specs.Error.CodeView.{code_of};
 ghost use Rattle.text_parse.specs.declared.parser.frame.Frame.{Frame};
 ghost use Rattle.text_parse.specs.declared.parser.frame.Frame.TheVariants.{Array, Object};
@@ -254,7 +255,7 @@ impl<'a> Parser<'a> {
 
     // Whether an element is left out here.
     fn is_left_out(&self) -> bool
-        ensures { result ≡ is_left_out (mode_of self.now.mode) (rest_of self.now) }
+        ensures { result ≡ is_left_out (strictness (mode_of self.now.mode)) (rest_of self.now) }
     {
         match self.mode {
             Mode::Standard => false,

@@ -1,5 +1,6 @@
 //! Whitespace between the parts of a text.
 ghost use Rattle.std.specs.Prelude.{◌≡◌, ◌+◌, ◌<◌, MatchBool};
+ghost use Rattle.jsonb_spec.specs.Mode.{strictness};
 ghost use Rattle.text_scan.specs.Answer.{mode_of};
 ghost use Rattle.text_parse.specs.Parser.{Skips, SkipsSome, rest_of};
 ghost use Rattle.text_scan.specs.Parsing.Whitespace.{opens_comment, skip_closed_whitespace, skip_whitespace};
@@ -155,7 +156,7 @@ impl Parser<'_> {
 
     // Whether a comment begins here. After the whitespace, this is one that never ends.
     pub(super) fn opens_comment(&self) -> bool
-        ensures value { result ≡ opens_comment (mode_of self.now.mode) (rest_of self.now) }
+        ensures value { result ≡ opens_comment (strictness (mode_of self.now.mode)) (rest_of self.now) }
     {
         if self.offset >= self.buf.len() {
             return false;

@@ -71,12 +71,12 @@ pub ends-piece : {mode : Mode} {piece : List ℕ} (b : IsWhitespacePiece mode pi
 ends-piece space rest = ends_at 32 rest refl
 ends-piece tab rest = ends_at 9 rest refl
 ends-piece line_feed rest = ends_at 10 rest refl
-ends-piece form_feed rest = ends_at 12 rest refl
+ends-piece (form_feed beyond) rest = ends_at 12 rest refl
 ends-piece carriage_return rest = ends_at 13 rest refl
-ends-piece written_line_feed rest = ends_at 92 (110 ∷ rest) refl
-ends-piece written_carriage_return rest = ends_at 92 (114 ∷ rest) refl
-ends-piece written_tab rest = ends_at 92 (116 ∷ rest) refl
-ends-piece written_form_feed rest = ends_at 92 (120 ∷ 48 ∷ 67 ∷ rest) refl
+ends-piece (written_line_feed beyond) rest = ends_at 92 (110 ∷ rest) refl
+ends-piece (written_carriage_return beyond) rest = ends_at 92 (114 ∷ rest) refl
+ends-piece (written_tab beyond) rest = ends_at 92 (116 ∷ rest) refl
+ends-piece (written_form_feed beyond) rest = ends_at 92 (120 ∷ 48 ∷ 67 ∷ rest) refl
 ends-piece (block_comment inside is lacks) rest = ends_at 47 (42 ∷ ((inside ++ 42 ∷ 47 ∷ []) ++ rest)) refl
 ends-piece (line_comment inside last is one ends) rest = ends_at 47 (47 ∷ ((inside ++ last ∷ []) ++ rest)) refl
 

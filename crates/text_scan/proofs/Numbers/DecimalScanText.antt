@@ -108,7 +108,7 @@ or_right_false : (a b : Bool) → (a || b) ≡ false → b ≡ false
 or_right_false true b h = absurd (false≢true (sym h))
 or_right_false false b h = h
 
-sign_value : (bytes : List ℕ) (start : ℕ) → start ≡ sign_end bytes 0 → starts_with_minus (slice_range bytes 0 start) ≡ starts_with_minus bytes
+pub sign_value : (bytes : List ℕ) (start : ℕ) → start ≡ sign_end bytes 0 → starts_with_minus (slice_range bytes 0 start) ≡ starts_with_minus bytes
 sign_value bytes start at =
     ⊎_elim
     (λ sign. let one : start ≡ 1 = at ∙ ap (λ b. cond b (0 + 1) 0) sign in
@@ -128,8 +128,8 @@ pub record DecimalText (bytes : List ℕ) (end : ℕ) : Type 0 where
   pub within : end ≤ length bytes
   pub longest : IsLongestDecimal bytes end
 
-decimal_text_of : (bytes : List ℕ) (end : ℕ) → IsDecimalScan bytes (parts_to bytes end) → DecimalText bytes end
-decimal_text_of bytes end scan =
+pub text_of_scan : (bytes : List ℕ) (end : ℕ) → IsDecimalScan bytes (parts_to bytes end) → DecimalText bytes end
+text_of_scan bytes end scan =
     let o = scan_order bytes (parts_to bytes end) scan in
     let d = scanned_decimal bytes (parts_to bytes end) scan in
     let offsets : length (fraction_digits d.fraction) ≡ scale_at bytes = ap length d.digits ∙ length-between bytes (point_end bytes) (behind_end bytes) (omega (arith, o.exponent, o.within)) in
@@ -145,7 +145,7 @@ decimal_text_of bytes end scan =
     }
 
 pub decimal_text : (bytes : List ℕ) (end : ℕ) → decimal_end bytes ≡ Ok end → DecimalText bytes end
-decimal_text bytes end at = decimal_text_of bytes end (decimal_scanned bytes end at)
+decimal_text bytes end at = text_of_scan bytes end (decimal_scanned bytes end at)
 
 -- zeros in front don't count
 pub digits_value_same : (bytes : List ℕ) (fraction : Option (List ℕ)) → fraction_digits fraction ≡ slice_range bytes (point_end bytes) (behind_end bytes) → digits_value 10 (slice_range bytes (zeros_end bytes) (front_end bytes) ++ fraction_digits fraction) ≡ digits_value 10 (all_digits bytes)

@@ -5,16 +5,16 @@ use Rattle.std.specs.Str.Parse.{digits_value}
 use Rattle.std.proofs.lemmas.Bool.{cases_eq, cases_lt, cases_Bool}
 use Rattle.std.proofs.lemmas.Bool.Decides.{nat_tests}
 use Rattle.jsonb_spec.specs.Tree.{Num}
-use Rattle.jsonb_spec.specs.Grammar.StandardNumber.{IsInteger, IsStandardNumber}
+use Rattle.jsonb_spec.specs.Grammar.StandardNumber.{IsInteger, IsStandardNumber, IsStandardText}
 use Rattle.text_scan.specs.Parsing.Number.{End, then_from, digits_length, sign_end, exponent_from, fraction_from, has_minus, whole_start, standard_end, integer_of, whole_digits, integer_at}
 use Rattle.text_scan.proofs.Numbers.Steps.{differs, digits_more, ok_no_err, then_ok, by_digits, whole_end, HasWhole, whole_missing, whole_needless, whole_found}
 use Rattle.text_scan.proofs.Numbers.Scan.{IsDigitRun, IsScan, inside_of, digits_run, fraction_is, fraction_fault_is, exponent_is, exponent_fault_is}
 use Rattle.text_scan.proofs.Numbers.Automaton.{Start, state_at, NoneEnds, EndsWhole}
 use Rattle.text_scan.proofs.Numbers.ScanStates.{due, fault_no_digit, fault_needless_zero, whole_state, fraction_state, fault_bare_point, fault_bare_mark}
-use Rattle.text_scan.proofs.Numbers.ScanText.{fraction_within, scan_number_text, scan_unrepresentable}
+use Rattle.text_scan.proofs.Numbers.ScanText.{fraction_within, scan_parts, scan_number_text, scan_unrepresentable}
 use Rattle.text_scan.proofs.Numbers.Forms.{negated_small}
 use Rattle.text_scan.proofs.Numbers.HexadecimalValues.{signed_fits_64}
-use Rattle.text_scan.proofs.Numbers.TextParts.{IsStandardUnrepresentable}
+use Rattle.text_scan.proofs.Numbers.TextParts.{IsStandardUnrepresentable, standard_text_of}
 
 -- ---- the whole part
 
@@ -74,6 +74,9 @@ scanned bs end at =
         exponent_end = exponent_is bs parts.0 end (fraction_within bs (whole_end bs) parts.0 run.within fraction).1 parts.2;
       };
     }) some) (whole_cases bs)
+
+pub scanned_text : (bs : List ℕ) (end : ℕ) → ScannedTo bs end → IsStandardText (take end bs)
+scanned_text bs end s = standard_text_of (take end bs) (has_minus bs) _ _ _ (scan_parts bs (whole_start bs) (whole_end bs) s.fraction end s.scan)
 
 -- ---- no number text
 

@@ -1,34 +1,34 @@
 -- Parsing an extended number gives what the grammar says, and the grammar's numbers are parsed so.
-use Rattle.std.proofs.Common.{◌≡◌, ◌≢◌, ◌⊎◌, zero, suc, ℕ, ◌+◌, ◌-◌, ◌<◌, ◌≤◌, true, false, List, [], ◌∷◌, ◌++◌, length, take, drop, refl, sym, subst, ap, ◌∙◌, inl, inr, ⊎_elim, arith, Option, Some, None, Ok, Err}
-use Rattle.std.specs.Prelude.{replicate, slice_index, MatchOption, ◌==◌}
+use Rattle.std.proofs.Common.{◌≡◌, ◌≢◌, ◌⊎◌, zero, suc, ℕ, ◌+◌, ◌-◌, ◌<◌, ◌≤◌, true, false, ◌||◌, List, [], ◌∷◌, ◌++◌, length, take, drop, refl, sym, subst, ap, ◌∙◌, inl, inr, ⊎_elim, arith, Option, Some, None, Ok, Err}
+use Rattle.std.specs.Prelude.{replicate, slice_index, MatchOption, ◌==◌, if◌then◌else◌}
 use Rattle.std.specs.Char.{to_ascii_lowercase}
 use Rattle.std.specs.Int.{IsInRange}
 use Rattle.std.specs.Str.Parse.{AllDigits, starts_with_minus}
 use Rattle.std.proofs.lemmas.Str.Parse.{digit_from_value}
 use Rattle.std.proofs.lemmas.Bool.{cases_Bool, cases_lt, false≢true, cond-false, cond-true, and_parts}
 use Rattle.std.proofs.lemmas.Bool.Decides.{nat_tests}
-use Rattle.std.proofs.lemmas.List.{take-append-drop, length-append, length-drop, length-take-le, drop_more, get_or_past}
-use Rattle.std.proofs.Math.Seq.{take-append_seam, drop-append_seam}
-use Rattle.jsonb_spec.specs.Code.{number_not_carried}
+use Rattle.std.proofs.lemmas.List.{take-append-drop, length-take-le, drop_more, get_or_past}
+use Rattle.jsonb_spec.specs.Code.{invalid_number_value}
 use Rattle.jsonb_spec.specs.Grammar.StandardNumber.{IsSign}
-use Rattle.jsonb_spec.specs.Grammar.ExtendedNumber.{IsDecimalNumber, IsExtendedNumber, IsExtendedText}
+use Rattle.jsonb_spec.specs.Grammar.ExtendedNumber.{IsDecimalNumber, IsDecimalText, IsHexadecimalNumber, IsExtendedNumber}
 use Rattle.jsonb_spec.specs.Tree.{Num}
-use Rattle.text_scan.specs.Parsing.{Fault, Parse}
+use Rattle.text_scan.specs.Parsing.{Fault}
 use Rattle.text_scan.specs.Parsing.Number.{End, sign_end}
-use Rattle.text_scan.specs.Parsing.ExtendedNumber.{Scanned, scanned_to, core_start, core_byte, front_end, point_end, behind_end, decimal_end, decimal_at, decimal_to, decimal_scan, hexadecimal_scan, word_scan, is_word_start, hexadecimal_starts, is_hexadecimal_start, extended_scan, extended_number_at, is_extended_start, ContinuesNumberExtended, EndsExtended}
+use Rattle.text_scan.specs.Parsing.ExtendedNumber.{Scanned, core_start, core_byte, front_end, point_end, behind_end, decimal_end, decimal_at, decimal_to, decimal_scan, hexadecimal_scan, word_scan, is_word_start, hexadecimal_starts, is_hexadecimal_start, extended_scan, extended_number_at, is_extended_start, EndsExtended}
 use Rattle.text_scan.proofs.Numbers.Steps.{is_digit}
 use Rattle.text_scan.proofs.Numbers.Scan.{exponent_fault_is}
 use Rattle.text_scan.proofs.Numbers.DecimalScan.{DecimalCase, no_digit, second, further, decimal_case, no_digits, second_point, core_within, core_digits, point_here, point_ordered}
 use Rattle.text_scan.proofs.Numbers.DecimalScanText.{DecimalText, decimal_text, decimal_at_end}
-use Rattle.text_scan.proofs.Numbers.DecimalStates.{IsDecimalDue, NoDecimalEnds, decimal_due, fault_no_decimal, fault_second_point, fault_decimal_mark, decimal_done}
-use Rattle.text_scan.proofs.Numbers.ExtendedTexts.{IsWordStart, IsLongestExtended, NoExtendedEnds, IsNumberCode, ScansExtended, goes_on_more, only_decimals, sign_front}
+use Rattle.text_scan.proofs.Numbers.DecimalStates.{IsDecimalDue, NoDecimalEnds, decimal_accepted, decimal_due, fault_no_decimal, fault_second_point, fault_decimal_mark, decimal_done}
+use Rattle.text_scan.proofs.Numbers.ExtendedTexts.{IsWordStart, ScansExtended, ScansOther, goes_on_more, decimals_before_letter, only_decimals, sign_front}
 use Rattle.text_scan.proofs.Numbers.HexadecimalMeaning.{IsHexadecimalFront, reads_hexadecimal}
 use Rattle.text_scan.proofs.Scalars.WordMeaning.{reads_word}
-use Rattle.text_scan.proofs.Numbers.ExtendedParts.{extended_unique, extended_representable, extended_is_text, extended_without_number}
+use Rattle.text_scan.proofs.Numbers.ExtendedParts.{decimal_representable, decimal_is_text, unrepresentable_decimal_is_text, IsLenientNumber, decimal_without_number, other_without_number, extended_is_text, extended_unique}
+use Rattle.text_scan.proofs.Numbers.Reading.{IsLongestText, FindsNumber, NumberRead, FaultRead, found_at, scan_sound, scan_faults, scan_complete}
 use Rattle.jsonb_value.proofs.Numbers.Fractions.{fraction_digits, fraction_text}
-use Rattle.text_scan.proofs.Numbers.TextParts.{IsUnrepresentableDecimal, IsExtendedUnrepresentable, plain_parts}
-use Rattle.jsonb_spec.specs.Grammar.Scalar.{IsUnrepresentable}
-use Rattle.jsonb_spec.specs.Mode.{extended}
+use Rattle.text_scan.proofs.Numbers.TextParts.{IsUnrepresentableDecimal, HasTextParts, decimal_text_of, plain_parts}
+use Rattle.jsonb_spec.specs.Grammar.Scalar.{IsNumber}
+use Rattle.jsonb_spec.specs.Mode.{extended, lenient}
 
 -- ---- decimals
 
@@ -50,25 +50,39 @@ decimal_fault bytes offset at = by_case (decimal_case bytes)
         fault_decimal_mark bytes (behind_end bytes) _ (decimal_done bytes (core_start bytes) (front_end bytes) (point_end bytes) (behind_end bytes) is_due (core_digits bytes) (point_here bytes) some) (exponent_fault_is bytes (behind_end bytes) offset order.2 (sym found ∙ at))
 
 -- neither a word nor a hexadecimal begins here
-record IsDecimalHere (bytes : List ℕ) : Type 0 where
-  no_word : ¬ IsWordStart (core_byte bytes)
-  no_mark : core_byte bytes ≡ 48 → to_ascii_lowercase (slice_index bytes (core_start bytes + 1)) ≢ 120
+pub record IsDecimalHere (bytes : List ℕ) : Type 0 where
+  pub no_word : ¬ IsWordStart (core_byte bytes)
+  pub no_mark : core_byte bytes ≡ 48 → to_ascii_lowercase (slice_index bytes (core_start bytes + 1)) ≢ 120
 
-decimal_longest : (bytes : List ℕ) (end : ℕ) → IsDecimalHere bytes → DecimalText bytes end → IsLongestExtended bytes end
-decimal_longest bytes end here t k within text =
-    ⊎_elim inl (λ before. inr (before.0, goes_on_more (slice_index bytes k) before.1)) (t.longest k within (only_decimals bytes here.no_word here.no_mark k text))
+-- a decimal that ends here, with its number or without one
+module _ (Decimal : List ℕ → Num → Type 0) (is_text : (core : List ℕ) (n : Num) → Decimal core n → IsDecimalText core) (bytes : List ℕ) (here : IsDecimalHere bytes) where
+  pub decimal_found : (end : ℕ) (o : Option Num) → DecimalText bytes end → MatchOption o ((n : Num) → ¬ (Decimal (take end bytes) n)) (Decimal (take end bytes)) → FindsNumber lenient (IsLenientNumber Decimal) bytes (Ok (o, end))
+  decimal_found end o t number = found_at lenient (IsLenientNumber Decimal) bytes end o t.within (inl text) longest (by_option o number)
+    where
+      text : IsDecimalText (take end bytes)
+      text = decimal_text_of (take end bytes) _ _ _ t.fraction _ t.parts
 
-reads_decimal : (bytes : List ℕ) → IsDecimalHere bytes → ScansExtended bytes (decimal_scan bytes)
+      longest : IsLongestText lenient bytes end
+      longest k within longer = ⊎_elim inl (λ before. inr (before.0, goes_on_more (slice_index bytes k) before.1)) (t.longest k within (only_decimals bytes here.no_word here.no_mark k longer))
+
+      by_option : (p : Option Num) → MatchOption p ((n : Num) → ¬ (Decimal (take end bytes) n)) (Decimal (take end bytes)) → MatchOption p ((n : Num) → ¬ (IsLenientNumber Decimal (take end bytes) n)) (IsLenientNumber Decimal (take end bytes))
+      by_option (Some n) h = inl h
+      by_option None h = decimal_without_number Decimal is_text (take end bytes) text h
+
+  pub decimal_missing : (offset : ℕ) → decimal_end bytes ≡ Err offset → FindsNumber lenient (IsLenientNumber Decimal) bytes (Err (invalid_number_value, offset))
+  decimal_missing offset at = (inl refl, λ k within text. goes_on_more (slice_index bytes k) (decimal_fault bytes offset at k within (only_decimals bytes here.no_word here.no_mark k text)))
+
+finds_decimal : (bytes : List ℕ) → IsDecimalHere bytes → FindsNumber lenient (IsLenientNumber IsDecimalNumber) bytes (decimal_scan bytes)
 unfolding decimal_scan
-reads_decimal bytes here = by_end (decimal_end bytes) refl
+finds_decimal bytes here = by_end (decimal_end bytes) refl
   where
-    by_number : (end : ℕ) (o : Option Num) → DecimalText bytes end → MatchOption o (IsUnrepresentableDecimal (take end bytes)) (IsDecimalNumber (take end bytes)) → ScansExtended bytes (Ok (o, end))
-    by_number end (Some n) t number = record { within = t.within; text = inl number; longest = decimal_longest bytes end here t }
-    by_number end None t unrepresentable = record { within = t.within; text = inl unrepresentable; longest = decimal_longest bytes end here t }
+    by_option : (end : ℕ) (o : Option Num) → MatchOption o (IsUnrepresentableDecimal (take end bytes)) (IsDecimalNumber (take end bytes)) → MatchOption o ((n : Num) → ¬ (IsDecimalNumber (take end bytes) n)) (IsDecimalNumber (take end bytes))
+    by_option end (Some n) number = number
+    by_option end None unrepresentable = λ n number. decimal_representable (take end bytes) n number unrepresentable
 
-    by_end : (r : End) → decimal_end bytes ≡ r → ScansExtended bytes (decimal_to bytes r)
-    by_end (Ok end) at = let t = decimal_text bytes end at in by_number end (decimal_at bytes end) t (decimal_at_end bytes end t)
-    by_end (Err offset) at = (inl refl, λ k within text. goes_on_more (slice_index bytes k) (decimal_fault bytes offset at k within (only_decimals bytes here.no_word here.no_mark k text)))
+    by_end : (r : End) → decimal_end bytes ≡ r → FindsNumber lenient (IsLenientNumber IsDecimalNumber) bytes (decimal_to bytes r)
+    by_end (Ok end) at = let t = decimal_text bytes end at in decimal_found IsDecimalNumber decimal_is_text bytes here end (decimal_at bytes end) t (by_option end (decimal_at bytes end) (decimal_at_end bytes end t))
+    by_end (Err offset) at = decimal_missing IsDecimalNumber decimal_is_text bytes here offset at
 
 -- ---- all kinds
 
@@ -125,139 +139,83 @@ pub found_decimal : (bytes : List ℕ) (start first : ℕ) (s : Scanned) → sta
 found_decimal bytes start first s at byte no_word none is =
     is ∙ sym (scan_decimal bytes (sym (ap is_word_start (byte ∙ ap (slice_index bytes) at)) ∙ no_word) (sym (ap (hexadecimal_starts bytes) at) ∙ none))
 
-pub scans_extended : (bytes : List ℕ) → ScansExtended bytes (extended_scan bytes)
-scans_extended bytes =
-    ⊎_elim (λ word. subst (ScansExtended bytes) (sym (scan_word bytes word)) (reads_word bytes (record { inside = core_within bytes; letter = is_letter (core_byte bytes) word })))
-    (λ no_word. ⊎_elim
-    (λ hexadecimal.
-    let both = and_parts (core_byte bytes == 48) (to_ascii_lowercase (slice_index bytes (core_start bytes + 1)) == 120) hexadecimal in
-    let first = both.0 in
-    let next = both.1 in
-    let zero_byte : core_byte bytes ≡ 48 = grind (arith, nat_tests) in
-    let letter : to_ascii_lowercase (slice_index bytes (core_start bytes + 1)) ≡ 120 = grind (arith, nat_tests) in
-    subst (ScansExtended bytes) (sym (scan_hexadecimal bytes no_word hexadecimal)) (reads_hexadecimal bytes (take (core_start bytes) bytes) (slice_index bytes (core_start bytes + 1)) (drop (core_start bytes + 2) bytes) (core_start bytes + 2) (starts_with_minus bytes) (hexadecimal_front bytes zero_byte letter) (omega (arith, length-take-le (core_start bytes) bytes (core_within bytes))) (sym (sign_front bytes).minus)))
-    (λ none. subst (ScansExtended bytes) (sym (scan_decimal bytes no_word none)) (reads_decimal bytes (record { no_word = no_letter (core_byte bytes) no_word; no_mark = no_hexadecimal none })))
-    (cases_Bool (is_hexadecimal_start bytes))) (cases_Bool (is_word_start (core_byte bytes)))
-  where
-    no_hexadecimal : is_hexadecimal_start bytes ≡ false → core_byte bytes ≡ 48 → to_ascii_lowercase (slice_index bytes (core_start bytes + 1)) ≢ 120
-    no_hexadecimal none zero_byte letter =
-        let t : (core_byte bytes == 48) ≡ true = grind (arith, nat_tests) in
-        let u : (to_ascii_lowercase (slice_index bytes (core_start bytes + 1)) == 120) ≡ true = grind (arith, nat_tests) in
-        let never : true ≡ false = rw (t, u) at none in false≢true (sym never)
+-- before a word no decimal ends
+no_decimal_there : (bytes : List ℕ) (end : ℕ) → IsWordStart (core_byte bytes) → end ≤ length bytes → ¬ IsDecimalText (take end bytes)
+no_decimal_there bytes end letter within text =
+    let before = (decimals_before_letter bytes (core_within bytes) letter end within text).0 in
+    let one : core_start bytes ≤ 1 = ⊎_elim (λ sign. rw sign (omega arith)) (λ no_sign. rw no_sign (omega arith)) (cases_Bool (slice_index bytes 0 == 43 || slice_index bytes 0 == 45)) in
+    let none : end ≡ 0 = omega (arith, before, one) in
+    false≢true (decimal_accepted (take 0 bytes) (subst (λ k. IsDecimalText (take k bytes)) none text))
 
--- ---- what parsing finds
-
--- No beginning of the bytes that is longer than what comes before the rest is a number text.
-abbrev pub NoLongerExtended : List ℕ → List ℕ → Type 0
-NoLongerExtended bytes rest = (longer after : List ℕ) → bytes ≡ longer ++ after → length after < length rest → ¬ IsExtendedText longer
-
-no_longer : (bytes : List ℕ) (end : ℕ) → end ≤ length bytes → IsLongestExtended bytes end → NoLongerExtended bytes (drop end bytes)
-no_longer bytes end within longest longer after joined short text =
-    let total : length bytes ≡ length longer + length after = ap length joined ∙ length-append longer after in
-    let front : take (length longer) bytes ≡ longer = ap (take (length longer)) joined ∙ take-append_seam longer after in
-    ⊎_elim (λ same. omega (arith, same, total, short, length-drop end bytes))
-    (λ before. omega (arith, before.0, total, short, length-drop end bytes))
-    (longest (length longer) (omega (arith, total)) (subst IsExtendedText (sym front) text))
-
--- a number was parsed
-pub record ExtendedRead (bytes : List ℕ) (n : Num) (rest : List ℕ) : Type 0 where
-  pub core : List ℕ
-  pub joined : bytes ≡ core ++ rest
-  pub number : IsExtendedNumber core n
-  pub longest : NoLongerExtended bytes rest
-
--- a number text was met whose number is not representable
-pub record ExtendedUnrepresentable (size : ℕ) (bytes : List ℕ) (offset : ℕ) : Type 0 where
-  pub text : List ℕ
-  pub rest : List ℕ
-  pub joined : bytes ≡ text ++ rest
-  pub unrepresentable : IsUnrepresentable extended text
-  pub offset_is : offset ≡ size - length rest
-  pub longest : NoLongerExtended bytes rest
-
--- no number text can end here
-abbrev pub NoExtendedText : List ℕ → Type 0
-NoExtendedText bytes = (core after : List ℕ) → bytes ≡ core ++ after → IsExtendedText core → ¬ EndsExtended after
-
--- what a fault of parsing says
-pub data ExtendedFault (size : ℕ) (bytes : List ℕ) (f : Fault) : Type 0 where
-  unrepresentable_text : f.code ≡ number_not_carried → ExtendedUnrepresentable size bytes f.offset → ExtendedFault size bytes f
-  no_text : IsNumberCode f.code → NoExtendedText bytes → ExtendedFault size bytes f
-
--- a byte after a number text that doesn't go on with it
-stops_after : (core rest : List ℕ) → EndsExtended rest → ¬ ContinuesNumberExtended (slice_index (core ++ rest) (length core))
-stops_after [] [] ends = ⊎_elim (λ digit. omega (arith, digit)) (⊎_elim (λ point. omega (arith, point)) (λ mark. omega (arith, mark)))
-stops_after [] (b ∷ rest) ends = ends
-stops_after (c ∷ core) rest ends = stops_after core rest ends
-
-nothing_ends : (bytes : List ℕ) → NoExtendedEnds bytes → NoExtendedText bytes
-nothing_ends bytes none core after joined text ends =
-    let total : length bytes ≡ length core + length after = ap length joined ∙ length-append core after in
-    let front : take (length core) bytes ≡ core = ap (take (length core)) joined ∙ take-append_seam core after in
-    stops_after core after ends (subst (λ xs. ContinuesNumberExtended (slice_index xs (length core))) joined (none (length core) (omega (arith, total)) (subst IsExtendedText (sym front) text)))
-
--- what parsing answers, by what was scanned
-abbrev IsAnswer : ℕ → List ℕ → Parse Num → Type 0
-IsAnswer size bytes (Ok (n, rest)) = ExtendedRead bytes n rest
-IsAnswer size bytes (Err f) = ExtendedFault size bytes f
-
-scanned_answer : (size : ℕ) (bytes : List ℕ) (s : Scanned) → ScansExtended bytes s → IsAnswer size bytes (scanned_to size bytes s)
-scanned_answer size bytes (Ok (Some n, end)) t = record {
-  core = take end bytes;
-  joined = sym (take-append-drop end bytes);
-  number = t.text;
-  longest = no_longer bytes end t.within t.longest;
+only_word : (bytes : List ℕ) (r : Scanned) → IsWordStart (core_byte bytes) → ScansExtended bytes r → ScansOther bytes r
+only_word bytes (Ok (Some n, end)) letter t = record {
+  within = t.within;
+  text = ⊎_elim (λ decimal. absurd (no_decimal_there bytes end letter t.within (decimal_is_text (take end bytes) n decimal))) (λ hexadecimal. hexadecimal) t.text;
+  longest = t.longest;
 }
-scanned_answer size bytes (Ok (None, end)) t = unrepresentable_text refl (record {
-  text = take end bytes;
-  rest = drop end bytes;
-  joined = sym (take-append-drop end bytes);
-  unrepresentable = extended_without_number (take end bytes) t.text;
-  offset_is = refl;
-  longest = no_longer bytes end t.within t.longest;
-})
-scanned_answer size bytes (Err f) (code, none) = no_text code (nothing_ends bytes none)
+only_word bytes (Ok (None, end)) letter t = record {
+  within = t.within;
+  text = ⊎_elim (λ decimal. absurd (no_decimal_there bytes end letter t.within (unrepresentable_decimal_is_text (take end bytes) decimal))) (λ other. other) t.text;
+  longest = t.longest;
+}
+only_word bytes (Err f) letter t = t
 
-answer_is : (size : ℕ) (bytes : List ℕ) (r : Parse Num) → extended_number_at size bytes ≡ r → IsAnswer size bytes r
-unfolding extended_number_at
-answer_is size bytes r at = subst (IsAnswer size bytes) at (scanned_answer size bytes (extended_scan bytes) (scans_extended bytes))
+-- a word, a hexadecimal, or else what is scanned as a decimal
+abbrev by_kind : List ℕ → Scanned → Scanned
+by_kind bytes decimal =
+    if is_word_start (core_byte bytes) then word_scan (core_start bytes) (starts_with_minus bytes) (drop (core_start bytes) bytes)
+    else (if is_hexadecimal_start bytes then hexadecimal_scan (core_start bytes + 2) (starts_with_minus bytes) (drop (core_start bytes + 2) bytes) else decimal)
+
+module _ (Decimal : List ℕ → Num → Type 0) (is_text : (core : List ℕ) (n : Num) → Decimal core n → IsDecimalText core) (bytes : List ℕ) where
+  finds_other : (r : Scanned) → ScansOther bytes r → FindsNumber lenient (IsLenientNumber Decimal) bytes r
+  finds_other (Ok (Some n, end)) t = record { within = t.within; text = inr t.text; longest = t.longest }
+  finds_other (Ok (None, end)) t = record { within = t.within; text = other_without_number Decimal is_text (take end bytes) t.text; longest = t.longest }
+  finds_other (Err f) t = t
+
+  no_hexadecimal : is_hexadecimal_start bytes ≡ false → core_byte bytes ≡ 48 → to_ascii_lowercase (slice_index bytes (core_start bytes + 1)) ≢ 120
+  no_hexadecimal none zero_byte letter =
+      let t : (core_byte bytes == 48) ≡ true = grind (arith, nat_tests) in
+      let u : (to_ascii_lowercase (slice_index bytes (core_start bytes + 1)) == 120) ≡ true = grind (arith, nat_tests) in
+      let never : true ≡ false = rw (t, u) at none in false≢true (sym never)
+
+  pub finds_by_kind : (decimal : Scanned) → (IsDecimalHere bytes → FindsNumber lenient (IsLenientNumber Decimal) bytes decimal) → FindsNumber lenient (IsLenientNumber Decimal) bytes (by_kind bytes decimal)
+  finds_by_kind decimal finds =
+      ⊎_elim
+      (λ word.
+      let letter = is_letter (core_byte bytes) word in
+      subst (FindsNumber lenient (IsLenientNumber Decimal) bytes) (sym (cond-true (is_word_start (core_byte bytes)) _ _ word)) (finds_other _ (only_word bytes _ letter (reads_word bytes (record { inside = core_within bytes; letter = letter })))))
+      (λ no_word. ⊎_elim
+      (λ hexadecimal.
+      let both = and_parts (core_byte bytes == 48) (to_ascii_lowercase (slice_index bytes (core_start bytes + 1)) == 120) hexadecimal in
+      let first = both.0 in
+      let next = both.1 in
+      let zero_byte : core_byte bytes ≡ 48 = grind (arith, nat_tests) in
+      let letter : to_ascii_lowercase (slice_index bytes (core_start bytes + 1)) ≡ 120 = grind (arith, nat_tests) in
+      subst (FindsNumber lenient (IsLenientNumber Decimal) bytes) (sym (cond-false (is_word_start (core_byte bytes)) _ _ no_word ∙ cond-true (is_hexadecimal_start bytes) _ _ hexadecimal))
+      (finds_other _ (reads_hexadecimal bytes (take (core_start bytes) bytes) (slice_index bytes (core_start bytes + 1)) (drop (core_start bytes + 2) bytes) (core_start bytes + 2) (starts_with_minus bytes) (hexadecimal_front bytes zero_byte letter) (omega (arith, length-take-le (core_start bytes) bytes (core_within bytes))) (sym (sign_front bytes).minus))))
+      (λ none. subst (FindsNumber lenient (IsLenientNumber Decimal) bytes) (sym (cond-false (is_word_start (core_byte bytes)) _ _ no_word ∙ cond-false (is_hexadecimal_start bytes) _ _ none)) (finds (record { no_word = no_letter (core_byte bytes) no_word; no_mark = no_hexadecimal none })))
+      (cases_Bool (is_hexadecimal_start bytes))) (cases_Bool (is_word_start (core_byte bytes)))
+
+finds_extended : (bytes : List ℕ) → FindsNumber lenient (IsNumber extended) bytes (extended_scan bytes)
+unfolding extended_scan
+finds_extended bytes = finds_by_kind IsDecimalNumber decimal_is_text bytes (decimal_scan bytes) (finds_decimal bytes)
 
 -- ---- parsing and the definition
 
 -- What is parsed is a number text with its number, and no longer one is there.
-pub extended_sound : (size : ℕ) (bytes : List ℕ) (n : Num) (rest : List ℕ) → extended_number_at size bytes ≡ Ok (n, rest) → ExtendedRead bytes n rest
-extended_sound size bytes n rest at = answer_is size bytes (Ok (n, rest)) at
+pub extended_sound : (size : ℕ) (bytes : List ℕ) (n : Num) (rest : List ℕ) → extended_number_at size bytes ≡ Ok (n, rest) → NumberRead extended bytes n rest
+unfolding extended_number_at
+extended_sound size bytes n rest at = scan_sound extended size bytes n rest (extended_scan bytes) (finds_extended bytes) at
 
 -- Each fault is one of two, and its meaning is known.
-pub extended_faults : (size : ℕ) (bytes : List ℕ) (f : Fault) → extended_number_at size bytes ≡ Err f → ExtendedFault size bytes f
-extended_faults size bytes f at = answer_is size bytes (Err f) at
+pub extended_faults : (size : ℕ) (bytes : List ℕ) (f : Fault) → extended_number_at size bytes ≡ Err f → FaultRead extended size bytes f
+unfolding extended_number_at
+extended_faults size bytes f at = scan_faults extended size bytes f (extended_scan bytes) (finds_extended bytes) at
 
 -- A number text that nothing goes on with is parsed so.
 pub extended_complete : (size : ℕ) (core rest : List ℕ) (n : Num) → IsExtendedNumber core n → EndsExtended rest → extended_number_at size (core ++ rest) ≡ Ok (n, rest)
 unfolding extended_number_at
-extended_complete size core rest n number ends = by_scan (extended_scan (core ++ rest)) (scans_extended (core ++ rest))
-  where
-    text : IsExtendedText (take (length core) (core ++ rest))
-    text = subst IsExtendedText (sym (take-append_seam core rest)) (extended_is_text core n number)
-
-    within : length core ≤ length (core ++ rest)
-    within = omega (arith, length-append core rest)
-
-    ends_here : (end : ℕ) → IsLongestExtended (core ++ rest) end → length core ≡ end
-    ends_here end longest = ⊎_elim (λ e. e) (λ before. absurd (stops_after core rest ends before.1)) (longest (length core) within text)
-
-    front : (end : ℕ) → length core ≡ end → take end (core ++ rest) ≡ core
-    front end same = ap (λ i. take i (core ++ rest)) (sym same) ∙ take-append_seam core rest
-
-    by_scan : (s : Scanned) → ScansExtended (core ++ rest) s → scanned_to size (core ++ rest) s ≡ Ok (n, rest)
-    by_scan (Ok (Some m, end)) t =
-        let same = ends_here end t.longest in
-        let back : drop end (core ++ rest) ≡ rest = ap (λ i. drop i (core ++ rest)) (sym same) ∙ drop-append_seam core rest in
-        ap (λ xs. Ok (m, xs)) back ∙ ap (λ k. Ok (k, rest)) (extended_unique core m n (subst (λ xs. IsExtendedNumber xs m) (front end same) t.text) number)
-    by_scan (Ok (None, end)) t =
-        let same = ends_here end t.longest in
-        absurd (extended_representable core n number (subst IsExtendedUnrepresentable (front end same) t.text))
-    by_scan (Err f) (code, none) = absurd (stops_after core rest ends (none (length core) within text))
+extended_complete size core rest n number ends = scan_complete extended extended_is_text extended_unique size core rest n (extended_scan (core ++ rest)) (finds_extended (core ++ rest)) number ends
 
 -- ---- how a number text begins
 
@@ -285,10 +243,16 @@ decimal_start zero (c ∷ whole) fraction exponent digits some = record { first 
 decimal_start zero [] (Some ds) exponent digits some = record { first = 46; others = ds ++ exponent; whole = refl; opens = inr (inr (inl refl)) }
 decimal_start zero [] None exponent digits some = absurd (omega (arith, some))
 
+pub decimal_begins : (core sign zeros whole : List ℕ) (fraction : Option (List ℕ)) (exponent : List ℕ) → HasTextParts core sign zeros whole fraction exponent → ExtendedStart core
+decimal_begins core sign zeros whole fraction exponent p =
+    signed_start core sign (replicate (length zeros) 48 ++ (whole ++ (fraction_text fraction ++ exponent))) p.is_sign (p.joined ∙ ap (λ z. sign ++ (z ++ (whole ++ (fraction_text fraction ++ exponent)))) p.are_zeros) (decimal_start (length zeros) whole fraction exponent p.whole_digits p.some_digit)
+
+pub hexadecimal_begins : (core : List ℕ) (n : Num) → IsHexadecimalNumber core n → ExtendedStart core
+hexadecimal_begins core n (sign, mark, whole, p, is) = signed_start core sign (48 ∷ mark ∷ (whole ++ fraction_text None)) p.is_sign p.joined (zero_start (mark ∷ (whole ++ fraction_text None)))
+
 pub extended_starts : (core : List ℕ) (n : Num) → IsExtendedNumber core n → ExtendedStart core
-extended_starts core n (inl (sign, zeros, whole, fraction, p, (few, is))) =
-    signed_start core sign (replicate (length zeros) 48 ++ (whole ++ (fraction_text fraction ++ []))) p.is_sign ((plain_parts core sign zeros whole fraction p).joined ∙ ap (λ z. sign ++ (z ++ (whole ++ (fraction_text fraction ++ [])))) p.are_zeros) (decimal_start (length zeros) whole fraction [] p.whole_digits p.some_digit)
-extended_starts core n (inr (sign, mark, whole, p, is)) = signed_start core sign (48 ∷ mark ∷ (whole ++ fraction_text None)) p.is_sign p.joined (zero_start (mark ∷ (whole ++ fraction_text None)))
+extended_starts core n (inl (sign, zeros, whole, fraction, p, (few, is))) = decimal_begins core sign zeros whole fraction [] (plain_parts core sign zeros whole fraction p)
+extended_starts core n (inr hexadecimal) = hexadecimal_begins core n hexadecimal
 
 pub opens_extended : (b : ℕ) → OpensNumber b → is_extended_start b ≡ true
 opens_extended b (inl plus) = ap is_extended_start plus

@@ -1,5 +1,5 @@
 -- An extended number has its parts in one way.
-use Rattle.std.proofs.Common.{◌≡◌, ◌≢◌, ℕ, ◌<◌, zero, suc, Option, Some, None, List, [], ◌∷◌, ◌++◌, length, take, drop, refl, sym, subst, ap, ◌∙◌, inl, inr, ⊎_elim, arith, length-append}
+use Rattle.std.proofs.Common.{◌≡◌, ◌≢◌, ◌⊎◌, ℕ, ◌<◌, zero, suc, Option, Some, None, List, [], ◌∷◌, ◌++◌, length, take, drop, refl, sym, subst, ap, ◌∙◌, inl, inr, ⊎_elim, arith, length-append}
 use Rattle.std.specs.Prelude.{slice_index, replicate}
 use Rattle.std.specs.Char.{digit_value}
 use Rattle.std.specs.Str.Parse.{AllDigits, digits_value, starts_with_minus}
@@ -7,13 +7,15 @@ use Rattle.std.proofs.lemmas.Str.Parse.{digit_from_value}
 use Rattle.std.proofs.lemmas.List.{append-nil, take_all}
 use Rattle.jsonb_spec.specs.Grammar.StandardNumber.{IsSign, IsExponent, IsExponentMark}
 use Rattle.jsonb_spec.specs.Grammar.ExtendedNumber.{decimal_number, IsDecimalNumber, IsDecimalText, HasHexadecimalParts, hexadecimal_number, IsHexadecimalNumber, IsHexadecimalText, IsWordText, IsExtendedNumber, IsExtendedText}
+use Rattle.jsonb_spec.specs.Mode.{lenient}
 use Rattle.jsonb_spec.specs.Tree.{Num}
 use Rattle.text_scan.specs.Parsing.ExtendedNumber.{core_byte}
 use Rattle.text_scan.proofs.Numbers.DecimalScan.{core_within}
 use Rattle.text_scan.proofs.Numbers.HexadecimalTexts.{runs_end, same_front}
+use Rattle.text_scan.proofs.Numbers.Reading.{IsWithout}
 use Rattle.text_scan.proofs.Numbers.ExtendedTexts.{letter_is, word_found, found_letter, hexadecimal_core, decimals_before_mark, decimals_before_letter}
 use Rattle.jsonb_value.proofs.Numbers.Fractions.{fraction_digits, fraction_text, precision_of, value_of}
-use Rattle.text_scan.proofs.Numbers.TextParts.{IsUnrepresentableDecimal, IsUnrepresentableHexadecimal, IsExtendedUnrepresentable, HasTextParts, plain_parts, decimal_text_of}
+use Rattle.text_scan.proofs.Numbers.TextParts.{IsUnrepresentableDecimal, IsUnrepresentableHexadecimal, HasTextParts, plain_parts, decimal_text_of}
 
 -- ---- parts of a list
 
@@ -97,13 +99,13 @@ fractions_same (Some f) (Some g) d e h k is_d is_e same =
 
 -- ---- decimals
 
-record SameDecimal (sign whole : List ℕ) (fraction : Option (List ℕ)) (exponent other digits : List ℕ) (behind : Option (List ℕ)) (last : List ℕ) : Type 0 where
-  sign_same : sign ≡ other
-  whole_same : whole ≡ digits
-  fraction_same : fraction ≡ behind
-  exponent_same : exponent ≡ last
+pub record SameDecimal (sign whole : List ℕ) (fraction : Option (List ℕ)) (exponent other digits : List ℕ) (behind : Option (List ℕ)) (last : List ℕ) : Type 0 where
+  pub sign_same : sign ≡ other
+  pub whole_same : whole ≡ digits
+  pub fraction_same : fraction ≡ behind
+  pub exponent_same : exponent ≡ last
 
-same_decimal : (core sign zeros whole : List ℕ) (fraction : Option (List ℕ)) (exponent other more digits : List ℕ) (behind : Option (List ℕ)) (last : List ℕ) → HasTextParts core sign zeros whole fraction exponent → HasTextParts core other more digits behind last → SameDecimal sign whole fraction exponent other digits behind last
+pub same_decimal : (core sign zeros whole : List ℕ) (fraction : Option (List ℕ)) (exponent other more digits : List ℕ) (behind : Option (List ℕ)) (last : List ℕ) → HasTextParts core sign zeros whole fraction exponent → HasTextParts core other more digits behind last → SameDecimal sign whole fraction exponent other digits behind last
 same_decimal core sign zeros whole fraction exponent other more digits behind last p q =
     let signed = signs_same sign other _ _ p.is_sign q.is_sign (after_sign (length zeros) whole fraction exponent p.whole_digits p.is_exponent) (after_sign (length more) digits behind last q.whole_digits q.is_exponent)
     (ap (λ z. sign ++ (z ++ (whole ++ (fraction_text fraction ++ exponent)))) (sym p.are_zeros) ∙ sym p.joined ∙ q.joined ∙ ap (λ z. other ++ (z ++ (digits ++ (fraction_text behind ++ last)))) q.are_zeros) in
@@ -120,15 +122,15 @@ decimal_unique core m n (sign, zeros, whole, fraction, p, (few, first)) (other, 
     let s = same_decimal core sign zeros whole fraction [] other more digits behind [] (plain_parts core sign zeros whole fraction p) (plain_parts core other more digits behind q) in
     first ∙ ap (λ x. number_by x whole fraction) s.sign_same ∙ ap (λ x. number_by other x fraction) s.whole_same ∙ ap (λ x. number_by other digits x) s.fraction_same ∙ sym second
 
-decimal_representable : (core : List ℕ) (n : Num) → IsDecimalNumber core n → IsUnrepresentableDecimal core → ⊥
+pub decimal_representable : (core : List ℕ) (n : Num) → IsDecimalNumber core n → IsUnrepresentableDecimal core → ⊥
 decimal_representable core n (sign, zeros, whole, fraction, p, (few, first)) (other, more, digits, behind, last, q, why) =
     let s = same_decimal core sign zeros whole fraction [] other more digits behind last (plain_parts core sign zeros whole fraction p) q in
     ⊎_elim (λ some. some (sym s.exponent_same)) (λ many. omega (arith, few, many, ap length s.whole_same, ap (λ f. length (fraction_digits f)) s.fraction_same)) why
 
-decimal_is_text : (core : List ℕ) (n : Num) → IsDecimalNumber core n → IsDecimalText core
+pub decimal_is_text : (core : List ℕ) (n : Num) → IsDecimalNumber core n → IsDecimalText core
 decimal_is_text core n (sign, zeros, whole, fraction, p, (few, first)) = decimal_text_of core sign zeros whole fraction [] (plain_parts core sign zeros whole fraction p)
 
-unrepresentable_decimal_is_text : (core : List ℕ) → IsUnrepresentableDecimal core → IsDecimalText core
+pub unrepresentable_decimal_is_text : (core : List ℕ) → IsUnrepresentableDecimal core → IsDecimalText core
 unrepresentable_decimal_is_text core (sign, zeros, whole, fraction, exponent, p, why) = decimal_text_of core sign zeros whole fraction exponent p
 
 -- ---- hexadecimals
@@ -196,31 +198,44 @@ no_hexadecimal_word core hexadecimal word =
 
 -- ---- all of them
 
--- a text has one number
-pub extended_unique : (core : List ℕ) (m n : Num) → IsExtendedNumber core m → IsExtendedNumber core n → m ≡ n
-extended_unique core m n (inl p) (inl q) = decimal_unique core m n p q
-extended_unique core m n (inl p) (inr q) = absurd (no_decimal_hexadecimal core (decimal_is_text core m p) (hexadecimal_is_text core n q))
-extended_unique core m n (inr p) (inl q) = absurd (no_decimal_hexadecimal core (decimal_is_text core n q) (hexadecimal_is_text core m p))
-extended_unique core m n (inr p) (inr q) = hexadecimal_unique core m n p q
+-- the bytes are one of these decimals or a hexadecimal, and n is its number
+abbrev pub IsLenientNumber : (List ℕ → Num → Type 0) → List ℕ → Num → Type 0
+IsLenientNumber Decimal bytes n = Decimal bytes n ⊎ IsHexadecimalNumber bytes n
 
--- a text with a number is representable
-pub extended_representable : (core : List ℕ) (n : Num) → IsExtendedNumber core n → IsExtendedUnrepresentable core → ⊥
-extended_representable core n (inl p) (inl q) = decimal_representable core n p q
-extended_representable core n (inl p) (inr (inl q)) = no_decimal_hexadecimal core (decimal_is_text core n p) (unrepresentable_hexadecimal_is_text core q)
-extended_representable core n (inl p) (inr (inr q)) = no_decimal_word core (decimal_is_text core n p) q
-extended_representable core n (inr p) (inl q) = no_decimal_hexadecimal core (unrepresentable_decimal_is_text core q) (hexadecimal_is_text core n p)
-extended_representable core n (inr p) (inr (inl q)) = hexadecimal_representable core n p q
-extended_representable core n (inr p) (inr (inr q)) = no_hexadecimal_word core (hexadecimal_is_text core n p) q
+module _ (Decimal : List ℕ → Num → Type 0) (is_text : (core : List ℕ) (n : Num) → Decimal core n → IsDecimalText core) where
+  pub lenient_is_text : (core : List ℕ) (n : Num) → IsLenientNumber Decimal core n → IsExtendedText core
+  lenient_is_text core n (inl p) = inl (is_text core n p)
+  lenient_is_text core n (inr p) = inr (inl (hexadecimal_is_text core n p))
 
--- a text whose number no form holds has none
-pub extended_without_number : (core : List ℕ) → IsExtendedUnrepresentable core → IsExtendedText core × ((n : Num) → ¬ (IsExtendedNumber core n))
-extended_without_number core u = (is_text u, λ n number. extended_representable core n number u)
-  where
-    is_text : IsExtendedUnrepresentable core → IsExtendedText core
-    is_text (inl decimal) = inl (unrepresentable_decimal_is_text core decimal)
-    is_text (inr (inl hexadecimal)) = inr (inl (unrepresentable_hexadecimal_is_text core hexadecimal))
-    is_text (inr (inr word)) = inr (inr word)
+  -- a text has one number
+  pub lenient_unique : ((core : List ℕ) (m n : Num) → Decimal core m → Decimal core n → m ≡ n) → (core : List ℕ) (m n : Num) → IsLenientNumber Decimal core m → IsLenientNumber Decimal core n → m ≡ n
+  lenient_unique unique core m n (inl p) (inl q) = unique core m n p q
+  lenient_unique unique core m n (inl p) (inr q) = absurd (no_decimal_hexadecimal core (is_text core m p) (hexadecimal_is_text core n q))
+  lenient_unique unique core m n (inr p) (inl q) = absurd (no_decimal_hexadecimal core (is_text core n q) (hexadecimal_is_text core m p))
+  lenient_unique unique core m n (inr p) (inr q) = hexadecimal_unique core m n p q
+
+  -- a decimal without a number has none
+  pub decimal_without_number : (core : List ℕ) → IsDecimalText core → ((n : Num) → ¬ (Decimal core n)) → (n : Num) → ¬ (IsLenientNumber Decimal core n)
+  decimal_without_number core text none n (inl p) = none n p
+  decimal_without_number core text none n (inr p) = absurd (no_decimal_hexadecimal core text (hexadecimal_is_text core n p))
+
+  -- a word or a hexadecimal whose number no form holds has none
+  pub other_without_number : (core : List ℕ) → IsUnrepresentableHexadecimal core ⊎ IsWordText core → IsWithout lenient (IsLenientNumber Decimal) core
+  other_without_number core other = (is_other other, λ n number. without n number other)
+    where
+      is_other : IsUnrepresentableHexadecimal core ⊎ IsWordText core → IsExtendedText core
+      is_other (inl hexadecimal) = inr (inl (unrepresentable_hexadecimal_is_text core hexadecimal))
+      is_other (inr word) = inr (inr word)
+
+      without : (n : Num) → IsLenientNumber Decimal core n → IsUnrepresentableHexadecimal core ⊎ IsWordText core → ⊥
+      without n (inl p) (inl q) = no_decimal_hexadecimal core (is_text core n p) (unrepresentable_hexadecimal_is_text core q)
+      without n (inl p) (inr q) = no_decimal_word core (is_text core n p) q
+      without n (inr p) (inl q) = hexadecimal_representable core n p q
+      without n (inr p) (inr q) = no_hexadecimal_word core (hexadecimal_is_text core n p) q
 
 pub extended_is_text : (core : List ℕ) (n : Num) → IsExtendedNumber core n → IsExtendedText core
-extended_is_text core n (inl p) = inl (decimal_is_text core n p)
-extended_is_text core n (inr p) = inr (inl (hexadecimal_is_text core n p))
+extended_is_text core n number = lenient_is_text IsDecimalNumber decimal_is_text core n number
+
+-- a text has one number
+pub extended_unique : (core : List ℕ) (m n : Num) → IsExtendedNumber core m → IsExtendedNumber core n → m ≡ n
+extended_unique core m n p q = lenient_unique IsDecimalNumber decimal_is_text decimal_unique core m n p q

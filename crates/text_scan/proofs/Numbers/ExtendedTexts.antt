@@ -8,7 +8,7 @@ use Rattle.std.proofs.lemmas.List.{append_assoc, take-append-drop, length-append
 use Rattle.std.proofs.lemmas.Str.{digit_value_digit}
 use Rattle.jsonb_spec.specs.Code.{Code, invalid_eof, invalid_number_value, expected_some_ident}
 use Rattle.jsonb_spec.specs.Grammar.StandardNumber.{IsSign}
-use Rattle.jsonb_spec.specs.Grammar.ExtendedNumber.{IsDecimalText, IsHexadecimalText, IsWordText, IsExtendedNumber, IsExtendedText}
+use Rattle.jsonb_spec.specs.Grammar.ExtendedNumber.{IsDecimalText, IsHexadecimalNumber, IsHexadecimalText, IsWordText, IsExtendedNumber, IsExtendedText}
 use Rattle.text_scan.specs.Parsing.Number.{sign_end, ContinuesNumber}
 use Rattle.text_scan.specs.Parsing.ExtendedNumber.{Scanned, core_byte, ContinuesNumberExtended}
 use Rattle.text_scan.proofs.Numbers.Steps.{differs}
@@ -17,7 +17,7 @@ use Rattle.text_scan.proofs.Numbers.ScanStates.{alive_by}
 use Rattle.text_scan.proofs.Numbers.DecimalStates.{decimal_accepted, decimal_due, before_alive, before_rejects}
 use Rattle.std.specs.Str.Parse.{starts_with_minus}
 use Rattle.jsonb_value.proofs.Numbers.Fractions.{fraction_text}
-use Rattle.text_scan.proofs.Numbers.TextParts.{IsExtendedUnrepresentable}
+use Rattle.text_scan.proofs.Numbers.TextParts.{IsUnrepresentableHexadecimal, IsExtendedUnrepresentable}
 use Rattle.text_scan.proofs.Scalars.WordLetters.{Encodes}
 
 -- `n` or `i` in either case
@@ -48,6 +48,12 @@ abbrev pub ScansExtended : List ℕ → Scanned → Type 0
 ScansExtended bytes (Ok (Some n, end)) = ReadsText bytes end (λ text. IsExtendedNumber text n)
 ScansExtended bytes (Ok (None, end)) = ReadsText bytes end IsExtendedUnrepresentable
 ScansExtended bytes (Err f) = IsNumberCode f.0 × NoExtendedEnds bytes
+
+-- what a scan of a word or of a hexadecimal says of the bytes
+abbrev pub ScansOther : List ℕ → Scanned → Type 0
+ScansOther bytes (Ok (Some n, end)) = ReadsText bytes end (λ text. IsHexadecimalNumber text n)
+ScansOther bytes (Ok (None, end)) = ReadsText bytes end (λ text. IsUnrepresentableHexadecimal text ⊎ IsWordText text)
+ScansOther bytes (Err f) = IsNumberCode f.0 × NoExtendedEnds bytes
 
 -- ---- the first byte after the sign
 

@@ -11,7 +11,7 @@ use Rattle.jsonb_spec.specs.Tree.{Num}
 use Rattle.text_scan.specs.Parsing.ExtendedNumber.{invalid, core_byte, hexadecimal_length, hexadecimal_fits, fraction_scan, hexadecimal_scan, ContinuesNumberExtended}
 use Rattle.text_scan.proofs.Numbers.HexadecimalAnswers.{without_number, taken_digits, fraction_without_digits, fraction_after_past, fraction_not_representable, fraction_past, hexadecimal_without_digits, hexadecimal_with_point, hexadecimal_past, hexadecimal_whole_at}
 use Rattle.text_scan.proofs.Numbers.HexadecimalTexts.{IsHexadecimalScan, AreGood, scan_length, hexadecimal_ends}
-use Rattle.text_scan.proofs.Numbers.ExtendedTexts.{IsWordStart, IsLongestExtended, NoExtendedEnds, ScansExtended, core_of, letter_is, word_found, found_letter, decimals_before_mark}
+use Rattle.text_scan.proofs.Numbers.ExtendedTexts.{IsWordStart, IsLongestExtended, NoExtendedEnds, ScansOther, core_of, letter_is, word_found, found_letter, decimals_before_mark}
 use Rattle.text_scan.proofs.Numbers.Steps.{is_below, is_not_below}
 use Rattle.jsonb_value.proofs.Numbers.Fractions.{fraction_text}
 
@@ -111,16 +111,16 @@ no_digits xs n count none some = omega (arith, none, some, length-take-le n xs (
 some_digits : (xs : List ℕ) (n : ℕ) → n ≡ hexadecimal_length xs → n ≢ 0 → (0 < length (take n xs)) × AllDigits 16 (take n xs)
 some_digits xs n count some = (omega (arith, some, length-take-le n xs (omega (arith, count, (taken_digits xs).2))), subst (λ i. AllDigits 16 (take i xs)) (sym count) (taken_digits xs).0)
 
-invalid_in : (bytes : List ℕ) (offset : ℕ) → NoExtendedEnds bytes → ScansExtended bytes (invalid offset)
+invalid_in : (bytes : List ℕ) (offset : ℕ) → NoExtendedEnds bytes → ScansOther bytes (invalid offset)
 invalid_in bytes offset none = (inl refl, none)
 
 reads_fraction : (bytes sign : List ℕ) (mark : ℕ) (rest : List ℕ) (offset n m : ℕ) (fits : Bool) (behind : List ℕ) → IsHexadecimalFront bytes sign mark rest → offset ≡ length sign + 2 →
-    n ≡ hexadecimal_length rest → n ≢ 0 → slice_index rest n ≡ 46 → behind ≡ drop (n + 1) rest → m ≡ hexadecimal_length behind → fits ≡ hexadecimal_fits (take n rest) → ScansExtended bytes (fraction_scan (offset + n + 1) fits behind)
+    n ≡ hexadecimal_length rest → n ≢ 0 → slice_index rest n ≡ 46 → behind ≡ drop (n + 1) rest → m ≡ hexadecimal_length behind → fits ≡ hexadecimal_fits (take n rest) → ScansOther bytes (fraction_scan (offset + n + 1) fits behind)
 reads_fraction bytes sign mark rest offset n m fits behind front start count some point same more fits_is =
     let scan = subst (λ i. IsHexadecimalScan bytes sign mark (take n rest) (Some (take i behind)) (drop i behind)) (sym more) (point_scan bytes sign mark rest n behind count same front point) in
-    let none : ¬ AreGood (take n rest) (Some (take m behind)) → (p : ℕ) → ScansExtended bytes (invalid p) = λ bad p. invalid_in bytes p (none_in_scan bytes sign mark (take n rest) (Some (take m behind)) (drop m behind) scan bad) in
+    let none : ¬ AreGood (take n rest) (Some (take m behind)) → (p : ℕ) → ScansOther bytes (invalid p) = λ bad p. invalid_in bytes p (none_in_scan bytes sign mark (take n rest) (Some (take m behind)) (drop m behind) scan bad) in
     ⊎_elim
-    (λ empty. subst (ScansExtended bytes) (fraction_without_digits (offset + n + 1) m fits behind more empty) (none (λ good. no_digits behind m more empty good.digits_behind.0) (offset + n + 1)))
+    (λ empty. subst (ScansOther bytes) (fraction_without_digits (offset + n + 1) m fits behind more empty) (none (λ good. no_digits behind m more empty good.digits_behind.0) (offset + n + 1)))
     (λ digits. ⊎_elim
     (λ small. ⊎_elim
     (λ small_too.
@@ -129,19 +129,19 @@ reads_fraction bytes sign mark rest offset n m fits behind front start count som
     let long_whole = length-take-le n rest (omega (arith, count, (taken_digits rest).2)) in
     let long_behind = length-take-le m behind (omega (arith, more, (taken_digits behind).2)) in
     let there : scan_length sign (take n rest) (Some (take m behind)) ≡ offset + n + 1 + m = omega (arith, start, long_whole, long_behind) in
-    let found : ScansExtended bytes (without_number (offset + n + 1 + m)) = subst (λ e. ScansExtended bytes (without_number e)) there (record {
+    let found : ScansOther bytes (without_number (offset + n + 1 + m)) = subst (λ e. ScansOther bytes (without_number e)) there (record {
       within = parts.0;
-      text = inr (inl (sign, mark, take n rest, Some (take m behind), parts.1, inl (λ e. absurd (cc))));
+      text = inl (sign, mark, take n rest, Some (take m behind), parts.1, inl (λ e. absurd (cc)));
       longest = longest_in_scan bytes sign mark (take n rest) (Some (take m behind)) (drop m behind) scan;
     }) in
-    subst (ScansExtended bytes) (fraction_not_representable (offset + n + 1) m fits behind more digits (fits_is ∙ is_below (digits_value 16 (take n rest)) (2 ^ 128) small) small_too) found)
-    (λ large. subst (ScansExtended bytes) (fraction_past (offset + n + 1) m fits behind more digits (fits_is ∙ is_below (digits_value 16 (take n rest)) (2 ^ 128) small) (λ less. omega (arith, less, large))) (none (λ good. omega (arith, good.fraction_fits, large)) (offset + n + 1 + m)))
+    subst (ScansOther bytes) (fraction_not_representable (offset + n + 1) m fits behind more digits (fits_is ∙ is_below (digits_value 16 (take n rest)) (2 ^ 128) small) small_too) found)
+    (λ large. subst (ScansOther bytes) (fraction_past (offset + n + 1) m fits behind more digits (fits_is ∙ is_below (digits_value 16 (take n rest)) (2 ^ 128) small) (λ less. omega (arith, less, large))) (none (λ good. omega (arith, good.fraction_fits, large)) (offset + n + 1 + m)))
     (cases_lt (digits_value 16 (take m behind)) (2 ^ 128)))
-    (λ large. subst (ScansExtended bytes) (fraction_after_past (offset + n + 1) m fits behind more digits (fits_is ∙ is_not_below (digits_value 16 (take n rest)) (2 ^ 128) (omega (arith, large)))) (none (λ good. omega (arith, good.whole_fits, large)) (offset + n + 1 + m)))
+    (λ large. subst (ScansOther bytes) (fraction_after_past (offset + n + 1) m fits behind more digits (fits_is ∙ is_not_below (digits_value 16 (take n rest)) (2 ^ 128) (omega (arith, large)))) (none (λ good. omega (arith, good.whole_fits, large)) (offset + n + 1 + m)))
     (cases_lt (digits_value 16 (take n rest)) (2 ^ 128))) (cases_eq m 0)
 
 reads_whole : (bytes sign : List ℕ) (mark : ℕ) (rest : List ℕ) (offset n : ℕ) (r : Option Num) → IsHexadecimalFront bytes sign mark rest → offset ≡ length sign + 2 →
-    n ≡ hexadecimal_length rest → n ≢ 0 → IsHexadecimalScan bytes sign mark (take n rest) None (drop n rest) → digits_value 16 (take n rest) < 2 ^ 128 → hexadecimal_number (starts_with_minus sign) (digits_value 16 (take n rest)) ≡ r → ScansExtended bytes (Ok (r, offset + n))
+    n ≡ hexadecimal_length rest → n ≢ 0 → IsHexadecimalScan bytes sign mark (take n rest) None (drop n rest) → digits_value 16 (take n rest) < 2 ^ 128 → hexadecimal_number (starts_with_minus sign) (digits_value 16 (take n rest)) ≡ r → ScansOther bytes (Ok (r, offset + n))
 reads_whole bytes sign mark rest offset n r front start count some scan small number = by_number r number
   where
     good : AreGood (take n rest) None
@@ -153,31 +153,31 @@ reads_whole bytes sign mark rest offset n r front start count some scan small nu
     there : scan_length sign (take n rest) None ≡ offset + n
     there = omega (arith, start, length-take-le n rest (omega (arith, count, (taken_digits rest).2)))
 
-    by_number : (o : Option Num) → hexadecimal_number (starts_with_minus sign) (digits_value 16 (take n rest)) ≡ o → ScansExtended bytes (Ok (o, offset + n))
-    by_number None e = subst (λ k. ScansExtended bytes (Ok (None, k))) there (record {
+    by_number : (o : Option Num) → hexadecimal_number (starts_with_minus sign) (digits_value 16 (take n rest)) ≡ o → ScansOther bytes (Ok (o, offset + n))
+    by_number None e = subst (λ k. ScansOther bytes (Ok (None, k))) there (record {
       within = parts.0;
-      text = inr (inl (sign, mark, take n rest, None, parts.1, inr e));
+      text = inl (sign, mark, take n rest, None, parts.1, inr e);
       longest = longest_in_scan bytes sign mark (take n rest) None (drop n rest) scan;
     })
-    by_number (Some v) e = subst (λ k. ScansExtended bytes (Ok (Some v, k))) there (record {
+    by_number (Some v) e = subst (λ k. ScansOther bytes (Ok (Some v, k))) there (record {
       within = parts.0;
-      text = inr (sign, mark, take n rest, parts.1, e);
+      text = (sign, mark, take n rest, parts.1, e);
       longest = longest_in_scan bytes sign mark (take n rest) None (drop n rest) scan;
     })
 
-pub reads_hexadecimal : (bytes sign : List ℕ) (mark : ℕ) (rest : List ℕ) (offset : ℕ) (negative : Bool) → IsHexadecimalFront bytes sign mark rest → offset ≡ length sign + 2 → negative ≡ starts_with_minus sign → ScansExtended bytes (hexadecimal_scan offset negative rest)
+pub reads_hexadecimal : (bytes sign : List ℕ) (mark : ℕ) (rest : List ℕ) (offset : ℕ) (negative : Bool) → IsHexadecimalFront bytes sign mark rest → offset ≡ length sign + 2 → negative ≡ starts_with_minus sign → ScansOther bytes (hexadecimal_scan offset negative rest)
 reads_hexadecimal bytes sign mark rest offset negative front start minus =
     ⊎_elim
-    (λ empty. subst (ScansExtended bytes) (hexadecimal_without_digits offset (hexadecimal_length rest) negative rest refl empty)
+    (λ empty. subst (ScansOther bytes) (hexadecimal_without_digits offset (hexadecimal_length rest) negative rest refl empty)
     (invalid_in bytes offset (⊎_elim
     (λ point. none_in_scan bytes sign mark (take (hexadecimal_length rest) rest) (Some (take (hexadecimal_length (drop (hexadecimal_length rest + 1) rest)) (drop (hexadecimal_length rest + 1) rest))) (drop (hexadecimal_length (drop (hexadecimal_length rest + 1) rest)) (drop (hexadecimal_length rest + 1) rest)) (point_scan bytes sign mark rest (hexadecimal_length rest) (drop (hexadecimal_length rest + 1) rest) refl refl front point) (λ good. no_digits rest (hexadecimal_length rest) refl empty good.are_digits.0))
     (λ no_point. none_in_scan bytes sign mark (take (hexadecimal_length rest) rest) None (drop (hexadecimal_length rest) rest) (plain_scan bytes sign mark rest front no_point) (λ good. no_digits rest (hexadecimal_length rest) refl empty good.are_digits.0)) (cases_eq (slice_index rest (hexadecimal_length rest)) 46))))
     (λ some. ⊎_elim
-    (λ point. subst (ScansExtended bytes) (hexadecimal_with_point offset (hexadecimal_length rest) negative (hexadecimal_fits (take (hexadecimal_length rest) rest)) rest refl some point refl)
+    (λ point. subst (ScansOther bytes) (hexadecimal_with_point offset (hexadecimal_length rest) negative (hexadecimal_fits (take (hexadecimal_length rest) rest)) rest refl some point refl)
     (reads_fraction bytes sign mark rest offset (hexadecimal_length rest) (hexadecimal_length (drop (hexadecimal_length rest + 1) rest)) (hexadecimal_fits (take (hexadecimal_length rest) rest)) (drop (hexadecimal_length rest + 1) rest) front start refl some point refl refl refl))
     (λ no_point. ⊎_elim
-    (λ small. subst (ScansExtended bytes) (hexadecimal_whole_at offset (hexadecimal_length rest) (digits_value 16 (take (hexadecimal_length rest) rest)) negative (hexadecimal_number negative (digits_value 16 (take (hexadecimal_length rest) rest))) rest refl some no_point small refl refl)
+    (λ small. subst (ScansOther bytes) (hexadecimal_whole_at offset (hexadecimal_length rest) (digits_value 16 (take (hexadecimal_length rest) rest)) negative (hexadecimal_number negative (digits_value 16 (take (hexadecimal_length rest) rest))) rest refl some no_point small refl refl)
     (reads_whole bytes sign mark rest offset (hexadecimal_length rest) (hexadecimal_number negative (digits_value 16 (take (hexadecimal_length rest) rest))) front start refl some (plain_scan bytes sign mark rest front no_point) small (ap (λ b. hexadecimal_number b (digits_value 16 (take (hexadecimal_length rest) rest))) (sym minus))))
-    (λ large. subst (ScansExtended bytes) (hexadecimal_past offset (hexadecimal_length rest) negative rest refl some no_point (λ less. omega (arith, less, large)))
+    (λ large. subst (ScansOther bytes) (hexadecimal_past offset (hexadecimal_length rest) negative rest refl some no_point (λ less. omega (arith, less, large)))
     (invalid_in bytes (offset + hexadecimal_length rest) (none_in_scan bytes sign mark (take (hexadecimal_length rest) rest) None (drop (hexadecimal_length rest) rest) (plain_scan bytes sign mark rest front no_point) (λ good. omega (arith, good.whole_fits, large)))))
     (cases_lt (digits_value 16 (take (hexadecimal_length rest) rest)) (2 ^ 128))) (cases_eq (slice_index rest (hexadecimal_length rest)) 46)) (cases_eq (hexadecimal_length rest) 0)

@@ -142,7 +142,7 @@ whole_alone bs has_whole no_point no_mark =
 
 -- ---- the number
 
-pub read_fault : (size : ℕ) (bs : List ℕ) (offset : ℕ) → standard_end bs ≡ Err offset → standard_number_at size bs ≡ fault invalid_number_value (size - length bs + offset)
+read_fault : (size : ℕ) (bs : List ℕ) (offset : ℕ) → standard_end bs ≡ Err offset → standard_number_at size bs ≡ fault invalid_number_value (size - length bs + offset)
 unfolding standard_number_at
 read_fault size bs offset at = ap (number_to size bs) at
 

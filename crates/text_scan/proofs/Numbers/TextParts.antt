@@ -68,7 +68,7 @@ plain_parts bytes sign zeros whole fraction p =
     }
 
 -- what is before an exponent
-front_parts : (bytes sign zeros whole : List ℕ) (fraction : Option (List ℕ)) (exponent front : List ℕ) → HasTextParts bytes sign zeros whole fraction exponent → front ≡ sign ++ (zeros ++ (whole ++ fraction_text fraction)) → HasDecimalParts front sign zeros whole fraction
+pub front_parts : (bytes sign zeros whole : List ℕ) (fraction : Option (List ℕ)) (exponent front : List ℕ) → HasTextParts bytes sign zeros whole fraction exponent → front ≡ sign ++ (zeros ++ (whole ++ fraction_text fraction)) → HasDecimalParts front sign zeros whole fraction
 front_parts bytes sign zeros whole fraction exponent front p is =
     record {
       joined = is;
@@ -84,7 +84,7 @@ pub decimal_parts_of : (bytes sign zeros whole : List ℕ) (fraction : Option (L
 decimal_parts_of bytes sign zeros whole fraction p =
     front_parts bytes sign zeros whole fraction [] bytes p (p.joined ∙ ap (λ r. sign ++ (zeros ++ (whole ++ r))) (append-nil (fraction_text fraction)))
 
-regrouped : (sign zeros whole text exponent : List ℕ) → (sign ++ (zeros ++ (whole ++ text))) ++ exponent ≡ sign ++ (zeros ++ (whole ++ (text ++ exponent)))
+pub regrouped : (sign zeros whole text exponent : List ℕ) → (sign ++ (zeros ++ (whole ++ text))) ++ exponent ≡ sign ++ (zeros ++ (whole ++ (text ++ exponent)))
 regrouped sign zeros whole text exponent =
     append_assoc sign (zeros ++ (whole ++ text)) exponent ∙ ap (λ r. sign ++ r) (append_assoc zeros (whole ++ text) exponent ∙ ap (λ r. zeros ++ r) (append_assoc whole text exponent))
 
@@ -101,27 +101,26 @@ decimal_text_of bytes sign zeros whole fraction exponent p = (
   front_parts bytes sign zeros whole fraction exponent (sign ++ (zeros ++ (whole ++ fraction_text fraction))) p refl,
 )
 
+-- the parts of a decimal with an exponent behind it
+pub parts_with : (bytes front exponent sign zeros whole : List ℕ) (fraction : Option (List ℕ)) → bytes ≡ front ++ exponent → IsExponent exponent → HasDecimalParts front sign zeros whole fraction → HasTextParts bytes sign zeros whole fraction exponent
+parts_with bytes front exponent sign zeros whole fraction joined is_exponent p =
+    record {
+      joined = joined ∙ ap (λ f. f ++ exponent) p.joined ∙ regrouped sign zeros whole (fraction_text fraction) exponent;
+      is_sign = p.is_sign;
+      are_zeros = p.are_zeros;
+      whole_digits = p.whole_digits;
+      no_zero_first = p.no_zero_first;
+      digits_behind = p.digits_behind;
+      some_digit = p.some_digit;
+      is_exponent = is_exponent;
+    }
+
 abbrev pub HasDecimalText : List ℕ → Type 0
 HasDecimalText bytes = (sign : List ℕ) × (zeros : List ℕ) × (whole : List ℕ) × (fraction : Option (List ℕ)) × (exponent : List ℕ) × HasTextParts bytes sign zeros whole fraction exponent
 
 pub text_parts : (bytes : List ℕ) → IsDecimalText bytes → HasDecimalText bytes
-text_parts bytes (front, exponent, joined, is_exponent, sign, zeros, whole, fraction, p) = (
-  sign,
-  zeros,
-  whole,
-  fraction,
-  exponent,
-  record {
-    joined = joined ∙ ap (λ f. f ++ exponent) p.joined ∙ regrouped sign zeros whole (fraction_text fraction) exponent;
-    is_sign = p.is_sign;
-    are_zeros = p.are_zeros;
-    whole_digits = p.whole_digits;
-    no_zero_first = p.no_zero_first;
-    digits_behind = p.digits_behind;
-    some_digit = p.some_digit;
-    is_exponent = is_exponent;
-  },
-)
+text_parts bytes (front, exponent, joined, is_exponent, sign, zeros, whole, fraction, p) =
+    (sign, zeros, whole, fraction, exponent, parts_with bytes front exponent sign zeros whole fraction joined is_exponent p)
 
 -- a decimal number text with an exponent or with 39 digits or more
 abbrev pub IsUnrepresentableDecimal : List ℕ → Type 0

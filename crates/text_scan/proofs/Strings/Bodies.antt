@@ -5,7 +5,7 @@ use Rattle.std.proofs.lemmas.Bool.{cases_lt, cond-false}
 use Rattle.memchr.specs.Find.{is_byte2}
 use Rattle.std.specs.Str.{IsUtf8}
 use Rattle.std.specs.List.{flat_map, AllByRecursion}
-use Rattle.jsonb_spec.specs.Mode.{Mode}
+use Rattle.jsonb_spec.specs.Mode.{Mode, GoesBeyondJson}
 use Rattle.jsonb_spec.specs.Tree.{Mark, plain, escaped}
 use Rattle.jsonb_value.specs.Error.CodeView.{code_of}
 use Rattle.jsonb_spec.specs.Code.{invalid_eof, invalid_string_value}
@@ -35,24 +35,24 @@ mark_of-raws : (bytes : List ℕ) → mark_of (map raw bytes) ≡ plain
 mark_of-raws [] = refl
 mark_of-raws (byte ∷ bytes) = mark_of-raws bytes
 
-raw_body : (mode : Mode) (bytes : List ℕ) → SeesNoBackslash bytes (length bytes) → IsBody mode bytes (map raw bytes)
-raw_body mode bytes none = record { encoded = sym (encoding-raw bytes); each = items-raw mode bytes none }
+raw_body : (mode : Mode) (bytes : List ℕ) → GoesBeyondJson mode → SeesNoBackslash bytes (length bytes) → IsBody mode bytes (map raw bytes)
+raw_body mode bytes beyond none = record { encoded = sym (encoding-raw bytes); each = items-raw mode bytes beyond none }
 
-pub body-raw : (mode : Mode) (bytes : List ℕ) → SeesNoBackslash bytes (length bytes) → IsUtf8 bytes → body_of mode bytes ≡ Ok (plain, bytes)
-body-raw mode bytes none utf8 =
-    body_complete mode bytes (map raw bytes) (raw_body mode bytes none) (subst IsUtf8 (sym (meaning-raws bytes)) utf8)
+pub body-raw : (mode : Mode) (bytes : List ℕ) → GoesBeyondJson mode → SeesNoBackslash bytes (length bytes) → IsUtf8 bytes → body_of mode bytes ≡ Ok (plain, bytes)
+body-raw mode bytes beyond none utf8 =
+    body_complete mode bytes (map raw bytes) (raw_body mode bytes beyond none) (subst IsUtf8 (sym (meaning-raws bytes)) utf8)
     ∙ ap (λ (m : Mark). Ok (m, meaning (map raw bytes))) (mark_of-raws bytes) ∙ ap (λ (t : List ℕ). Ok (plain, t)) (meaning-raws bytes)
 
-pub body-raw_fault : (mode : Mode) (bytes : List ℕ) → SeesNoBackslash bytes (length bytes) → ¬ (IsUtf8 bytes) → body_of mode bytes ≡ Err (invalid_string_value, length bytes)
-body-raw_fault mode bytes none no_utf8 =
+pub body-raw_fault : (mode : Mode) (bytes : List ℕ) → GoesBeyondJson mode → SeesNoBackslash bytes (length bytes) → ¬ (IsUtf8 bytes) → body_of mode bytes ≡ Err (invalid_string_value, length bytes)
+body-raw_fault mode bytes beyond none no_utf8 =
     body_faulty mode bytes invalid_string_value (length bytes)
-    (inr (record { items = map raw bytes; body = raw_body mode bytes none; not_utf8 = λ utf8. no_utf8 (subst IsUtf8 (meaning-raws bytes) utf8); invalid = refl; count = refl }))
+    (inr (record { items = map raw bytes; body = raw_body mode bytes beyond none; not_utf8 = λ utf8. no_utf8 (subst IsUtf8 (meaning-raws bytes) utf8); invalid = refl; count = refl }))
 
 -- ---- bytes with a backslash
 
 mark_of-escaped : (mode : Mode) (items : List Item) → AllByRecursion (IsItem mode) items → (k : ℕ) → k < length (flat_map encoding items) → get_or (flat_map encoding items) k 0 ≡ 92 → mark_of items ≡ escaped
 mark_of-escaped mode [] each k low here = absurd (omega (arith, low))
-mark_of-escaped mode (raw byte ∷ items) each zero low here = absurd (each.0 here)
+mark_of-escaped mode (raw byte ∷ items) each zero low here = absurd (each.0.0 here)
 mark_of-escaped mode (raw byte ∷ items) each (suc k) low here = mark_of-escaped mode items each.1 k (omega (arith, low)) here
 mark_of-escaped mode (escape letter byte ∷ items) each k low here = refl
 mark_of-escaped mode (unit braces digits ∷ items) each k low here = refl

@@ -4,7 +4,7 @@ use Rattle.std.proofs.lemmas.Str.{IsUtf8-nil}
 use Rattle.std.proofs.lemmas.List.{append-nil, get_or-take, length-take-le, take-append-drop, take-append-le, take-take}
 use Rattle.std.specs.List.{flat_map}
 use Rattle.std.specs.Str.{IsUtf8}
-use Rattle.jsonb_spec.specs.Mode.{Mode, standard, extended}
+use Rattle.jsonb_spec.specs.Mode.{Mode, GoesBeyondJson, Strictness, strict, lenient, strictness}
 use Rattle.jsonb_spec.specs.Tree.{escaped}
 use Rattle.jsonb_spec.specs.Grammar.StringBody.{Item, encoding, escaped_byte}
 use Rattle.text_scan.specs.Decoding.{DecodesUpTo, IsDecodedUpTo, IsShortLetter, SeesBackslash, SeesNoBackslash}
@@ -55,12 +55,12 @@ clear_taken bytes count within clear k low =
     rw (get_or-take count bytes k 0 inside) (clear k inside)
 
 -- bytes without a backslash are passed
-pub up_to_run : (mode : Mode) (a b : List ℕ) (count : ℕ) → count ≤ length b → SeesNoBackslash b count → IsDecodedUpTo mode a b → IsDecodedUpTo mode a (drop count b)
-up_to_run mode a b count within clear p =
+pub up_to_run : (mode : Mode) (a b : List ℕ) (count : ℕ) → GoesBeyondJson mode → count ≤ length b → SeesNoBackslash b count → IsDecodedUpTo mode a b → IsDecodedUpTo mode a (drop count b)
+up_to_run mode a b count beyond within clear p =
     let run = take count b in
     let split : b ≡ run ++ drop count b = sym (take-append-drop count b) in
     up_to_then mode a b (drop count b) p
-    (record { text = run; decodes = subst (λ (u : List ℕ). DecodesUpTo mode u (drop count b) run) (sym split) (decoded_run mode run (drop count b) (clear_taken b count within clear)) })
+    (record { text = run; decodes = subst (λ (u : List ℕ). DecodesUpTo mode u (drop count b) run) (sym split) (decoded_run mode run (drop count b) beyond (clear_taken b count within clear)) })
 
 -- ---- texts that are decoded behind others
 
@@ -74,9 +74,12 @@ front_stays len end old new added inside within appended =
 
 -- ---- escapes of one letter
 
-short_byte : (mode : Mode) (letter byte : ℕ) (rest : List ℕ) → escaped_byte standard letter ≡ Some byte → escaped_byte extended letter ≡ Some byte → IsDecodedUpTo mode (92 ∷ letter ∷ rest) rest
-short_byte standard letter byte rest p q = record { text = byte ∷ []; decodes = decoded_escape standard letter byte rest p }
-short_byte extended letter byte rest p q = record { text = byte ∷ []; decodes = decoded_escape extended letter byte rest q }
+short_escape : (s : Strictness) (letter byte : ℕ) → escaped_byte strict letter ≡ Some byte → escaped_byte lenient letter ≡ Some byte → escaped_byte s letter ≡ Some byte
+short_escape strict letter byte p q = p
+short_escape lenient letter byte p q = q
+
+short_byte : (mode : Mode) (letter byte : ℕ) (rest : List ℕ) → escaped_byte strict letter ≡ Some byte → escaped_byte lenient letter ≡ Some byte → IsDecodedUpTo mode (92 ∷ letter ∷ rest) rest
+short_byte mode letter byte rest p q = record { text = byte ∷ []; decodes = decoded_escape mode letter byte rest (short_escape (strictness mode) letter byte p q) }
 
 short_letter : (mode : Mode) (letter : ℕ) (rest : List ℕ) → IsShortLetter letter → IsDecodedUpTo mode (92 ∷ letter ∷ rest) rest
 short_letter mode letter rest is =

@@ -4,7 +4,7 @@ use Rattle.std.proofs.lemmas.List.{append_assoc, append-nil}
 use Rattle.std.proofs.lemmas.Grind.{flat_map-append}
 use Rattle.std.specs.Str.{IsUtf8}
 use Rattle.std.specs.List.{flat_map, AllByRecursion}
-use Rattle.jsonb_spec.specs.Mode.{Mode}
+use Rattle.jsonb_spec.specs.Mode.{Mode, strictness, GoesBeyondJson}
 use Rattle.jsonb_spec.specs.Code.{Code}
 use Rattle.jsonb_spec.specs.Code.{invalid_hex, invalid_escaped, invalid_string_value, unexpected_end_of_hex_escape}
 use Rattle.jsonb_spec.specs.Grammar.StringBody.{Item, raw, escape, unit, after_u, encoding, IsItem, IsBody, Decodes, escaped_byte, alone, together, meaning}
@@ -14,6 +14,7 @@ use Rattle.text_scan.specs.Decoding.{SplitsUnit, ParsesUnit, DecodesUpTo, Adds, 
 use Rattle.jsonb_value.proofs.Strings.Units.{length-alone, length-together, length-after_u}
 use Rattle.jsonb_value.proofs.Strings.Meaning.{each-append, meaning-raw, meaning-escape, meaning-together, meaning-alone, meaning-last}
 use Rattle.std.specs.Char.Utf16.{is_high_surrogate}
+use Rattle.text_scan.proofs.Steps.Modes.{beyond-raw}
 
 -- ---- steps
 
@@ -30,7 +31,7 @@ decoded_then mode a b c t u p q = record {
   short = omega (arith, p.short, q.short, length-append t u);
 }
 
-pub decoded_escape : (mode : Mode) (letter byte : ℕ) (rest : List ℕ) → escaped_byte mode letter ≡ Some byte → DecodesUpTo mode (92 ∷ letter ∷ rest) rest (byte ∷ [])
+pub decoded_escape : (mode : Mode) (letter byte : ℕ) (rest : List ℕ) → escaped_byte (strictness mode) letter ≡ Some byte → DecodesUpTo mode (92 ∷ letter ∷ rest) rest (byte ∷ [])
 decoded_escape mode letter byte rest is = record { items = escape letter byte ∷ []; each = (is, tt); encoded = refl; meant = λ tail h. meaning-escape letter byte tail; short = omega arith }
 
 pub sees_rest : (byte : ℕ) (bytes : List ℕ) → SeesNoBackslash (byte ∷ bytes) (length (byte ∷ bytes)) → SeesNoBackslash bytes (length bytes)
@@ -40,18 +41,18 @@ pub encoding-raw : (bytes : List ℕ) → flat_map encoding (map raw bytes) ≡ 
 encoding-raw [] = refl
 encoding-raw (byte ∷ bytes) = ap (λ rest. byte ∷ rest) (encoding-raw bytes)
 
-pub items-raw : (mode : Mode) (bytes : List ℕ) → SeesNoBackslash bytes (length bytes) → AllByRecursion (IsItem mode) (map raw bytes)
-items-raw mode [] none = tt
-items-raw mode (byte ∷ bytes) none = (none 0 (omega arith), items-raw mode bytes (sees_rest byte bytes none))
+pub items-raw : (mode : Mode) (bytes : List ℕ) → GoesBeyondJson mode → SeesNoBackslash bytes (length bytes) → AllByRecursion (IsItem mode) (map raw bytes)
+items-raw mode [] beyond none = tt
+items-raw mode (byte ∷ bytes) beyond none = ((none 0 (omega arith), beyond-raw mode byte beyond), items-raw mode bytes beyond (sees_rest byte bytes none))
 
 meaning-raws_then : (bytes : List ℕ) (tail : List Item) → meaning (map raw bytes ++ tail) ≡ bytes ++ meaning tail
 meaning-raws_then [] tail = refl
 meaning-raws_then (byte ∷ bytes) tail = meaning-raw byte (map raw bytes ++ tail) ∙ ap (λ rest. byte ∷ rest) (meaning-raws_then bytes tail)
 
-pub decoded_run : (mode : Mode) (run rest : List ℕ) → SeesNoBackslash run (length run) → DecodesUpTo mode (run ++ rest) rest run
-decoded_run mode run rest none = record {
+pub decoded_run : (mode : Mode) (run rest : List ℕ) → GoesBeyondJson mode → SeesNoBackslash run (length run) → DecodesUpTo mode (run ++ rest) rest run
+decoded_run mode run rest beyond none = record {
   items = map raw run;
-  each = items-raw mode run none;
+  each = items-raw mode run beyond none;
   encoded = ap (λ front. front ++ rest) (sym (encoding-raw run));
   meant = λ tail h. meaning-raws_then run tail;
   short = omega (arith, length-append run rest);
@@ -64,11 +65,11 @@ encoded_unit braces bytes digits rest split = ap (λ more. 92 ∷ 117 ∷ more) 
 longer_unit : (braces : Bool) (bytes digits rest : List ℕ) → bytes ≡ after_u braces digits ++ rest → length digits ≡ 4 → 4 + length rest ≤ length bytes
 longer_unit braces bytes digits rest split four = omega (arith, ap length split, length-append (after_u braces digits) rest, length-after_u braces digits four)
 
-pub decoded_alone : (mode : Mode) (bytes digits rest : List ℕ) (value : ℕ) → ParsesUnit bytes digits rest value → (is_high_surrogate value ≡ false) ⊎ ((more : List ℕ) → rest ≢ 92 ∷ 117 ∷ more) → DecodesUpTo mode (92 ∷ 117 ∷ bytes) rest (alone digits)
-decoded_alone mode bytes digits rest value r ends =
+pub decoded_alone : (mode : Mode) (bytes digits rest : List ℕ) (value : ℕ) → GoesBeyondJson mode → ParsesUnit bytes digits rest value → (is_high_surrogate value ≡ false) ⊎ ((more : List ℕ) → rest ≢ 92 ∷ 117 ∷ more) → DecodesUpTo mode (92 ∷ 117 ∷ bytes) rest (alone digits)
+decoded_alone mode bytes digits rest value beyond r ends =
     let s = r.splits in record {
       items = unit s.braces digits ∷ [];
-      each = ((s.four, r.each), tt);
+      each = ((s.four, r.each, λ braces. beyond), tt);
       encoded = encoded_unit s.braces bytes digits rest s.split;
       meant = λ tail h. ⊎_elim
           (λ low. meaning-alone s.braces digits tail (ap is_high_surrogate (sym r.is) ∙ low))
@@ -77,12 +78,12 @@ decoded_alone mode bytes digits rest value r ends =
       short = omega (arith, longer_unit s.braces bytes digits rest s.split s.four, length-alone digits s.four);
     }
 
-pub decoded_together : (mode : Mode) (bytes first between next rest : List ℕ) (value other : ℕ) → ParsesUnit bytes first (92 ∷ 117 ∷ between) value → is_high_surrogate value ≡ true → ParsesUnit between next rest other → DecodesUpTo mode (92 ∷ 117 ∷ bytes) rest (together first next)
-decoded_together mode bytes first between next rest value other r high q =
+pub decoded_together : (mode : Mode) (bytes first between next rest : List ℕ) (value other : ℕ) → GoesBeyondJson mode → ParsesUnit bytes first (92 ∷ 117 ∷ between) value → is_high_surrogate value ≡ true → ParsesUnit between next rest other → DecodesUpTo mode (92 ∷ 117 ∷ bytes) rest (together first next)
+decoded_together mode bytes first between next rest value other beyond r high q =
     let s = r.splits in
     let t = q.splits in record {
       items = unit s.braces first ∷ unit t.braces next ∷ [];
-      each = ((s.four, r.each), ((t.four, q.each), tt));
+      each = ((s.four, r.each, λ braces. beyond), ((t.four, q.each, λ braces. beyond), tt));
       encoded = ap (λ more. 92 ∷ 117 ∷ more)
           (s.split ∙ ap (λ more. after_u s.braces first ++ 92 ∷ 117 ∷ more) (t.split ∙ ap (λ front. front ++ rest) (sym (append-nil (after_u t.braces next))))
           ∙ sym (append_assoc (after_u s.braces first) (92 ∷ 117 ∷ (after_u t.braces next ++ [])) rest));
@@ -98,10 +99,10 @@ adds_then mode a b c old middle new p q = record {
 }
 
 -- the same over a run of raw bytes
-pub adds_run : (mode : Mode) (a b run rest old middle new : List ℕ) → Adds mode a b old middle → b ≡ run ++ rest → SeesNoBackslash run (length run) → new ≡ middle ++ run → Adds mode a rest old new
-adds_run mode a b run rest old middle new p split none appended =
+pub adds_run : (mode : Mode) (a b run rest old middle new : List ℕ) → GoesBeyondJson mode → Adds mode a b old middle → b ≡ run ++ rest → SeesNoBackslash run (length run) → new ≡ middle ++ run → Adds mode a rest old new
+adds_run mode a b run rest old middle new beyond p split none appended =
     adds_then mode a b rest old middle new p
-    (record { text = run; appended = appended; decodes = subst (λ bytes. DecodesUpTo mode bytes rest run) (sym split) (decoded_run mode run rest none) })
+    (record { text = run; appended = appended; decodes = subst (λ bytes. DecodesUpTo mode bytes rest run) (sym split) (decoded_run mode run rest beyond none) })
 
 -- what the first byte is
 pub first_byte : (bytes rest : List ℕ) (byte first : ℕ) → bytes ≡ first ∷ rest → get_or bytes 0 0 ≡ byte → bytes ≡ byte ∷ rest
@@ -116,27 +117,27 @@ stops_cut mode bytes none = record {
   count = omega (arith, ap length none);
 }
 
-pub stops_unknown : (mode : Mode) (letter : ℕ) (bytes rest : List ℕ) → bytes ≡ letter ∷ rest → letter ≢ 117 → escaped_byte mode letter ≡ None → StopsAtEscape mode (92 ∷ bytes) (invalid_escaped letter) (length rest)
+pub stops_unknown : (mode : Mode) (letter : ℕ) (bytes rest : List ℕ) → bytes ≡ letter ∷ rest → letter ≢ 117 → escaped_byte (strictness mode) letter ≡ None → StopsAtEscape mode (92 ∷ bytes) (invalid_escaped letter) (length rest)
 stops_unknown mode letter bytes rest is other none = record {
   read = 2;
   cut = record { items = []; each = tt; rest = 92 ∷ bytes; encoded = refl; steps = 2; bad = unknown_escape letter rest (ap (λ more. 92 ∷ more) is) other none refl refl; count = refl };
   count = omega (arith, ap length is);
 }
 
-pub stops_first : (mode : Mode) (bytes : List ℕ) (code : Code) (left : ℕ) → StopsInUnit bytes code left → StopsAtEscape mode (92 ∷ 117 ∷ bytes) code left
+pub stops_first : (mode : Mode) (bytes : List ℕ) (code : Code) (left : ℕ) → StopsInUnit mode bytes code left → StopsAtEscape mode (92 ∷ 117 ∷ bytes) code left
 stops_first mode bytes code left stop = record {
   read = 2 + stop.steps;
   cut = record { items = []; each = tt; rest = 92 ∷ 117 ∷ bytes; encoded = refl; steps = 2 + stop.steps; bad = bad_unit bytes stop.steps refl stop.bad refl; count = omega arith };
   count = omega (arith, stop.count);
 }
 
-pub stops_next : (mode : Mode) (bytes first between : List ℕ) (value : ℕ) (code : Code) (left : ℕ) → ParsesUnit bytes first (92 ∷ 117 ∷ between) value → StopsInUnit between code left → StopsAtEscape mode (92 ∷ 117 ∷ bytes) code left
-stops_next mode bytes first between value code left r stop =
+pub stops_next : (mode : Mode) (bytes first between : List ℕ) (value : ℕ) (code : Code) (left : ℕ) → GoesBeyondJson mode → ParsesUnit bytes first (92 ∷ 117 ∷ between) value → StopsInUnit mode between code left → StopsAtEscape mode (92 ∷ 117 ∷ bytes) code left
+stops_next mode bytes first between value code left beyond r stop =
     let s = r.splits in
     let items = unit s.braces first ∷ [] in
     let encoded = encoded_unit s.braces bytes first (92 ∷ 117 ∷ between) s.split in record {
       read = length (flat_map encoding items) + (2 + stop.steps);
-      cut = record { items = items; each = ((s.four, r.each), tt); rest = 92 ∷ 117 ∷ between; encoded = encoded; steps = 2 + stop.steps; bad = bad_unit between stop.steps refl stop.bad refl; count = refl };
+      cut = record { items = items; each = ((s.four, r.each, λ braces. beyond), tt); rest = 92 ∷ 117 ∷ between; encoded = encoded; steps = 2 + stop.steps; bad = bad_unit between stop.steps refl stop.bad refl; count = refl };
       count = omega (arith, stop.count, ap length encoded, length-append (flat_map encoding items) (92 ∷ 117 ∷ between));
     }
 
@@ -155,10 +156,10 @@ stops_after mode a b t code left p stop =
 pub contents_left : (mode : Mode) (a b t : List ℕ) → AreContents mode a → DecodesUpTo mode a b t → AreContents mode b
 contents_left mode a b t contents p code left stop = contents code left (stops_after mode a b t code left p stop)
 
-pub stops_at_digit : (bytes digits rest : List ℕ) (byte : ℕ) → SplitsUnit bytes digits rest → IsFirstNonDigit digits byte → StopsInUnit bytes (invalid_hex byte) (length rest)
-stops_at_digit bytes digits rest byte s first = record {
+pub stops_at_digit : (mode : Mode) (bytes digits rest : List ℕ) (byte : ℕ) → GoesBeyondJson mode → SplitsUnit bytes digits rest → IsFirstNonDigit digits byte → StopsInUnit mode bytes (invalid_hex byte) (length rest)
+stops_at_digit mode bytes digits rest byte beyond s first = record {
   steps = length (after_u s.braces digits);
-  bad = bad_digit s.braces digits rest byte s.split s.four s.bare first refl refl;
+  bad = bad_digit s.braces digits rest byte (λ braces. beyond) s.split s.four (λ beyond. s.bare) first refl refl;
   count = omega (arith, ap length s.split, length-append (after_u s.braces digits) rest);
 }
 

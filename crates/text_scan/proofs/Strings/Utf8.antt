@@ -9,7 +9,7 @@ use Rattle.std.proofs.lemmas.Str.{IsUtf8-append, IsUtf8-drop, IsUtf8-encode, IsU
 use Rattle.std.specs.Char.{encode_utf8}
 use Rattle.std.specs.List.{flat_map, AllByRecursion}
 use Rattle.std.specs.Str.{IsAscii, IsUtf8}
-use Rattle.jsonb_spec.specs.Mode.{Mode, standard, extended}
+use Rattle.jsonb_spec.specs.Mode.{Mode, Strictness, strict, lenient, strictness}
 use Rattle.jsonb_spec.specs.Grammar.StringBody.{Item, raw, escape, unit, after_u, encoding, IsItem, IsHexDigit, escaped_byte, alone, together, meaning}
 use Rattle.jsonb_value.proofs.Strings.Units.{alone-retained, alone-character, together-retained, together-character, unit_digits}
 use Rattle.std.specs.Char.Utf16.{is_high_surrogate, is_low_surrogate, surrogate_pair_char}
@@ -89,10 +89,10 @@ beside_low letter byte (pair ∷ pairs) low is = by_test (eqb letter pair.0) ref
         (omega (arith, first, low.0.0), omega (arith, value, low.0.1))
     by_test false other others e = others e
 
-escape_low : (mode : Mode) (letter byte : ℕ) → escaped_byte mode letter ≡ Some byte → (letter < 128) × (byte < 128)
+escape_low : (s : Strictness) (letter byte : ℕ) → escaped_byte s letter ≡ Some byte → (letter < 128) × (byte < 128)
 unfolding IsLowPair byte_beside standard_escapes
-escape_low standard letter byte is = beside_low letter byte standard_escapes (search rules) is
-escape_low extended letter byte is = beside_low letter byte ((39, 39) ∷ standard_escapes) (search rules) is
+escape_low strict letter byte is = beside_low letter byte standard_escapes (search rules) is
+escape_low lenient letter byte is = beside_low letter byte ((39, 39) ∷ standard_escapes) (search rules) is
 
 -- ---- what units mean
 
@@ -157,7 +157,7 @@ run_utf8 mode run [] each utf8 = utf8
 run_utf8 mode run (raw byte ∷ items) each utf8 =
     subst IsUtf8 (append_assoc run (byte ∷ []) (meaning items)) (run_utf8 mode (run ++ byte ∷ []) items each.1 (subst IsUtf8 (sym (append_assoc run (byte ∷ []) (flat_map encoding items))) utf8))
 run_utf8 mode run (escape letter byte ∷ items) each utf8 =
-    let low = escape_low mode letter byte each.0 in
+    let low = escape_low (strictness mode) letter byte each.0 in
     let rest = ascii_off letter (flat_map encoding items) low.0 (ascii_off 92 (letter ∷ flat_map encoding items) (omega arith) (from_ascii run (letter ∷ flat_map encoding items) 92 (omega arith) utf8)) in
     IsUtf8-append run (byte ∷ meaning items) (before_ascii run (letter ∷ flat_map encoding items) 92 (omega arith) utf8) (ascii_onto byte (meaning items) low.1 (run_utf8 mode [] items each.1 rest))
 run_utf8 mode run (unit p first ∷ []) each utf8 = one_unit p run first [] [] each.0.0 each.0.1 utf8 (λ h. h)
@@ -166,7 +166,7 @@ run_utf8 mode run (unit p first ∷ raw byte ∷ items) each utf8 =
 run_utf8 mode run (unit p first ∷ escape letter byte ∷ items) each utf8 =
     one_unit p run first (flat_map encoding (escape letter byte ∷ items)) (meaning (escape letter byte ∷ items)) each.0.0 each.0.1 utf8 (run_utf8 mode [] (escape letter byte ∷ items) each.1)
 run_utf8 mode run (unit p first ∷ unit q next ∷ items) each utf8 =
-    two_units p q run first next (flat_map encoding items) (meaning items) (meaning (unit q next ∷ items)) each.0 each.1.0 utf8 (run_utf8 mode [] items each.1.1) (run_utf8 mode [] (unit q next ∷ items) each.1)
+    two_units p q run first next (flat_map encoding items) (meaning items) (meaning (unit q next ∷ items)) (each.0.0, each.0.1) (each.1.0.0, each.1.0.1) utf8 (run_utf8 mode [] items each.1.1) (run_utf8 mode [] (unit q next ∷ items) each.1)
 
 pub meaning_utf8 : (mode : Mode) (items : List Item) → AllByRecursion (IsItem mode) items → IsUtf8 (flat_map encoding items) → IsUtf8 (meaning items)
 meaning_utf8 mode items each utf8 = run_utf8 mode [] items each utf8

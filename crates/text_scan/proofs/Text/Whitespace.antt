@@ -2,15 +2,40 @@
 use Rattle.std.proofs.Common.{◌≡◌, MatchBool, ne_eqb, ℕ, zero, suc, ◌+◌, ◌-◌, ◌<◌, ◌≤◌, Bool, true, false, cond, ◌||◌, ◌&&◌, ◌⊎◌, inl, inr, List, [], ◌∷◌, ◌++◌, length, get_or, drop, refl, sym, ap, subst, ◌∙◌, append_assoc, append-nil, length-append, arith, eqb, eqb-true}
 use Rattle.std.proofs.lemmas.List.{drop_at, length-drop}
 use Rattle.std.proofs.lemmas.Bool.{cond-false, cond-true, or_cases, and_parts, or_parts}
+use Rattle.std.proofs.Math.Bool.{and-false}
 use Rattle.jsonb_spec.specs.Grammar.Whitespace.{IsLastWhitespace, EndsLine, IsWhitespacePiece, IsWhitespace, IsOneLine, LacksCommentEnd}
 use Rattle.jsonb_spec.specs.Grammar.Whitespace.IsLastWhitespace.{whitespace_to_end, line_to_end}
 use Rattle.jsonb_spec.specs.Grammar.Whitespace.IsWhitespacePiece.{space, tab, line_feed, form_feed, carriage_return, written_line_feed, written_carriage_return, written_tab, written_form_feed, block_comment, line_comment}
 use Rattle.jsonb_spec.specs.Grammar.Whitespace.IsWhitespace.{no_whitespace, more_whitespace}
-use Rattle.jsonb_spec.specs.Mode.{Mode, standard, extended}
-use Rattle.text_scan.specs.Parsing.{begins}
-use Rattle.text_scan.specs.Parsing.Whitespace.{is_whitespace_start, piece_length, block_length, line_length, slash_length, written_length, form_feed_length, longer_by, opens_comment, past_comment, pass_chosen, pass_from, skip_closed_whitespace, skip_whitespace}
+use Rattle.jsonb_spec.specs.Mode.{Mode, GoesBeyondJson, IsLenient, Strictness, strict, lenient, strictness}
+use Rattle.text_scan.specs.Parsing.{begins, goes_beyond_json}
+use Rattle.text_scan.specs.Parsing.Whitespace.{is_whitespace_start, piece_length, block_length, comment_length, line_length, slash_length, written_length, form_feed_length, longer_by, opens_comment, past_comment, pass_chosen, pass_from, skip_closed_whitespace, skip_whitespace}
+use Rattle.text_scan.proofs.Steps.Modes.{beyond-true, true-beyond}
 use Rattle.text_scan.proofs.Steps.Tests.{chosen}
 use Rattle.text_scan.proofs.Text.Comments.{block-found, block_ends, line-found, line-none, line-past, line_ends, no_line_end, longer-is, longer-longer, longer-some}
+
+-- ---- one piece
+
+-- how many bytes a piece takes, by whether the mode goes beyond JSON, and by its strictness
+abbrev length_by : Bool → Strictness → ℕ → List ℕ → ℕ
+length_by beyond s b bytes =
+    cond (eqb b 32 || eqb b 9 || eqb b 10 || (beyond && eqb b 12) || eqb b 13) 1 (cond (beyond && eqb b 92) (written_length bytes) (cond (eqb b 47) (slash_length s bytes) 0))
+
+return-piece : (beyond : Bool) (s : Strictness) (bytes : List ℕ) → length_by beyond s 13 bytes ≡ 1
+return-piece true s bytes = refl
+return-piece false s bytes = refl
+
+slash-piece : (beyond : Bool) (s : Strictness) (bytes : List ℕ) → length_by beyond s 47 bytes ≡ slash_length s bytes
+slash-piece true s bytes = refl
+slash-piece false s bytes = refl
+
+-- a piece that only modes beyond JSON have
+beyond-piece : (mode : Mode) (b : ℕ) (bytes : List ℕ) → GoesBeyondJson mode → piece_length mode (b ∷ bytes) ≡ length_by true (strictness mode) b bytes
+beyond-piece mode b bytes beyond = ap (λ (t : Bool). length_by t (strictness mode) b bytes) (beyond-true mode beyond)
+
+-- a comment
+comment-piece : (mode : Mode) (bytes : List ℕ) → IsLenient mode → piece_length mode (47 ∷ bytes) ≡ comment_length bytes
+comment-piece mode bytes is = slash-piece (goes_beyond_json mode) (strictness mode) bytes ∙ ap (λ (s : Strictness). slash_length s bytes) is
 
 -- ---- steps over one piece
 
@@ -41,14 +66,16 @@ pass-front mode piece rest some count =
 
 -- ---- whitespace is passed
 
-block-length : (inside rest : List ℕ) → LacksCommentEnd inside → piece_length extended ((47 ∷ 42 ∷ (inside ++ 42 ∷ 47 ∷ [])) ++ rest) ≡ length (47 ∷ 42 ∷ (inside ++ 42 ∷ 47 ∷ []))
-block-length inside rest lacks =
-    ap (λ (u : List ℕ). longer_by 2 (block_length u)) (append_assoc inside (42 ∷ 47 ∷ []) rest) ∙ ap (longer_by 2) (block-found inside rest lacks) ∙ longer-some 2 (length inside + 2) (omega arith)
+block-length : (mode : Mode) (inside rest : List ℕ) → IsLenient mode → LacksCommentEnd inside → piece_length mode ((47 ∷ 42 ∷ (inside ++ 42 ∷ 47 ∷ [])) ++ rest) ≡ length (47 ∷ 42 ∷ (inside ++ 42 ∷ 47 ∷ []))
+block-length mode inside rest is lacks =
+    comment-piece mode (42 ∷ ((inside ++ 42 ∷ 47 ∷ []) ++ rest)) is
+    ∙ ap (λ (u : List ℕ). longer_by 2 (block_length u)) (append_assoc inside (42 ∷ 47 ∷ []) rest) ∙ ap (longer_by 2) (block-found inside rest lacks) ∙ longer-some 2 (length inside + 2) (omega arith)
     ∙ (let same : 2 + (length inside + 2) ≡ length (47 ∷ 42 ∷ (inside ++ 42 ∷ 47 ∷ [])) = omega (arith, length-append inside (42 ∷ 47 ∷ [])) in same)
 
-line-length : (inside : List ℕ) (last : ℕ) (rest : List ℕ) → IsOneLine inside → EndsLine last → piece_length extended ((47 ∷ 47 ∷ (inside ++ last ∷ [])) ++ rest) ≡ length (47 ∷ 47 ∷ (inside ++ last ∷ []))
-line-length inside last rest one ends =
-    ap (λ (u : List ℕ). longer_by 2 (line_length u)) (append_assoc inside (last ∷ []) rest) ∙ ap (longer_by 2) (line-found inside last rest one ends) ∙ longer-some 2 (length inside + 1) (omega arith)
+line-length : (mode : Mode) (inside : List ℕ) (last : ℕ) (rest : List ℕ) → IsLenient mode → IsOneLine inside → EndsLine last → piece_length mode ((47 ∷ 47 ∷ (inside ++ last ∷ [])) ++ rest) ≡ length (47 ∷ 47 ∷ (inside ++ last ∷ []))
+line-length mode inside last rest is one ends =
+    comment-piece mode (47 ∷ ((inside ++ last ∷ []) ++ rest)) is
+    ∙ ap (λ (u : List ℕ). longer_by 2 (line_length u)) (append_assoc inside (last ∷ []) rest) ∙ ap (longer_by 2) (line-found inside last rest one ends) ∙ longer-some 2 (length inside + 1) (omega arith)
     ∙ (let same : 2 + (length inside + 1) ≡ length (47 ∷ 47 ∷ (inside ++ last ∷ [])) = omega (arith, length-append inside (last ∷ [])) in same)
 
 pub pass-piece : {mode : Mode} {piece : List ℕ} (b : IsWhitespacePiece mode piece) (rest : List ℕ) → skip_closed_whitespace mode (piece ++ rest) ≡ skip_closed_whitespace mode rest
@@ -56,28 +83,24 @@ unfolding pass_from
 pass-piece space rest = refl
 pass-piece tab rest = refl
 pass-piece line_feed rest = refl
-pass-piece form_feed rest = refl
-pass-piece carriage_return rest = refl
-pass-piece written_line_feed rest = refl
-pass-piece written_carriage_return rest = refl
-pass-piece written_tab rest = refl
-pass-piece written_form_feed rest = refl
-pass-piece (block_comment inside is lacks) rest =
-    let piece : List ℕ = 47 ∷ 42 ∷ (inside ++ 42 ∷ 47 ∷ []) in
-    subst (λ (m : Mode). skip_closed_whitespace m (piece ++ rest) ≡ skip_closed_whitespace m rest) (sym is) (pass-front extended piece rest (omega arith) (block-length inside rest lacks))
-pass-piece (line_comment inside last is one ends) rest =
-    let piece : List ℕ = 47 ∷ 47 ∷ (inside ++ last ∷ []) in
-    subst (λ (m : Mode). skip_closed_whitespace m (piece ++ rest) ≡ skip_closed_whitespace m rest) (sym is) (pass-front extended piece rest (omega arith) (line-length inside last rest one ends))
+pass-piece {mode} (form_feed beyond) rest = pass-front mode (12 ∷ []) rest (omega arith) (beyond-piece mode 12 rest beyond)
+pass-piece {mode} carriage_return rest = pass-front mode (13 ∷ []) rest (omega arith) (return-piece (goes_beyond_json mode) (strictness mode) rest)
+pass-piece {mode} (written_line_feed beyond) rest = pass-front mode (92 ∷ 110 ∷ []) rest (omega arith) (beyond-piece mode 92 (110 ∷ rest) beyond)
+pass-piece {mode} (written_carriage_return beyond) rest = pass-front mode (92 ∷ 114 ∷ []) rest (omega arith) (beyond-piece mode 92 (114 ∷ rest) beyond)
+pass-piece {mode} (written_tab beyond) rest = pass-front mode (92 ∷ 116 ∷ []) rest (omega arith) (beyond-piece mode 92 (116 ∷ rest) beyond)
+pass-piece {mode} (written_form_feed beyond) rest = pass-front mode (92 ∷ 120 ∷ 48 ∷ 67 ∷ []) rest (omega arith) (beyond-piece mode 92 (120 ∷ 48 ∷ 67 ∷ rest) beyond)
+pass-piece {mode} (block_comment inside is lacks) rest = pass-front mode (47 ∷ 42 ∷ (inside ++ 42 ∷ 47 ∷ [])) rest (omega arith) (block-length mode inside rest is lacks)
+pass-piece {mode} (line_comment inside last is one ends) rest = pass-front mode (47 ∷ 47 ∷ (inside ++ last ∷ [])) rest (omega arith) (line-length mode inside last rest is one ends)
 
 pub pass-whitespace : {mode : Mode} {whitespace : List ℕ} (b : IsWhitespace mode whitespace) (rest : List ℕ) → skip_closed_whitespace mode (whitespace ++ rest) ≡ skip_closed_whitespace mode rest
 pass-whitespace no_whitespace rest = refl
 pass-whitespace (more_whitespace {piece = piece} {rest = others} b bs) rest = rw append_assoc (pass-piece b (others ++ rest) ∙ pass-whitespace bs rest)
 
 pub skip-piece : {mode : Mode} {piece : List ℕ} (b : IsWhitespacePiece mode piece) (rest : List ℕ) → skip_whitespace mode (piece ++ rest) ≡ skip_whitespace mode rest
-skip-piece {mode} b rest = ap (past_comment mode) (pass-piece b rest)
+skip-piece {mode} b rest = ap (past_comment (strictness mode)) (pass-piece b rest)
 
 pub skip-whitespace : {mode : Mode} {whitespace : List ℕ} (b : IsWhitespace mode whitespace) (rest : List ℕ) → skip_whitespace mode (whitespace ++ rest) ≡ skip_whitespace mode rest
-skip-whitespace {mode} b rest = ap (past_comment mode) (pass-whitespace b rest)
+skip-whitespace {mode} b rest = ap (past_comment (strictness mode)) (pass-whitespace b rest)
 
 -- so many spaces
 pub pass-spaces : (mode : Mode) (count : ℕ) (bytes : List ℕ) → count ≤ length bytes → ((k : ℕ) → k < count → get_or bytes k 0 ≡ 32) → skip_closed_whitespace mode (drop count bytes) ≡ skip_closed_whitespace mode bytes
@@ -94,36 +117,42 @@ piece_length-none : (mode : Mode) (b : ℕ) (bytes : List ℕ) → is_whitespace
 piece_length-none mode b bytes e =
     let g = or_parts (eqb b 32 || eqb b 9 || eqb b 10 || eqb b 12 || eqb b 13 || eqb b 92) (eqb b 47) e in
     let h = or_parts (eqb b 32 || eqb b 9 || eqb b 10 || eqb b 12 || eqb b 13) (eqb b 92) g.0 in
-    let slash : ℕ = cond (eqb b 47) (slash_length mode bytes) 0 in
-    cond-false (eqb b 32 || eqb b 9 || eqb b 10 || eqb b 12 || eqb b 13) 1 (cond (eqb b 92) (written_length bytes) slash) h.0 ∙ cond-false (eqb b 92) (written_length bytes) slash h.1
-    ∙ cond-false (eqb b 47) (slash_length mode bytes) 0 g.1
+    let i = or_parts (eqb b 32 || eqb b 9 || eqb b 10 || eqb b 12) (eqb b 13) h.0 in
+    let j = or_parts (eqb b 32 || eqb b 9 || eqb b 10) (eqb b 12) i.0 in
+    let beyond : Bool = goes_beyond_json mode in
+    let first : (eqb b 32 || eqb b 9 || eqb b 10 || (beyond && eqb b 12) || eqb b 13) ≡ false =
+    ap (λ (t : Bool). t || (beyond && eqb b 12) || eqb b 13) j.0 ∙ ap (λ (t : Bool). (beyond && t) || eqb b 13) j.1 ∙ ap (λ (t : Bool). t || eqb b 13) (and-false beyond) ∙ i.1 in
+    let second : (beyond && eqb b 92) ≡ false = ap (λ (t : Bool). beyond && t) h.1 ∙ and-false beyond in
+    let slash : ℕ = cond (eqb b 47) (slash_length (strictness mode) bytes) 0 in
+    cond-false (eqb b 32 || eqb b 9 || eqb b 10 || (beyond && eqb b 12) || eqb b 13) 1 (cond (beyond && eqb b 92) (written_length bytes) slash) first
+    ∙ cond-false (beyond && eqb b 92) (written_length bytes) slash second ∙ cond-false (eqb b 47) (slash_length (strictness mode) bytes) 0 g.1
 
 pub pass-stop : (mode : Mode) (b : ℕ) (bytes : List ℕ) → is_whitespace_start b ≡ false → skip_closed_whitespace mode (b ∷ bytes) ≡ b ∷ bytes
 pass-stop mode b bytes e = pass-none mode (b ∷ bytes) (piece_length-none mode b bytes e)
 
-pub opens-other : (mode : Mode) (b : ℕ) (bytes : List ℕ) → eqb b 47 ≡ false → opens_comment mode (b ∷ bytes) ≡ false
-opens-other standard b bytes e = refl
-opens-other extended b bytes e = cond-false (eqb b 47) (begins 42 bytes || begins 47 bytes) false e
+pub opens-other : (s : Strictness) (b : ℕ) (bytes : List ℕ) → eqb b 47 ≡ false → opens_comment s (b ∷ bytes) ≡ false
+opens-other strict b bytes e = refl
+opens-other lenient b bytes e = cond-false (eqb b 47) (begins 42 bytes || begins 47 bytes) false e
 
-pub opens-stop : (mode : Mode) (b : ℕ) (bytes : List ℕ) → is_whitespace_start b ≡ false → opens_comment mode (b ∷ bytes) ≡ false
-opens-stop mode b bytes e = opens-other mode b bytes (or_parts (eqb b 32 || eqb b 9 || eqb b 10 || eqb b 12 || eqb b 13 || eqb b 92) (eqb b 47) e).1
+pub opens-stop : (s : Strictness) (b : ℕ) (bytes : List ℕ) → is_whitespace_start b ≡ false → opens_comment s (b ∷ bytes) ≡ false
+opens-stop s b bytes e = opens-other s b bytes (or_parts (eqb b 32 || eqb b 9 || eqb b 10 || eqb b 12 || eqb b 13 || eqb b 92) (eqb b 47) e).1
 
-past-none : (mode : Mode) (bytes : List ℕ) → opens_comment mode bytes ≡ false → past_comment mode bytes ≡ bytes
-past-none mode bytes e = cond-false (opens_comment mode bytes) [] bytes e
+past-none : (s : Strictness) (bytes : List ℕ) → opens_comment s bytes ≡ false → past_comment s bytes ≡ bytes
+past-none s bytes e = cond-false (opens_comment s bytes) [] bytes e
 
 pub skip-stop : (mode : Mode) (b : ℕ) (bytes : List ℕ) → is_whitespace_start b ≡ false → skip_whitespace mode (b ∷ bytes) ≡ b ∷ bytes
-skip-stop mode b bytes e = ap (past_comment mode) (pass-stop mode b bytes e) ∙ past-none mode (b ∷ bytes) (opens-stop mode b bytes e)
+skip-stop mode b bytes e = ap (past_comment (strictness mode)) (pass-stop mode b bytes e) ∙ past-none (strictness mode) (b ∷ bytes) (opens-stop (strictness mode) b bytes e)
 
-pub opens-nil : (mode : Mode) → opens_comment mode [] ≡ false
-opens-nil standard = refl
-opens-nil extended = refl
+pub opens-nil : (s : Strictness) → opens_comment s [] ≡ false
+opens-nil strict = refl
+opens-nil lenient = refl
 
 pub pass-nil : (mode : Mode) → skip_closed_whitespace mode [] ≡ []
 unfolding pass_from
 pass-nil mode = refl
 
 pub skip-nil : (mode : Mode) → skip_whitespace mode [] ≡ []
-skip-nil mode = ap (past_comment mode) (pass-nil mode) ∙ past-none mode [] (opens-nil mode)
+skip-nil mode = ap (past_comment (strictness mode)) (pass-nil mode) ∙ past-none (strictness mode) [] (opens-nil (strictness mode))
 
 -- above a space only a backslash or a slash begins whitespace
 starts_none : (b : ℕ) → 32 < b → (eqb b 92 || eqb b 47) ≡ false → is_whitespace_start b ≡ false
@@ -174,19 +203,19 @@ form_feed_begins (c ∷ d ∷ rest) n e =
       | inr f ↦ absurd (omega arith)
     ]
 
-written_begins : (mode : Mode) → (b : ℕ) (bytes : List ℕ) (n : ℕ) → eqb b 92 ≡ true → written_length bytes ≡ suc n → Begins mode (b ∷ bytes) (drop n bytes)
-written_begins mode b [] n is e = absurd (omega arith)
-written_begins mode b (c ∷ bytes) n is e =
+written_begins : (mode : Mode) → GoesBeyondJson mode → (b : ℕ) (bytes : List ℕ) (n : ℕ) → eqb b 92 ≡ true → written_length bytes ≡ suc n → Begins mode (b ∷ bytes) (drop n bytes)
+written_begins mode beyond b [] n is e = absurd (omega arith)
+written_begins mode beyond b (c ∷ bytes) n is e =
     elim (chosen (eqb c 110 || eqb c 114 || eqb c 116) 2 (cond (eqb c 120) (form_feed_length bytes) 0) (suc n) e) [
       | inl t ↦
           let one : n ≡ 1 = omega (arith, t.1) in
           let at_one : bytes ≡ drop n (c ∷ bytes) = rw one refl in
           elim (or_cases (eqb c 110 || eqb c 114) (eqb c 116) t.0) [
             | inl u ↦ elim (or_cases (eqb c 110) (eqb c 114) u) [
-              | inl v ↦ let p : c ≡ 110 = eqb-true c 110 v in begins_with mode b 92 (110 ∷ []) (drop n (c ∷ bytes)) (c ∷ bytes) is written_line_feed cc
-              | inr v ↦ let p : c ≡ 114 = eqb-true c 114 v in begins_with mode b 92 (114 ∷ []) (drop n (c ∷ bytes)) (c ∷ bytes) is written_carriage_return cc
+              | inl v ↦ let p : c ≡ 110 = eqb-true c 110 v in begins_with mode b 92 (110 ∷ []) (drop n (c ∷ bytes)) (c ∷ bytes) is (written_line_feed beyond) cc
+              | inr v ↦ let p : c ≡ 114 = eqb-true c 114 v in begins_with mode b 92 (114 ∷ []) (drop n (c ∷ bytes)) (c ∷ bytes) is (written_carriage_return beyond) cc
             ]
-            | inr u ↦ let p : c ≡ 116 = eqb-true c 116 u in begins_with mode b 92 (116 ∷ []) (drop n (c ∷ bytes)) (c ∷ bytes) is written_tab cc
+            | inr u ↦ let p : c ≡ 116 = eqb-true c 116 u in begins_with mode b 92 (116 ∷ []) (drop n (c ∷ bytes)) (c ∷ bytes) is (written_tab beyond) cc
           ]
       | inr f ↦ elim (chosen (eqb c 120) (form_feed_length bytes) 0 (suc n) f.1) [
         | inl t ↦
@@ -196,7 +225,7 @@ written_begins mode b (c ∷ bytes) n is e =
             let at_three : drop 2 bytes ≡ drop n (c ∷ bytes) = rw three refl in
             let parts : bytes ≡ 48 ∷ 67 ∷ h.1 = h.2 in
             let last : h.1 ≡ drop 2 bytes = h.3 in
-            begins_with mode b 92 (120 ∷ 48 ∷ 67 ∷ []) (drop n (c ∷ bytes)) (c ∷ bytes) is written_form_feed cc
+            begins_with mode b 92 (120 ∷ 48 ∷ 67 ∷ []) (drop n (c ∷ bytes)) (c ∷ bytes) is (written_form_feed beyond) cc
         | inr z ↦ absurd (omega arith)
       ]
     ]
@@ -204,10 +233,10 @@ written_begins mode b (c ∷ bytes) n is e =
 one_begins : (mode : Mode) → (b c n : ℕ) (bytes : List ℕ) → eqb b c ≡ true → IsWhitespacePiece mode (c ∷ []) → n ≡ 0 → Begins mode (b ∷ bytes) (drop n bytes)
 one_begins mode b c n bytes e is zero-is = begins_with mode b c [] (drop n bytes) bytes e is (rw zero-is refl)
 
-slash_begins : (mode : Mode) (b : ℕ) (bytes : List ℕ) (n : ℕ) → eqb b 47 ≡ true → slash_length mode bytes ≡ suc n → Begins mode (b ∷ bytes) (drop n bytes)
-slash_begins standard b bytes n is e = absurd (let never : 0 ≡ suc n = e in omega (arith, never))
-slash_begins extended b [] n is e = absurd (let never : 0 ≡ suc n = e in omega (arith, never))
-slash_begins extended b (c ∷ bytes) n is e =
+slash_begins : (mode : Mode) (s : Strictness) → strictness mode ≡ s → (b : ℕ) (bytes : List ℕ) (n : ℕ) → eqb b 47 ≡ true → slash_length s bytes ≡ suc n → Begins mode (b ∷ bytes) (drop n bytes)
+slash_begins mode strict same b bytes n is e = absurd (let never : 0 ≡ suc n = e in omega (arith, never))
+slash_begins mode lenient same b [] n is e = absurd (let never : 0 ≡ suc n = e in omega (arith, never))
+slash_begins mode lenient same b (c ∷ bytes) n is e =
     elim (chosen (eqb c 42) (longer_by 2 (block_length bytes)) (cond (eqb c 47) (longer_by 2 (line_length bytes)) 0) (suc n) e) [
       | inl t ↦
           let more = longer-is 2 (block_length bytes) n t.1 in
@@ -220,35 +249,37 @@ slash_begins extended b (c ∷ bytes) n is e =
       ]
     ]
   where
-    block : (k : ℕ) → block_length bytes ≡ k → eqb c 42 ≡ true → 0 < k → 2 + k ≡ suc n → Begins extended (b ∷ c ∷ bytes) (drop n (c ∷ bytes))
+    block : (k : ℕ) → block_length bytes ≡ k → eqb c 42 ≡ true → 0 < k → 2 + k ≡ suc n → Begins mode (b ∷ c ∷ bytes) (drop n (c ∷ bytes))
     block zero count star some sum = absurd (omega arith)
     block (suc k) count star some sum =
         let r = block_ends bytes k count in
         let at : c ∷ bytes ≡ (42 ∷ (r.inside ++ 42 ∷ 47 ∷ [])) ++ r.rest = ap (λ (d : ℕ). d ∷ bytes) (eqb-true c 42 star) ∙ ap (λ (u : List ℕ). 42 ∷ u) (r.whole ∙ sym (append_assoc r.inside (42 ∷ 47 ∷ []) r.rest)) in
         let long : length (42 ∷ (r.inside ++ 42 ∷ 47 ∷ [])) ≡ n = omega (arith, r.count, sum, length-append r.inside (42 ∷ 47 ∷ [])) in
         let rest-is : drop n (c ∷ bytes) ≡ r.rest = ap (drop n) at ∙ drop_at (42 ∷ (r.inside ++ 42 ∷ 47 ∷ [])) r.rest n long in
-        subst (λ (u : List ℕ). Begins extended (b ∷ c ∷ bytes) u) (sym rest-is)
-        (begins_with extended b 47 (42 ∷ (r.inside ++ 42 ∷ 47 ∷ [])) r.rest (c ∷ bytes) is (block_comment r.inside refl r.lacks) at)
+        subst (λ (u : List ℕ). Begins mode (b ∷ c ∷ bytes) u) (sym rest-is)
+        (begins_with mode b 47 (42 ∷ (r.inside ++ 42 ∷ 47 ∷ [])) r.rest (c ∷ bytes) is (block_comment r.inside same r.lacks) at)
 
-    line : (k : ℕ) → line_length bytes ≡ k → eqb c 47 ≡ true → 0 < k → 2 + k ≡ suc n → Begins extended (b ∷ c ∷ bytes) (drop n (c ∷ bytes))
+    line : (k : ℕ) → line_length bytes ≡ k → eqb c 47 ≡ true → 0 < k → 2 + k ≡ suc n → Begins mode (b ∷ c ∷ bytes) (drop n (c ∷ bytes))
     line zero count slash some sum = absurd (omega arith)
     line (suc k) count slash some sum =
         let r = line_ends bytes k count in
         let at : c ∷ bytes ≡ (47 ∷ (r.inside ++ r.last ∷ [])) ++ r.rest = ap (λ (d : ℕ). d ∷ bytes) (eqb-true c 47 slash) ∙ ap (λ (u : List ℕ). 47 ∷ u) (r.whole ∙ sym (append_assoc r.inside (r.last ∷ []) r.rest)) in
         let long : length (47 ∷ (r.inside ++ r.last ∷ [])) ≡ n = omega (arith, r.count, sum, length-append r.inside (r.last ∷ [])) in
         let rest-is : drop n (c ∷ bytes) ≡ r.rest = ap (drop n) at ∙ drop_at (47 ∷ (r.inside ++ r.last ∷ [])) r.rest n long in
-        subst (λ (u : List ℕ). Begins extended (b ∷ c ∷ bytes) u) (sym rest-is)
-        (begins_with extended b 47 (47 ∷ (r.inside ++ r.last ∷ [])) r.rest (c ∷ bytes) is (line_comment r.inside r.last refl r.one r.ends) at)
+        subst (λ (u : List ℕ). Begins mode (b ∷ c ∷ bytes) u) (sym rest-is)
+        (begins_with mode b 47 (47 ∷ (r.inside ++ r.last ∷ [])) r.rest (c ∷ bytes) is (line_comment r.inside r.last same r.one r.ends) at)
 
 piece_begins : (mode : Mode) → (b : ℕ) (bytes : List ℕ) (n : ℕ) → piece_length mode (b ∷ bytes) ≡ suc n → Begins mode (b ∷ bytes) (drop n bytes)
 piece_begins mode b bytes n e =
-    elim (chosen (eqb b 32 || eqb b 9 || eqb b 10 || eqb b 12 || eqb b 13) 1 (cond (eqb b 92) (written_length bytes) (cond (eqb b 47) (slash_length mode bytes) 0)) (suc n) e) [
+    let beyond : Bool = goes_beyond_json mode in
+    let slash : ℕ = cond (eqb b 47) (slash_length (strictness mode) bytes) 0 in
+    elim (chosen (eqb b 32 || eqb b 9 || eqb b 10 || (beyond && eqb b 12) || eqb b 13) 1 (cond (beyond && eqb b 92) (written_length bytes) slash) (suc n) e) [
       | inl t ↦
           let z : n ≡ 0 = omega (arith, t.1) in
-          elim (or_cases (eqb b 32 || eqb b 9 || eqb b 10 || eqb b 12) (eqb b 13) t.0) [
+          elim (or_cases (eqb b 32 || eqb b 9 || eqb b 10 || (beyond && eqb b 12)) (eqb b 13) t.0) [
             | inr v ↦ one_begins mode b 13 n bytes v carriage_return z
-            | inl u ↦ elim (or_cases (eqb b 32 || eqb b 9 || eqb b 10) (eqb b 12) u) [
-              | inr v ↦ one_begins mode b 12 n bytes v form_feed z
+            | inl u ↦ elim (or_cases (eqb b 32 || eqb b 9 || eqb b 10) (beyond && eqb b 12) u) [
+              | inr v ↦ let both = and_parts beyond (eqb b 12) v in one_begins mode b 12 n bytes both.1 (form_feed (true-beyond mode both.0)) z
               | inl w ↦ elim (or_cases (eqb b 32 || eqb b 9) (eqb b 10) w) [
                 | inr v ↦ one_begins mode b 10 n bytes v line_feed z
                 | inl x ↦ elim (or_cases (eqb b 32) (eqb b 9) x) [
@@ -258,10 +289,10 @@ piece_begins mode b bytes n e =
               ]
             ]
           ]
-      | inr f ↦ elim (chosen (eqb b 92) (written_length bytes) (cond (eqb b 47) (slash_length mode bytes) 0) (suc n) f.1) [
-        | inl t ↦ written_begins mode b bytes n t.0 t.1
-        | inr z ↦ elim (chosen (eqb b 47) (slash_length mode bytes) 0 (suc n) z.1) [
-          | inl t ↦ slash_begins mode b bytes n t.0 t.1
+      | inr f ↦ elim (chosen (beyond && eqb b 92) (written_length bytes) slash (suc n) f.1) [
+        | inl t ↦ let both = and_parts beyond (eqb b 92) t.0 in written_begins mode (true-beyond mode both.0) b bytes n both.1 t.1
+        | inr z ↦ elim (chosen (eqb b 47) (slash_length (strictness mode) bytes) 0 (suc n) z.1) [
+          | inl t ↦ slash_begins mode (strictness mode) refl b bytes n t.0 t.1
           | inr y ↦ absurd (omega (arith, y.1))
         ]
       ]
@@ -319,12 +350,12 @@ piece_length-passed mode bytes same = by_length (piece_length mode bytes) refl
         absurd (omega (arith, ap length step, length-pass mode (drop (suc n) bytes), length-drop (suc n) bytes, some))
 
 -- nothing, or the bytes after the whitespace
-skipped : (mode : Mode) (bytes : List ℕ) → (skip_whitespace mode bytes ≡ []) ⊎ ((opens_comment mode (skip_closed_whitespace mode bytes) ≡ false) × (skip_whitespace mode bytes ≡ skip_closed_whitespace mode bytes))
-skipped mode bytes = by_test (opens_comment mode (skip_closed_whitespace mode bytes)) refl
+skipped : (mode : Mode) (bytes : List ℕ) → (skip_whitespace mode bytes ≡ []) ⊎ ((opens_comment (strictness mode) (skip_closed_whitespace mode bytes) ≡ false) × (skip_whitespace mode bytes ≡ skip_closed_whitespace mode bytes))
+skipped mode bytes = by_test (opens_comment (strictness mode) (skip_closed_whitespace mode bytes)) refl
   where
-    by_test : (t : Bool) → opens_comment mode (skip_closed_whitespace mode bytes) ≡ t → (skip_whitespace mode bytes ≡ []) ⊎ ((opens_comment mode (skip_closed_whitespace mode bytes) ≡ false) × (skip_whitespace mode bytes ≡ skip_closed_whitespace mode bytes))
-    by_test true e = inl (cond-true (opens_comment mode (skip_closed_whitespace mode bytes)) [] (skip_closed_whitespace mode bytes) e)
-    by_test false e = inr (e, past-none mode (skip_closed_whitespace mode bytes) e)
+    by_test : (t : Bool) → opens_comment (strictness mode) (skip_closed_whitespace mode bytes) ≡ t → (skip_whitespace mode bytes ≡ []) ⊎ ((opens_comment (strictness mode) (skip_closed_whitespace mode bytes) ≡ false) × (skip_whitespace mode bytes ≡ skip_closed_whitespace mode bytes))
+    by_test true e = inl (cond-true (opens_comment (strictness mode) (skip_closed_whitespace mode bytes)) [] (skip_closed_whitespace mode bytes) e)
+    by_test false e = inr (e, past-none (strictness mode) (skip_closed_whitespace mode bytes) e)
 
 pub length-skip : (mode : Mode) (bytes : List ℕ) → length (skip_whitespace mode bytes) ≤ length bytes
 length-skip mode bytes =
@@ -337,7 +368,7 @@ pub skip-skip : (mode : Mode) (bytes : List ℕ) → skip_whitespace mode (skip_
 skip-skip mode bytes =
     elim (skipped mode bytes) [
       | inl none ↦ ap (skip_whitespace mode) none ∙ skip-nil mode ∙ sym none
-      | inr some ↦ ap (skip_whitespace mode) some.1 ∙ ap (past_comment mode) (pass-pass mode bytes)
+      | inr some ↦ ap (skip_whitespace mode) some.1 ∙ ap (past_comment (strictness mode)) (pass-pass mode bytes)
     ]
 
 -- where bytes are left, those that were skipped are whitespace
@@ -348,38 +379,38 @@ skips mode bytes left =
       | inr some ↦ subst (λ (u : List ℕ). Passes mode bytes u) (sym some.1) (passes mode bytes)
     ]
 
-pub skip-passed : (mode : Mode) (bytes : List ℕ) (b : ℕ) (rest : List ℕ) → skip_closed_whitespace mode bytes ≡ b ∷ rest → opens_comment mode (b ∷ rest) ≡ false → skip_whitespace mode bytes ≡ b ∷ rest
-skip-passed mode bytes b rest e none = ap (past_comment mode) e ∙ past-none mode (b ∷ rest) none
+pub skip-passed : (mode : Mode) (bytes : List ℕ) (b : ℕ) (rest : List ℕ) → skip_closed_whitespace mode bytes ≡ b ∷ rest → opens_comment (strictness mode) (b ∷ rest) ≡ false → skip_whitespace mode bytes ≡ b ∷ rest
+skip-passed mode bytes b rest e none = ap (past_comment (strictness mode)) e ∙ past-none (strictness mode) (b ∷ rest) none
 
 -- ---- the end of a text
 
 -- how the whitespace at the end of a text is passed
 pub data EndsPassed (mode : Mode) (bytes : List ℕ) : Type 0 where
   all_passed : skip_closed_whitespace mode bytes ≡ [] → EndsPassed mode bytes
-  line_left : (rest : List ℕ) → opens_comment mode (47 ∷ 47 ∷ rest) ≡ true → skip_closed_whitespace mode bytes ≡ 47 ∷ 47 ∷ rest → EndsPassed mode bytes
+  line_left : (rest : List ℕ) → opens_comment (strictness mode) (47 ∷ 47 ∷ rest) ≡ true → skip_closed_whitespace mode bytes ≡ 47 ∷ 47 ∷ rest → EndsPassed mode bytes
 
 pub ends_passed : {mode : Mode} {bytes : List ℕ} (b : IsLastWhitespace mode bytes) → EndsPassed mode bytes
 ends_passed {mode} (whitespace_to_end {whitespace = whitespace} b) = all_passed (ap (skip_closed_whitespace mode) (sym (append-nil whitespace)) ∙ pass-whitespace b [] ∙ pass-nil mode)
 ends_passed {mode} (line_to_end {whitespace = whitespace} inside is b one) =
-    line_left inside (ap (λ (m : Mode). opens_comment m (47 ∷ 47 ∷ inside)) is)
-    (pass-whitespace b (47 ∷ 47 ∷ inside) ∙ subst (λ (m : Mode). skip_closed_whitespace m (47 ∷ 47 ∷ inside) ≡ 47 ∷ 47 ∷ inside) (sym is) (pass-none extended (47 ∷ 47 ∷ inside) (ap (longer_by 2) (line-none inside one))))
+    line_left inside (ap (λ (s : Strictness). opens_comment s (47 ∷ 47 ∷ inside)) is)
+    (pass-whitespace b (47 ∷ 47 ∷ inside) ∙ pass-none mode (47 ∷ 47 ∷ inside) (comment-piece mode (47 ∷ inside) is ∙ ap (longer_by 2) (line-none inside one)))
 
 pub ends_all : (mode : Mode) (bytes : List ℕ) → skip_closed_whitespace mode bytes ≡ [] → IsLastWhitespace mode bytes
 ends_all mode bytes e = let p = passes mode bytes in subst (IsLastWhitespace mode) (sym (p.whole ∙ ap (λ (u : List ℕ). p.whitespace ++ u) e ∙ append-nil p.whitespace)) (whitespace_to_end p.is_whitespace)
 
-pub ends_line : (mode : Mode) (bytes rest : List ℕ) → mode ≡ extended → skip_closed_whitespace mode bytes ≡ 47 ∷ 47 ∷ rest → IsLastWhitespace mode bytes
+pub ends_line : (mode : Mode) (bytes rest : List ℕ) → IsLenient mode → skip_closed_whitespace mode bytes ≡ 47 ∷ 47 ∷ rest → IsLastWhitespace mode bytes
 ends_line mode bytes rest is e =
     let p = passes mode bytes in
     let stays : skip_closed_whitespace mode (47 ∷ 47 ∷ rest) ≡ 47 ∷ 47 ∷ rest = ap (skip_closed_whitespace mode) (sym e) ∙ pass-pass mode bytes ∙ e in
-    let none : piece_length extended (47 ∷ 47 ∷ rest) ≡ 0 = ap (λ (m : Mode). piece_length m (47 ∷ 47 ∷ rest)) (sym is) ∙ piece_length-passed mode (47 ∷ 47 ∷ rest) stays in
+    let none : longer_by 2 (line_length rest) ≡ 0 = sym (comment-piece mode (47 ∷ rest) is) ∙ piece_length-passed mode (47 ∷ 47 ∷ rest) stays in
     subst (IsLastWhitespace mode) (sym (p.whole ∙ ap (λ (u : List ℕ). p.whitespace ++ u) e)) (line_to_end rest is p.is_whitespace (no_line_end rest (unlonger (line_length rest) none)))
   where
     unlonger : (k : ℕ) → longer_by 2 k ≡ 0 → k ≡ 0
     unlonger zero h = refl
     unlonger (suc k) h = absurd (let never : 2 + suc k ≡ 0 = h in omega (arith, never))
 
-pub length-past : (mode : Mode) (bytes : List ℕ) → length (past_comment mode bytes) ≤ length bytes
-length-past mode bytes = by_test (opens_comment mode bytes)
+pub length-past : (s : Strictness) (bytes : List ℕ) → length (past_comment s bytes) ≤ length bytes
+length-past s bytes = by_test (opens_comment s bytes)
   where
     by_test : (t : Bool) → length (cond t [] bytes) ≤ length bytes
     by_test true = omega arith
@@ -390,21 +421,21 @@ drop_past [] more n = let same : 0 + n ≡ n = omega arith in ap (λ (k : ℕ). 
 drop_past (b ∷ front) more n = let same : suc (length front) + n ≡ suc (length front + n) = omega arith in ap (λ (k : ℕ). drop k (b ∷ (front ++ more))) same ∙ drop_past front more n
 
 -- More bytes after the last whitespace: what is passed goes on to these, or a comment is open.
-pub last_within : {mode : Mode} {last : List ℕ} (b : IsLastWhitespace mode last) (more : List ℕ) → (length (skip_closed_whitespace mode (last ++ more)) ≤ length more) ⊎ (opens_comment mode (skip_closed_whitespace mode (last ++ more)) ≡ true)
+pub last_within : {mode : Mode} {last : List ℕ} (b : IsLastWhitespace mode last) (more : List ℕ) → (length (skip_closed_whitespace mode (last ++ more)) ≤ length more) ⊎ (opens_comment (strictness mode) (skip_closed_whitespace mode (last ++ more)) ≡ true)
 last_within {mode} (whitespace_to_end b) more = inl (omega (arith, ap length (pass-whitespace b more), length-pass mode more))
 last_within {mode} (line_to_end {whitespace = whitespace} inside is b one) more =
-    subst (λ (u : List ℕ). (length u ≤ length more) ⊎ (opens_comment mode u ≡ true)) (sym (ap (skip_closed_whitespace mode) (append_assoc whitespace (47 ∷ 47 ∷ inside) more) ∙ pass-whitespace b (47 ∷ 47 ∷ (inside ++ more))))
-    (subst (λ (m : Mode). (length (skip_closed_whitespace m line) ≤ length more) ⊎ (opens_comment m (skip_closed_whitespace m line) ≡ true)) (sym is) (by_length (line_length more) refl))
+    subst (λ (u : List ℕ). (length u ≤ length more) ⊎ (opens_comment (strictness mode) u ≡ true)) (sym (ap (skip_closed_whitespace mode) (append_assoc whitespace (47 ∷ 47 ∷ inside) more) ∙ pass-whitespace b (47 ∷ 47 ∷ (inside ++ more))))
+    (by_length (line_length more) refl)
   where
     line : List ℕ
     line = 47 ∷ 47 ∷ (inside ++ more)
 
-    count : (n : ℕ) → line_length more ≡ n → piece_length extended line ≡ longer_by (2 + length inside) n
-    count n e = ap (longer_by 2) (line-past inside more one ∙ ap (longer_by (length inside)) e) ∙ longer-longer 2 (length inside) n
+    count : (n : ℕ) → line_length more ≡ n → piece_length mode line ≡ longer_by (2 + length inside) n
+    count n e = comment-piece mode (47 ∷ (inside ++ more)) is ∙ ap (longer_by 2) (line-past inside more one ∙ ap (longer_by (length inside)) e) ∙ longer-longer 2 (length inside) n
 
-    by_length : (n : ℕ) → line_length more ≡ n → (length (skip_closed_whitespace extended line) ≤ length more) ⊎ (opens_comment extended (skip_closed_whitespace extended line) ≡ true)
-    by_length zero e = inr (ap (opens_comment extended) (pass-none extended line (count zero e)))
+    by_length : (n : ℕ) → line_length more ≡ n → (length (skip_closed_whitespace mode line) ≤ length more) ⊎ (opens_comment (strictness mode) (skip_closed_whitespace mode line) ≡ true)
+    by_length zero e = inr (ap (opens_comment (strictness mode)) (pass-none mode line (count zero e)) ∙ ap (λ (s : Strictness). opens_comment s line) is)
     by_length (suc n) e =
-        let long : piece_length extended line ≡ 2 + length inside + suc n = count (suc n) e in
+        let long : piece_length mode line ≡ 2 + length inside + suc n = count (suc n) e in
         let split : drop (2 + length inside + suc n) line ≡ drop (suc n) more = ap (λ (k : ℕ). drop k line) (let same : 2 + length inside + suc n ≡ length (47 ∷ 47 ∷ inside) + suc n = omega arith in same) ∙ drop_past (47 ∷ 47 ∷ inside) more (suc n) in
-        inl (omega (arith, ap length (pass-step extended line (omega (arith, long)) ∙ ap (λ (k : ℕ). skip_closed_whitespace extended (drop k line)) long ∙ ap (skip_closed_whitespace extended) split), length-pass extended (drop (suc n) more), length-drop (suc n) more))
+        inl (omega (arith, ap length (pass-step mode line (omega (arith, long)) ∙ ap (λ (k : ℕ). skip_closed_whitespace mode (drop k line)) long ∙ ap (skip_closed_whitespace mode) split), length-pass mode (drop (suc n) more), length-drop (suc n) more))

@@ -1,7 +1,7 @@
 -- Parts joined by commas, arrays, objects, repeated keys.
 use Rattle.std.specs.Prelude.{ℕ, zero, suc, ◌-◌, Bool, false, ◌||◌, List, [], ◌∷◌, length, Option, Some, None, Ok, map, ◌==◌, if◌then◌else◌}
 use Rattle.jsonb_spec.specs.Ascii as ascii
-use Rattle.jsonb_spec.specs.Mode.{Mode, standard, extended}
+use Rattle.jsonb_spec.specs.Mode.{Mode, Strictness, strict, lenient, strictness}
 use Rattle.jsonb_spec.specs.Tree.{Mark}
 use Rattle.jsonb_spec.specs.Code.{Code, invalid_eof, expected_colon, expected_array_comma_or_end, expected_object_comma_or_end, object_duplicate_key}
 use Rattle.jsonb_spec.specs.Source.{Source, null_source, array_source, object_source, no_sources, no_source_members, Found, Spot, found_member, spot_of, first_repeat, array_source_of, object_source_of}
@@ -33,15 +33,15 @@ ends_element [] = false
 ends_element (b ∷ bytes) = (b == ascii.comma) || (b == ascii.close_bracket)
 
 -- whether an element is left out here
-abbrev pub is_left_out : Mode → List ℕ → Bool
-is_left_out standard bytes = false
-is_left_out extended bytes = ends_element bytes
+abbrev pub is_left_out : Strictness → List ℕ → Bool
+is_left_out strict bytes = false
+is_left_out lenient bytes = ends_element bytes
 
-abbrev pub value_or_null : Mode → (List ℕ → Parse Source) → List ℕ → Parse Source
-value_or_null mode value bytes = if is_left_out mode bytes then Ok (null_source, bytes) else value bytes
+abbrev pub value_or_null : Strictness → (List ℕ → Parse Source) → List ℕ → Parse Source
+value_or_null strictness value bytes = if is_left_out strictness bytes then Ok (null_source, bytes) else value bytes
 
 abbrev pub element_at : Mode → (List ℕ → Parse Source) → List ℕ → Parse Source
-element_at mode value = padded_at mode (value_or_null mode value)
+element_at mode value = padded_at mode (value_or_null (strictness mode) value)
 
 abbrev pub elements_at : ℕ → Mode → (List ℕ → Parse Source) → List ℕ → Parse Source
 elements_at size mode value bytes =

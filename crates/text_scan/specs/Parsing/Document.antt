@@ -1,7 +1,7 @@
 -- Values by depth, and whole documents (`source_of`, `document_of`).
 use Rattle.std.specs.Prelude.{ℕ, zero, suc, ◌+◌, ◌-◌, List, [], ◌∷◌, length, Result, Ok, if◌then◌else◌}
 use Rattle.jsonb_spec.specs.Ascii as ascii
-use Rattle.jsonb_spec.specs.Mode.{Mode, standard, extended}
+use Rattle.jsonb_spec.specs.Mode.{Mode, Strictness, strict, lenient, strictness}
 use Rattle.jsonb_spec.specs.Tree.{Tree}
 use Rattle.jsonb_spec.specs.Code.{invalid_eof, unexpected_trailing_characters, depth_limit_exceeded}
 use Rattle.jsonb_spec.specs.Grammar.{max_depth}
@@ -36,13 +36,13 @@ comment_at size s bytes = if begins ascii.slash bytes then Ok s else fault inval
 
 abbrev pub at_end : ℕ → Mode → Source → List ℕ → Result Source Fault
 at_end size mode s [] = Ok s
-at_end size mode s (b ∷ bytes) = if opens_comment mode (b ∷ bytes) then comment_at size s bytes
+at_end size mode s (b ∷ bytes) = if opens_comment (strictness mode) (b ∷ bytes) then comment_at size s bytes
     else fault unexpected_trailing_characters (size - length (b ∷ bytes) + 1)
 
 -- a text of whitespace alone
-abbrev pub nothing_at : ℕ → Mode → Result Source Fault
-nothing_at size standard = fault invalid_eof size
-nothing_at size extended = Ok null_source
+abbrev pub nothing_at : ℕ → Strictness → Result Source Fault
+nothing_at size strict = fault invalid_eof size
+nothing_at size lenient = Ok null_source
 
 -- a value with whitespace after it, up to the end of the text
 abbrev pub value_to_end : ℕ → Mode → List ℕ → Result Source Fault
@@ -50,8 +50,9 @@ value_to_end size mode bytes =
     value_at size mode max_depth bytes >>= λ x. at_end size mode x.0 (skip_closed_whitespace mode x.1)
 
 abbrev pub source_from : ℕ → Mode → List ℕ → Result Source Fault
-source_from size mode [] = nothing_at size mode
-source_from size mode (b ∷ bytes) = if opens_comment mode (b ∷ bytes) then comment_at size null_source bytes
+source_from size mode [] = nothing_at size (strictness mode)
+source_from size mode (b ∷ bytes) =
+    if opens_comment (strictness mode) (b ∷ bytes) then comment_at size null_source bytes
     else value_to_end size mode (b ∷ bytes)
 
 -- the source of a whole text

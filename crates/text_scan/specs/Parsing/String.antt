@@ -1,15 +1,15 @@
 -- The search for a string's end, and decoding its contents.
-use Rattle.std.specs.Prelude.{ℕ, zero, suc, ◌+◌, ◌-◌, Bool, true, false, List, [], ◌∷◌, length, take, drop, slice_index, nat_lt, Option, Some, None, Result, Ok, Err, ◌==◌, if◌then◌else◌}
+use Rattle.std.specs.Prelude.{ℕ, zero, suc, ◌+◌, ◌-◌, Bool, true, false, ◌&&◌, List, [], ◌∷◌, length, take, drop, slice_index, nat_lt, nat_le, Option, Some, None, Result, Ok, Err, ◌==◌, if◌then◌else◌}
 use Rattle.std.specs.Str.{is_utf8}
 use Rattle.std.specs.Char.{digit_value}
 use Rattle.jsonb_spec.specs.Ascii as ascii
-use Rattle.jsonb_spec.specs.Mode.{Mode}
+use Rattle.jsonb_spec.specs.Mode.{Mode, standard, extended, json, extended_json, strictness}
 use Rattle.jsonb_spec.specs.Tree.{Mark}
-use Rattle.jsonb_spec.specs.Code.{Code, invalid_eof, invalid_string_value, invalid_escaped, invalid_hex, unexpected_end_of_hex_escape}
+use Rattle.jsonb_spec.specs.Code.{Code, control_character_while_parsing_string, invalid_eof, invalid_string_value, invalid_escaped, invalid_hex, unexpected_end_of_hex_escape}
 use Rattle.jsonb_spec.specs.Grammar.StringBody.{Item, raw, escape, unit, after_u, encoding, escaped_byte, meaning}
 use Rattle.jsonb_value.specs.StringStep.{item_step}
 use Rattle.jsonb_spec.specs.Grammar.Quoted.{mark_of}
-use Rattle.text_scan.specs.Parsing.{Parse, fault}
+use Rattle.text_scan.specs.Parsing.{Parse, fault, goes_beyond_json}
 
 -- ---- the body
 
@@ -31,10 +31,10 @@ abbrev pub unit_of : Bool → List ℕ → Body Item
 unit_of braces digits = checked_unit braces digits (non_digit digits)
 
 -- a unit, from the byte after `\u` on
-unfoldable pub unit_at : List ℕ → Body Item
-unit_at bytes =
+unfoldable pub unit_at : Mode → List ℕ → Body Item
+unit_at mode bytes =
     if nat_lt (length bytes) 4 then Err (unexpected_end_of_hex_escape, 2)
-    else (if slice_index bytes 0 == ascii.open_brace
+    else (if goes_beyond_json mode && (slice_index bytes 0 == ascii.open_brace)
     then (if slice_index bytes 5 == ascii.close_brace then unit_of true (take 4 (drop 1 bytes))
     else Err (unexpected_end_of_hex_escape, 2)) else unit_of false (take 4 bytes))
 
@@ -45,12 +45,23 @@ known_escape letter (Some byte) = Ok (escape letter byte)
 -- an escape, from the byte after the backslash on
 unfoldable pub escape_at : Mode → List ℕ → Body Item
 escape_at mode [] = Err (unexpected_end_of_hex_escape, 1)
-escape_at mode (letter ∷ bytes) = if letter == ascii.lower_u then unit_at bytes
-    else known_escape letter (escaped_byte mode letter)
+escape_at mode (letter ∷ bytes) = if letter == ascii.lower_u then unit_at mode bytes
+    else known_escape letter (escaped_byte (strictness mode) letter)
+
+-- whether a byte may mean itself: in JSON no control character
+abbrev pub may_be_raw : Mode → ℕ → Bool
+may_be_raw standard byte = true
+may_be_raw extended byte = true
+may_be_raw json byte = nat_le ascii.space byte
+may_be_raw extended_json byte = true
+
+-- a byte that means itself, where it may
+abbrev pub raw_at : Mode → ℕ → Body Item
+raw_at mode byte = if may_be_raw mode byte then Ok (raw byte) else Err (control_character_while_parsing_string, 1)
 
 -- the first item of a body
 unfoldable pub item_at : Mode → ℕ → List ℕ → Body Item
-item_at mode byte bytes = if byte == ascii.backslash then escape_at mode bytes else Ok (raw byte)
+item_at mode byte bytes = if byte == ascii.backslash then escape_at mode bytes else raw_at mode byte
 
 abbrev pub onto : Item → Body (List Item) → Body (List Item)
 onto item (Ok items) = Ok (item ∷ items)

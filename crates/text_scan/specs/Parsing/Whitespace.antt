@@ -1,8 +1,8 @@
 -- Skipping whitespace.
 use Rattle.std.specs.Prelude.{ℕ, zero, suc, ◌+◌, ◌-◌, Bool, false, ◌||◌, ◌&&◌, List, [], ◌∷◌, ◌==◌, if◌then◌else◌}
 use Rattle.jsonb_spec.specs.Ascii as ascii
-use Rattle.jsonb_spec.specs.Mode.{Mode, standard, extended}
-use Rattle.text_scan.specs.Parsing.{on_byte, begins}
+use Rattle.jsonb_spec.specs.Mode.{Mode, Strictness, strict, lenient, strictness}
+use Rattle.text_scan.specs.Parsing.{on_byte, begins, goes_beyond_json}
 
 -- a byte at which whitespace may begin
 abbrev pub is_whitespace_start : ℕ → Bool
@@ -52,18 +52,18 @@ comment_length [] = 0
 comment_length (b ∷ bytes) = if b == ascii.star then longer_by 2 (block_length bytes)
     else (if b == ascii.slash then longer_by 2 (line_length bytes) else 0)
 
-abbrev pub slash_length : Mode → List ℕ → ℕ
-slash_length standard bytes = 0
-slash_length extended bytes = comment_length bytes
+abbrev pub slash_length : Strictness → List ℕ → ℕ
+slash_length strict bytes = 0
+slash_length lenient bytes = comment_length bytes
 
 -- how many bytes the first piece of whitespace takes, or 0 where none begins
 abbrev pub piece_length : Mode → List ℕ → ℕ
 piece_length mode [] = 0
 piece_length mode (b ∷ bytes) =
-    if (b == ascii.space) || (b == ascii.tab) || (b == ascii.line_feed) || (b == ascii.form_feed)
-    || (b == ascii.carriage_return) then 1
-    else (if b == ascii.backslash then written_length bytes
-    else (if b == ascii.slash then slash_length mode bytes else 0))
+    if (b == ascii.space) || (b == ascii.tab) || (b == ascii.line_feed)
+    || (goes_beyond_json mode && (b == ascii.form_feed)) || (b == ascii.carriage_return) then 1
+    else (if goes_beyond_json mode && (b == ascii.backslash) then written_length bytes
+    else (if b == ascii.slash then slash_length (strictness mode) bytes else 0))
 
 abbrev pub pass_chosen : ℕ → List ℕ → List ℕ → List ℕ
 pass_chosen zero here later = here
@@ -81,15 +81,15 @@ abbrev pub skip_closed_whitespace : Mode → List ℕ → List ℕ
 skip_closed_whitespace mode bytes = pass_from mode 0 bytes
 
 -- whether a comment begins here, closed or not
-abbrev pub opens_comment : Mode → List ℕ → Bool
-opens_comment standard bytes = false
-opens_comment extended bytes =
+abbrev pub opens_comment : Strictness → List ℕ → Bool
+opens_comment strict bytes = false
+opens_comment lenient bytes =
     on_byte ascii.slash bytes (λ rest. begins ascii.star rest || begins ascii.slash rest) false
 
 -- nothing where a comment begins, which is then one without its end
-abbrev pub past_comment : Mode → List ℕ → List ℕ
-past_comment mode bytes = if opens_comment mode bytes then [] else bytes
+abbrev pub past_comment : Strictness → List ℕ → List ℕ
+past_comment strictness bytes = if opens_comment strictness bytes then [] else bytes
 
 -- the bytes after the whitespace, and after a comment that never ends
 abbrev pub skip_whitespace : Mode → List ℕ → List ℕ
-skip_whitespace mode bytes = past_comment mode (skip_closed_whitespace mode bytes)
+skip_whitespace mode bytes = past_comment (strictness mode) (skip_closed_whitespace mode bytes)

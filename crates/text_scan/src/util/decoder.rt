@@ -1,7 +1,7 @@
 //! Decodes the contents of a string, escape by escape and run by run.
 ghost use Rattle.std.specs.Prelude.{◌≡◌, ◌≢◌, ◌+◌, ◌*◌, ◌^◌, ◌≤◌, ◌<◌, ◌∷◌, ◌++◌, [], length, take, min, IfOk, IfErr, IfSome, IfNone, OnErr, OnOk, Some, None, Err, string_bytes};
 ghost use Rattle.jsonb_spec.specs.Ascii as ascii;
-ghost use Rattle.jsonb_spec.specs.Mode.{standard};
+ghost use Rattle.jsonb_spec.specs.Mode.{standard, strictness};
 ghost use Rattle.jsonb_value.specs.Error.CodeView.{code_of};
 ghost use Rattle.jsonb_spec.specs.Grammar.StringBody.{escaped_byte, Decodes};
 ghost use Rattle.text_scan.specs.Answer.{mode_of};
@@ -41,7 +41,7 @@ struct Decoded<'a> {
 // The byte that a backslash and this letter mean.
 #[inline(always)]
 fn escaped_byte(letter: u8, mode: Mode) -> Option<u8>
-    ensures { result ≡ escaped_byte (mode_of mode) letter }
+    ensures { result ≡ escaped_byte (strictness (mode_of mode)) letter }
 {
     match letter {
         b'"' | b'\\' | b'/' => Some(letter),

@@ -1,7 +1,7 @@
 //! Checks the contents of a string, and decodes nothing.
 ghost use Rattle.std.specs.Prelude.{◌≡◌, ◌≢◌, ◌+◌, ◌^◌, ◌≤◌, ◌<◌, ◌∷◌, [], drop, length, slice_index, IfErr, IfOk, MatchBool, OnOk, true};
 ghost use Rattle.jsonb_spec.specs.Ascii as ascii;
-ghost use Rattle.jsonb_spec.specs.Mode.{Mode as GrammarMode};
+ghost use Rattle.jsonb_spec.specs.Mode.{Mode as GrammarMode, GoesBeyondJson};
 ghost use Rattle.jsonb_value.specs.Error.CodeView.{code_of};
 ghost use Rattle.text_scan.specs.Answer.{mode_of};
 ghost use Rattle.text_scan.specs.Decoding.{IsDecodedUpTo, IsShortLetter, SeesNoBackslash, StopsAtEscape, ReportsBackslash};
@@ -72,7 +72,7 @@ fn begins_short(bytes: &[u8]) -> bool
     is_short_letter(bytes[1])
 }
 
-// Whether an escape of this letter is of both modes.
+// Whether an escape of this letter is of every mode.
 #[inline(always)]
 fn is_short_letter(letter: u8) -> bool
     ensures { MatchBool result (IsShortLetter letter) (Unit {0}) }
@@ -87,7 +87,7 @@ fn is_short_letter(letter: u8) -> bool
 #[inline(always)]
 fn short_len(bytes: &[u8]) -> usize
     ensures within { result ≤ length bytes.now }
-    ensures passed { (mode : GrammarMode) → IsDecodedUpTo mode bytes.now (drop result bytes.now) }
+    ensures passed { (mode : GrammarMode) → GoesBeyondJson mode → IsDecodedUpTo mode bytes.now (drop result bytes.now) }
     ensures here { result < length bytes.now → slice_index bytes.now result ≡ ascii.backslash }
 {
     let mut len = 0;

@@ -4,7 +4,7 @@ ghost use Rattle.std.specs.Char.{digit_value, encode_utf8, InScalarRange};
 ghost use Rattle.std.specs.Char.Utf16.{is_high_surrogate, is_low_surrogate};
 ghost use Rattle.std.specs.Str.Parse.{digits_value};
 ghost use Rattle.jsonb_spec.specs.Ascii as ascii;
-ghost use Rattle.jsonb_spec.specs.Mode.{Mode as GrammarMode};
+ghost use Rattle.jsonb_spec.specs.Mode.{Mode as GrammarMode, GoesBeyondJson};
 ghost use Rattle.jsonb_value.specs.Error.CodeView.{code_of};
 ghost use Rattle.jsonb_spec.specs.Grammar.StringBody.{IsHexDigit, unit, encoding, alone, together};
 ghost use Rattle.jsonb_spec.specs.Grammar.StringFault.{IsUnitCut, IsFirstNonDigit};
@@ -82,7 +82,7 @@ fn value_of(digits: &[u8]) -> Option<u32>
 fn split_unit(bytes: &[u8]) -> Option<(&[u8], &[u8])>
     ensures some { IfSome result (λ parts. SplitsUnit bytes.now parts.0.now parts.1.now) }
     ensures long { IfSome result (λ parts. length parts.1.now + 4 ≤ length bytes.now) }
-    ensures none { IfNone result (IsUnitCut bytes.now) }
+    ensures none { IfNone result ((mode : GrammarMode) → GoesBeyondJson mode → IsUnitCut mode bytes.now) }
 {
     if bytes.len() < 4 {
         return None;
@@ -101,7 +101,8 @@ fn split_unit(bytes: &[u8]) -> Option<(&[u8], &[u8])>
 fn read_unit(bytes: &[u8]) -> std::result::Result<HexUnit<'_>, DecodingFault>
     ensures ok { IfOk result (λ unit. ParsesUnit bytes.now unit.digits.now unit.rest.now unit.value) }
     ensures long { IfOk result (λ unit. length unit.rest.now + 4 ≤ length bytes.now) }
-    ensures err { IfErr result (λ fault. StopsInUnit bytes.now (code_of fault.code) fault.left) }
+    ensures err { IfErr result (λ fault. (mode : GrammarMode) → GoesBeyondJson mode → StopsInUnit mode
+        bytes.now (code_of fault.code) fault.left) }
 {
     let Some((digits, rest)) = split_unit(bytes) else {
         return Err(DecodingFault {
@@ -263,12 +264,12 @@ pub(super) fn units<'a>(
     len: usize,
 ) -> std::result::Result<Decoded<'a>, DecodingFault>
     requires { len + min (2 + length bytes.now) 12 ≤ length text.old }
-    ensures ok { IfOk result (λ done. (mode : GrammarMode) → Adds mode
+    ensures ok { IfOk result (λ done. (mode : GrammarMode) → GoesBeyondJson mode → Adds mode
         (ascii.backslash ∷ ascii.lower_u ∷ bytes.now) done.rest.now (take len text.old) (take done.len text.new)) }
     ensures shorter { IfOk result (λ done. length done.rest.now ≤ length bytes.now) }
     ensures space { IfOk result (λ done. done.len + length done.rest.now ≤ len + 2 + length bytes.now) }
     ensures within { IfOk result (λ done. done.len ≤ length text.new) }
-    ensures err { IfErr result (λ fault. (mode : GrammarMode) → StopsAtEscape mode
+    ensures err { IfErr result (λ fault. (mode : GrammarMode) → GoesBeyondJson mode → StopsAtEscape mode
         (ascii.backslash ∷ ascii.lower_u ∷ bytes.now) (code_of fault.code) fault.left) }
     ensures same { OnErr result (text.new ≡ text.old) }
     ensures size { length text.new ≡ length text.old }
@@ -293,10 +294,10 @@ pub(super) fn units<'a>(
 // what follows.
 #[inline(never)]
 pub(super) fn pass_units(bytes: &[u8]) -> std::result::Result<&[u8], DecodingFault>
-    ensures ok { IfOk result (λ rest. (mode : GrammarMode) → IsDecodedUpTo mode
+    ensures ok { IfOk result (λ rest. (mode : GrammarMode) → GoesBeyondJson mode → IsDecodedUpTo mode
         (ascii.backslash ∷ ascii.lower_u ∷ bytes.now) rest.now) }
     ensures shorter { IfOk result (λ rest. length rest.now ≤ length bytes.now) }
-    ensures err { IfErr result (λ fault. (mode : GrammarMode) → StopsAtEscape mode
+    ensures err { IfErr result (λ fault. (mode : GrammarMode) → GoesBeyondJson mode → StopsAtEscape mode
         (ascii.backslash ∷ ascii.lower_u ∷ bytes.now) (code_of fault.code) fault.left) }
 {
     let first = read_unit(bytes)?;

@@ -2,6 +2,7 @@ use Rattle.std.proofs.Common.{◌≡◌, [], ◌++◌, List, ℕ, length, take, 
 use Rattle.std.proofs.lemmas.List.{append-nil, take_rest, nil_from_length}
 use Rattle.text_scan.specs.Answer.{mode_of}
 use Rattle.text_scan.specs.Decoding.{AreContents}
+use Rattle.text_scan.proofs.Steps.Modes.{code_goes_beyond}
 use Rattle.text_scan.proofs.Strings.Decoding.{contents_left}
 use Rattle.text_write.specs.Escaped.{WritesItems}
 use Rattle.text_write.proofs.EscapedTexts.{writes_all, writes_behind, writes_then}
@@ -20,7 +21,7 @@ parts-preserved c =
     let second : List ℕ = c.append_next.new.out.items in
     let third : List ℕ = c.if-count-gt0.out.items in
     let next = c.in_ok-others.ensures.ok in
-    let verbatim = c.entry_len-count.ensures.retained mode in
+    let verbatim = c.entry_len-count.ensures.retained mode (code_goes_beyond c.args.mode) in
     let appended : third ≡ second ++ take count others = elim c.if-count-gt0.branch [
       | then-count-gt0+in_ok-append_first w ↦ ap (λ out. out.items) w.out-is ∙ w.in_ok-append_first.ensures.bytes
       | else-count-gt0 w ↦ let none : count ≡ 0 = omega (arith, w.if-count-gt0.false) in ap (λ out. out.items) w.out-is ∙ sym (ap (λ (n : ℕ). second ++ take n others) none ∙ append-nil second)

@@ -9,22 +9,22 @@ parts-preserved c =
     let front : ℕ = c.parts.len + c.run_of_sixteen-run.result in
     let escape = c.if-not-begins_verbatim.ensures in (
       omega (arith, escape.within, c.parts.invariant.0, c.run_of_sixteen-run.ensures.within, length-take-le (length bytes - front) (drop front bytes) (omega (arith, length-drop front bytes)), length-drop front bytes),
-      λ mode.
-          writes_on mode bytes front 2 (writes_on mode bytes c.parts.len c.run_of_sixteen-run.result (c.parts.invariant.1 mode) (writes_plain mode (drop c.parts.len bytes) c.run_of_sixteen-run.result (rw (take_rest bytes c.parts.len) at c.run_of_sixteen-run.ensures.plain)))
+      λ mode beyond.
+          writes_on mode bytes front 2 (writes_on mode bytes c.parts.len c.run_of_sixteen-run.result (c.parts.invariant.1 mode beyond) (writes_plain mode (drop c.parts.len bytes) c.run_of_sixteen-run.result beyond (rw (take_rest bytes c.parts.len) at c.run_of_sixteen-run.ensures.plain)))
           (rw (take_rest bytes front) at (escape.retained mode)),
     )
 
 pub returns-then-not-begins_verbatim-clause-retained : goal.returns-then-not-begins_verbatim-clause-retained
-returns-then-not-begins_verbatim-clause-retained c mode =
+returns-then-not-begins_verbatim-clause-retained c mode beyond =
     let bytes = c.args.bytes.now in
-    writes_on mode bytes c.parts.len c.run_of_sixteen-run.result (c.parts.invariant.1 mode) (writes_plain mode (drop c.parts.len bytes) c.run_of_sixteen-run.result (rw (take_rest bytes c.parts.len) at c.run_of_sixteen-run.ensures.plain))
+    writes_on mode bytes c.parts.len c.run_of_sixteen-run.result (c.parts.invariant.1 mode beyond) (writes_plain mode (drop c.parts.len bytes) c.run_of_sixteen-run.result beyond (rw (take_rest bytes c.parts.len) at c.run_of_sixteen-run.ensures.plain))
 
 pub parts-preserved-then-run-eq16 : goal.parts-preserved-then-run-eq16
 parts-preserved-then-run-eq16 c =
     let bytes = c.args.bytes.now in
-    (omega arith, λ mode. writes_on mode bytes c.parts.len c.run_of_sixteen-run.result (c.parts.invariant.1 mode) (writes_plain mode (drop c.parts.len bytes) c.run_of_sixteen-run.result (rw (take_rest bytes c.parts.len) at c.run_of_sixteen-run.ensures.plain)))
+    (omega arith, λ mode beyond. writes_on mode bytes c.parts.len c.run_of_sixteen-run.result (c.parts.invariant.1 mode beyond) (writes_plain mode (drop c.parts.len bytes) c.run_of_sixteen-run.result beyond (rw (take_rest bytes c.parts.len) at c.run_of_sixteen-run.ensures.plain)))
 
 pub returns-clause-retained : goal.returns-clause-retained
-returns-clause-retained c mode =
+returns-clause-retained c mode beyond =
     let bytes = c.args.bytes.now in
-    writes_on mode bytes c.parts.len c.verbatim_tail.result (c.parts.invariant.1 mode) (rw (take_rest bytes c.parts.len) at (c.verbatim_tail.ensures.retained mode))
+    writes_on mode bytes c.parts.len c.verbatim_tail.result (c.parts.invariant.1 mode beyond) (rw (take_rest bytes c.parts.len) at (c.verbatim_tail.ensures.retained mode beyond))

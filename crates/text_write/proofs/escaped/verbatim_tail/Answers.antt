@@ -9,12 +9,12 @@ parts-preserved c =
     let front : ℕ = c.parts.len + c.run_of_few-run.result in
     let escape = c.if-not-begins_verbatim.ensures in (
       omega (arith, escape.within, c.parts.invariant.0, c.run_of_few-run.ensures.within, length-take-le (length bytes - front) (drop front bytes) (omega (arith, length-drop front bytes)), length-drop front bytes),
-      λ mode.
-          writes_on mode bytes front 2 (writes_on mode bytes c.parts.len c.run_of_few-run.result (c.parts.invariant.1 mode) (writes_plain mode (drop c.parts.len bytes) c.run_of_few-run.result (rw (take_rest bytes c.parts.len) at c.run_of_few-run.ensures.plain)))
+      λ mode beyond.
+          writes_on mode bytes front 2 (writes_on mode bytes c.parts.len c.run_of_few-run.result (c.parts.invariant.1 mode beyond) (writes_plain mode (drop c.parts.len bytes) c.run_of_few-run.result beyond (rw (take_rest bytes c.parts.len) at c.run_of_few-run.ensures.plain)))
           (rw (take_rest bytes front) at (escape.retained mode)),
     )
 
 pub returns-then-not-begins_verbatim-clause-retained : goal.returns-then-not-begins_verbatim-clause-retained
-returns-then-not-begins_verbatim-clause-retained c mode =
+returns-then-not-begins_verbatim-clause-retained c mode beyond =
     let bytes = c.args.bytes.now in
-    writes_on mode bytes c.parts.len c.run_of_few-run.result (c.parts.invariant.1 mode) (writes_plain mode (drop c.parts.len bytes) c.run_of_few-run.result (rw (take_rest bytes c.parts.len) at c.run_of_few-run.ensures.plain))
+    writes_on mode bytes c.parts.len c.run_of_few-run.result (c.parts.invariant.1 mode beyond) (writes_plain mode (drop c.parts.len bytes) c.run_of_few-run.result beyond (rw (take_rest bytes c.parts.len) at c.run_of_few-run.ensures.plain))

@@ -1,6 +1,7 @@
 use Rattle.std.proofs.Common.{◌≡◌, inl, [], Ok, true, ap, sym, subst, ◌∙◌}
 use Rattle.std.proofs.lemmas.Result.{err_from_is_err_and}
 use Rattle.jsonb_spec.specs.Grammar.{max_depth}
+use Rattle.jsonb_spec.specs.Mode.{strictness}
 use Rattle.text_scan.specs.Answer.{MayAllocate, mode_of}
 use Rattle.text_parse.specs.Parser.{parse_at, rest_of, size_of}
 use Rattle.text_scan.specs.Parsing.{◌>>=◌}
@@ -22,7 +23,7 @@ returns-in-Extended-clause-memory g c =
     let p = c.args.self.now in
     let q = c.skip_closed_whitespace.new.self in
     let h = g.V.Handler in
-    written_memory _ _ _ h.writes c.put_root.result (source_from (size_of p) (mode_of p.mode) (skip_closed_whitespace (mode_of p.mode) (rest_of p))) null_source (document_none p q c.skip_closed_whitespace.ensures.rest c.skip_closed_whitespace.ensures.advances c.if-self.true (ap mode_of c.in-Extended.is)) c.put_root.ensures.memory
+    written_memory _ _ _ h.writes c.put_root.result (source_from (size_of p) (mode_of p.mode) (skip_closed_whitespace (mode_of p.mode) (rest_of p))) null_source (document_none p q c.skip_closed_whitespace.ensures.rest c.skip_closed_whitespace.ensures.advances c.if-self.true (ap (λ m. strictness (mode_of m)) c.in-Extended.is)) c.put_root.ensures.memory
 
 pub returns-then-opens_comment-clause-memory : goal.returns-then-opens_comment-clause-memory
 returns-then-opens_comment-clause-memory g c =

@@ -1,4 +1,5 @@
 use Rattle.std.proofs.Common.{◌≡◌, Err, ap, drop, length, sym, ◌∙◌, rules}
+use Rattle.jsonb_spec.specs.Mode.{strictness}
 use Rattle.jsonb_spec.specs.Tree.{null}
 use Rattle.text_scan.specs.Answer.{mode_of}
 use Rattle.text_scan.specs.Parsing.Scalar.{null_at, number_value_at}
@@ -26,7 +27,7 @@ returns-in-Extended g c =
           let on = c.parse_word.ensures.advances in
           let left = drop p.offset q.buf.now in
           let same : null_at (size_of p) (mode_of p.mode) (rest_of p) ≡ number_value_at (size_of q) (mode_of q.mode) left =
-          null_missed (size_of p) (mode_of p.mode) (rest_of p) c.in-Err.error (ap mode_of (sym on.mode ∙ c.in-Extended.is)) (λ e. c.in-Err.ensures.takes_no_memory (ap Err e)) c.in-Err.ensures.parses
+          null_missed (size_of p) (mode_of p.mode) (rest_of p) c.in-Err.error (ap (λ m. strictness (mode_of m)) (sym on.mode ∙ c.in-Extended.is)) (λ e. c.in-Err.ensures.takes_no_memory (ap Err e)) c.in-Err.ensures.parses
           ∙ ap (λ b. number_value_at (length b.now) (mode_of p.mode) (drop p.offset b.now)) (sym on.buf) ∙ ap (λ m. number_value_at (size_of q) (mode_of m) left) (sym on.mode) in
           builds_same g.V.Handler.silent c.parse_number_value.new.self.reported (AsScalar g.V.Handler.sees) c.parse_number_value.result _ _ _ same
           c.parse_number_value.ensures.parses;

@@ -5,6 +5,7 @@ use Rattle.text_scan.specs.Answer.{mode_of}
 use Rattle.text_scan.specs.Parsing.Container.{is_left_out}
 use Rattle.text_scan.specs.Parsing.Scalar.{scalar_at}
 use Rattle.jsonb_spec.specs.Source.{null_source}
+use Rattle.jsonb_spec.specs.Mode.{strictness}
 use Rattle.text_parse.specs.declared.parser.frame.Frame.TheVariants as variants
 use Rattle.text_parse.specs.Parser.{rest_of, size_of}
 use Rattle.text_parse.proofs.Scalars.Built.{not_encoded, put_so}
@@ -18,6 +19,6 @@ returns g c =
           let h = g.V.Handler in
           let mode = mode_of p.mode in
           put_so h.silent h.holds _ p.buf.now p c.put.new.self c.args.sink.now c.put.new.sink c.put.result (variants.Array c.args.items.now) null _ (variants.Array c.put.new.container) c.put.ensures.put c.put.ensures.same c.put.ensures.reported (inl (c.scalar-null.ensures, not_encoded p.buf.now p.offset null_source))
-          (cond-true (is_left_out mode (rest_of p)) (Ok (null, rest_of p)) (scalar_at (size_of p) mode (rest_of p)) (sym c.if-not-is_left_out.ensures));
+          (cond-true (is_left_out (strictness mode) (rest_of p)) (Ok (null, rest_of p)) (scalar_at (size_of p) mode (rest_of p)) (sym c.if-not-is_left_out.ensures));
       advances = search rules;
     }

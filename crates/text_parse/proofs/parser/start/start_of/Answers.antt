@@ -1,8 +1,9 @@
 use Rattle.std.proofs.Common.{◌≡◌, ◌≤◌, true, ap, arith}
 use Rattle.std.proofs.lemmas.Bool.Decides.{nat_tests}
+use Rattle.jsonb_spec.specs.Mode.{strictness}
 use Rattle.text_scan.specs.Parsing.Number.{is_number_start}
 use Rattle.text_scan.specs.Answer.{mode_of}
-use Rattle.text_parse.proofs.Scalars.Starts.{BeginsNone, BeginsNoMore, array_starts, double_quote_starts, extended_none, extended_number_starts, false_starts, large_false_starts, large_null_starts, large_true_starts, null_starts, number_starts, object_starts, single_quote_starts, standard_none, true_starts}
+use Rattle.text_parse.proofs.Scalars.Starts.{BeginsNone, BeginsNoMore, array_starts, double_quote_starts, extended_number_starts, false_starts, large_false_starts, large_null_starts, large_true_starts, lenient_none, null_starts, number_starts, object_starts, single_quote_starts, strict_none, true_starts}
 use Rattle.text_parse.proofs.parser.start.start_of.Goals as goal
 
 pub returns-in-91 : goal.returns-in-91
@@ -24,25 +25,25 @@ pub returns-in-102 : goal.returns-in-102
 returns-in-102 c rest = false_starts (mode_of c.args.mode) c.args.byte rest c.in-102.is
 
 pub returns-in-39 : goal.returns-in-39
-returns-in-39 c rest = single_quote_starts (mode_of c.args.mode) c.args.byte rest (ap mode_of c.in-Extended.is) c.in-39.is
+returns-in-39 c rest = single_quote_starts (mode_of c.args.mode) c.args.byte rest (ap (λ m. strictness (mode_of m)) c.in-Extended.is) c.in-39.is
 
 pub returns-in-78 : goal.returns-in-78
-returns-in-78 c rest = large_null_starts (mode_of c.args.mode) c.args.byte rest (ap mode_of c.in-Extended.is) c.in-78.is
+returns-in-78 c rest = large_null_starts (mode_of c.args.mode) c.args.byte rest (ap (λ m. strictness (mode_of m)) c.in-Extended.is) c.in-78.is
 
 pub returns-in-84 : goal.returns-in-84
-returns-in-84 c rest = large_true_starts (mode_of c.args.mode) c.args.byte rest (ap mode_of c.in-Extended.is) c.in-84.is
+returns-in-84 c rest = large_true_starts (mode_of c.args.mode) c.args.byte rest (ap (λ m. strictness (mode_of m)) c.in-Extended.is) c.in-84.is
 
 pub returns-in-70 : goal.returns-in-70
-returns-in-70 c rest = large_false_starts (mode_of c.args.mode) c.args.byte rest (ap mode_of c.in-Extended.is) c.in-70.is
+returns-in-70 c rest = large_false_starts (mode_of c.args.mode) c.args.byte rest (ap (λ m. strictness (mode_of m)) c.in-Extended.is) c.in-70.is
 
 pub returns-in-43 : goal.returns-in-43
-returns-in-43 c rest = extended_number_starts (mode_of c.args.mode) c.args.byte rest (ap mode_of c.in-Extended.is) c.in-43.is
+returns-in-43 c rest = extended_number_starts (mode_of c.args.mode) c.args.byte rest (ap (λ m. strictness (mode_of m)) c.in-Extended.is) c.in-43.is
 
 pub returns-in-Standard : goal.returns-in-Standard
 returns-in-Standard c rest =
     let none : BeginsNone c.args.byte =
     record { no_quote = λ e. omega (arith, e); no_n = λ e. omega (arith, e); no_t = λ e. omega (arith, e); no_f = λ e. omega (arith, e); no_minus = λ e. omega (arith, e); no_digit = λ low. omega (arith, low) } in
-    standard_none (mode_of c.args.mode) c.args.byte rest (ap mode_of c.in-Standard.is) none
+    strict_none (mode_of c.args.mode) c.args.byte rest (ap (λ m. strictness (mode_of m)) c.in-Standard.is) none
 
 pub returns-in-45 : goal.returns-in-45
 returns-in-45 c rest = number_starts (mode_of c.args.mode) c.args.byte rest (ap is_number_start c.in-45.is)
@@ -60,4 +61,4 @@ returns-in_default-byte c rest =
     record { no_quote = λ e. omega (arith, e); no_n = λ e. omega (arith, e); no_t = λ e. omega (arith, e); no_f = λ e. omega (arith, e); no_minus = λ e. omega (arith, e); no_digit = λ low. omega (arith, low) } in
     let no_more : BeginsNoMore c.args.byte =
     record { no_single = λ e. omega (arith, e); no_large_n = λ e. omega (arith, e); no_large_t = λ e. omega (arith, e); no_large_f = λ e. omega (arith, e); no_plus = λ e. grind (arith, e); no_point = λ e. grind (arith, e); no_i = λ e. grind (arith, e); no_large_i = λ e. grind (arith, e) } in
-    extended_none (mode_of c.args.mode) c.args.byte rest (ap mode_of c.in-Extended.is) none no_more
+    lenient_none (mode_of c.args.mode) c.args.byte rest (ap (λ m. strictness (mode_of m)) c.in-Extended.is) none no_more

@@ -3,6 +3,7 @@ use Rattle.std.proofs.lemmas.Result.{err_from_is_err_and}
 use Rattle.jsonb_spec.specs.Tree.{plain}
 use Rattle.text_scan.specs.Answer.{mode_of}
 use Rattle.text_scan.specs.Decoding.{ReportsBackslash}
+use Rattle.text_scan.proofs.Steps.Modes.{code_goes_beyond}
 use Rattle.text_scan.proofs.Strings.Bodies.{body-raw, body-raw_fault, body-decoded, reads_rejected}
 use Rattle.text_scan.proofs.parser.string.decode_contents.Goals as goal
 
@@ -22,10 +23,10 @@ returns-in-Ok-clause-parses c =
     let mode = mode_of c.args.mode in
     let body = c.args.body.now in
     let text = c.in-Ok.ensures.cases in
-    body-raw mode body (subst (ReportsBackslash body (length body)) c.if-escaped.false c.requires.escaped) text.1 ∙ ap (λ (t : List ℕ). Ok (plain, t)) (sym text.0)
+    body-raw mode body (code_goes_beyond c.args.mode) (subst (ReportsBackslash body (length body)) c.if-escaped.false c.requires.escaped) text.1 ∙ ap (λ (t : List ℕ). Ok (plain, t)) (sym text.0)
 
 pub returns-in-Err-clause-parses : goal.returns-in-Err-clause-parses
 returns-in-Err-clause-parses c =
     let mode = mode_of c.args.mode in
     let body = c.args.body.now in
-    (length body, body-raw_fault mode body (subst (ReportsBackslash body (length body)) c.if-escaped.false c.requires.escaped) c.in-Err.ensures.cases.0, refl)
+    (length body, body-raw_fault mode body (code_goes_beyond c.args.mode) (subst (ReportsBackslash body (length body)) c.if-escaped.false c.requires.escaped) c.in-Err.ensures.cases.0, refl)

@@ -4,6 +4,7 @@ use Rattle.text_scan.specs.Answer.{mode_of}
 use Rattle.text_scan.specs.Decoding.{IsDecodedUpTo}
 use Rattle.text_scan.specs.QuotedString.{decoded_text}
 use Rattle.jsonb_spec.specs.Tree.{escaped}
+use Rattle.text_scan.proofs.Steps.Modes.{code_goes_beyond}
 use Rattle.text_scan.proofs.Strings.Checks.{body_checked}
 use Rattle.text_scan.proofs.Strings.Items.{parsed_contents}
 use Rattle.text_write.specs.Escaped.{WritesItems}
@@ -15,7 +16,7 @@ check_contents-requires-clause-known c =
     let mode = mode_of c.args.mode in
     let body = c.args.body.now in
     let verbatim = c.entry_len-verbatim.result in
-    writes_known mode body (drop verbatim body) [] (take verbatim body) (subst (λ (u : List ℕ). WritesItems mode u (drop verbatim u) [] (take verbatim u)) c.as_bytes.ensures.value (c.entry_len-verbatim.ensures.retained mode))
+    writes_known mode body (drop verbatim body) [] (take verbatim body) (subst (λ (u : List ℕ). WritesItems mode u (drop verbatim u) [] (take verbatim u)) c.as_bytes.ensures.value (c.entry_len-verbatim.ensures.retained mode (code_goes_beyond c.args.mode)))
 
 pub invariant_of-result : goal.invariant_of-result
 invariant_of-result c =
@@ -23,7 +24,7 @@ invariant_of-result c =
     let body : List ℕ = c.args.body.now in
     let verbatim : ℕ = c.entry_len-verbatim.result in
     let written : WritesItems mode body (drop verbatim body) [] (take verbatim body) =
-    subst (λ (u : List ℕ). WritesItems mode u (drop verbatim u) [] (take verbatim u)) c.as_bytes.ensures.value (c.entry_len-verbatim.ensures.retained mode) in
+    subst (λ (u : List ℕ). WritesItems mode u (drop verbatim u) [] (take verbatim u)) c.as_bytes.ensures.value (c.entry_len-verbatim.ensures.retained mode (code_goes_beyond c.args.mode)) in
     let known = writes_known mode body (drop verbatim body) [] (take verbatim body) written in
     let none : drop verbatim body ≡ [] = drop_all verbatim body (omega (arith, c.if-verbatim-body.true)) in
     record {
@@ -40,7 +41,7 @@ invariant_of-result-2 c =
     record {
       inside = omega (arith, c.entry_len-verbatim.ensures.within, ap length c.as_bytes.ensures.value);
       checked = parsed_contents mode body escaped (decoded_text mode body) c.in_ok-check_contents.ensures;
-      retained = ∣ subst (λ (u : List ℕ). WritesItems mode u (drop verbatim u) [] (take verbatim u)) c.as_bytes.ensures.value (c.entry_len-verbatim.ensures.retained mode) ∣₁;
+      retained = ∣ subst (λ (u : List ℕ). WritesItems mode u (drop verbatim u) [] (take verbatim u)) c.as_bytes.ensures.value (c.entry_len-verbatim.ensures.retained mode (code_goes_beyond c.args.mode)) ∣₁;
     }
 
 pub returns-then-verbatim-body : goal.returns-then-verbatim-body
@@ -49,7 +50,7 @@ returns-then-verbatim-body c =
     let body : List ℕ = c.args.body.now in
     let verbatim : ℕ = c.entry_len-verbatim.result in
     let written : WritesItems mode body (drop verbatim body) [] (take verbatim body) =
-    subst (λ (u : List ℕ). WritesItems mode u (drop verbatim u) [] (take verbatim u)) c.as_bytes.ensures.value (c.entry_len-verbatim.ensures.retained mode) in
+    subst (λ (u : List ℕ). WritesItems mode u (drop verbatim u) [] (take verbatim u)) c.as_bytes.ensures.value (c.entry_len-verbatim.ensures.retained mode (code_goes_beyond c.args.mode)) in
     let known = writes_known mode body (drop verbatim body) [] (take verbatim body) written in
     let none : drop verbatim body ≡ [] = drop_all verbatim body (omega (arith, c.if-verbatim-body.true)) in
     body_checked mode body c.requires.escaped c.utf8.body (subst (IsDecodedUpTo mode body) none known)

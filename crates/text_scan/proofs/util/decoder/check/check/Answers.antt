@@ -3,6 +3,7 @@ use Rattle.std.proofs.lemmas.List.{take_rest, nil_from_length, get_or-drop}
 use Rattle.std.proofs.lemmas.Result.{err_from_is_err_and}
 use Rattle.text_scan.specs.Answer.{mode_of}
 use Rattle.text_scan.specs.Decoding.{IsDecodedUpTo}
+use Rattle.text_scan.proofs.Steps.Modes.{code_goes_beyond}
 use Rattle.text_scan.proofs.Strings.Checks.{up_to_then}
 use Rattle.text_scan.proofs.Strings.Decoding.{first_byte, stops_after}
 use Rattle.text_scan.proofs.util.decoder.check.check.Goals as goal
@@ -14,20 +15,20 @@ returns-in_default-split_first-clause-ok c =
     let count : ℕ = c.short_len-count.result in
     let found = c.short_len-count.ensures in
     let none : length (drop count rest) ≡ 0 = omega (arith, c.in_default-split_first.ensures.cases, ap length (take_rest rest count)) in
-    subst (IsDecodedUpTo mode c.args.bytes.now) (nil_from_length (drop count rest) none) (up_to_then mode c.args.bytes.now rest (drop count rest) c.items.invariant (found.passed mode))
+    subst (IsDecodedUpTo mode c.args.bytes.now) (nil_from_length (drop count rest) none) (up_to_then mode c.args.bytes.now rest (drop count rest) c.items.invariant (found.passed mode (code_goes_beyond c.args.mode)))
 
 pub returns-in_err-rest-clause-err : goal.returns-in_err-rest-clause-err
 returns-in_err-rest-clause-err c =
     let p = err_from_is_err_and c.from_residual.result c.from_residual.ensures.1 in
     let mode = mode_of c.args.mode in
     let so_far = c.items.invariant in
-    rw (p.1, p.2) (stops_after mode c.args.bytes.now c.items.rest.now so_far.text _ _ so_far.decodes (rw c.in-Some.ensures.some (c.in_err-rest.ensures.err mode)))
+    rw (p.1, p.2) (stops_after mode c.args.bytes.now c.items.rest.now so_far.text _ _ so_far.decodes (rw c.in-Some.ensures.some (c.in_err-rest.ensures.err mode (code_goes_beyond c.args.mode))))
 
 pub items-preserved-in-Some : goal.items-preserved-in-Some
 items-preserved-in-Some c =
     let mode = mode_of c.args.mode in
     up_to_then mode c.args.bytes.now c.items.rest.now c.in_ok-rest.rest.now c.items.invariant
-    (subst (λ (u : List ℕ). IsDecodedUpTo mode u c.in_ok-rest.rest.now) (sym c.in-Some.ensures.some) (c.in_ok-rest.ensures.ok mode))
+    (subst (λ (u : List ℕ). IsDecodedUpTo mode u c.in_ok-rest.rest.now) (sym c.in-Some.ensures.some) (c.in_ok-rest.ensures.ok mode (code_goes_beyond c.args.mode)))
 
 pub returns-in_err-rest-2-clause-err : goal.returns-in_err-rest-2-clause-err
 returns-in_err-rest-2-clause-err c =
@@ -36,7 +37,7 @@ returns-in_err-rest-2-clause-err c =
     let rest : List ℕ = c.items.rest.now in
     let count : ℕ = c.short_len-count.result in
     let found = c.short_len-count.ensures in
-    let so_far = up_to_then mode c.args.bytes.now rest (drop count rest) c.items.invariant (found.passed mode) in
+    let so_far = up_to_then mode c.args.bytes.now rest (drop count rest) c.items.invariant (found.passed mode (code_goes_beyond c.args.mode)) in
     let cut : drop count rest ≡ c.in-Some-split_first.field-0-0.now ∷ c.in-Some-split_first.after.now = sym (take_rest rest count) ∙ c.in-Some-split_first.ensures.cases.0 in
     let here : count < length rest = omega (arith, ap length cut, length-drop count rest) in
     let backslash : drop count rest ≡ 92 ∷ c.in-Some-split_first.after.now = first_byte (drop count rest) c.in-Some-split_first.after.now 92 c.in-Some-split_first.field-0-0.now cut (get_or-drop count rest 0 0 ∙ ap (λ (n : ℕ). get_or rest n 0) (let e : count + 0 ≡ count = omega arith in e) ∙ found.here here) in
@@ -48,7 +49,7 @@ items-preserved c =
     let rest : List ℕ = c.items.rest.now in
     let count : ℕ = c.short_len-count.result in
     let found = c.short_len-count.ensures in
-    let so_far = up_to_then mode c.args.bytes.now rest (drop count rest) c.items.invariant (found.passed mode) in
+    let so_far = up_to_then mode c.args.bytes.now rest (drop count rest) c.items.invariant (found.passed mode (code_goes_beyond c.args.mode)) in
     let cut : drop count rest ≡ c.in-Some-split_first.field-0-0.now ∷ c.in-Some-split_first.after.now = sym (take_rest rest count) ∙ c.in-Some-split_first.ensures.cases.0 in
     let here : count < length rest = omega (arith, ap length cut, length-drop count rest) in
     let backslash : drop count rest ≡ 92 ∷ c.in-Some-split_first.after.now = first_byte (drop count rest) c.in-Some-split_first.after.now 92 c.in-Some-split_first.field-0-0.now cut (get_or-drop count rest 0 0 ∙ ap (λ (n : ℕ). get_or rest n 0) (let e : count + 0 ≡ count = omega arith in e) ∙ found.here here) in

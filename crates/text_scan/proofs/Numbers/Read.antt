@@ -1,0 +1,78 @@
+-- What parsing a number gives, and how a number begins, in each mode.
+use Rattle.std.proofs.Common.{◌≡◌, ℕ, true, List, ◌∷◌, ◌++◌, inl, inr, ⊎_elim, eqb-true, Ok, Err}
+use Rattle.std.specs.Prelude.{◌==◌}
+use Rattle.std.specs.Char.{is_ascii_digit}
+use Rattle.std.proofs.lemmas.Bool.{or_cases}
+use Rattle.jsonb_spec.specs.Grammar.Scalar.{IsNumber, IsNumberText}
+use Rattle.jsonb_spec.specs.Mode.{Mode, standard, extended, json, extended_json, Strictness, strict, lenient, strictness}
+use Rattle.jsonb_spec.specs.Tree.{Num}
+use Rattle.text_scan.specs.Parsing.{Fault}
+use Rattle.text_scan.specs.Parsing.Number.{is_number_start}
+use Rattle.text_scan.specs.Parsing.Scalar.{begins_number, number_at}
+use Rattle.text_scan.proofs.Numbers.Steps.{digit_is}
+use Rattle.text_scan.proofs.Numbers.Reading.{EndsNumber, NumberRead, FaultRead}
+use Rattle.text_scan.proofs.Numbers.Standard.{NumberStart, standard_is_text, number_starts, number_unique, number_sound, number_faults, number_complete}
+use Rattle.text_scan.proofs.Numbers.Extended.{OpensNumber, ExtendedStart, extended_starts, opens_extended, extended_sound, extended_faults, extended_complete}
+use Rattle.text_scan.proofs.Numbers.ExtendedParts.{extended_is_text, extended_unique}
+use Rattle.text_scan.proofs.Numbers.ExactNumbers.{json_is_text, json_unique, json_starts, json_sound, json_faults, json_complete, extended_json_is_text, extended_json_unique, extended_json_starts, extended_json_sound, extended_json_faults, extended_json_complete}
+
+-- a number's bytes are a number text
+pub number_text_of : (mode : Mode) (core : List ℕ) (n : Num) → IsNumber mode core n → IsNumberText (strictness mode) core
+number_text_of standard core n number = standard_is_text core n number
+number_text_of extended core n number = extended_is_text core n number
+number_text_of json core n number = json_is_text core n number
+number_text_of extended_json core n number = extended_json_is_text core n number
+
+-- a text has one number
+pub number_unique_of : (mode : Mode) (core : List ℕ) (m n : Num) → IsNumber mode core m → IsNumber mode core n → m ≡ n
+number_unique_of standard core m n p q = number_unique core m n p q
+number_unique_of extended core m n p q = extended_unique core m n p q
+number_unique_of json core m n p q = json_unique core m n p q
+number_unique_of extended_json core m n p q = extended_json_unique core m n p q
+
+-- What is parsed is a number text with its number, and no longer one is there.
+pub number_sound_of : (size : ℕ) (mode : Mode) (bytes : List ℕ) (n : Num) (rest : List ℕ) → number_at size mode bytes ≡ Ok (n, rest) → NumberRead mode bytes n rest
+number_sound_of size standard bytes n rest at = number_sound size bytes n rest at
+number_sound_of size extended bytes n rest at = extended_sound size bytes n rest at
+number_sound_of size json bytes n rest at = json_sound size bytes n rest at
+number_sound_of size extended_json bytes n rest at = extended_json_sound size bytes n rest at
+
+-- Each fault is one of two, and its meaning is known.
+pub number_faults_of : (size : ℕ) (mode : Mode) (bytes : List ℕ) (f : Fault) → number_at size mode bytes ≡ Err f → FaultRead mode size bytes f
+number_faults_of size standard bytes f at = number_faults size bytes f at
+number_faults_of size extended bytes f at = extended_faults size bytes f at
+number_faults_of size json bytes f at = json_faults size bytes f at
+number_faults_of size extended_json bytes f at = extended_json_faults size bytes f at
+
+-- A number text that nothing goes on with is parsed so.
+pub number_complete_of : (size : ℕ) (mode : Mode) (core rest : List ℕ) (n : Num) → IsNumber mode core n → EndsNumber (strictness mode) rest → number_at size mode (core ++ rest) ≡ Ok (n, rest)
+number_complete_of size standard core rest n number ends = number_complete size core rest n number ends
+number_complete_of size extended core rest n number ends = extended_complete size core rest n number ends
+number_complete_of size json core rest n number ends = json_complete size core rest n number ends
+number_complete_of size extended_json core rest n number ends = extended_json_complete size core rest n number ends
+
+-- ---- how a number begins
+
+-- the first byte of a number, at which one may begin
+pub record NumberOpens (strictness : Strictness) (core : List ℕ) : Type 0 where
+  pub first : ℕ
+  pub others : List ℕ
+  pub whole : core ≡ first ∷ others
+  pub opens : OpensNumber first
+  pub begun : (rest : List ℕ) → begins_number strictness (first ∷ rest) ≡ true
+
+-- a digit or a minus opens a number
+start_opens : (b : ℕ) → is_number_start b ≡ true → OpensNumber b
+start_opens b start = ⊎_elim (λ digit. inr (inr (inr (digit_is b digit)))) (λ minus. inr (inl (eqb-true b 45 minus))) (or_cases (is_ascii_digit b) (b == 45) start)
+
+strict_opens : (core : List ℕ) → NumberStart core → NumberOpens strict core
+strict_opens core s = record { first = s.first; others = s.others; whole = s.whole; opens = start_opens s.first s.start; begun = λ rest. s.start }
+
+lenient_opens : (core : List ℕ) → ExtendedStart core → NumberOpens lenient core
+lenient_opens core s = record { first = s.first; others = s.others; whole = s.whole; opens = s.opens; begun = λ rest. opens_extended s.first s.opens }
+
+pub number_starts_of : (mode : Mode) (core : List ℕ) (n : Num) → IsNumber mode core n → NumberOpens (strictness mode) core
+number_starts_of standard core n number = strict_opens core (number_starts core n number)
+number_starts_of extended core n number = lenient_opens core (extended_starts core n number)
+number_starts_of json core n number = strict_opens core (json_starts core n number)
+number_starts_of extended_json core n number = lenient_opens core (extended_json_starts core n number)
