@@ -77,7 +77,7 @@ operation_t JOIN(PREFIX, lines);
 operation_t JOIN(PREFIX, sort_key);
 #endif
 #ifdef WITH_EXPONENTS
-operation_t JOIN(PREFIX, plain_numbers);
+operation_t JOIN(PREFIX, json);
 #endif
 #ifdef WITH_CHECK
 operation_t JOIN(PREFIX, check);
@@ -141,7 +141,7 @@ static const struct operation { const char *name; operation_t *run; int only_rea
   { "sort_key", JOIN(PREFIX, sort_key), 0, ".json" },
 #endif
 #ifdef WITH_EXPONENTS
-  { "plain_numbers", JOIN(PREFIX, plain_numbers), 1, ".exponents" },
+  { "json", JOIN(PREFIX, json), 1, ".exponents" },
 #endif
 #ifndef WITHOUT_VALUES
   { "compare", JOIN(PREFIX, compare), 0, ".json" },

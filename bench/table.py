@@ -7,7 +7,7 @@ OPERATIONS = {
     "read": "read", "reject": "reject", "extended": "extended", "read_ast": "read_ast", "write": "write",
     "read_write": "read_write", "straight_text": "text", "straight_key": "key", "straight_extended": "ext. text",
     "lines": "lines", "check": "check", "part": "part", "sorted": "sorted",
-    "sort_key": "sort_key", "plain_numbers": "plain", "compare": "compare", "clone": "clone"}
+    "sort_key": "sort_key", "json": "json", "compare": "compare", "clone": "clone"}
 
 
 def per_byte(figure, size):

@@ -33,14 +33,16 @@ extern "C" {
 
 /* The version of this interface. It grows where a function, a status or a code is added. vizhoniku_version returns that
  * of the library. */
-#define VIZHONIKU_VERSION 9
+#define VIZHONIKU_VERSION 10
 
 uint32_t vizhoniku_version(void);
 
-/* The grammar of a text. docs/GRAMMAR.md has both. Any other number is VIZHONIKU_UNKNOWN_MODE. */
+/* The grammar of a text. docs/GRAMMAR.md has all four. Any other number is VIZHONIKU_UNKNOWN_MODE. */
 enum vizhoniku_mode {
-  VIZHONIKU_STANDARD = 0, /* JSON as RFC 8259 has it, with 64-bit integers alone as numbers */
-  VIZHONIKU_EXTENDED = 1  /* comments, single quotes, unquoted keys, decimals, hexadecimals and more */
+  VIZHONIKU_STANDARD = 0,     /* JSON as RFC 8259 has it, with 64-bit integers alone as numbers */
+  VIZHONIKU_EXTENDED = 1,     /* comments, single quotes, unquoted keys, decimals, hexadecimals and more */
+  VIZHONIKU_JSON = 2,         /* RFC 8259 to the letter, with fractions and exponents at their exact value */
+  VIZHONIKU_EXTENDED_JSON = 3 /* extended, with exponents */
 };
 
 /* What a call returns. */
@@ -564,51 +566,12 @@ uint32_t vizhoniku_table_member(const unsigned char *key, size_t key_size, const
 uint32_t vizhoniku_table_check(const unsigned char *key, size_t key_size, const unsigned char *table,
                                size_t table_size);
 
-/* Writes a text of RFC 8259 to the start of the buffer, with each number that has an exponent written out as the decimal
- * of exactly its value, as PostgreSQL's jsonb shows it: 1e-7 is 0.0000001, 1.50e1 is 15.0, and 6.02e23 is
- * 602000000000000000000000. All other bytes are as they were. So VIZHONIKU_EXTENDED takes what was written, where no mode
- * takes a number with an exponent. Nothing is rounded.
- *
- *  - VIZHONIKU_ACCEPTED: *size bytes were written, with no zero byte after them. The rest of the buffer is as before.
- *    This doesn't say that the text is a document.
- *  - VIZHONIKU_TOO_SHORT: *size bytes are needed, and nothing was written. It may be more than text_size.
- *  - VIZHONIKU_REJECTED: a number with an exponent takes more than 38 digits where it is written out, before and behind
- *    the point. The error has VIZHONIKU_NUMBER_NOT_CARRIED and the offset after the first such number. *size is 0, and
- *    nothing was written.
- *  - VIZHONIKU_OUT_OF_MEMORY: *size is 0, and nothing was written.
- *
- * Any bytes may be passed. From the first single quote, slash or backslash on that is outside of strings in double
- * quotes, all bytes are as they were: so nothing in a comment and in a string in single quotes changes. */
-uint32_t vizhoniku_plain_numbers(const unsigned char *text, size_t text_size, unsigned char *buffer, size_t buffer_size,
-                                 size_t *size, struct vizhoniku_error *error);
-
-/* Returns 1 where each token of the text is one of RFC 8259, where it may be, and else 0: so there is no comment, no name
- * without double quotes, no comma but between two values, no word but true, false, null and numbers, and in strings no
- * control character and no other escape. It takes no memory. A text is JSON exactly where this is 1 and
- * VIZHONIKU_EXTENDED takes what vizhoniku_plain_numbers writes of it, but for what no mode takes: a name that is there
- * twice, a number of more than 38 digits, and more than 512 nested arrays and objects. */
-uint32_t vizhoniku_is_strict(const unsigned char *text, size_t text_size);
-
-/* Writes a text to the start of the buffer with each number masked that vizhoniku_plain_numbers writes out: a 0, and
- * as many spaces as the number has bytes more. A number that takes more than 38 digits stays as it is. All other bytes
- * are as they were, and each has its offset. So where VIZHONIKU_EXTENDED rejects the text with its numbers written out,
- * or a number takes too many digits, the calls over this one report the error with its offset in the text.
- *
- *  - VIZHONIKU_ACCEPTED: *size bytes were written, which is text_size. This doesn't say that the text is a document.
- *  - VIZHONIKU_TOO_SHORT: *size bytes are needed, and nothing was written.
- *  - VIZHONIKU_OUT_OF_MEMORY: *size is 0, and nothing was written.
- *
- * Any bytes may be passed, as to vizhoniku_plain_numbers. */
-uint32_t vizhoniku_masked_numbers(const unsigned char *text, size_t text_size, unsigned char *buffer,
-                                  size_t buffer_size, size_t *size);
-
 /* Writes the path of the part of the text's value at which the text is rejected to the start of the buffer: a JSON
  * Pointer (RFC 6901), such as /values/17. It is that of the innermost item or member with the fault, and "" where that
  * is the whole. Where a comma or the end of an array or an object is missing, it is that of the item or member before;
  * where a comment without an end begins there, that of the item that would come next, or of the object. Where a key is
  * wrong, or missing, it is that of the object, and of a repeated key that of the member.
- * The error is the one of this text and mode, or of the text with its numbers masked: in extended mode numbers with an
- * exponent are passed that are before the fault. The text is parsed once more.
+ * The error is the one of this text and mode. The text is parsed once more.
  *
  *  - VIZHONIKU_ACCEPTED: *size bytes were written, with no zero byte after them, which are UTF-8. The rest of the buffer
  *    is as before. Zero bytes may be among them, where a key has some.

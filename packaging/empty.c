@@ -109,11 +109,6 @@ size_t proved_table_size(const unsigned char *stored, size_t stored_size);
 uint32_t proved_table_member(const unsigned char *key, size_t key_size, const unsigned char *table, size_t table_size,
                              const unsigned char *name, size_t name_size, size_t *offset, size_t *size);
 uint32_t proved_table_check(const unsigned char *key, size_t key_size, const unsigned char *table, size_t table_size);
-uint32_t proved_plain_numbers(const unsigned char *text, size_t text_size, unsigned char *buffer, size_t buffer_size,
-                              size_t *size, struct vizhoniku_error *error);
-uint32_t proved_is_strict(const unsigned char *text, size_t text_size);
-uint32_t proved_masked_numbers(const unsigned char *text, size_t text_size, unsigned char *buffer, size_t buffer_size,
-                               size_t *size);
 uint32_t proved_error_path(uint32_t mode, const unsigned char *text, size_t text_size,
                            const struct vizhoniku_error *error, unsigned char *buffer, size_t buffer_size,
                            size_t *size);
@@ -423,21 +418,6 @@ uint32_t vizhoniku_table_member(const unsigned char *key, size_t key_size, const
 uint32_t vizhoniku_table_check(const unsigned char *key, size_t key_size, const unsigned char *table,
                                size_t table_size) {
   return proved_table_check(bytes_at(key, key_size), key_size, bytes_at(table, table_size), table_size);
-}
-
-uint32_t vizhoniku_plain_numbers(const unsigned char *text, size_t text_size, unsigned char *buffer, size_t buffer_size,
-                                 size_t *size, struct vizhoniku_error *error) {
-  return proved_plain_numbers(bytes_at(text, text_size), text_size, buffer_at(buffer, buffer_size), buffer_size, size,
-                              error);
-}
-
-uint32_t vizhoniku_is_strict(const unsigned char *text, size_t text_size) {
-  return proved_is_strict(bytes_at(text, text_size), text_size);
-}
-
-uint32_t vizhoniku_masked_numbers(const unsigned char *text, size_t text_size, unsigned char *buffer,
-                                  size_t buffer_size, size_t *size) {
-  return proved_masked_numbers(bytes_at(text, text_size), text_size, buffer_at(buffer, buffer_size), buffer_size, size);
 }
 
 uint32_t vizhoniku_error_path(uint32_t mode, const unsigned char *text, size_t text_size,

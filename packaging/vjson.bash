@@ -10,7 +10,7 @@ _vjson() {
     esac
     case $word in
         -*)
-            words='--extended --standard --progress --no-progress --help'
+            words='--extended --extended-json --standard --progress --no-progress --help'
             case ${COMP_WORDS[1]} in
                 check) words="$words --lines --quiet" ;;
                 format) words="$words --lines --compact --indent --line-buffered" ;;

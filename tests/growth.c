@@ -1,7 +1,7 @@
 /* Calls a function of the library over the sort key, or the document, of the text on standard input: growth FUNCTION
- * [PATH], where growth document_without leaves out all members by their names; or over the text: growth plain_numbers,
- * growth masked_numbers, growth lines, and growth error_path for a text that extended mode rejects with its numbers
- * masked; growth document_next over all parts of the text's document, growth document_text for the text of it, and
+ * [PATH], where growth document_without leaves out all members by their names; or over the text: growth check as JSON,
+ * growth text as extended JSON, which may reject it, growth lines, and growth error_path for a text that extended JSON
+ * rejects; growth document_next over all parts of the text's document, growth document_text for the text of it, and
  * growth text_with_zeros with one zero for each number before a comma. The status is the one that the call returns, and
  * 0 where the parts have ended. tests/growth counts the instructions of the call. */
 #include <stdio.h>
@@ -23,9 +23,10 @@ int main(int count, char **words) {
   if (count < 2) return 2;
   size_t text_size = fread(text, 1, ROOM, stdin), key_size, size;
   struct vizhoniku_error error;
-  if (!strcmp(words[1], "plain_numbers"))
-    return (int)vizhoniku_plain_numbers(text, text_size, buffer, ROOM, &size, &error);
-  if (!strcmp(words[1], "masked_numbers")) return (int)vizhoniku_masked_numbers(text, text_size, buffer, ROOM, &size);
+  if (!strcmp(words[1], "check"))
+    return vizhoniku_check(VIZHONIKU_JSON, text, text_size, &error) == VIZHONIKU_OUT_OF_MEMORY;
+  if (!strcmp(words[1], "text"))
+    return vizhoniku_text(VIZHONIKU_EXTENDED_JSON, text, text_size, buffer, ROOM, &size, &error) > VIZHONIKU_REJECTED;
   if (!strcmp(words[1], "lines")) {
     size_t start;
     return (int)vizhoniku_lines(VIZHONIKU_STANDARD, text, text_size, buffer, ROOM, &size, &start, &error);
@@ -40,10 +41,8 @@ int main(int count, char **words) {
     return (int)vizhoniku_text_with_zeros(text, text_size, key, key_size, buffer, ROOM, &size);
   }
   if (!strcmp(words[1], "error_path")) {
-    if (vizhoniku_masked_numbers(text, text_size, key, ROOM, &key_size) ||
-        vizhoniku_check(VIZHONIKU_EXTENDED, key, key_size, &error) != VIZHONIKU_REJECTED)
-      return 2;
-    return (int)vizhoniku_error_path(VIZHONIKU_EXTENDED, text, text_size, &error, buffer, ROOM, &size);
+    if (vizhoniku_check(VIZHONIKU_EXTENDED_JSON, text, text_size, &error) != VIZHONIKU_REJECTED) return 2;
+    return (int)vizhoniku_error_path(VIZHONIKU_EXTENDED_JSON, text, text_size, &error, buffer, ROOM, &size);
   }
   if (!strcmp(words[1], "document_next")) {
     struct vizhoniku_document_cursor cursor;

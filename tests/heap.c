@@ -126,7 +126,7 @@ enum kind {
   DEEP_ARRAYS,
   DEEP_OBJECTS,
   KINDS,
-  EXPONENTS = KINDS, /* in no mode */
+  EXPONENTS = KINDS, /* in the modes that have exponents */
   MORE_DIGITS,
   TOO_MANY_DIGITS,
   ALL_KINDS
@@ -383,8 +383,6 @@ enum key_function {
   DOCUMENT_STRIP,
   TABLE,
   TEXT_WITH_ZEROS,
-  PLAIN_NUMBERS,
-  MASKED_NUMBERS,
   KEY_OF_STRING,
   KEY_OF_INTEGER,
   PATH_STEP,
@@ -403,7 +401,7 @@ static const char *const key_functions[] = {
     "vizhoniku_document_range", "vizhoniku_document_next", "vizhoniku_document_set", "vizhoniku_document_remove",
     "vizhoniku_document_put", "vizhoniku_document_push", "vizhoniku_document_insert", "vizhoniku_document_merge",
     "vizhoniku_document_without", "vizhoniku_document_strip_nulls", "vizhoniku_table",
-    "vizhoniku_text_with_zeros", "vizhoniku_plain_numbers", "vizhoniku_masked_numbers",
+    "vizhoniku_text_with_zeros",
     "vizhoniku_key_of_string", "vizhoniku_key_of_integer", "vizhoniku_path_step", "vizhoniku_error_path",
 };
 
@@ -425,7 +423,6 @@ static uint32_t call_over_key(enum key_function function, const struct text *key
   struct vizhoniku_key_cursor cursor;
   struct vizhoniku_document_cursor document_cursor;
   struct vizhoniku_key_entry entry;
-  struct vizhoniku_error error;
   size_t offset, part_size;
   uint32_t status;
   *size = 0;
@@ -485,13 +482,11 @@ static uint32_t call_over_key(enum key_function function, const struct text *key
     case DOCUMENT_STRIP: return vizhoniku_document_strip_nulls(key->bytes, key->size, 1, buffer, room, size);
     case TEXT_WITH_ZEROS:
       return vizhoniku_text_with_zeros(shortest.bytes, shortest.size, zeros.bytes, zeros.size, buffer, room, size);
-    case PLAIN_NUMBERS: return vizhoniku_plain_numbers(key->bytes, key->size, buffer, room, size, &error);
-    case MASKED_NUMBERS: return vizhoniku_masked_numbers(key->bytes, key->size, buffer, room, size);
     case KEY_OF_STRING: return vizhoniku_key_of_string(key->bytes, key->size, buffer, room, size);
     case KEY_OF_INTEGER: return vizhoniku_key_of_integer((int64_t)key->size, buffer, room, size);
     case PATH_STEP: return vizhoniku_path_step(key->bytes, key->size, buffer, room, size);
     case ERROR_PATH:
-      return vizhoniku_error_path(VIZHONIKU_EXTENDED, key->bytes, key->size, &why, buffer, room, size);
+      return vizhoniku_error_path(VIZHONIKU_JSON, key->bytes, key->size, &why, buffer, room, size);
     default: return vizhoniku_key_merge(key->bytes, key->size, key->bytes, key->size, buffer, room, size);
   }
 }
@@ -523,15 +518,12 @@ static size_t levels_of(const struct text *text) {
 
 /* What the key of each function may hold at most: nothing, or what is written of it. A text is at most six times as
  * long as its key, and the others twice. A path takes some bytes more. The key of an integer has at most 11 bytes. Zeros
- * take what is written of them alone, and so do a table, and numbers with exponents, beside the text. For the path of an
- * error the text is copied into a vector. */
+ * take what is written of them alone, and so does a table. For the path of an error the text is copied into a vector. */
 static size_t bound_over_key(enum key_function function, const struct text *key, size_t written) {
   if (function < TAKES_MEMORY) return 0;
   if (function == KEY_ESCAPED_PART) return 256;
   if (function == KEY_OF_INTEGER) return 16;
   if (function == TABLE) return 512 + ROOM(written);
-  if (function == PLAIN_NUMBERS) return 512 + key->size + ROOM(written);
-  if (function == MASKED_NUMBERS) return 512 + key->size;
   if (function == ERROR_PATH) return 512 + ROOM(key->size) + ROOM(written) + levels_of(key) * STEP;
   if (function >= TEXT_WITH_ZEROS) return 512 + ROOM(written);
   return 512 + 3 * key->size / 2 + ROOM(written);
@@ -602,22 +594,19 @@ static void measure_zeros(int count) {
   }
   add(&text, count ? "]" : "[]");
   add(&shortest, count ? "]" : "[]");
-  measure_over_key(NUMBERS, count, &text, TEXT_WITH_ZEROS, PLAIN_NUMBERS, 1);
+  measure_over_key(NUMBERS, count, &text, TEXT_WITH_ZEROS, KEY_OF_STRING, 1);
   __real_free(text.bytes);
 }
 
-/* Numbers with exponents, and the path of the error where the text ends too early. */
+/* The calls over the bytes of a text as a string, and the path of the error where the text ends too early. */
 static void measure_numbers(enum kind kind, int count) {
   struct text text = make(kind, count);
   if (kind == TOO_MANY_DIGITS) text.size--, add(&text, "e0]");
-  measure_over_key(kind, count, &text, PLAIN_NUMBERS, ERROR_PATH, 1);
+  measure_over_key(kind, count, &text, KEY_OF_STRING, ERROR_PATH, 1);
   /* It lacks its last byte, or what begins with its last number. */
   do text.size--;
   while ((kind == DEEP_ARRAYS || kind == DEEP_OBJECTS) && text.bytes[text.size] != '1');
-  struct text masked = {__real_malloc(text.size), 0, text.size};
-  if (!masked.bytes || vizhoniku_masked_numbers(text.bytes, text.size, masked.bytes, masked.room, &masked.size)) exit(2);
-  vizhoniku_check(VIZHONIKU_EXTENDED, masked.bytes, masked.size, &why);
-  __real_free(masked.bytes);
+  vizhoniku_check(VIZHONIKU_JSON, text.bytes, text.size, &why);
   /* A path takes a request for each key of the text. */
   measure_over_key(kind, count, &text, ERROR_PATH, KEY_FUNCTIONS, count <= 70);
   __real_free(text.bytes);

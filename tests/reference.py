@@ -1,7 +1,7 @@
-"""The reference implementation: JSON texts in both modes, to compare the parsers with.
+"""The reference implementation: JSON texts in four grammars, to compare the parsers with.
 
-It is written from the rules in docs/GRAMMAR.md, docs/VALUES.md and docs/SORT_KEYS.md, and not from the code of the
-crates; what is written of numbers with exponents, and the path of an error, by the comments of include/vizhoniku.h. It
+It is written from RFC 8259, for JSON, and from the rules in docs/GRAMMAR.md, docs/VALUES.md and docs/SORT_KEYS.md, and
+not from the code of the crates; what is written of numbers with exponents, and the path of an error, by the comments of include/vizhoniku.h. It
 is to be plain, not fast. Run alone, it takes lines from standard input and prints results as the program
 `test_driver` does.
 
@@ -14,13 +14,14 @@ The mark of a string is "plain" where it has no backslash in the text, else "esc
 offset after its key.
 """
 
-import functools
 import math
 import re
 import sys
 
 STANDARD = "standard"
 EXTENDED = "extended"
+JSON = "JSON"
+EXTENDED_JSON = "extended JSON"
 
 MAX_DEPTH = 512
 MAX_PRECISION = 38
@@ -31,7 +32,8 @@ HEX_DIGITS = b"0123456789abcdefABCDEF"
 SIMPLE_ESCAPES = {
     0x5C: b"\\", 0x22: b'"', 0x2F: b"/", 0x62: b"\x08", 0x66: b"\x0C", 0x6E: b"\n", 0x72: b"\r", 0x74: b"\t",
 }
-WHITESPACE_BYTES = b" \t\n\x0C\r"
+JSON_WHITESPACE = b" \t\n\r"
+WHITESPACE_BYTES = JSON_WHITESPACE + b"\x0C"
 WRITTEN_WHITESPACE = (b"\\n", b"\\r", b"\\t", b"\\x0C")
 
 CODE_TEXTS = {
@@ -44,6 +46,7 @@ CODE_TEXTS = {
     "ExpectedArrayCommaOrEnd": b"expected `,` or `]`",
     "ExpectedObjectCommaOrEnd": b"expected `,` or `}`",
     "UnexpectedTrailingCharacters": b"trailing characters",
+    "ControlCharacterWhileParsingString": b"control character (\\u0000-\\u001F) found while parsing a string",
     "InvalidEscaped": b"invalid escaped '%X'",
     "InvalidHex": b"invalid hex '%X'",
     "UnexpectedEndOfHexEscape": b"unexpected end of hex escape",
@@ -118,6 +121,8 @@ class Body:
             self.go(1)
             if byte == 0x5C:
                 out += self.escape()
+            elif byte < 0x20 and self.mode == JSON:
+                self.reject("ControlCharacterWhileParsingString")
             else:
                 out.append(byte)
         if not is_utf8(out):
@@ -132,7 +137,7 @@ class Body:
         self.go(1)
         if letter in SIMPLE_ESCAPES:
             return SIMPLE_ESCAPES[letter]
-        if letter == 0x27 and self.mode == EXTENDED:
+        if letter == 0x27 and self.mode in (EXTENDED, EXTENDED_JSON):
             return b"'"
         if letter != 0x75:
             self.reject("InvalidEscaped", letter)
@@ -155,7 +160,7 @@ class Body:
     def unit(self):
         """The unit whose backslash and letter were passed."""
         rest = self.data[self.at:self.at + 6]
-        if rest[:1] == b"{":
+        if rest[:1] == b"{" and self.mode != JSON:
             if len(rest) < 6 or rest[5:6] != b"}":
                 self.reject("UnexpectedEndOfHexEscape")
             digits = rest[1:5]
@@ -178,7 +183,10 @@ class Reader:
         self.data = data
         self.end = len(data)
         self.mode = mode
-        self.extended = mode == EXTENDED
+        # Whether it has comments, single quotes, unquoted keys, elided elements and words in either case; and whether
+        # numbers have their exact value, exponents counted.
+        self.extended = mode in (EXTENDED, EXTENDED_JSON)
+        self.exact = mode in (JSON, EXTENDED_JSON)
         self.at = 0
         self.depth = 0
         # Of each array and object that is open, the index of its item or the key of its member that is read or due;
@@ -215,9 +223,11 @@ class Reader:
             pass
 
     def whitespace_piece(self):
-        if self.is_here(WHITESPACE_BYTES):
+        if self.is_here(JSON_WHITESPACE if self.mode == JSON else WHITESPACE_BYTES):
             self.at += 1
             return True
+        if self.mode == JSON:
+            return False
         for written in WRITTEN_WHITESPACE:
             if self.data.startswith(written, self.at):
                 self.at += len(written)
@@ -314,15 +324,30 @@ class Reader:
         raise Rejection("InvalidNumberValue", self.at + step)
 
     def exponent(self):
-        """Whether an exponent stands here, which is passed."""
+        """The sign and the digits of the exponent here, which is passed; None where there is none."""
         if not self.is_here(b"eE"):
-            return False
+            return None
         self.at += 1
-        if self.is_here(b"+-"):
-            self.at += 1
-        if not self.run(DIGITS):
+        sign = self.here() if self.is_here(b"+-") else b""
+        self.at += len(sign)
+        digits = self.run(DIGITS)
+        if not digits:
             self.reject_number()
-        return True
+        return sign, digits
+
+    def exact_number(self, negative, whole, fraction, exponent):
+        """The number of these digits, whose point the exponent moves."""
+        sign, digits = exponent or (b"", b"0")
+        digits = digits.lstrip(b"0") or b"0"
+        # Python reads no number of thousands of digits, and this one is past all bounds.
+        moved = int(digits) if len(digits) < 40 else 10 ** 40
+        moved = -moved if sign == b"-" else moved
+        significant = (whole + fraction).lstrip(b"0")
+        scale, zeros = max(0, len(fraction) - moved), max(0, moved - len(fraction)) if significant else 0
+        if scale > MAX_PRECISION or len(significant) + zeros > MAX_PRECISION:
+            raise Rejection("NumberNotCarried", self.at)
+        number = int(significant + b"0" * zeros or b"0")
+        return ("number", *first_variant(-number if negative else number, scale))
 
     def standard_number(self):
         negative = self.here() == b"-"
@@ -337,12 +362,15 @@ class Reader:
             whole = self.run(DIGITS)
             if not whole:
                 self.reject_number()
-        fraction = self.here() == b"."
-        if fraction:
+        fraction = b""
+        if self.here() == b".":
             self.at += 1
-            if not self.run(DIGITS):
+            fraction = self.run(DIGITS)
+            if not fraction:
                 self.reject_number(1)
         exponent = self.exponent()
+        if self.exact:
+            return self.exact_number(negative, whole, fraction, exponent)
         # No number of 64 bits has more digits than 20.
         if not (fraction or exponent) and len(whole) <= 20:
             number = int(whole)
@@ -407,6 +435,8 @@ class Reader:
         if not (zeros or whole or fraction):
             self.reject_number()
         exponent = self.exponent()
+        if self.exact:
+            return self.exact_number(negative, whole, fraction, exponent)
         precision = len(whole) + len(fraction)
         if exponent or precision > MAX_PRECISION:
             raise Rejection("NumberNotCarried", self.at)
@@ -425,6 +455,8 @@ class Reader:
         self.at += 1
         if b"\\" in body:
             return ("escaped", Body(body, start + 1, self.mode).decoded())
+        if self.mode == JSON:
+            return ("plain", Body(body, start + 1, self.mode).decoded())
         if not is_utf8(body):
             raise Rejection("InvalidStringValue", self.at)
         return ("plain", body)
@@ -585,92 +617,16 @@ def representable(number, scale, precision):
     return ("Decimal64" if precision <= 18 else "Decimal128", scale, number)
 
 
+def first_variant(number, scale):
+    """The first variant that holds an exact number, and it."""
+    if scale == 0 and -(2 ** 63) <= number < 2 ** 64:
+        return ("Int64" if number < 0 else "UInt64", scale, number)
+    return ("Decimal64" if scale <= 18 and abs(number) < 10 ** 18 else "Decimal128", scale, number)
+
+
 def read(data, mode):
     """The tree of a text. Raises `Rejection`."""
     return Reader(bytes(data), mode).document()
-
-
-# Numbers with an exponent.
-
-# A text by its tokens, as far as numbers are looked for in it: a string in double quotes, which may lack its end; a
-# word; or all that stands behind the first single quote, slash or backslash. What separates them is none of these.
-TOKEN = re.compile(rb"""(?P<string>"(?:[^"\\]|\\.)*(?:"|\\?\Z))
-    |(?P<word>[^\x00-\x20,:\[\]{}"'/\\]+)
-    |(?P<rest>['/\\].*)""", re.DOTALL | re.VERBOSE)
-NUMBER_WITH_EXPONENT = re.compile(rb"(-?)(0|[1-9][0-9]*)(?:\.([0-9]+))?[eE]([+-]?)([0-9]+)")
-
-
-def exact_number(word):
-    """The scale and the whole number of a number of RFC 8259 with an exponent, None where these take more than 38
-    digits, and False where the word is no such number. The scale is how many digits stand behind the point, less the
-    exponent."""
-    match = NUMBER_WITH_EXPONENT.fullmatch(word)
-    if match is None:
-        return False
-    minus, before, behind, sign, exponent = match.groups(default=b"")
-    digits = (before + behind).lstrip(b"0")
-    exponent = exponent.lstrip(b"0")
-    # Python reads no number of thousands of digits, and this one is past all bounds.
-    moved = int(exponent or b"0") if len(exponent) < 40 else 10 ** 40
-    moved = -moved if sign == b"-" else moved
-    scale, zeros = max(0, len(behind) - moved), max(0, moved - len(behind)) if digits else 0
-    if scale > MAX_PRECISION or len(digits) + zeros > MAX_PRECISION:
-        return None
-    whole = int(digits + b"0" * zeros or b"0")
-    return scale, -whole if minus else whole
-
-
-@functools.lru_cache(maxsize=8)
-def numbers_with_exponents(data):
-    """The start and the end of each number with an exponent that a text of RFC 8259 may have, and its exact number."""
-    found = []
-    for match in TOKEN.finditer(data):
-        if match.lastgroup == "word":
-            number = exact_number(match["word"])
-            if number is not False:
-                found.append((*match.span(), number))
-    return found
-
-
-def with_numbers(data, numbers, spelled):
-    """The text with each number that has few digits spelled by a function of its place and its value."""
-    out, at = [], 0
-    for start, end, number in numbers:
-        if number is not None:
-            out += [data[at:start], spelled(start, end, number)]
-            at = end
-    return b"".join([*out, data[at:]])
-
-
-def plain_numbers(data):
-    """The text with its numbers written out. Raises `Rejection`, whose position is that behind the first with too many
-    digits."""
-    numbers = numbers_with_exponents(data)
-    for _, end, number in numbers:
-        if number is None:
-            raise Rejection("NumberNotCarried", end)
-    return with_numbers(data, numbers, lambda start, end, number: number_text(*number))
-
-
-def masked_numbers(data):
-    """The text with its numbers masked."""
-    return with_numbers(data, numbers_with_exponents(data), lambda start, end, number: b"0".ljust(end - start))
-
-
-class ReaderWithExponents(Reader):
-    """Reads a text in extended mode, and numbers with exponents too."""
-
-    def __init__(self, data):
-        super().__init__(data, EXTENDED)
-        self.numbers = {start: (end, number) for start, end, number in numbers_with_exponents(data)}
-
-    def value(self):
-        if self.at not in self.numbers:
-            return super().value()
-        self.at, number = self.numbers[self.at]
-        if number is None:
-            raise Rejection("NumberNotCarried", self.at)
-        return ("number", "Decimal128", *number)
 
 
 # Where a text is rejected.
@@ -698,12 +654,12 @@ def tree_or_paths(reader):
 # The byte to show of a rejection, by the table of docs/GRAMMAR.md.
 AT_THE_BYTE = ("InvalidEOF", "ExpectedColon", "ExpectedArrayCommaOrEnd", "ExpectedObjectCommaOrEnd",
                "ObjectKeyInvalidCharacter")
-OF_ESCAPES = ("InvalidEscaped", "InvalidHex", "UnexpectedEndOfHexEscape")
+OF_CONTENTS = ("ControlCharacterWhileParsingString", "InvalidEscaped", "InvalidHex", "UnexpectedEndOfHexEscape")
 
 
 def place_of(data, rejection):
     """The offset of the byte to show, and its line and column from 1 on."""
-    back = 0 if rejection.code in AT_THE_BYTE else 2 if rejection.code in OF_ESCAPES else 1
+    back = 0 if rejection.code in AT_THE_BYTE else 2 if rejection.code in OF_CONTENTS else 1
     index = min(max(0, rejection.position - back), len(data))
     return index, data.count(b"\n", 0, index) + 1, index - (data.rfind(b"\n", 0, index) + 1) + 1
 
@@ -983,7 +939,7 @@ def answer(line):
         return answer_body(texts[0])
     if letter == "k" and len(texts) == 1:
         return answer_key(texts[0])
-    mode = {"s": STANDARD, "e": EXTENDED}.get(letter)
+    mode = {"s": STANDARD, "e": EXTENDED, "j": JSON, "x": EXTENDED_JSON}.get(letter)
     if mode is not None and len(texts) == 1:
         return answer_text(texts[0], mode)
     if mode is not None and len(texts) == 2:

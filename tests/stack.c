@@ -196,7 +196,7 @@ enum function {
   CHECK, TEXT, LINES, SORT_KEY, TEXT_AND_KEY, DOCUMENT, PART, COMPARE, MESSAGE, REASON, KEY_CHECK, KEY_TEXT, KEY_PART,
   KEY_COUNT, KEY_CONTAINS, KEY_SET, KEY_REMOVE, KEY_MERGE, DOCUMENT_CHECK, DOCUMENT_TEXT, DOCUMENT_PART,
   DOCUMENT_NEXT, DOCUMENT_SET, DOCUMENT_REMOVE, DOCUMENT_INSERT, DOCUMENT_MERGE, DOCUMENT_STRIP, TABLE,
-  TABLE_CHECK, TEXT_WITH_ZEROS, PLAIN_NUMBERS, MASKED_NUMBERS, ERROR_PATH, FUNCTIONS
+  TABLE_CHECK, TEXT_WITH_ZEROS, ERROR_PATH, FUNCTIONS
 };
 
 static const char *const functions[] = {
@@ -208,8 +208,7 @@ static const char *const functions[] = {
     "vizhoniku_document_check", "vizhoniku_document_text", "vizhoniku_document_part",
     "vizhoniku_document_next", "vizhoniku_document_set", "vizhoniku_document_remove", "vizhoniku_document_insert",
     "vizhoniku_document_merge", "vizhoniku_document_strip_nulls", "vizhoniku_table", "vizhoniku_table_check",
-    "vizhoniku_text_with_zeros",
-    "vizhoniku_plain_numbers", "vizhoniku_masked_numbers", "vizhoniku_error_path",
+    "vizhoniku_text_with_zeros", "vizhoniku_error_path",
 };
 
 /* What docs/C.md says that each takes, in KB: where no value is made, and where one is. */
@@ -218,7 +217,7 @@ static const size_t told[FUNCTIONS][2] = {
     [PART] = {22, 110},       [COMPARE] = {22, 110},   [MESSAGE] = {22, 0},        [KEY_CHECK] = {5, 0},
     [KEY_TEXT] = {2, 0},      [KEY_PART] = {2, 0},     [KEY_COUNT] = {2, 0},       [KEY_CONTAINS] = {25, 0},
     [KEY_SET] = {2, 0},       [KEY_REMOVE] = {2, 0},   [KEY_MERGE] = {2, 0},       [TEXT_WITH_ZEROS] = {2, 0},
-    [PLAIN_NUMBERS] = {2, 0}, [MASKED_NUMBERS] = {2, 0}, [ERROR_PATH] = {2, 0},    [REASON] = {22, 0},
+    [ERROR_PATH] = {2, 0},    [REASON] = {22, 0},
     [LINES] = {22, 110},
     [DOCUMENT] = {22, 110},   [DOCUMENT_CHECK] = {5, 0}, [DOCUMENT_TEXT] = {3, 0}, [DOCUMENT_PART] = {2, 0},
     [DOCUMENT_NEXT] = {2, 0}, [DOCUMENT_SET] = {2, 0}, [DOCUMENT_INSERT] = {2, 0}, [DOCUMENT_REMOVE] = {2, 0},
@@ -337,12 +336,6 @@ static void *run(void *given) {
     case TEXT_WITH_ZEROS:
       call->status = vizhoniku_text_with_zeros(bytes, text_size, NULL, 0, call->buffer, call->room, &size);
       break;
-    case PLAIN_NUMBERS:
-      call->status = vizhoniku_plain_numbers(bytes, text_size, call->buffer, call->room, &size, &error);
-      break;
-    case MASKED_NUMBERS:
-      call->status = vizhoniku_masked_numbers(bytes, text_size, call->buffer, call->room, &size);
-      break;
     case ERROR_PATH:
       call->status = vizhoniku_error_path(call->mode, bytes, text_size, call->why, call->buffer, call->room, &size);
       break;
@@ -414,7 +407,7 @@ static void measure(const struct shape *shape, const struct stack *stack) {
     call.why = &why[call.mode];
     int is_of_text = call.function < KEY_CHECK || call.function == ERROR_PATH;
     if (!is_of_text && call.mode != VIZHONIKU_EXTENDED) continue;
-    if (call.function >= KEY_CHECK && call.function < PLAIN_NUMBERS && !call.key_size) continue;
+    if (call.function >= KEY_CHECK && call.function < ERROR_PATH && !call.key_size) continue;
     /* The longest texts have 25 megabytes, so not each call reads them. */
     if (shape->members > 30 && (call.mode != (shape->end == COMMENT) || (shape->end != WHOLE && i > 1))) continue;
     long last = 0;
@@ -434,7 +427,7 @@ static void measure(const struct shape *shape, const struct stack *stack) {
     }
     /* A comment is refused in standard mode, and a fault in both. */
     int is_read = shape->end == WHOLE || (shape->end == COMMENT && call.mode == VIZHONIKU_EXTENDED) ||
-                  call.function >= PLAIN_NUMBERS;
+                  call.function == ERROR_PATH;
     int is_deep = (call.function == KEY_SET || call.function == DOCUMENT_SET || call.function == DOCUMENT_INSERT) &&
                   whole == VIZHONIKU_TOO_DEEP;
     int is_untabled = (call.function == TABLE || call.function == TABLE_CHECK) && !has_table(&call);

@@ -14,7 +14,7 @@ CRATE = pathlib.Path(__file__).resolve().parent.parent / "crates" / "test_driver
 
 # Lines that ask nothing.
 UNKNOWN = [
-    "", "s", "x 31", "s 3", "s zz", "s 31 32 33", "b zz", "k zz", "n", "n 5", "n Int64(x)", "n Date(1)",
+    "", "s", "q 31", "s 3", "s zz", "s 31 32 33", "b zz", "k zz", "n", "n 5", "n Int64(x)", "n Date(1)",
     "n Int64(9223372036854775808)", "n Decimal64(256,0)", "n Int64(1) Int64(2) Int64(3)",
 ]
 
@@ -26,6 +26,13 @@ BETWEEN = [b" ", b"/*x*/", b"//x\n", b" /**/ //\r", b"/*", b"/*/", b" /**/ /*", 
 KEYS = [b'"a"', b' "\\u0061"', b"'a'", b" '\\u0061'", b"a", b" a", b"/*b*/a"]
 COLONS = [b":", b" :", b": ", b"\t:\n", b"\\n : \\x0C", b"/**/:", b":/**/", b"//\n:"]
 VALUES = [b"1", b"-5 ", b"null", b'"b"', b'"\\u0062" ', b"[]", b"[1] ", b'{"b" : {}}', b"'b'", b"+.5"]
+
+# Numbers with exponents, and others that only some modes take.
+NUMBERS = [
+    b"1e5", b"1E+05", b"1.50e1", b"-1.5E-3", b"-0e5", b"0e-5", b"-0.00e1", b"1e37", b"1e38", b"1e-38", b"1e-39", b"01e5",
+    b"1.e5", b".5e3", b"+1e1", b"1e", b"1e+", b"1e5x", b"0x1e5", b"0e99999999999999999999", b"1e18446744073709551616",
+    b"1" * 38 + b"e0", b"1" * 39 + b"e-1", b"0." + b"0" * 43 + b"1e44", b"[1e2, -2.5e1]", b'{"a": 1e2, "b": 1e400}',
+]
 
 # Strings and keys of each length up to two vectors and more, closed and cut off.
 AROUND = [
@@ -87,7 +94,8 @@ def of_each_length():
 
 
 def texts():
-    """The texts that are read in both modes."""
+    """The texts that are read in each mode."""
+    yield from NUMBERS
     yield from (text for _, text, _ in known.ROWS + known.PRINTED if len(text) <= vectors.MAX_KNOWN_BYTES)
     yield from (text for text, _ in known.WRITTEN)
     yield from itertools.chain(beginnings(), texts_beside(), members(), of_each_length())
@@ -122,7 +130,7 @@ def lines():
     yield from (f"n {words}" for words in numbers())
     yield from (f"k {text.hex()}" for text, _ in known.KEYS_OF_TEXTS)
     yield from (f"k {text.hex()}" for equal in known.UPWARDS for text in equal)
-    yield from (f"{mode} {text.hex()}" for text in texts() for mode in ("s", "e"))
+    yield from (f"{mode} {text.hex()}" for text in texts() for mode in "sejx")
     yield from (f"b {body.hex()}" for body, *_ in known.BODIES)
     yield from (f"e {left.hex()} {right.hex()}" for left, right in pairs())
     yield from vectors.lines_and_answers()[0]

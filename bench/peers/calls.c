@@ -23,31 +23,26 @@ size_t calls_bench_check(const unsigned char *text, size_t len, size_t rounds) {
   return rounds;
 }
 
-/* The buffer holds numbers with exponents up to 4 times as long as they are. */
-size_t calls_bench_plain_numbers(const unsigned char *text, size_t len, size_t rounds) {
-  struct vizhoniku_error error;
-  size_t size;
-  make_room(len);
-  for (size_t round = 0; round < rounds; round++)
-    if (vizhoniku_plain_numbers(text, len, buffer, buffer_size, &size, &error) != VIZHONIKU_ACCEPTED) return round;
-  return rounds;
-}
-
-/* What vizhoniku_text and vizhoniku_sort_key are. */
+/* What vizhoniku_text and vizhoniku_sort_key are. The buffer holds numbers with exponents up to 4 times as long as they
+ * are. */
 typedef uint32_t writer_t(uint32_t mode, const unsigned char *text, size_t text_size, unsigned char *buffer,
                           size_t buffer_size, size_t *size, struct vizhoniku_error *error);
 
-static size_t repeat(writer_t *write, const unsigned char *text, size_t len, size_t rounds) {
+static size_t repeat(writer_t *write, uint32_t mode, const unsigned char *text, size_t len, size_t rounds) {
   struct vizhoniku_error error;
   size_t size;
   make_room(len);
   for (size_t round = 0; round < rounds; round++)
-    if (write(VIZHONIKU_STANDARD, text, len, buffer, buffer_size, &size, &error) != VIZHONIKU_ACCEPTED) return round;
+    if (write(mode, text, len, buffer, buffer_size, &size, &error) != VIZHONIKU_ACCEPTED) return round;
   return rounds;
 }
 
 size_t calls_bench_read_write(const unsigned char *text, size_t len, size_t rounds) {
-  return repeat(vizhoniku_text, text, len, rounds);
+  return repeat(vizhoniku_text, VIZHONIKU_STANDARD, text, len, rounds);
+}
+
+size_t calls_bench_json(const unsigned char *text, size_t len, size_t rounds) {
+  return repeat(vizhoniku_text, VIZHONIKU_JSON, text, len, rounds);
 }
 
 size_t calls_bench_lines(const unsigned char *text, size_t len, size_t rounds) {
@@ -72,5 +67,5 @@ size_t calls_bench_part(const unsigned char *path, size_t path_len, const unsign
 }
 
 size_t calls_bench_sort_key(const unsigned char *text, size_t len, size_t rounds) {
-  return repeat(vizhoniku_sort_key, text, len, rounds);
+  return repeat(vizhoniku_sort_key, VIZHONIKU_STANDARD, text, len, rounds);
 }

@@ -99,28 +99,6 @@ static void write_key_text(const unsigned char *key, size_t key_size, size_t buf
   printf("text of a key: status %u size %zu buffer %.16s\n", (unsigned)status, size, (char *)buffer);
 }
 
-/* The text with its numbers written out. */
-static void write_plain(const char *text, size_t buffer_size) {
-  unsigned char buffer[40];
-  size_t size = 99;
-  struct vizhoniku_error error;
-  uint32_t status = vizhoniku_plain_numbers(BYTES(text), buffer, buffer_size, &size, &error);
-  printf("plain %s: status %u size %zu code %u position %zu", text, (unsigned)status, size, (unsigned)error.code,
-         error.position);
-  if (status == VIZHONIKU_ACCEPTED) printf(" %.*s", (int)size, (const char *)buffer);
-  printf("\n");
-}
-
-/* A text whose numbers with an exponent are masked. */
-static void write_masked(const char *text, size_t buffer_size) {
-  unsigned char buffer[40];
-  size_t size = 99;
-  uint32_t status = vizhoniku_masked_numbers(BYTES(text), buffer, buffer_size, &size);
-  printf("masked %s: status %u size %zu", text, (unsigned)status, size);
-  if (status == VIZHONIKU_ACCEPTED) printf(" %.*s", (int)size, (const char *)buffer);
-  printf("\n");
-}
-
 /* The path at which a text is rejected. */
 static void write_path(uint32_t mode, const char *text, size_t buffer_size) {
   unsigned char buffer[40];
@@ -455,7 +433,7 @@ static void change_documents(void) {
   print_key("too short", status, out, size);
   status = vizhoniku_document(VIZHONIKU_STANDARD, BYTES("[1 2]"), out, sizeof out, &size, &error);
   printf("no document: %u size %zu code %u position %zu\n", (unsigned)status, size, (unsigned)error.code, error.position);
-  status = vizhoniku_document(2, NULL, 0, NULL, 0, &size, &error);
+  status = vizhoniku_document(4, NULL, 0, NULL, 0, &size, &error);
   printf("no mode: %u size %zu code %u\n", (unsigned)status, size, (unsigned)error.code);
   status = vizhoniku_document_text(document, sizeof document, out, sizeof out, &size);
   printf("text: %u %.*s\n", (unsigned)status, (int)size, (const char *)out);
@@ -618,14 +596,18 @@ static void find_by_table(void) {
   print_key("null table", status, table, size);
 }
 
-/* Which texts have the tokens of RFC 8259 alone. */
-static void look_for_json(void) {
-  static const char *const texts[] = {"[1,2.5e3,\"\\u0041\"]", "{\"a\": null}", " 7 ", "", "[1,]", "[,1]", "{a:1}", "'a'",
-                                      "[1] // one", "[01]", "[+1]", "[0x1]", "[nan]", "\"\\x\"", "\"\t\""};
-  printf("strict:");
-  for (size_t i = 0; i < sizeof texts / sizeof *texts; i++)
-    printf(" %u", (unsigned)vizhoniku_is_strict((const unsigned char *)texts[i], strlen(texts[i])));
-  printf(", null %u\n", (unsigned)vizhoniku_is_strict(NULL, 0));
+/* Which texts are documents of each mode, in the order of their numbers. */
+static void compare_modes(void) {
+  static const char *const texts[] = {"[1,2]", "[1,2.5e3,\"\\u0041\"]", "1.50", "[1e39]", "", "[1,]", "{a:1}", "'a'",
+                                      "[1] // one", "[01]", "[+1e1]", "[.5]", "[nan]", "\"\t\"", "1\f", "\"\\u{0041}\""};
+  struct vizhoniku_error error;
+  printf("modes:");
+  for (size_t i = 0; i < sizeof texts / sizeof *texts; i++) {
+    printf(" ");
+    for (uint32_t mode = VIZHONIKU_STANDARD; mode <= VIZHONIKU_EXTENDED_JSON; mode++)
+      printf("%u", (unsigned)vizhoniku_check(mode, BYTES(texts[i]), &error));
+  }
+  printf("\n");
 }
 
 /* Integers from keys, and keys of integers. */
@@ -693,7 +675,7 @@ static void pass_scalars(void) {
   printf("too short: %u %zu", (unsigned)status, size);
   status = vizhoniku_reason(VIZHONIKU_STANDARD, BYTES("[1,2]"), out, sizeof out, &size);
   printf(", a document: %u %zu", (unsigned)status, size);
-  status = vizhoniku_reason(2, BYTES("[1 2]"), out, sizeof out, &size);
+  status = vizhoniku_reason(4, BYTES("[1 2]"), out, sizeof out, &size);
   printf(", no mode: %u %zu", (unsigned)status, size);
   status = vizhoniku_reason(VIZHONIKU_STANDARD, NULL, 0, NULL, 0, &size);
   printf(", null: %u %zu\n", (unsigned)status, size);
@@ -702,7 +684,7 @@ static void pass_scalars(void) {
 int main(void) {
   check(VIZHONIKU_STANDARD, "[null]");
   check(VIZHONIKU_STANDARD, "{\"a\":1,\"a\":2}");
-  check(2, "[null]");
+  check(4, "[null]");
 
   write_text(VIZHONIKU_EXTENDED, "[ 1, a ]", 12);
   write_text(VIZHONIKU_EXTENDED, "[ 1, +2 ]", 12);
@@ -714,7 +696,7 @@ int main(void) {
   compare(VIZHONIKU_STANDARD, "[1]", "[1,0]");
   compare(VIZHONIKU_STANDARD, "{}", "[");
   compare(VIZHONIKU_STANDARD, "]", "[");
-  compare(2, "1", "2");
+  compare(4, "1", "2");
 
   write_part(VIZHONIKU_EXTENDED, "", "{a: [+1]}", 12);
   write_part(VIZHONIKU_EXTENDED, "/a/0", "{a: [+1]}", 12);
@@ -722,7 +704,7 @@ int main(void) {
   write_part(VIZHONIKU_EXTENDED, "/a/1", "{a: [+1]}", 12);
   write_part(VIZHONIKU_EXTENDED, "a", "{a: [+1]}", 12);
   write_part(VIZHONIKU_EXTENDED, "a", "{a: [+1", 12);
-  write_part(2, "", "[]", 12);
+  write_part(4, "", "[]", 12);
 
   write_sort_key(VIZHONIKU_EXTENDED, "[1]", 12);
   write_sort_key(VIZHONIKU_EXTENDED, "[1]", 0);
@@ -733,7 +715,7 @@ int main(void) {
   write_both(VIZHONIKU_EXTENDED, "[ 1, +2 ]", 4, 12);
   write_both(VIZHONIKU_EXTENDED, "[ 1, +2 ]", 12, 5);
   write_both(VIZHONIKU_EXTENDED, "[1", 12, 12);
-  write_both(2, "1", 12, 12);
+  write_both(4, "1", 12, 12);
 
   write_lines(VIZHONIKU_EXTENDED, "[ 1, +2 ]\n{}", 12);
   write_lines(VIZHONIKU_EXTENDED, "[ 1, +2 ]\r\n{}\n", 9);
@@ -743,7 +725,7 @@ int main(void) {
   write_lines(VIZHONIKU_EXTENDED, "[1]\n[ 1, a ]\n]", 12);
   write_lines(VIZHONIKU_STANDARD, "[1\n]", 12);
   write_lines(VIZHONIKU_STANDARD, "", 12);
-  write_lines(2, "1", 12);
+  write_lines(4, "1", 12);
 
   /* {"a":[1.5,-42]} of docs/SORT_KEYS.md's format, the same with a byte more, and no bytes. */
   static const unsigned char key[] = {0xD1, 'a', 0, 1, 0xD2, 0xA1, 0x1E, 0x5D, 0xAB, 0, 0, 0, 0};
@@ -755,12 +737,8 @@ int main(void) {
   write_zeros("[1.5,2,\"3.0\",4]", (const unsigned char *)"\0\1\1\3", 4, 40);
   write_zeros("[1.5,2,\"3.0\",4]", (const unsigned char *)"\0\1\1\3", 4, 3);
   write_zeros("[1,2]", (const unsigned char *)"\2\1", 2, 40);
-  write_plain("[1e-7, \"1e5\", 1.50E+1]", 40);
-  write_plain("[1e-7]", 5);
-  write_plain("[1, 1e400]", 40);
-  write_masked("[1e-7, \"1e5\", 1.5E+1, 1e400]", 40);
-  write_masked("[1e-7]", 5);
-  write_path(VIZHONIKU_EXTENDED, "{'values': [1e2, 1e400]}", 40);
+  write_path(VIZHONIKU_EXTENDED_JSON, "{'values': [1e2, 1e400]}", 40);
+  write_path(VIZHONIKU_JSON, "{\"values\": [1e2, 'x']}", 40);
   write_path(VIZHONIKU_STANDARD, "{\"a/b\":{\"c\":1,\"c\":2}}", 40);
   write_path(VIZHONIKU_STANDARD, "[1, x]", 1);
   write_path(9, "1", 40);
@@ -769,7 +747,9 @@ int main(void) {
 
   pass_null(VIZHONIKU_STANDARD);
   pass_null(VIZHONIKU_EXTENDED);
-  pass_null(2);
+  pass_null(VIZHONIKU_JSON);
+  pass_null(VIZHONIKU_EXTENDED_JSON);
+  pass_null(4);
 
   find_parts();
   contain("{a: [1, {b: 2}], c: null}", "{a: [{b: 2.0}]}");
@@ -781,7 +761,7 @@ int main(void) {
   change_documents();
   walk_documents();
   find_by_table();
-  look_for_json();
+  compare_modes();
   pass_scalars();
 
   printf("version: %u\n", (unsigned)vizhoniku_version());

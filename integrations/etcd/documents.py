@@ -51,7 +51,7 @@ class Documents:
     A sort key is a document too (vizhoniku.Key): keys and part read no text of a document, and where parses none.
     """
 
-    def __init__(self, endpoints: Sequence[str], prefix: bytes = b"documents/", mode: int = vizhoniku.EXTENDED,
+    def __init__(self, endpoints: Sequence[str], prefix: bytes = b"documents/", mode: int = vizhoniku.EXTENDED_JSON,
                  timeout: float = 10.0) -> None:
         if not endpoints:
             raise ValueError("no endpoint is named")
@@ -199,7 +199,7 @@ def main() -> int:
     where.add_argument("high", nargs="?", metavar="HIGH")
     calls.add_parser("parts").add_argument("path", metavar="PATH")
     given = parser.parse_args()
-    mode = vizhoniku.STANDARD if given.standard else vizhoniku.EXTENDED
+    mode = vizhoniku.STANDARD if given.standard else vizhoniku.EXTENDED_JSON
     try:
         documents = Documents(given.endpoints.split(","), given.prefix.encode(), mode)
         if given.call == "put":

@@ -73,18 +73,6 @@ static inline struct outcome call_reason(uint32_t mode, bytes text, size_t text_
   return outcome;
 }
 
-static inline struct outcome call_plain_numbers(bytes text, size_t text_size, buffer to, size_t capacity) {
-  struct outcome outcome = {0};
-  outcome.status = vizhoniku_plain_numbers(text, text_size, to, capacity, &outcome.size, &outcome.error);
-  return outcome;
-}
-
-static inline struct outcome call_masked_numbers(bytes text, size_t text_size, buffer to, size_t capacity) {
-  struct outcome outcome = {0};
-  outcome.status = vizhoniku_masked_numbers(text, text_size, to, capacity, &outcome.size);
-  return outcome;
-}
-
 static inline struct outcome call_error_path(uint32_t mode, bytes text, size_t text_size, struct vizhoniku_error error,
                                              buffer to, size_t capacity) {
   struct outcome outcome = {0};

@@ -13,15 +13,10 @@ type Document string
 
 // DocumentOf returns the document of the text's value. The error is an *Error for a text that is no document of the mode.
 func DocumentOf(text []byte, mode Mode) (Document, error) {
-	var written []byte
-	it := parsing{mode: mode, left: input{given: text}}
-	it.run(func(text, _ []byte) (outcome C.struct_outcome) {
-		written, outcome = appended(nil, len(text)+16, func(buffer *C.uchar, capacity C.size_t) C.struct_outcome {
-			return C.call_document(C.uint32_t(mode), begin(text), size(len(text)), buffer, capacity)
-		})
-		return outcome
+	written, outcome := appended(nil, len(text)+16, func(buffer *C.uchar, capacity C.size_t) C.struct_outcome {
+		return C.call_document(C.uint32_t(mode), begin(text), size(len(text)), buffer, capacity)
 	})
-	if err := it.err(); err != nil {
+	if err := errorOf(text, mode, outcome); err != nil {
 		return "", err
 	}
 	return Document(stringOf(written)), nil
@@ -71,9 +66,9 @@ func (document Document) MarshalJSON() ([]byte, error) {
 	return document.Text()
 }
 
-// UnmarshalJSON sets the document to that of the text, in extended mode.
+// UnmarshalJSON sets the document to that of the text, in the mode ExtendedJSON.
 func (document *Document) UnmarshalJSON(text []byte) error {
-	read, err := DocumentOf(text, Extended)
+	read, err := DocumentOf(text, ExtendedJSON)
 	if err == nil {
 		*document = read
 	}

@@ -67,47 +67,32 @@ const (
 	DepthLimitExceeded                     Code = C.VIZHONIKU_DEPTH_LIMIT_EXCEEDED
 )
 
-// The error of a text that is rejected, also with its numbers written out. What is reported is what is wrong with the
-// text whose numbers are masked, in which all has its offset.
-func rejection(text []byte, mode Mode, second bool) error {
-	masked := text
-	if mode == Extended {
-		var outcome C.struct_outcome
-		masked, outcome = maskedNumbers(text)
-		if outcome.status != C.VIZHONIKU_ACCEPTED {
-			return ErrOutOfMemory
-		}
+// The error of what a call has reported of a text.
+func errorOf(text []byte, mode Mode, outcome C.struct_outcome) error {
+	if outcome.status != C.VIZHONIKU_REJECTED {
+		return errorOfStatus(outcome.status)
 	}
-	of := C.uint32_t(mode)
-	checked := C.call_check(of, begin(masked), size(len(masked)))
-	message, outcome := appended(nil, 128, func(buffer *C.uchar, capacity C.size_t) C.struct_outcome {
-		return C.call_reason(of, begin(masked), size(len(masked)), buffer, capacity)
+	of, fault := C.uint32_t(mode), outcome.error
+	message, reason := appended(nil, 128, func(buffer *C.uchar, capacity C.size_t) C.struct_outcome {
+		return C.call_reason(of, begin(text), size(len(text)), buffer, capacity)
 	})
 	path, found := appended(nil, 128, func(buffer *C.uchar, capacity C.size_t) C.struct_outcome {
-		return C.call_error_path(of, begin(masked), size(len(masked)), checked.error, buffer, capacity)
+		return C.call_error_path(of, begin(text), size(len(text)), fault, buffer, capacity)
 	})
-	if checked.status != C.VIZHONIKU_REJECTED || outcome.status != C.VIZHONIKU_REJECTED ||
-		found.status != C.VIZHONIKU_ACCEPTED {
+	if reason.status != C.VIZHONIKU_REJECTED || found.status != C.VIZHONIKU_ACCEPTED {
 		return ErrOutOfMemory
 	}
-	location := C.call_location(begin(text), size(len(text)), checked.error)
+	location := C.call_location(begin(text), size(len(text)), fault)
 	return &Error{
-		Code:     Code(checked.error.code),
-		Second:   second,
-		Position: int(checked.error.position),
+		Code:     Code(fault.code),
+		Second:   fault.which == 2,
+		Position: int(fault.position),
 		Offset:   int(location.index),
 		Line:     int(location.line),
 		Column:   int(location.column),
 		Path:     string(path),
 		Message:  string(message),
 	}
-}
-
-// The text with each number masked that has an exponent and isn't too long.
-func maskedNumbers(text []byte) ([]byte, C.struct_outcome) {
-	return appended(nil, len(text), func(buffer *C.uchar, capacity C.size_t) C.struct_outcome {
-		return C.call_masked_numbers(begin(text), size(len(text)), buffer, capacity)
-	})
 }
 
 func errorOfStatus(status C.uint32_t) error {

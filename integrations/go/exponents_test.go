@@ -48,37 +48,57 @@ func TestExponents(t *testing.T) {
 		"[" + strings.Repeat("1e37,", 1000) + "0]":  "[" + strings.Repeat("1"+strings.Repeat("0", 37)+",", 1000) + "0]",
 	} {
 		given := []byte(text)
-		equal(t, []any{Check(given, Extended), Valid(given, Extended)}, []any{nil, true})
-		written, err := Text(given, Extended)
+		equal(t, []any{Check(given, ExtendedJSON), Valid(given, ExtendedJSON)}, []any{nil, true})
+		written, err := Text(given, ExtendedJSON)
 		equal(t, []any{string(written), err}, []any{wanted, nil})
-		written, err = AppendText([]byte("> "), given, Extended)
+		written, err = AppendText([]byte("> "), given, ExtendedJSON)
 		equal(t, []any{string(written), err}, []any{"> " + wanted, nil})
 		equal(t, keyOf(t, text), keyOf(t, wanted))
-		written, key, err := TextAndKey(given, Extended)
+		written, key, err := TextAndKey(given, ExtendedJSON)
 		equal(t, []any{string(written), key, err}, []any{wanted, keyOf(t, wanted), nil})
-		written, err = Part(given, "", Extended)
+		written, err = Part(given, "", ExtendedJSON)
 		equal(t, []any{string(written), err}, []any{wanted, nil})
 		for _, pair := range [][2]string{{text, wanted}, {wanted, text}, {text, text}} {
-			order, err := Compare([]byte(pair[0]), []byte(pair[1]), Extended)
+			order, err := Compare([]byte(pair[0]), []byte(pair[1]), ExtendedJSON)
 			equal(t, []any{order, err}, []any{0, nil})
 		}
 		equal(t, string(given), text)
 	}
 	equal(t, keyOf(t, "1e2"), keyOf(t, "100"))
 	document := []byte("{\"a\": [6.02e23, 'b']}")
-	part, err := Part(document, "/a/0", Extended)
+	part, err := Part(document, "/a/0", ExtendedJSON)
 	equal(t, []any{string(part), err}, []any{"602000000000000000000000", nil})
-	_, err = Part(document, "/b", Extended)
+	_, err = Part(document, "/b", ExtendedJSON)
 	equal(t, err, ErrNoPart)
-	_, err = Part(document, "a", Extended)
+	_, err = Part(document, "a", ExtendedJSON)
 	equal(t, err, ErrPath)
 }
 
-func TestExponentsInStandardMode(t *testing.T) {
+// The two modes without exponents reject them.
+func TestModesWithoutExponents(t *testing.T) {
 	for _, text := range []string{"1e5", "[1E+2]", `{"a":1.5e-7}`} {
-		fault := faultOf(t, text, Standard)
-		equal(t, []any{fault.Code, fault.Message}, []any{NumberNotCarried, "number not carried"})
+		for _, mode := range []Mode{Standard, Extended} {
+			fault := faultOf(t, text, mode)
+			equal(t, []any{fault.Code, fault.Message}, []any{NumberNotCarried, "number not carried"})
+		}
 	}
+}
+
+// JSON takes RFC 8259 alone.
+func TestOnlyJSON(t *testing.T) {
+	for text, wanted := range map[string]string{
+		"[1e5, +1e5]": "line 1, column 7: expected value",
+		"[1e5, .5]":   "line 1, column 7: expected value",
+		"[01]":        "line 1, column 3: invalid number",
+		"[1e5,\n\f1]": "line 2, column 1: expected value",
+		"[\"\t\"]":    "line 1, column 3: control character (\\u0000-\\u001F) found while parsing a string",
+		"{a: 1}":      "line 1, column 2: expected ident",
+		"[1e39]":      "line 1, column 5: number not carried",
+	} {
+		fault := faultOf(t, text, JSON)
+		equal(t, []any{text, fault.Error()}, []any{text, wanted})
+	}
+	equal(t, []bool{Valid([]byte(`{"a": 1.50e1}`), JSON), Valid([]byte("[1,]"), JSON)}, []bool{true, false})
 }
 
 func TestLongNumbers(t *testing.T) {
@@ -89,11 +109,11 @@ func TestLongNumbers(t *testing.T) {
 		"[1e2,\n 1e300, x]":    "line 2, column 6: number not carried",
 		digits:                 "line 1, column 39: number not carried",
 		"[1e5," + digits + "]": "line 1, column 44: number not carried",
-		"[1e5, +1e5]":          "line 1, column 10: number not carried", // JSON has no plus before a number
+		"[1e5, +1e39]":         "line 1, column 11: number not carried",
 	} {
-		fault := faultOf(t, text, Extended)
+		fault := faultOf(t, text, ExtendedJSON)
 		equal(t, []any{fault.Error(), fault.Code}, []any{wanted, NumberNotCarried})
-		to, err := AppendText([]byte("> "), []byte(text), Extended)
+		to, err := AppendText([]byte("> "), []byte(text), ExtendedJSON)
 		equal(t, []any{string(to), err}, []any{"> ", error(&fault)})
 	}
 }
@@ -118,17 +138,17 @@ func TestErrorsAndExponents(t *testing.T) {
 		{"[1e5 -0e5]", ExpectedArrayCommaOrEnd, 5, "line 1, column 6: expected `,` or `]`"},
 		{"[1e5,\n\"a\" 0.5e1]", ExpectedArrayCommaOrEnd, 10, "line 2, column 5: expected `,` or `]`"},
 	} {
-		fault := faultOf(t, c.text, Extended)
+		fault := faultOf(t, c.text, ExtendedJSON)
 		equal(t, []any{fault.Code, fault.Offset, fault.Error()}, []any{c.code, c.offset, c.message})
 	}
 	// An exponent that takes as many bytes as what is written for it changes nothing of an error.
 	for _, text := range []string{`[1e2,"\x"]`, `[1e2,"\u12g4"]`, `[1e2,"\u12`, "[1e2 2]", `{"a":1e2 2}`, "[1e2,nul]"} {
-		equal(t, faultOf(t, text, Extended), faultOf(t, strings.Replace(text, "1e2", "100", 1), Extended))
+		equal(t, faultOf(t, text, ExtendedJSON), faultOf(t, strings.Replace(text, "1e2", "100", 1), ExtendedJSON))
 	}
 	var fault *Error
-	_, err := Compare([]byte("[1e5]"), []byte("[1e5,x"), Extended)
+	_, err := Compare([]byte("[1e5]"), []byte("[1e5,x"), ExtendedJSON)
 	equal(t, []any{errors.As(err, &fault), fault.Second, fault.Offset}, []any{true, true, 5})
-	_, err = Compare([]byte("[1e5,x"), []byte("[1e5,x"), Extended)
+	_, err = Compare([]byte("[1e5,x"), []byte("[1e5,x"), ExtendedJSON)
 	equal(t, []any{errors.As(err, &fault), fault.Second, fault.Offset}, []any{true, false, 5})
 }
 
@@ -150,7 +170,7 @@ func TestErrorPaths(t *testing.T) {
 		`[0,{"k":"x`:                                "/1/k",
 		"[1e5]]":                                    "",
 	} {
-		equal(t, []any{text, faultOf(t, text, Extended).Path}, []any{text, wanted})
+		equal(t, []any{text, faultOf(t, text, ExtendedJSON).Path}, []any{text, wanted})
 	}
 	equal(t, faultOf(t, `{"a":[true,1e5]}`, Standard).Path, "/a/1")
 }
@@ -161,9 +181,9 @@ func TestRandomExponents(t *testing.T) {
 	taken, rejected := 0, 0
 	for i := 0; i < 5000; i++ {
 		text := fmt.Sprintf("%d.%de%d", draw.Intn(2000)-1000, draw.Intn(1e6), draw.Intn(90)-45)
-		if !Valid([]byte(text), Extended) {
+		if !Valid([]byte(text), ExtendedJSON) {
 			rejected++
-			fault := faultOf(t, "[1e5, "+text+"]", Extended)
+			fault := faultOf(t, "[1e5, "+text+"]", ExtendedJSON)
 			equal(t, []any{fault.Offset, fault.Code}, []any{5 + len(text), NumberNotCarried})
 			continue
 		}
@@ -171,28 +191,28 @@ func TestRandomExponents(t *testing.T) {
 		value, ok := new(big.Rat).SetString(text)
 		read, alsoOk := new(big.Rat).SetString(keyOf(t, text).String())
 		equal(t, []any{ok, alsoOk, value.Cmp(read)}, []any{true, true, 0})
-		equal(t, faultOf(t, "["+text+", "+text+" x", Extended).Offset, 2*len(text)+4)
+		equal(t, faultOf(t, "["+text+", "+text+" x", ExtendedJSON).Offset, 2*len(text)+4)
 	}
 	if taken < 1000 || rejected < 1000 {
 		t.Errorf("%d taken, %d rejected", taken, rejected)
 	}
 }
 
-// A text without an exponent takes no more memory than the answer, and no call keeps any.
+// A call takes no more memory than the answer, and keeps none.
 func TestMemory(t *testing.T) {
 	text, exponent, to := []byte("{a: [1.50, 'x', 7], b: null}"), []byte(`{"a": 1e5}`), make([]byte, 0, 100)
 	for _, c := range []struct {
 		wanted float64
 		call   func() error
 	}{
-		{0, func() error { return Check(text, Extended) }},
-		{0, func() error { _, err := AppendText(to, text, Extended); return err }},
-		{0, func() error { _, err := AppendSortKey(to, text, Extended); return err }},
-		{0, func() error { _, err := Compare(text, text, Extended); return err }},
-		{1, func() error { _, err := Text(text, Extended); return err }},
-		{1, func() error { _, err := Part(text, "/a", Extended); return err }},
-		{1, func() error { return Check(exponent, Extended) }},
-		{1, func() error { _, err := AppendText(to, exponent, Extended); return err }},
+		{0, func() error { return Check(text, ExtendedJSON) }},
+		{0, func() error { _, err := AppendText(to, text, ExtendedJSON); return err }},
+		{0, func() error { _, err := AppendSortKey(to, text, ExtendedJSON); return err }},
+		{0, func() error { _, err := Compare(text, text, ExtendedJSON); return err }},
+		{1, func() error { _, err := Text(text, ExtendedJSON); return err }},
+		{1, func() error { _, err := Part(text, "/a", ExtendedJSON); return err }},
+		{0, func() error { return Check(exponent, ExtendedJSON) }},
+		{0, func() error { _, err := AppendText(to, exponent, ExtendedJSON); return err }},
 	} {
 		if found := testing.AllocsPerRun(100, func() {
 			if err := c.call(); err != nil {
@@ -211,8 +231,8 @@ func TestMemory(t *testing.T) {
 	long := []byte("[" + strings.Repeat("1e37,", 10000) + "0]")
 	before := live()
 	for i := 0; i < 20; i++ {
-		_, _ = Text(long, Extended)
-		_ = Check(long[:len(long)-1], Extended)
+		_, _ = Text(long, ExtendedJSON)
+		_ = Check(long[:len(long)-1], ExtendedJSON)
 	}
 	if after := live(); after > before+uint64(len(long)) {
 		t.Errorf("%d bytes are kept", after-before)

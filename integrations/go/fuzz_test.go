@@ -16,19 +16,16 @@ func errorText(err error) string {
 	return err.Error()
 }
 
-// FuzzTexts holds the calls against each other, and texts of standard mode against encoding/json.
+// FuzzTexts holds the calls against each other, and what is written against encoding/json.
 func FuzzTexts(f *testing.F) {
 	for i, line := range inOrder {
-		f.Add([]byte(line[0]), []byte(line[len(line)-1]), i%2 == 0)
+		f.Add([]byte(line[0]), []byte(line[len(line)-1]), uint8(i))
 	}
-	f.Add([]byte(`{"a":{"b":[1,{"c":"\ud834\udd1e"}]},"a":1}`), []byte("[1,\n2 3]"), true)
-	f.Add([]byte("[1e5, -2.50E+1,\n\"1e5\", x"), []byte(`{"1e2": 1e-38, "a": 1e300}`), false)
-	f.Add([]byte(`{"a":1e0,"a":[1.e5, +1e5]}`), []byte("1e37"), false)
-	f.Fuzz(func(t *testing.T, one, two []byte, standard bool) {
-		mode := Extended
-		if standard {
-			mode = Standard
-		}
+	f.Add([]byte(`{"a":{"b":[1,{"c":"\ud834\udd1e"}]},"a":1}`), []byte("[1,\n2 3]"), uint8(Standard))
+	f.Add([]byte("[1e5, -2.50E+1,\n\"1e5\", x"), []byte(`{"1e2": 1e-38, "a": 1e300}`), uint8(JSON))
+	f.Add([]byte(`{"a":1e0,"a":[1.e5, +1e5]}`), []byte("1e37"), uint8(ExtendedJSON))
+	f.Fuzz(func(t *testing.T, one, two []byte, number uint8) {
+		mode := Mode(number % 4)
 		before := append([]byte(nil), one...)
 		written, err := Text(one, mode)
 		key, keyErr := SortKey(one, mode)

@@ -81,9 +81,9 @@ func (key Key) MarshalJSON() ([]byte, error) {
 	return key.Text()
 }
 
-// UnmarshalJSON sets the key to that of the text, in extended mode.
+// UnmarshalJSON sets the key to that of the text, in the mode ExtendedJSON.
 func (key *Key) UnmarshalJSON(text []byte) error {
-	read, err := SortKey(text, Extended)
+	read, err := SortKey(text, ExtendedJSON)
 	if err == nil {
 		*key = read
 	}

@@ -24,9 +24,12 @@ const (
 	// Standard is JSON as RFC 8259 has it, with integers of 64 bits alone as numbers.
 	Standard Mode = C.VIZHONIKU_STANDARD
 	// Extended also has decimals of up to 38 digits, hexadecimals, comments, single quotes, names without quotes and
-	// more. A number of JSON with an exponent is taken as the decimal of exactly its value, which has at most 38 digits
-	// too.
+	// more.
 	Extended Mode = C.VIZHONIKU_EXTENDED
+	// JSON is RFC 8259 to the letter. Numbers, also those with exponents, have their exact value, of at most 38 digits.
+	JSON Mode = C.VIZHONIKU_JSON
+	// ExtendedJSON is Extended in which decimals may have exponents.
+	ExtendedJSON Mode = C.VIZHONIKU_EXTENDED_JSON
 )
 
 // Where bytes begin, for C. No call keeps it.
@@ -72,22 +75,12 @@ func appended(
 
 // Check says whether the text is a document: the error is nil, or an *Error that says what is wrong and where.
 func Check(text []byte, mode Mode) error {
-	it := parsing{mode: mode, left: input{given: text}}
-	it.check()
-	return it.err()
-}
-
-func (it *parsing) check() {
-	it.run(func(text, _ []byte) C.struct_outcome {
-		return C.call_check(C.uint32_t(it.mode), begin(text), size(len(text)))
-	})
+	return errorOf(text, mode, C.call_check(C.uint32_t(mode), begin(text), size(len(text))))
 }
 
 // Valid says whether the text is a document. It is false where memory ran out too.
 func Valid(text []byte, mode Mode) bool {
-	it := parsing{mode: mode, left: input{given: text}}
-	it.check()
-	return it.outcome.status == C.VIZHONIKU_ACCEPTED
+	return C.call_check(C.uint32_t(mode), begin(text), size(len(text))).status == C.VIZHONIKU_ACCEPTED
 }
 
 // Text returns the text of the document's value: without whitespace, and members in the order of the bytes of their
@@ -102,14 +95,10 @@ func Text(text []byte, mode Mode) ([]byte, error) {
 
 // AppendText appends what Text returns. With an error it returns the bytes that were there.
 func AppendText(to, text []byte, mode Mode) ([]byte, error) {
-	it := parsing{mode: mode, left: input{given: text}}
-	it.run(func(text, _ []byte) (outcome C.struct_outcome) {
-		to, outcome = appended(to, len(text)+16, func(buffer *C.uchar, capacity C.size_t) C.struct_outcome {
-			return C.call_text(C.uint32_t(mode), begin(text), size(len(text)), buffer, capacity)
-		})
-		return outcome
+	to, outcome := appended(to, len(text)+16, func(buffer *C.uchar, capacity C.size_t) C.struct_outcome {
+		return C.call_text(C.uint32_t(mode), begin(text), size(len(text)), buffer, capacity)
 	})
-	return to, it.err()
+	return to, errorOf(text, mode, outcome)
 }
 
 // SortKey returns the key of the document's value. The error is an *Error for a text that is no document.
@@ -123,61 +112,48 @@ func SortKey(text []byte, mode Mode) (Key, error) {
 
 // AppendSortKey appends the bytes of the key. With an error it returns the bytes that were there.
 func AppendSortKey(to, text []byte, mode Mode) ([]byte, error) {
-	it := parsing{mode: mode, left: input{given: text}}
-	it.run(func(text, _ []byte) (outcome C.struct_outcome) {
-		to, outcome = appended(to, len(text)+16, func(buffer *C.uchar, capacity C.size_t) C.struct_outcome {
-			return C.call_sort_key(C.uint32_t(mode), begin(text), size(len(text)), buffer, capacity)
-		})
-		return outcome
+	to, outcome := appended(to, len(text)+16, func(buffer *C.uchar, capacity C.size_t) C.struct_outcome {
+		return C.call_sort_key(C.uint32_t(mode), begin(text), size(len(text)), buffer, capacity)
 	})
-	return to, it.err()
+	return to, errorOf(text, mode, outcome)
 }
 
 // TextAndKey returns what Text and SortKey return.
 func TextAndKey(text []byte, mode Mode) ([]byte, Key, error) {
-	var written, key []byte
-	it := parsing{mode: mode, left: input{given: text}}
-	it.run(func(text, _ []byte) (outcome C.struct_outcome) {
-		key = make([]byte, len(text)+16)
-		written, outcome = appended(nil, len(text)+16, func(buffer *C.uchar, capacity C.size_t) C.struct_outcome {
-			outcome := C.call_text_and_key(C.uint32_t(mode), begin(text), size(len(text)), buffer, capacity, begin(key),
-				size(len(key)))
-			if outcome.status == C.VIZHONIKU_TOO_SHORT && int(outcome.key_size) > len(key) {
-				key = make([]byte, outcome.key_size)
-			}
-			return outcome
-		})
+	key := make([]byte, len(text)+16)
+	written, outcome := appended(nil, len(text)+16, func(buffer *C.uchar, capacity C.size_t) C.struct_outcome {
+		outcome := C.call_text_and_key(C.uint32_t(mode), begin(text), size(len(text)), buffer, capacity, begin(key),
+			size(len(key)))
+		if outcome.status == C.VIZHONIKU_TOO_SHORT && int(outcome.key_size) > len(key) {
+			key = make([]byte, outcome.key_size)
+		}
 		return outcome
 	})
-	if err := it.err(); err != nil {
+	if err := errorOf(text, mode, outcome); err != nil {
 		return nil, "", err
 	}
-	return written, Key(stringOf(key[:it.outcome.key_size])), nil
+	return written, Key(stringOf(key[:outcome.key_size])), nil
 }
 
 // Compare returns -1, 0 or 1 where the value of the left document is below that of the right one, equal to it, or above
 // it. The error is an *Error where a text is no document, of the first that is none.
 func Compare(left, right []byte, mode Mode) (int, error) {
-	it := parsing{mode: mode, left: input{given: left}, right: input{given: right}}
-	it.run(func(left, right []byte) C.struct_outcome {
-		return C.call_compare(C.uint32_t(mode), begin(left), size(len(left)), begin(right), size(len(right)))
-	})
-	return int(it.outcome.order), it.err()
+	outcome := C.call_compare(C.uint32_t(mode), begin(left), size(len(left)), begin(right), size(len(right)))
+	rejected := left
+	if outcome.error.which == 2 {
+		rejected = right
+	}
+	return int(outcome.order), errorOf(rejected, mode, outcome)
 }
 
 // Part returns the text of the part at the path, a JSON Pointer (RFC 6901). The error is ErrNoPart where there is none,
 // ErrPath where the path isn't one, and an *Error for a text that is no document. The whole text is parsed: for several
 // parts of a document Key.Part is faster.
 func Part(text []byte, path string, mode Mode) ([]byte, error) {
-	var written []byte
-	it := parsing{mode: mode, left: input{given: text}}
-	it.run(func(text, _ []byte) (outcome C.struct_outcome) {
-		written, outcome = appended(nil, 64, func(buffer *C.uchar, capacity C.size_t) C.struct_outcome {
-			return C.call_part(C.uint32_t(mode), beginOf(path), size(len(path)), begin(text), size(len(text)), buffer, capacity)
-		})
-		return outcome
+	written, outcome := appended(nil, 64, func(buffer *C.uchar, capacity C.size_t) C.struct_outcome {
+		return C.call_part(C.uint32_t(mode), beginOf(path), size(len(path)), begin(text), size(len(text)), buffer, capacity)
 	})
-	if err := it.err(); err != nil {
+	if err := errorOf(text, mode, outcome); err != nil {
 		return nil, err
 	}
 	return written, nil

@@ -45,7 +45,7 @@ var inOrder = [][]string{
 
 func keyOf(t testing.TB, text string) Key {
 	t.Helper()
-	key, err := SortKey([]byte(text), Extended)
+	key, err := SortKey([]byte(text), ExtendedJSON)
 	if err != nil {
 		t.Fatalf("%q: %v", text, err)
 	}
@@ -217,7 +217,7 @@ func TestErrors(t *testing.T) {
 	long := strings.Repeat("k", 100000)
 	err = Check([]byte("{"+long+":1,"+long+":2}"), Extended)
 	equal(t, errors.As(err, &rejected) && rejected.Message == `duplicate object attribute "`+long+`"`, true)
-	equal(t, Check([]byte("1"), 2), ErrMode)
+	equal(t, Check([]byte("1"), 4), ErrMode)
 	equal(t, Check([]byte("[1]"), Standard), nil)
 	equal(t, []bool{Valid([]byte("1.5"), Extended), Valid([]byte("1.5"), Standard)}, []bool{true, false})
 	for _, stored := range []string{"", "x", "\xd2", "\xd2\x00\x00", "\xa1\x14\x00"} {
@@ -282,7 +282,7 @@ func TestJSON(t *testing.T) {
 
 func documentOf(t *testing.T, text string) Document {
 	t.Helper()
-	document, err := DocumentOf([]byte(text), Extended)
+	document, err := DocumentOf([]byte(text), ExtendedJSON)
 	equal(t, err, nil)
 	return document
 }
@@ -301,7 +301,7 @@ func TestDocuments(t *testing.T) {
 		_, err = CheckDocument([]byte(bytes + "\x00"))
 		equal(t, err, ErrDocument)
 		equal(t, document.String(), text)
-		key, err := SortKey([]byte(text), Extended)
+		key, err := SortKey([]byte(text), ExtendedJSON)
 		equal(t, []any{document.Key(), err}, []any{key, nil})
 	}
 	equal(t, documentOf(t, "1.50e1").String(), "15.0")

@@ -73,73 +73,6 @@ behind_number_bytes(const char *text, size_t size, size_t at)
 	return at;
 }
 
-static size_t
-behind_digits(const char *text, size_t size, size_t at)
-{
-	while (at < size && text[at] >= '0' && text[at] <= '9')
-		at++;
-	return at;
-}
-
-/* Behind the number of JSON that begins here; or here, where none does. */
-static size_t
-behind_number(const char *text, size_t size, size_t at)
-{
-	size_t		start = at + (text[at] == '-');
-	size_t		end = start < size && text[start] == '0' ? start + 1 : behind_digits(text, size, start);
-	size_t		digits;
-	size_t		next;
-
-	if (end == start || (end < size && text[end] >= '0' && text[end] <= '9'))
-		return at;
-	if (end < size && text[end] == '.')
-	{
-		next = behind_digits(text, size, end + 1);
-		if (next == end + 1)
-			return end;
-		end = next;
-	}
-	if (end < size && (text[end] == 'e' || text[end] == 'E'))
-	{
-		digits = end + 1;
-		if (digits < size && (text[digits] == '+' || text[digits] == '-'))
-			digits++;
-		next = behind_digits(text, size, digits);
-		end = next > digits ? next : end;
-	}
-	return end;
-}
-
-char *
-vjson_without_numbers(const char *text, size_t size)
-{
-	char	   *changed = palloc_extended(size + 1, MCXT_ALLOC_HUGE);
-	size_t		next;
-
-	memcpy(changed, text, size);
-	changed[size] = '\0';
-	for (size_t at = 0; at < size; at = next)
-	{
-		size_t		end;
-
-		if (text[at] == '"')
-			next = behind_string(text, size, at);
-		else if (begins_number(text[at]))
-		{
-			next = behind_number_bytes(text, size, at);
-			end = behind_number(text, size, at);
-			if (end > at)
-			{
-				changed[at] = '0';
-				memset(changed + at + 1, ' ', end - at - 1);
-			}
-		}
-		else
-			next = at + 1;
-	}
-	return changed;
-}
-
 
 /*
  * Rounding
@@ -150,7 +83,7 @@ is_carried(const char *number, size_t size)
 {
 	struct vizhoniku_error error;
 
-	return vizhoniku_check(VIZHONIKU_EXTENDED, (const unsigned char *) number, size, &error) == VIZHONIKU_ACCEPTED;
+	return vizhoniku_check(VIZHONIKU_JSON, (const unsigned char *) number, size, &error) == VIZHONIKU_ACCEPTED;
 }
 
 static char *
@@ -165,21 +98,6 @@ whole_digits(const char *number)
 {
 	number += strspn(number, "-0");
 	return (int) strspn(number, "0123456789");
-}
-
-/* The number with its exponent written out. NULL where it takes too many digits so. */
-static char *
-written_out(const char *number, size_t size)
-{
-	size_t		capacity = size + MOST_DIGITS + SPARE_ROOM;
-	char	   *plain = palloc(capacity + 1);
-	struct vizhoniku_error error;
-
-	if (vizhoniku_plain_numbers((const unsigned char *) number, size, (unsigned char *) plain, capacity, &size,
-								&error) != VIZHONIKU_ACCEPTED)
-		return NULL;
-	plain[size] = '\0';
-	return is_carried(plain, size) ? plain : NULL;
 }
 
 /* The exponent that begins here, of at most 32 bits: greater ones say no more of a number that fits into memory. */
@@ -242,29 +160,35 @@ rounded_digits(bool is_negative, const Digits *digits)
 }
 
 /*
- * A number of JSON without its exponent where that is enough, and else rounded.
- * NULL where it has more than 38 digits before the point.  A numeric is made
- * only of what it surely has place for, which isn't so for each number of JSON.
+ * A number of JSON rounded.  NULL where it has more than 38 digits before the
+ * point.  A numeric is made only of what it surely has place for, which isn't so
+ * for each number of JSON.
  */
 static const char *
 rounded_number(const char *number, size_t size)
 {
-	const char *words = written_out(number, size);
-	Digits		digits;
+	Digits		digits = digits_of(number, size);
 
-	if (words != NULL)
-		return words;
-	digits = digits_of(number, size);
 	if (digits.count == 0 || digits.power < -MOST_DIGITS)
 		return "0";
 	return digits.power <= MOST_DIGITS ? rounded_digits(*number == '-', &digits) : NULL;
+}
+
+/* Whether the bytes are a number of JSON that isn't representable. */
+static bool
+is_too_long(const char *number, size_t size)
+{
+	struct vizhoniku_error error;
+
+	return vizhoniku_check(VIZHONIKU_JSON, (const unsigned char *) number, size, &error) == VIZHONIKU_REJECTED &&
+		error.code == VIZHONIKU_NUMBER_NOT_CARRIED && error.position == size;
 }
 
 /* Append a number as it is where it is representable, or can't be rounded so that it is, and else rounded. */
 static void
 append_rounded(StringInfo out, const char *number, size_t size)
 {
-	const char *words = is_carried(number, size) ? NULL : rounded_number(number, size);
+	const char *words = is_too_long(number, size) ? rounded_number(number, size) : NULL;
 
 	if (words != NULL)
 		appendStringInfoString(out, words);
@@ -272,67 +196,119 @@ append_rounded(StringInfo out, const char *number, size_t size)
 		appendBinaryStringInfo(out, number, (int) size);
 }
 
-/* The text with its numbers rounded. What one number takes on the way is given back before the next one. */
+/* A text whose numbers are being rounded. */
+typedef struct
+{
+	const char *text;
+	size_t		size;
+	size_t		at;				/* how far that is */
+	StringInfoData written;		/* what is written of that */
+	MemoryContext of_number;	/* what one number takes on the way is given back before the next one */
+} Rounding;
+
+static Rounding
+begin_rounding(const char *text, size_t size)
+{
+	Rounding	rounding = {.text = text, .size = size};
+
+	initStringInfo(&rounding.written);
+	rounding.of_number = AllocSetContextCreate(CurrentMemoryContext, "a number that is rounded",
+											   ALLOCSET_SMALL_SIZES);
+	return rounding;
+}
+
+/* Go on by a number, a string or a byte. */
+static void
+round_next(Rounding *rounding)
+{
+	const char *next = rounding->text + rounding->at;
+	size_t		end;
+
+	CHECK_FOR_INTERRUPTS();
+	if (begins_number(*next))
+	{
+		MemoryContext caller = MemoryContextSwitchTo(rounding->of_number);
+
+		end = behind_number_bytes(rounding->text, rounding->size, rounding->at);
+		append_rounded(&rounding->written, next, end - rounding->at);
+		MemoryContextSwitchTo(caller);
+		MemoryContextReset(rounding->of_number);
+	}
+	else
+	{
+		end = *next == '"' ? behind_string(rounding->text, rounding->size, rounding->at) : rounding->at + 1;
+		appendBinaryStringInfo(&rounding->written, next, (int) (end - rounding->at));
+	}
+	rounding->at = end;
+}
+
+/* The text with its numbers rounded. */
 static StringInfoData
 rounded_text(const char *text, size_t size)
 {
-	MemoryContext caller = CurrentMemoryContext;
-	MemoryContext of_number = AllocSetContextCreate(caller, "a number that is rounded", ALLOCSET_SMALL_SIZES);
-	StringInfoData rounded;
-	size_t		next;
+	Rounding	rounding = begin_rounding(text, size);
 
-	initStringInfo(&rounded);
-	for (size_t at = 0; at < size; at = next)
+	while (rounding.at < size)
+		round_next(&rounding);
+	MemoryContextDelete(rounding.of_number);
+	return rounding.written;
+}
+
+/* The offset in the text of a byte of the text with its numbers rounded. No number that was rounded has the byte. */
+static size_t
+offset_before_rounding(const char *text, size_t size, size_t offset)
+{
+	Rounding	rounding = begin_rounding(text, size);
+	size_t		at = 0;
+	size_t		written = 0;
+
+	while (rounding.at < size && (size_t) rounding.written.len <= offset)
 	{
-		CHECK_FOR_INTERRUPTS();
-		if (begins_number(text[at]))
-		{
-			next = behind_number_bytes(text, size, at);
-			MemoryContextSwitchTo(of_number);
-			append_rounded(&rounded, text + at, next - at);
-			MemoryContextSwitchTo(caller);
-			MemoryContextReset(of_number);
-			continue;
-		}
-		next = text[at] == '"' ? behind_string(text, size, at) : at + 1;
-		appendBinaryStringInfo(&rounded, text + at, (int) (next - at));
+		at = rounding.at;
+		written = rounding.written.len;
+		round_next(&rounding);
 	}
-	MemoryContextDelete(of_number);
-	return rounded;
+	MemoryContextDelete(rounding.of_number);
+	if ((size_t) rounding.written.len <= offset)
+		return size + (offset - rounding.written.len);
+	return at + (offset - written);
 }
 
 /*
  * Read a text, whose numbers are rounded where one isn't representable and that
- * is asked for.  What *text is then is what was read.  NULL if it is rejected,
- * and then *why says why.
+ * is asked for.  NULL if it is rejected, and then *why says why.
  */
 static struct varlena *
-try_text(Range *text, bool is_rounded, VjsonRejection *why)
+try_text(Range text, bool is_rounded, VjsonRejection *why)
 {
-	struct varlena *value = vjson_try_input((const char *) text->at, text->size, why);
+	const char *given = (const char *) text.at;
+	struct varlena *value = vjson_try_text(given, text.size, why);
 	StringInfoData rounded;
+	struct vizhoniku_location where;
 
 	if (value != NULL || !is_rounded || why->error.code != VIZHONIKU_NUMBER_NOT_CARRIED)
 		return value;
-	rounded = rounded_text((const char *) text->at, text->size);
-	text->at = (const unsigned char *) rounded.data;
-	text->size = rounded.len;
-	return vjson_try_input(rounded.data, rounded.len, why);
+	rounded = rounded_text(given, text.size);
+	value = vjson_try_text(rounded.data, rounded.len, why);
+	if (value != NULL)
+		return value;
+	vizhoniku_locate((const unsigned char *) rounded.data, rounded.len, &why->error, &where);
+	why->located = why->error;
+	why->located.position += offset_before_rounding(given, text.size, where.index) - where.index;
+	why->text = given;
+	why->size = text.size;
+	return NULL;
 }
 
-/*
- * The document of a text whose numbers may have exponents and any number of
- * digits.  What else is wrong with the text is reported as of input.
- */
+/* The document of a text whose numbers may have any number of digits. */
 Datum
 vjson_rounded(PG_FUNCTION_ARGS)
 {
-	Range		input = utf8_of(PG_GETARG_TEXT_PP(0));
 	VjsonRejection why;
-	struct varlena *value = try_text(&input, true, &why);
+	struct varlena *value = try_text(utf8_of(PG_GETARG_TEXT_PP(0)), true, &why);
 
 	if (value == NULL)
-		value = vjson_of_input((const char *) input.at, input.size);	/* raises the error */
+		vjson_raise_rejection(&why);
 	PG_RETURN_POINTER(vjson_checked_for_output(value));
 }
 
@@ -355,22 +331,16 @@ server_words(char *words)
 	return words;
 }
 
-/*
- * A text that the server alone rejects is a document for the library up to
- * where it is rejected, and ends too early there.
- */
 char *
 vjson_path_of_rejection(const VjsonRejection *why)
 {
-	bool		is_of_server = why->error.code == VIZHONIKU_NO_CODE;
-	size_t		size = is_of_server ? Min(why->error.position, why->size) : why->size;
 	size_t		capacity = 256;
 
 	for (;;)
 	{
 		char	   *path = palloc_extended(capacity + 1, MCXT_ALLOC_HUGE);
 		size_t		length;
-		uint32		status = vizhoniku_error_path(why->mode, (const unsigned char *) why->parsed, size, &why->error,
+		uint32		status = vizhoniku_error_path(why->mode, (const unsigned char *) why->read, why->read_size, &why->error,
 												  (unsigned char *) path, capacity, &length);
 
 		if (status == VIZHONIKU_ACCEPTED)
@@ -420,7 +390,7 @@ report_rejection(FunctionCallInfo fcinfo, Range input)
 	bool		nulls[COLUMNS] = {true, true, true, true, true};
 	VjsonRejection why;
 	VjsonLocation	location;
-	struct varlena *value = try_text(&input, PG_GETARG_BOOL(1), &why);
+	struct varlena *value = try_text(input, PG_GETARG_BOOL(1), &why);
 
 	if (get_call_result_type(fcinfo, NULL, &columns) != TYPEFUNC_COMPOSITE)
 		elog(ERROR, "return type must be a row type");

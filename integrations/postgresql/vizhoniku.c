@@ -19,7 +19,6 @@
 
 #include "catalog/pg_type.h"
 #include "common/hashfn.h"
-#include "common/jsonapi.h"
 #include "fmgr.h"
 #include "lib/hyperloglog.h"
 #include "libpq/pqformat.h"
@@ -29,7 +28,6 @@
 #include "utils/array.h"
 #include "utils/builtins.h"
 #include "utils/fmgroids.h"
-#include "utils/json.h"
 #include "utils/jsonb.h"
 #include "utils/memutils.h"
 #include "utils/sortsupport.h"
@@ -69,14 +67,6 @@ PG_MODULE_MAGIC;
 
 /* From how many bytes on those that are surely of a key are looked at first. */
 #define LONG_FRONT		48
-
-/* How a text is read. */
-typedef enum
-{
-	READ_INPUT,					/* standard mode, and decimals and exponents in JSON */
-	READ_JSON,					/* JSON of the server: extended mode, and exponents */
-	READ_EXTENDED				/* extended mode */
-} ReadAs;
 
 /* What a sort with abbreviated keys keeps. */
 typedef struct
@@ -204,7 +194,7 @@ vjson_locate(const VjsonRejection *why, VjsonLocation *where)
 {
 	struct vizhoniku_location location;
 
-	vizhoniku_locate((const unsigned char *) why->text, why->size, &why->error, &location);
+	vizhoniku_locate((const unsigned char *) why->text, why->size, &why->located, &location);
 	where->index = location.index;
 	where->line = location.line;
 	where->column = vizhoniku_character((const unsigned char *) why->text, why->size,
@@ -231,7 +221,7 @@ hint_of_rejection(const VjsonRejection *why)
 	switch (why->error.code)
 	{
 		case VIZHONIKU_NUMBER_NOT_CARRIED:
-			if (why->is_extended)
+			if (why->mode == VIZHONIKU_EXTENDED)
 				return errhint("Numbers are integers, decimals of at most 38 digits and hexadecimals, with no "
 							   "exponent.");
 			return errhint("Numbers are integers and decimals of at most 38 digits, where an exponent is written out. "
@@ -261,6 +251,13 @@ report_rejection(Node *context, const VjsonRejection *why)
 				  errdetail_internal("%s (line %zu, column %zu)%s", why->words, where.line, where.column, at),
 				  hint_of_rejection(why),
 				  errcontext("vjson text, line %zu: %s", where.line, where.shown)));
+}
+
+void
+vjson_raise_rejection(const VjsonRejection *why)
+{
+	report_rejection(NULL, why);
+	pg_unreachable();
 }
 
 void
@@ -294,31 +291,27 @@ check_size_of_text(struct varlena *value)
 }
 
 /*
- * Read the text in this mode, and make the value.  Where no decimal ends in a
- * zero the key alone is its document, which takes less time.  Answers the status
- * of the library; *value is set where it is VIZHONIKU_ACCEPTED.
+ * Read the text in this mode, and make the value.  Answers the status of the
+ * library; *value is set where it is VIZHONIKU_ACCEPTED.
  */
 static uint32
-make_value(uint32 mode, bool has_zeros, const char *text, size_t size, struct varlena **value,
-		   struct vizhoniku_error *error)
+make_value(uint32 mode, const char *text, size_t size, struct varlena **value, struct vizhoniku_error *error)
 {
 	size_t		capacity = size + SPARE_ROOM;
-	const unsigned char *bytes = (const unsigned char *) text;
 
 	CHECK_FOR_INTERRUPTS();
 	check_stack_depth();		/* a call takes at most 110 kB more, and the server keeps 512 kB behind that */
 	for (;;)
 	{
 		char	   *block = palloc_extended(VARHDRSZ + capacity, MCXT_ALLOC_HUGE);
-		unsigned char *into = (unsigned char *) VARDATA(block);
 		size_t		written;
-		uint32		status = has_zeros ? vizhoniku_document(mode, bytes, size, into, capacity, &written, error) :
-			vizhoniku_sort_key(mode, bytes, size, into, capacity, &written, error);
+		uint32		status = vizhoniku_document(mode, (const unsigned char *) text, size,
+												(unsigned char *) VARDATA(block), capacity, &written, error);
 
 		if (status == VIZHONIKU_ACCEPTED)
 		{
 			*value = vjson_value_with_table(block, capacity, written);
-			if (mode != VIZHONIKU_STANDARD && size > LONGEST_CLEAR)
+			if (size > LONGEST_CLEAR)
 				check_size_of_text(*value);
 			return status;
 		}
@@ -329,296 +322,35 @@ make_value(uint32 mode, bool has_zeros, const char *text, size_t size, struct va
 	}
 }
 
-/*
- * Say why a text is no JSON, and none of standard mode: in the words of the
- * library for the text without its numbers, so that a fault has the same words
- * whatever numbers are before it.  Where standard mode takes that, the server
- * alone rejects it, and at this position.
- */
-static void
-report_no_json(const char *text, size_t size, JsonParseErrorType error, size_t position, VjsonRejection *why)
-{
-	char	   *rest = vjson_without_numbers(text, size);
-	uint32		status = vizhoniku_check(VIZHONIKU_STANDARD, (const unsigned char *) rest, size, &why->error);
-
-	if (status == VIZHONIKU_OUT_OF_MEMORY)
-		vjson_raise_out_of_memory(size);
-	if (status == VIZHONIKU_REJECTED && why->error.code != VIZHONIKU_NUMBER_NOT_CARRIED)
-		why->words = message_of_error(VIZHONIKU_STANDARD, rest, size);
-	else
-	{
-		why->error.code = VIZHONIKU_NO_CODE;
-		why->error.which = 1;
-		why->error.position = position;
-		why->words = error == JSON_ESCAPING_REQUIRED ? "control character in a string" : "not JSON";
-	}
-	why->mode = VIZHONIKU_STANDARD;
-	why->parsed = rest;
-}
-
-/* Whether the text is JSON as the server's own type json takes it. If it isn't, *why says why. */
-static bool
-is_json(const char *text, size_t size, VjsonRejection *why)
-{
-#if PG_VERSION_NUM >= 170000
-	JsonLexContext *lex = makeJsonLexContextCstringLen(NULL, text, size, PG_UTF8, false);
-#else
-	JsonLexContext *lex = makeJsonLexContextCstringLen(unconstify(char *, text), (int) size, PG_UTF8, false);
-#endif
-	JsonParseErrorType error = pg_parse_json(lex, &nullSemAction);
-
-	if (error != JSON_SUCCESS)
-	{
-		report_no_json(text, size, error, lex->token_start ? (size_t) (lex->token_start - lex->input) : size, why);
-		return false;
-	}
-	pfree(lex);
-	return true;
-}
-
-/*
- * Write out the numbers of a text that have an exponent.  Answers the status of
- * the library; *plain is set where it is VIZHONIKU_ACCEPTED.
- */
-static uint32
-write_plain_numbers(const char *text, size_t size, char **plain, size_t *plain_size,
-					struct vizhoniku_error *error)
-{
-	size_t		capacity = size + size / 4 + SPARE_ROOM;
-
-	for (;;)
-	{
-		char	   *written = palloc_extended(capacity, MCXT_ALLOC_HUGE);
-		uint32		status = vizhoniku_plain_numbers((const unsigned char *) text, size,
-													 (unsigned char *) written, capacity, plain_size, error);
-
-		if (status == VIZHONIKU_ACCEPTED)
-		{
-			*plain = written;
-			return status;
-		}
-		pfree(written);
-		if (status != VIZHONIKU_TOO_SHORT)
-			return status;
-		capacity = *plain_size;
-	}
-}
-
-/* The text with its numbers masked that have an exponent and aren't too long, so that all else has its location. */
-static char *
-masked_numbers(const char *text, size_t size)
-{
-	char	   *masked = palloc_extended(size + 1, MCXT_ALLOC_HUGE);
-	size_t		masked_size;
-
-	if (vizhoniku_masked_numbers((const unsigned char *) text, size, (unsigned char *) masked, size,
-								 &masked_size) != VIZHONIKU_ACCEPTED)
-		vjson_raise_out_of_memory(size);
-	return masked;
-}
-
-/* What the numbers of a text are, as far as it is JSON. */
-typedef struct
-{
-	bool		some_fraction;	/* a decimal, or an exponent */
-	bool		some_exponent;
-	bool		some_zeros;		/* a decimal without an exponent that ends in a zero */
-	bool		is_deep;		/* more arrays and objects are open at once than any mode takes */
-} Numbers;
-
-/* Behind the string that begins here, or the end of the text. */
-static inline const char *
-behind_string(const char *at, const char *end)
-{
-	for (at++; at < end && *at != '"'; at++)
-	{
-		if (*at == '\\')
-			at++;
-	}
-	return at < end ? at + 1 : end;
-}
-
-static inline const char *
-behind_digits(const char *at, const char *end)
-{
-	while (at < end && (unsigned char) (*at - '0') <= 9)
-		at++;
-	return at;
-}
-
-static Numbers
-look_at_numbers(const char *text, size_t size)
-{
-	const char *end = text + size;
-	Numbers		numbers = {false, false, false, false};
-	int			levels = 0;
-
-	for (const char *at = text; at < end;)
-	{
-		at = behind_digits(at, end);
-		if (at == end)
-			break;
-		switch (*at)
-		{
-			case '"':
-				at = behind_string(at, end);
-				continue;
-			case '[':
-			case '{':
-				numbers.is_deep |= ++levels > MOST_LEVELS;
-				break;
-			case ']':
-			case '}':
-				levels--;
-				break;
-			case '.':
-				numbers.some_fraction = true;
-				at = behind_digits(at + 1, end);
-				numbers.some_zeros |= at[-1] == '0' && (at == end || (*at != 'e' && *at != 'E'));
-				continue;
-			case 'e':
-			case 'E':
-				/* Those of true and false are behind a letter. */
-				numbers.some_exponent |= at > text && (unsigned char) (at[-1] - '0') <= 9;
-				break;
-		}
-		at++;
-	}
-	numbers.some_fraction |= numbers.some_exponent;
-	return numbers;
-}
-
-/*
- * The value of a text that is JSON, by no more calls than its numbers need: NULL
- * where anything is rejected.
- */
+/* Read a text in UTF-8.  NULL if it is rejected, and then *why says why. */
 static struct varlena *
-value_of_json(const char *text, size_t size, Numbers numbers)
+try_utf8(const char *text, size_t size, uint32 mode, VjsonRejection *why)
 {
 	struct varlena *value = NULL;
-	struct vizhoniku_error error;
-	char	   *plain = NULL;
-	uint32		status = VIZHONIKU_ACCEPTED;
+	uint32		status = make_value(mode, text, size, &value, &why->error);
 
-	if (numbers.some_exponent)
-	{
-		status = write_plain_numbers(text, size, &plain, &size, &error);
-		if (status == VIZHONIKU_ACCEPTED && !numbers.some_zeros)
-			numbers = look_at_numbers(plain, size);
-		text = plain;
-	}
 	if (status == VIZHONIKU_ACCEPTED)
-		status = make_value(VIZHONIKU_EXTENDED, numbers.some_zeros, text, size, &value,
-							&error);
-	if (plain != NULL)
-		pfree(plain);
-	return status == VIZHONIKU_ACCEPTED ? value : NULL;
-}
-
-/*
- * Read a text that may be JSON with decimals: as what it mostly is, with no
- * mode tried that rejects it.  NULL where it isn't, or anything is rejected.
- */
-static struct varlena *
-try_json(const char *text, size_t size, bool is_known)
-{
-	Numbers		numbers = look_at_numbers(text, size);
-
-	if (numbers.is_deep)
-		return NULL;
-	if (!is_known && (!numbers.some_fraction || !vizhoniku_is_strict((const unsigned char *) text, size)))
-		return NULL;
-	return value_of_json(text, size, numbers);
-}
-
-/*
- * Read a text in UTF-8.  NULL if it is rejected, and then *why says why.
- *
- * Input is of standard mode.  Extended mode has more numbers, which must be
- * read back where their text was dumped; so a text whose fault in standard
- * mode is a number that isn't carried is also read where it is JSON and
- * extended mode carries all of its numbers.  No mode has numbers with an
- * exponent: those of JSON are written out first, as jsonb does.  What else is
- * wrong then is reported of the text without these, in which it has its location.
- *
- * What is accepted is mostly found at once by try_json.  What is rejected is
- * then read step by step, so that the first fault is reported.
- */
-static struct varlena *
-try_utf8(const char *text, size_t size, ReadAs as, VjsonRejection *why)
-{
-	uint32		mode = as == READ_INPUT ? VIZHONIKU_STANDARD : VIZHONIKU_EXTENDED;
-	struct varlena *value = NULL;
-	bool		may_be_json = as == READ_JSON || (as == READ_INPUT && memchr(text, '.', size) != NULL);
-	uint32		status;
-
-	if (may_be_json)
-	{
-		value = try_json(text, size, as == READ_JSON);
-		if (value != NULL)
-			return value;
-	}
-	status = make_value(mode, mode == VIZHONIKU_EXTENDED, text, size, &value, &why->error);
-	why->text = text;
-	why->size = size;
-	why->parsed = text;
-	why->is_extended = as == READ_EXTENDED;
-	if (status == VIZHONIKU_REJECTED && as == READ_INPUT && why->error.code == VIZHONIKU_NUMBER_NOT_CARRIED)
-	{
-		if (!is_json(text, size, why))
-		{
-			if (why->words == NULL)
-				why->words = NO_WORDS;
-			return NULL;
-		}
-		if (!may_be_json)
-		{
-			value = try_json(text, size, true);
-			if (value != NULL)
-				return value;
-		}
-		mode = VIZHONIKU_EXTENDED;
-		status = make_value(mode, true, text, size, &value, &why->error);
-	}
-	if (status == VIZHONIKU_REJECTED && as != READ_EXTENDED && mode == VIZHONIKU_EXTENDED &&
-		why->error.code == VIZHONIKU_NUMBER_NOT_CARRIED)
-	{
-		char	   *plain;
-		size_t		plain_size;
-
-		status = write_plain_numbers(text, size, &plain, &plain_size, &why->error);
-		if (status == VIZHONIKU_ACCEPTED)
-		{
-			status = make_value(mode, true, plain, plain_size, &value, &why->error);
-			pfree(plain);
-		}
-		if (status == VIZHONIKU_REJECTED)
-		{
-			why->parsed = masked_numbers(text, size);
-			status = vizhoniku_check(mode, (const unsigned char *) why->parsed, size, &why->error);
-		}
-	}
-	why->mode = mode;
-	if (status == VIZHONIKU_REJECTED)
-	{
-		why->words = message_of_error(mode, why->parsed, size);
-		if (why->words == NULL)
-			why->words = NO_WORDS;
-		return NULL;
-	}
+		return value;
 	if (status == VIZHONIKU_OUT_OF_MEMORY)
-		vjson_raise_out_of_memory(why->size);
-	if (status != VIZHONIKU_ACCEPTED || value == NULL)
+		vjson_raise_out_of_memory(size);
+	if (status != VIZHONIKU_REJECTED)
 		vjson_raise_unexpected(status);
-	return value;
+	why->read = why->text = text;
+	why->read_size = why->size = size;
+	why->located = why->error;
+	why->mode = mode;
+	why->words = message_of_error(mode, text, size);
+	if (why->words == NULL)
+		why->words = NO_WORDS;
+	return NULL;
 }
 
 /* Read a text in UTF-8.  Where it is rejected this is reported; the answer is NULL if that raises no error. */
 static struct varlena *
-read_utf8(const char *text, size_t size, ReadAs as, Node *context)
+read_utf8(const char *text, size_t size, uint32 mode, Node *context)
 {
 	VjsonRejection why;
-	struct varlena *value = try_utf8(text, size, as, &why);
+	struct varlena *value = try_utf8(text, size, mode, &why);
 
 	if (value == NULL)
 		report_rejection(context, &why);
@@ -627,11 +359,11 @@ read_utf8(const char *text, size_t size, ReadAs as, Node *context)
 
 /* Read a text in the encoding of the database, as read_utf8 does. */
 static struct varlena *
-read_value(const char *server_text, size_t server_size, ReadAs as, Node *context)
+read_value(const char *server_text, size_t server_size, uint32 mode, Node *context)
 {
 	char	   *text = pg_server_to_any(server_text, (int) server_size, PG_UTF8);
 	size_t		size = text == server_text ? server_size : strlen(text);
-	struct varlena *value = read_utf8(text, size, as, context);
+	struct varlena *value = read_utf8(text, size, mode, context);
 
 	if (text != server_text)
 		pfree(text);
@@ -641,19 +373,13 @@ read_value(const char *server_text, size_t server_size, ReadAs as, Node *context
 struct varlena *
 vjson_of_text(const char *text, size_t size)
 {
-	return read_utf8(text, size, READ_JSON, NULL);
+	return read_utf8(text, size, VIZHONIKU_JSON, NULL);
 }
 
 struct varlena *
-vjson_of_input(const char *text, size_t size)
+vjson_try_text(const char *text, size_t size, VjsonRejection *why)
 {
-	return read_utf8(text, size, READ_INPUT, NULL);
-}
-
-struct varlena *
-vjson_try_input(const char *text, size_t size, VjsonRejection *why)
-{
-	return try_utf8(text, size, READ_INPUT, why);
+	return try_utf8(text, size, VIZHONIKU_JSON, why);
 }
 
 
@@ -693,7 +419,7 @@ Datum
 vjson_in(PG_FUNCTION_ARGS)
 {
 	char	   *text = PG_GETARG_CSTRING(0);
-	struct varlena *value = read_value(text, strlen(text), READ_INPUT, fcinfo->context);
+	struct varlena *value = read_value(text, strlen(text), VIZHONIKU_JSON, fcinfo->context);
 
 	if (value == NULL)
 		PG_RETURN_NULL();
@@ -716,7 +442,7 @@ vjson_recv(PG_FUNCTION_ARGS)
 	int			size;
 	char	   *text = pq_getmsgtext(buffer, buffer->len - buffer->cursor, &size);
 
-	PG_RETURN_POINTER(vjson_checked_for_output(read_value(text, size, READ_INPUT, NULL)));
+	PG_RETURN_POINTER(vjson_checked_for_output(read_value(text, size, VIZHONIKU_JSON, NULL)));
 }
 
 Datum
@@ -736,7 +462,7 @@ vjson_extended(PG_FUNCTION_ARGS)
 {
 	text	   *words = PG_GETARG_TEXT_PP(0);
 
-	PG_RETURN_POINTER(vjson_checked_for_output(read_value(VARDATA_ANY(words), VARSIZE_ANY_EXHDR(words), READ_EXTENDED, NULL)));
+	PG_RETURN_POINTER(vjson_checked_for_output(read_value(VARDATA_ANY(words), VARSIZE_ANY_EXHDR(words), VIZHONIKU_EXTENDED, NULL)));
 }
 
 Datum
@@ -957,7 +683,7 @@ vjson_from_json(PG_FUNCTION_ARGS)
 {
 	text	   *json = PG_GETARG_TEXT_PP(0);
 
-	PG_RETURN_POINTER(vjson_checked_for_output(read_value(VARDATA_ANY(json), VARSIZE_ANY_EXHDR(json), READ_JSON, NULL)));
+	PG_RETURN_POINTER(vjson_checked_for_output(read_value(VARDATA_ANY(json), VARSIZE_ANY_EXHDR(json), VIZHONIKU_JSON, NULL)));
 }
 
 static char *

@@ -67,16 +67,20 @@ typedef struct
 	Range		table;
 } Document;
 
-/* Why a text in UTF-8 was rejected: what the library says of it, and that in words. */
+/*
+ * Why a text in UTF-8 was rejected: what the library says of what was read, and
+ * that in words.  Where numbers were rounded first, the text isn't what was read.
+ */
 typedef struct
 {
 	const char *words;
 	struct vizhoniku_error error;
+	const char *read;
+	size_t		read_size;
+	uint32		mode;			/* in which it was read */
+	struct vizhoniku_error located; /* the error as one of the text */
 	const char *text;
 	size_t		size;
-	uint32		mode;			/* of the library, in which this was parsed: */
-	const char *parsed;			/* the text, or as many bytes with zeros and spaces for some of its numbers */
-	bool		is_extended;	/* whether comments and names without quotes were allowed in it */
 } VjsonRejection;
 
 /* The location of that: the offset of a byte, and what of its line is shown. */
@@ -92,12 +96,6 @@ extern void vjson_locate(const VjsonRejection *why, VjsonLocation *location);
 
 /* The path of the innermost part in which the fault is, in the encoding of the database. NULL if it can't be shown. */
 extern char *vjson_path_of_rejection(const VjsonRejection *why);
-
-/*
- * A copy of the text with zeros and spaces instead of its numbers.  So what
- * else is wrong has the same location in it.
- */
-extern char *vjson_without_numbers(const char *text, size_t size);
 
 /* A step of a subscript: a name, or an index in digits. */
 typedef struct
@@ -132,15 +130,13 @@ extern Datum vjson_assign(Datum document, const VjsonStep *steps, int count, Dat
 vjson_noreturn extern void vjson_raise_corrupted(void);
 vjson_noreturn extern void vjson_raise_out_of_memory(size_t size);
 vjson_noreturn extern void vjson_raise_unexpected(uint32 status);
+vjson_noreturn extern void vjson_raise_rejection(const VjsonRejection *why);
 
-/* The value of a text in UTF-8, which is JSON but for numbers that aren't carried. */
+/* The value of a text in UTF-8, which is JSON. */
 extern struct varlena *vjson_of_text(const char *text, size_t size);
 
-/* The value of a text in UTF-8, as input is read. */
-extern struct varlena *vjson_of_input(const char *text, size_t size);
-
 /* That, but NULL if the text is rejected, and then *why says why. */
-extern struct varlena *vjson_try_input(const char *text, size_t size, VjsonRejection *why);
+extern struct varlena *vjson_try_text(const char *text, size_t size, VjsonRejection *why);
 
 /*
  * An argument of a function, which is kept for its next calls: the beginning of

@@ -26,7 +26,7 @@ _ABOVE_TEXTS = 0x80  # the first byte of a long document, which is no number, is
 class Documents:
     """The documents of one LMDB environment. Every document is read in the given mode."""
 
-    def __init__(self, environment: lmdb.Environment, mode: int = vizhoniku.EXTENDED) -> None:
+    def __init__(self, environment: lmdb.Environment, mode: int = vizhoniku.EXTENDED_JSON) -> None:
         self._environment = environment
         self._mode = mode
         self._bound: int = environment.max_key_size()

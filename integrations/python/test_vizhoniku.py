@@ -47,7 +47,7 @@ try:
 except ImportError:
     lmdb = None
 
-VERSION = 9  # of the interface that is needed
+VERSION = 10  # of the interface that is needed
 TOP = os.path.join(HERE, "..", "..")
 VECTORS = os.path.join(TOP, "tests", "vectors.jsonl")
 
@@ -98,16 +98,18 @@ class Calls(unittest.TestCase):
         self.assertEqual(v.text('"é𝄞"'), '"é𝄞"')
 
     def test_modes(self) -> None:
-        for text in ("1.5", "[1,]", "{a:1}", "", "// c\n1", "0x1", "'a'"):
-            self.assertTrue(v.is_valid(text))
-            self.assertFalse(v.is_valid(text, v.STANDARD))
-        self.assertTrue(v.is_valid("1e5"))
-        self.assertFalse(v.is_valid("1e5", v.STANDARD))
-        for text in ("1e39", '{"a":1,"a":2}', "[1", "\ufeff1"):
-            self.assertFalse(v.is_valid(text))
-            self.assertFalse(v.is_valid(text, v.STANDARD))
+        taken: List[Tuple[str, List[v.Mode]]] = [
+            ("[1,2]", [v.STANDARD, v.EXTENDED, v.JSON, v.EXTENDED_JSON]), ("1.5", [v.EXTENDED, v.JSON, v.EXTENDED_JSON]),
+            ("1e5", [v.JSON, v.EXTENDED_JSON]), ("+1e5", [v.EXTENDED_JSON]), (".5e3", [v.EXTENDED_JSON]),
+            ("1\f", [v.STANDARD, v.EXTENDED, v.EXTENDED_JSON]), ('"\t"', [v.STANDARD, v.EXTENDED, v.EXTENDED_JSON]),
+            ('"\\u{0041}"', [v.STANDARD, v.EXTENDED, v.EXTENDED_JSON])]
+        taken += [(text, [v.EXTENDED, v.EXTENDED_JSON]) for text in ("[1,]", "{a:1}", "", "// c\n1", "0x1", "'a'")]
+        taken += [(text, []) for text in ("1e39", '{"a":1,"a":2}', "[1", "\ufeff1")]
+        for text, modes in taken:
+            self.assertEqual([mode for mode in v.Mode if v.is_valid(text, mode)], modes, text)
+            self.assertEqual(v.is_valid(text), v.EXTENDED_JSON in modes)
         v.check("[1,2]", mode=v.STANDARD)
-        for mode in (2, -1, 2**32):
+        for mode in (4, -1, 2**32):
             self.assertRaises(ValueError, v.check, "1", mode)
 
     def test_exponents(self) -> None:
@@ -132,7 +134,8 @@ class Calls(unittest.TestCase):
         with self.assertRaises(v.RejectedText) as raised:
             v.compare("1e1", "5e-324")
         self.assertEqual((raised.exception.which, raised.exception.column), (2, 6))
-        self.assertEqual(self.rejected("1e5", v.STANDARD).message, "number not carried")
+        for mode in (v.STANDARD, v.EXTENDED):
+            self.assertEqual(self.rejected("1e5", mode).message, "number not carried")
         self.assertEqual(self.rejected('{"a":1e1,"a":2}').code, 17)
 
     def test_locations_behind_exponents(self) -> None:
@@ -185,7 +188,7 @@ class Calls(unittest.TestCase):
             self.assertEqual(raised.exception.path, path)
         self.assertIsNone(v.RejectedText("words", 5, 1, 0, 1, 1).path)
 
-    def rejected(self, text: v.Text, mode: int = v.EXTENDED) -> v.RejectedText:
+    def rejected(self, text: v.Text, mode: int = v.EXTENDED_JSON) -> v.RejectedText:
         with self.assertRaises(v.RejectedText) as raised:
             v.check(text, mode)
         return raised.exception
@@ -287,10 +290,8 @@ class Calls(unittest.TestCase):
             for line in lines:
                 row = json.loads(line)
                 data = bytes.fromhex(row["input"])
-                for mode in v.Mode:
+                for mode in (v.STANDARD, v.EXTENDED):
                     answer = row[mode.name.lower()]
-                    if mode == v.EXTENDED and answer.get("printed", "").startswith("number not carried"):
-                        continue  # of these test_exponents tries some
                     if "rejected" in answer:
                         fault = self.rejected(data, mode)
                         printed = f"{fault.message}, pos {answer['position']}"
@@ -919,12 +920,12 @@ class Digits(unittest.TestCase):
     def test_rejected(self) -> None:
         for text, mode, words in (("[1,", v.STANDARD, "line 1, column 4: EOF while parsing a value"),
                                   ("[1,\n1.50]", v.STANDARD, "line 2, column 4: number not carried"),
-                                  ('{"a": [1e5, 1e300]}', v.EXTENDED, "line 1, column 17: number not carried"),
+                                  ('{"a": [1e5, 1e300]}', v.JSON, "line 1, column 17: number not carried"),
                                   ("1." + "0" * 38, v.EXTENDED, "line 1, column 40: number not carried")):
             with self.assertRaises(v.RejectedText) as raised:
                 v.Document(text, mode)
             self.assertEqual(str(raised.exception), words)
-        self.assertRaises(ValueError, v.Document, "1", 2)
+        self.assertRaises(ValueError, v.Document, "1", 4)
 
     def test_order(self) -> None:
         lines = [["-1.5", "-1.50", "-1.500"], ["0", "0.0", "0.00"], ["1", "1.0"], ["1.5", "1.50"], ["1.51"],
@@ -1146,7 +1147,7 @@ class Both(unittest.TestCase):
                      lambda: v.text("1", text="1"), lambda: v.get("1"), lambda: v.compare(left="1"),  # type: ignore
                      lambda: v.Key(), lambda: v.Key("1", 1, 1)):  # type: ignore[call-arg]
             self.assertRaises(TypeError, call)
-        for mode in ("standard", 2, None, -1, 2**64):
+        for mode in ("standard", 4, None, -1, 2**64):
             self.assertRaises(ValueError, v.text, "1", mode)
 
     def parsed(self, name: str) -> ast.Module:
@@ -1271,7 +1272,7 @@ class Both(unittest.TestCase):
                 except (ValueError, TypeError, KeyError):
                     pass
 
-        watched: List[Any] = [text, path, key, document, none, v.Key, v.Document, v.EXTENDED, v.STANDARD]
+        watched: List[Any] = [text, path, key, document, none, v.Key, v.Document, *v.Mode]
         if sys.version_info < (3, 12):  # from then on None isn't counted by all
             watched.append(None)
         for _ in range(50):
@@ -1320,8 +1321,8 @@ class Growth(unittest.TestCase):
     """Calls over large documents take time in proportion to their size."""
 
     # Calls that look at no document, or at its first byte alone, and operators that are made as one that is timed is.
-    LEFT_OUT = {"Mode", "PathError", "RejectedText", "Text", "EXTENDED", "STANDARD", "NATIVE", "Key.kind",
-                "Key.__bool__", "Key.__setattr__", "Key.__new__", "Key.__le__", "Key.__gt__", "Key.__ge__",
+    LEFT_OUT = {"Mode", "PathError", "RejectedText", "Text", "EXTENDED", "EXTENDED_JSON", "JSON", "STANDARD", "NATIVE",
+                "Key.kind", "Key.__bool__", "Key.__setattr__", "Key.__new__", "Key.__le__", "Key.__gt__", "Key.__ge__",
                 "Key.__ne__", "Document.__setattr__", "Document.__new__", "Document.__le__", "Document.__gt__",
                 "Document.__ge__", "Document.__ne__"}
 
@@ -1511,17 +1512,6 @@ uint32_t vizhoniku_text(uint32_t mode, const char *text, size_t text_size, char 
   (void)mode, (void)text, (void)text_size, (void)buffer, (void)room;
   *size = 0;
   return answer(error);
-}
-
-uint32_t vizhoniku_plain_numbers(const char *text, size_t text_size, char *buffer, size_t room, size_t *size,
-                                 struct error *error) {
-  return vizhoniku_text(1, text, text_size, buffer, room, size, error);
-}
-
-uint32_t vizhoniku_masked_numbers(const char *text, size_t text_size, char *buffer, size_t room, size_t *size) {
-  (void)text, (void)text_size, (void)buffer, (void)room;
-  *size = 0;
-  return status;
 }
 
 uint32_t vizhoniku_error_path(uint32_t mode, const char *text, size_t text_size, const struct error *error,

@@ -12,8 +12,8 @@
  *
  * vjson_key.c has what takes a sort key apart, and vjson_document.c what is made of a document.
  *
- * A mode is 'extended', also where none is given, or 'standard'. Each function returns NULL where X is NULL. A number
- * is taken as its text, and a BLOB as the bytes of a text in UTF-8. */
+ * A mode is 'extended_json', also where none is given, 'json', 'extended' or 'standard'. Each function returns NULL where
+ * X is NULL. A number is taken as its text, and a BLOB as the bytes of a text in UTF-8. */
 #include <stdint.h>
 #include <stdio.h>
 #include <string.h>
@@ -34,15 +34,22 @@ int vjson_read_bytes(sqlite3_context *context, sqlite3_value *value, const unsig
   return 0;
 }
 
+#define DEFAULT_MODE VIZHONIKU_EXTENDED_JSON
+
 /* Reads the argument that may name a mode. Returns 0 where it names none, which has been reported. */
 static int read_mode(sqlite3_context *context, int count, sqlite3_value **values, int at, uint32_t *mode) {
-  *mode = VIZHONIKU_EXTENDED;
+  static const char *const names[] = {
+      [VIZHONIKU_STANDARD] = "standard",
+      [VIZHONIKU_EXTENDED] = "extended",
+      [VIZHONIKU_JSON] = "json",
+      [VIZHONIKU_EXTENDED_JSON] = "extended_json",
+  };
+  *mode = DEFAULT_MODE;
   if (count <= at) return 1;
   const char *word = (const char *)sqlite3_value_text(values[at]);
-  if (word && !strcmp(word, "extended")) return 1;
-  *mode = VIZHONIKU_STANDARD;
-  if (word && !strcmp(word, "standard")) return 1;
-  sqlite3_result_error(context, "the mode is 'standard' or 'extended'", -1);
+  for (*mode = 0; word && *mode < sizeof names / sizeof *names; ++*mode)
+    if (!strcmp(word, names[*mode])) return 1;
+  sqlite3_result_error(context, "the mode is 'extended_json', 'json', 'extended' or 'standard'", -1);
   return 0;
 }
 
@@ -53,113 +60,27 @@ static int read_arguments(sqlite3_context *context, int count, sqlite3_value **v
   return read_mode(context, count, values, 1, mode) && vjson_read_bytes(context, values[0], text, size);
 }
 
-/* A text as it is read: the one that was passed, or one that was made of it, which has to be freed. */
-struct read_text {
-  const unsigned char *at;
-  size_t size;
-  unsigned char *made;
-  int too_long; /* a number with an exponent has too many digits where it is written out */
-  const unsigned char *passed;
-  size_t passed_size;
-};
-
-static struct read_text as_passed(const unsigned char *text, size_t size) {
-  return (struct read_text){text, size, NULL, 0, text, size};
-}
-
-/* Whether the text has to be read once more: extended mode rejected a number, and those with an exponent were written
- * out now. The status and the error are those of that where it failed. */
-static int read_again(uint32_t mode, uint32_t *status, struct vizhoniku_error *error, struct read_text *text) {
-  if (*status != VIZHONIKU_REJECTED || mode != VIZHONIKU_EXTENDED || error->code != VIZHONIKU_NUMBER_NOT_CARRIED ||
-      text->made)
-    return 0;
-  size_t capacity = text->size + 64, size = 0;
-  unsigned char *made = NULL;
-  do {
-    sqlite3_free(made);
-    made = sqlite3_malloc64(capacity);
-    if (!made) {
-      *status = VIZHONIKU_OUT_OF_MEMORY;
-      return 0;
-    }
-    *status = vizhoniku_plain_numbers(text->at, text->size, made, capacity, &size, error);
-    capacity = size;
-  } while (*status == VIZHONIKU_TOO_SHORT);
-  if (*status != VIZHONIKU_ACCEPTED) {
-    sqlite3_free(made);
-    text->too_long = *status == VIZHONIKU_REJECTED;
-    return 0;
-  }
-  text->at = text->made = made;
-  text->size = size;
-  return 1;
-}
-
-static uint32_t check(uint32_t mode, struct read_text *text, struct vizhoniku_error *error) {
-  uint32_t status;
-  do {
-    status = vizhoniku_check(mode, text->at, text->size, error);
-  } while (read_again(mode, &status, error, text));
-  return status;
-}
-
-/* Finds the first fault of a text that was rejected with its numbers written out, or whose numbers can't be, in the
- * text that was passed, with these numbers masked: each byte stays where it is then. Returns VIZHONIKU_REJECTED, or
- * VIZHONIKU_OUT_OF_MEMORY. */
-static uint32_t find_in_passed(struct read_text *text, struct vizhoniku_error *error) {
-  struct vizhoniku_error found;
-  size_t size;
-  if (!text->made && !text->too_long) return VIZHONIKU_REJECTED;
-  unsigned char *masked = sqlite3_malloc64(text->passed_size);
-  if (!masked) return VIZHONIKU_OUT_OF_MEMORY;
-  uint32_t status = vizhoniku_masked_numbers(text->passed, text->passed_size, masked, text->passed_size, &size);
-  if (status == VIZHONIKU_ACCEPTED) status = vizhoniku_check(VIZHONIKU_EXTENDED, masked, size, &found);
-  if (status != VIZHONIKU_REJECTED) {
-    sqlite3_free(masked);
-    return status == VIZHONIKU_OUT_OF_MEMORY ? status : VIZHONIKU_REJECTED;
-  }
-  sqlite3_free(text->made);
-  text->at = text->made = masked;
-  text->size = size;
-  text->too_long = found.code == VIZHONIKU_NUMBER_NOT_CARRIED;
-  *error = found;
-  return status;
-}
-
-/* Checks a text to say its fault, in the text that was passed. */
-static uint32_t find_fault(uint32_t mode, struct read_text *text, struct vizhoniku_error *error) {
-  uint32_t status = check(mode, text, error);
-  return status == VIZHONIKU_REJECTED ? find_in_passed(text, error) : status;
-}
-
 /* Writes the location of a fault in words, and returns their size. */
-static size_t write_location(char *words, size_t capacity, const struct read_text *text,
+static size_t write_location(char *words, size_t capacity, const unsigned char *text, size_t text_size,
                              const struct vizhoniku_error *error, int is_error) {
   struct vizhoniku_location location;
-  vizhoniku_locate(text->at, text->size, error, &location);
+  vizhoniku_locate(text, text_size, error, &location);
   size_t first = location.index - (location.column - 1);
-  size_t column = vizhoniku_character(text->at, text->size, first, location.index);
+  size_t column = vizhoniku_character(text, text_size, first, location.index);
   return (size_t)snprintf(words, capacity, "%sline %zu, column %zu: ", is_error ? "malformed JSON: " : "",
                           location.line, column);
 }
 
-#define TOO_LONG "number not carried" /* as the library reports it of a number without an exponent */
-
 /* The library's words for an error, after so many bytes that are left free. They have to be freed. Returns NULL where
  * there is no memory. */
-static char *words_of(uint32_t mode, const struct read_text *text, size_t front, size_t *size) {
+static char *words_of(uint32_t mode, const unsigned char *text, size_t text_size, size_t front, size_t *size) {
   char *words = NULL;
   size_t capacity = 256;
   uint32_t status;
   do {
     sqlite3_free(words);
     if (!(words = sqlite3_malloc64(front + capacity))) return NULL;
-    if (text->too_long) {
-      *size = sizeof TOO_LONG - 1;
-      memcpy(words + front, TOO_LONG, *size);
-      return words;
-    }
-    status = vizhoniku_reason(mode, text->at, text->size, (unsigned char *)words + front, capacity, size);
+    status = vizhoniku_reason(mode, text, text_size, (unsigned char *)words + front, capacity, size);
     capacity = *size;
   } while (status == VIZHONIKU_TOO_SHORT);
   if (status != VIZHONIKU_REJECTED) {
@@ -171,12 +92,12 @@ static char *words_of(uint32_t mode, const struct read_text *text, size_t front,
 
 /* Gives what is wrong with the text, in words: as the error of the statement, or as the result. */
 static void report(sqlite3_context *context, uint32_t mode, uint32_t status, const struct vizhoniku_error *error,
-                   const struct read_text *text, int is_error) {
+                   const unsigned char *text, size_t text_size, int is_error) {
   char front[128], *words = NULL;
   size_t front_size = 0, size;
   if (status == VIZHONIKU_REJECTED) {
-    front_size = write_location(front, sizeof front, text, error, is_error);
-    words = words_of(mode, text, front_size, &size);
+    front_size = write_location(front, sizeof front, text, text_size, error, is_error);
+    words = words_of(mode, text, text_size, front_size, &size);
   }
   if (!words) {
     sqlite3_result_error_nomem(context);
@@ -198,9 +119,7 @@ static void call_valid(sqlite3_context *context, int count, sqlite3_value **valu
   const unsigned char *text;
   struct vizhoniku_error error;
   if (!read_arguments(context, count, values, &text, &size, &mode)) return;
-  struct read_text read = as_passed(text, size);
-  uint32_t status = check(mode, &read, &error);
-  sqlite3_free(read.made);
+  uint32_t status = vizhoniku_check(mode, text, size, &error);
   if (status == VIZHONIKU_OUT_OF_MEMORY)
     sqlite3_result_error_nomem(context);
   else
@@ -214,17 +133,15 @@ static void call_error_position(sqlite3_context *context, int count, sqlite3_val
   struct vizhoniku_error error;
   struct vizhoniku_location location;
   if (!read_arguments(context, count, values, &text, &size, &mode)) return;
-  struct read_text read = as_passed(text, size);
-  uint32_t status = find_fault(mode, &read, &error);
+  uint32_t status = vizhoniku_check(mode, text, size, &error);
   if (status == VIZHONIKU_OUT_OF_MEMORY) {
     sqlite3_result_error_nomem(context);
   } else if (status == VIZHONIKU_ACCEPTED) {
     sqlite3_result_int(context, 0);
   } else {
-    vizhoniku_locate(read.at, read.size, &error, &location);
-    sqlite3_result_int64(context, (sqlite3_int64)vizhoniku_character(read.at, read.size, 0, location.index));
+    vizhoniku_locate(text, size, &error, &location);
+    sqlite3_result_int64(context, (sqlite3_int64)vizhoniku_character(text, size, 0, location.index));
   }
-  sqlite3_free(read.made);
 }
 
 static void call_error(sqlite3_context *context, int count, sqlite3_value **values) {
@@ -233,10 +150,8 @@ static void call_error(sqlite3_context *context, int count, sqlite3_value **valu
   const unsigned char *text;
   struct vizhoniku_error error;
   if (!read_arguments(context, count, values, &text, &size, &mode)) return;
-  struct read_text read = as_passed(text, size);
-  uint32_t status = find_fault(mode, &read, &error);
-  if (status != VIZHONIKU_ACCEPTED) report(context, mode, status, &error, &read, 0);
-  sqlite3_free(read.made);
+  uint32_t status = vizhoniku_check(mode, text, size, &error);
+  if (status != VIZHONIKU_ACCEPTED) report(context, mode, status, &error, text, size, 0);
 }
 
 static void call_error_path(sqlite3_context *context, int count, sqlite3_value **values) {
@@ -246,9 +161,7 @@ static void call_error_path(sqlite3_context *context, int count, sqlite3_value *
   unsigned char *path = NULL;
   struct vizhoniku_error error;
   if (!read_arguments(context, count, values, &text, &size, &mode)) return;
-  struct read_text read = as_passed(text, size);
-  uint32_t status = find_fault(mode, &read, &error);
-  sqlite3_free(read.made);
+  uint32_t status = vizhoniku_check(mode, text, size, &error);
   if (status == VIZHONIKU_ACCEPTED) return;
   if (status == VIZHONIKU_REJECTED) status = VIZHONIKU_TOO_SHORT;
   while (status == VIZHONIKU_TOO_SHORT) {
@@ -274,33 +187,27 @@ static void give_written(sqlite3_context *context, enum what what, uint32_t mode
   uint32_t status;
   size_t written;
   struct vizhoniku_error error;
-  struct read_text read = as_passed(text, size);
   unsigned char small[1024], *buffer = small;
   size_t capacity = what == PART || size <= sizeof small - 64 ? sizeof small : size + 64;
   for (;;) {
     if (capacity > sizeof small && !(buffer = sqlite3_malloc64(capacity))) {
-      sqlite3_free(read.made);
       sqlite3_result_error_nomem(context);
       return;
     }
     if (what == TEXT)
-      status = vizhoniku_text(mode, read.at, read.size, buffer, capacity, &written, &error);
+      status = vizhoniku_text(mode, text, size, buffer, capacity, &written, &error);
     else if (what == KEY)
-      status = vizhoniku_sort_key(mode, read.at, read.size, buffer, capacity, &written, &error);
+      status = vizhoniku_sort_key(mode, text, size, buffer, capacity, &written, &error);
     else if (what == DOCUMENT)
-      status = vizhoniku_document(mode, read.at, read.size, buffer, capacity, &written, &error);
+      status = vizhoniku_document(mode, text, size, buffer, capacity, &written, &error);
     else
-      status = vizhoniku_part(mode, path, path_size, read.at, read.size, buffer, capacity, &written, &error);
-    if (read_again(mode, &status, &error, &read))
-      written = capacity;
-    else if (status != VIZHONIKU_TOO_SHORT)
-      break;
+      status = vizhoniku_part(mode, path, path_size, text, size, buffer, capacity, &written, &error);
+    if (status != VIZHONIKU_TOO_SHORT) break;
     if (buffer != small) sqlite3_free(buffer);
     buffer = small;
     capacity = written;
   }
   if (status == VIZHONIKU_ACCEPTED) {
-    sqlite3_free(read.made);
     void (*destroy)(void *) = buffer == small ? SQLITE_TRANSIENT : sqlite3_free;
     if (what == KEY || what == DOCUMENT) {
       sqlite3_result_blob64(context, buffer, written, destroy);
@@ -314,8 +221,7 @@ static void give_written(sqlite3_context *context, enum what what, uint32_t mode
   if (status == VIZHONIKU_NO_PATH)
     sqlite3_result_error(context, MALFORMED_PATH, -1);
   else if (status != VIZHONIKU_NO_PART)
-    report(context, mode, status == VIZHONIKU_REJECTED ? find_in_passed(&read, &error) : status, &error, &read, 1);
-  sqlite3_free(read.made);
+    report(context, mode, status, &error, text, size, 1);
 }
 
 static void call_text(sqlite3_context *context, int count, sqlite3_value **values) {
@@ -358,39 +264,19 @@ static int compare_bytes(const void *left, size_t left_size, const void *right, 
   return order ? order : (left_size > right_size) - (left_size < right_size);
 }
 
-/* Compares two texts again, as long as one was rejected whose numbers were written out now. Where one stays rejected,
- * the error says which. */
-static uint32_t compare_again(uint32_t status, struct read_text *left, struct read_text *right, int32_t *order,
-                              struct vizhoniku_error *error) {
-  uint32_t which = error->which;
-  while (read_again(VIZHONIKU_EXTENDED, &status, error, which == 2 ? right : left)) {
-    status = vizhoniku_compare(VIZHONIKU_EXTENDED, left->at, left->size, right->at, right->size, order, error);
-    which = error->which;
-  }
-  error->which = which;
-  return status;
-}
-
-/* Documents come first, by their values, in extended mode. Behind them come texts that are no documents, by their
- * bytes. A collation can't fail: where memory runs out, the statement is interrupted. */
+/* Documents come first, by their values. Behind them come texts that are no documents, by their bytes. A collation
+ * can't fail: where memory runs out, the statement is interrupted. */
 static int collate(void *database, int left_length, const void *left, int right_length, const void *right) {
   size_t left_size = (size_t)left_length, right_size = (size_t)right_length;
   int32_t order;
   struct vizhoniku_error error;
-  uint32_t status = vizhoniku_compare(VIZHONIKU_EXTENDED, left, left_size, right, right_size, &order, &error);
+  uint32_t status = vizhoniku_compare(DEFAULT_MODE, left, left_size, right, right_size, &order, &error);
   if (status == VIZHONIKU_ACCEPTED) return order;
-  struct read_text one = as_passed(left, left_size), two = as_passed(right, right_size);
-  status = compare_again(status, &one, &two, &order, &error);
-  if (status == VIZHONIKU_REJECTED && error.which == 2) {
-    status = VIZHONIKU_ACCEPTED;
-    order = -1;
-  } else if (status == VIZHONIKU_REJECTED) {
-    status = check(VIZHONIKU_EXTENDED, &two, &error);
-    order = 1;
+  if (status == VIZHONIKU_REJECTED && error.which == 2) return -1;
+  if (status == VIZHONIKU_REJECTED) {
+    status = vizhoniku_check(DEFAULT_MODE, right, right_size, &error);
+    if (status == VIZHONIKU_ACCEPTED) return 1;
   }
-  sqlite3_free(one.made);
-  sqlite3_free(two.made);
-  if (status == VIZHONIKU_ACCEPTED) return order;
   if (status == VIZHONIKU_OUT_OF_MEMORY) sqlite3_interrupt(database);
   return compare_bytes(left, left_size, right, right_size);
 }

@@ -12,7 +12,7 @@ ghost use Rattle.jsonb_spec.specs.Mode.{standard, extended};
 ghost use Rattle.jsonb_spec.specs.Tree.{Tree};
 
 use jsonb::{
-    JsonAst, Mode, append_part, append_sort_key, append_text, check, parse_value,
+    Grammar, JsonAst, Mode, append_part, append_sort_key, append_text, check, parse_value,
     parse_value_standard_mode,
 };
 use jsonb_path::read_keys;
@@ -89,7 +89,7 @@ pub extern "C" fn jsonb_bench_straight_text(alloc: Global, text: &[u8], rounds: 
     let mut written = Vec::new(alloc);
     for round in 0..rounds {
         written.clear();
-        if append_text(alloc, text, Mode::Standard, &mut written).is_err() {
+        if append_text(alloc, text, Grammar::Standard, &mut written).is_err() {
             return round;
         }
     }
@@ -105,7 +105,7 @@ pub extern "C" fn jsonb_bench_straight_key(alloc: Global, text: &[u8], rounds: u
     let mut key = Vec::new(alloc);
     for round in 0..rounds {
         key.clear();
-        if append_sort_key(alloc, text, Mode::Standard, &mut key).is_err() {
+        if append_sort_key(alloc, text, Grammar::Standard, &mut key).is_err() {
             return round;
         }
     }
@@ -119,7 +119,7 @@ pub extern "C" fn jsonb_bench_check(alloc: Global, text: &[u8], rounds: usize) -
     ensures counts { CountsRounds standard text.now rounds result }
 {
     for round in 0..rounds {
-        if check(alloc, text, Mode::Standard).is_err() {
+        if check(alloc, text, Grammar::Standard).is_err() {
             return round;
         }
     }
@@ -140,7 +140,7 @@ pub extern "C" fn jsonb_bench_part(alloc: Global, path: &[u8], text: &[u8], roun
             return round;
         };
         if !matches!(
-            append_part(alloc, text, Mode::Standard, &keys, &mut written),
+            append_part(alloc, text, Grammar::Standard, &keys, &mut written),
             Ok(true)
         ) {
             return round;
@@ -158,7 +158,7 @@ pub extern "C" fn jsonb_bench_straight_extended(alloc: Global, text: &[u8], roun
     let mut written = Vec::new(alloc);
     for round in 0..rounds {
         written.clear();
-        if append_text(alloc, text, Mode::Extended, &mut written).is_err() {
+        if append_text(alloc, text, Grammar::Extended, &mut written).is_err() {
             return round;
         }
     }

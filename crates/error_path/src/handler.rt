@@ -40,11 +40,14 @@ impl<'a> Handler<'a> for PassedPart {
 
     ghost preserves = { true };
 
+    ghost reports_plain = { true };
+
     fn wants() -> Wants
-        ensures { result.verbatim ≡ true }
+        ensures verbatim { result.verbatim ≡ true }
+        ensures plain { result.plain ≡ true }
     {
         Wants {
-            plain: false,
+            plain: true,
             verbatim: true,
         }
     }

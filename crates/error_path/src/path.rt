@@ -5,9 +5,8 @@ ghost use Rattle.jsonb_path.specs.Path.{encoded_byte, encoded_key, encoded_keys,
 use crate::handler::PassedPart;
 use crate::steps::Steps;
 use jsonb_value::error::{Error, ParseErrorCode};
-use plain_numbers::write_masked_numbers;
 use std::alloc::{AllocError, Global};
-use text_parse::{Mode, parse_text};
+use text_parse::{Grammar, parse_text};
 
 /// Appends the path (RFC 6901) of these keys.
 ///
@@ -75,8 +74,7 @@ pub enum Fault {
 
 /// The path (RFC 6901) of the part of the text's value at which the text is rejected: the innermost element or member
 /// that has the fault, which is the one before where a comma or an end is missing, and the next one, or the object, where
-/// a comment there has no end; of a repeated key the member. In extended mode numbers with an exponent are passed, but
-/// for the one that has the fault. A text that isn't rejected has the path of the whole.
+/// a comment there has no end; of a repeated key the member. A text that isn't rejected has the path of the whole.
 ///
 /// The text is parsed once more. The time is linear in the text.
 ///
@@ -86,14 +84,14 @@ pub enum Fault {
 pub fn error_path(
     alloc: Global,
     text: &[u8],
-    mode: Mode,
+    grammar: Grammar,
     fault: Fault,
 ) -> Result<Vec<u8>, AllocError>
     ensures path { IfOk result (λ path. (keys : List (List ℕ)) × IsPath path.items keys) }
 {
-    let passed = passed_text(alloc, text, mode, fault)?;
+    let passed = passed_text(alloc, text, fault)?;
     let mut steps = Steps::new(alloc);
-    let lacks_comma = match parse_text::<PassedPart>(&mut steps, alloc, &passed, mode) {
+    let lacks_comma = match parse_text::<PassedPart>(&mut steps, alloc, &passed, grammar) {
         Ok(_) => false,
         Err(reported) => lacks_comma(&reported)?,
     };
@@ -117,19 +115,10 @@ fn lacks_comma(reported: &Option<Error>) -> Result<bool, AllocError> {
     }
 }
 
-// The text up to where it is rejected, or all of it, with its numbers masked in extended mode. A byte is put behind it
-// that is nowhere: where the text ends too early, the parser says by that byte whether a part had ended.
-fn passed_text(
-    alloc: Global,
-    text: &[u8],
-    mode: Mode,
-    fault: Fault,
-) -> Result<Vec<u8>, AllocError> {
-    let mut passed = Vec::new(alloc);
-    match mode {
-        Mode::Standard => passed.extend_from_slice(text)?,
-        Mode::Extended => write_masked_numbers(text, &mut passed)?,
-    }
+// The text up to where it is rejected, or all of it. A byte is put behind it that is nowhere: where the text ends too
+// early, the parser says by that byte whether a part had ended.
+fn passed_text(alloc: Global, text: &[u8], fault: Fault) -> Result<Vec<u8>, AllocError> {
+    let mut passed = Vec::from_slice(alloc, text)?;
     match fault {
         Fault::Number(after) => passed.truncate(after),
         Fault::Key(after) => {

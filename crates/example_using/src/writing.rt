@@ -7,7 +7,7 @@ ghost use Rattle.jsonb_spec.specs.Text.{text_of};
 ghost use Rattle.jsonb_spec.specs.Tree.{Tree};
 ghost use Rattle.jsonb_spec.specs.Indented.{indented_text};
 
-use jsonb::{Error, Mode, Result, Value};
+use jsonb::{Error, Grammar, Result, Value};
 use std::alloc::Global;
 use text_pretty::write_text_indented;
 
@@ -16,7 +16,7 @@ pub fn tidy(alloc: Global, text: &[u8]) -> Result<Vec<u8>>
     ensures { IfOk result (λ out. (t : Tree) × IsDocument extended text.now t × (text_of t ≡ Some out.items)) }
 {
     let mut out = Vec::new(alloc);
-    jsonb::append_text(alloc, text, Mode::Extended, &mut out)?;
+    jsonb::append_text(alloc, text, Grammar::Extended, &mut out)?;
     Ok(out)
 }
 

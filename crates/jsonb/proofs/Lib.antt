@@ -4,6 +4,7 @@ pub mod Documents
 pub mod Errors
 pub mod Given
 pub mod Lines
+pub mod Modes
 pub mod Offsets
 pub mod Rows
 pub mod Encoded

@@ -8,3 +8,4 @@ pub mod Parses
 pub mod Explained
 pub mod Source
 pub mod SourceLaws
+pub mod JsonText

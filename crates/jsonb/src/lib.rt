@@ -11,10 +11,14 @@ pub use jsonb_value::extension::{Date, ExtensionValue, Interval, Timestamp, Time
 pub use jsonb_value::number::{Decimal64, Decimal128, Number};
 pub use jsonb_value::value::{Object, Value};
 pub use jsonb_value::{error, extension, number, value};
-pub use laws::{decoding_is_unambiguous, grammar_is_unambiguous};
+pub use laws::{
+    decoding_is_unambiguous, exponents_are_exact, extended_is_extended_json,
+    grammar_is_unambiguous, json_is_extended_json, json_texts_are_those_of_its_productions,
+    standard_takes_integers_of_json,
+};
 pub use parser::{
-    JsonAst, Mode, RejectedLine, append_part, append_sort_key, append_text, append_text_lines,
-    check, may_allocate, parse_value, parse_value_standard_mode,
+    Grammar, JsonAst, Mode, RejectedLine, append_part, append_sort_key, append_text,
+    append_text_lines, check, may_allocate, parse_value, parse_value_in, parse_value_standard_mode,
 };
 pub use part::part_at;
 pub use text_scan::line;

@@ -11,20 +11,34 @@ use Rattle.jsonb.specs.Explained.{IsExplained}
 use Rattle.jsonb_c.specs.declared.Rejection.{Rejection}
 use Rattle.jsonb_c.specs.declared.Failure.{Failure}
 use Rattle.jsonb_c.specs.declared.Failure.TheVariants.{Text, OutOfMemory, UnknownMode}
-use Rattle.jsonb_c.specs.Interface.{NumberChooses, standard_mode, extended_mode, status_of, IsAccepted, IsOneRejected, first_rejected, second_rejected, IsReason, IsRejected, SaysError}
+use Rattle.jsonb_c.specs.Interface.{NumberChooses, standard_mode, extended_mode, json_mode, extended_json_mode, status_of, IsAccepted, IsOneRejected, first_rejected, second_rejected, IsReason, IsRejected, SaysError}
 
 -- ---- modes
 
-pub within : {number : ℕ} {mode : Mode} → NumberChooses number mode → number ≤ 1
+pub within : {number : ℕ} {mode : Mode} → NumberChooses number mode → number ≤ 3
 within (standard_mode e) = omega (arith, e)
 within (extended_mode e) = omega (arith, e)
+within (json_mode e) = omega (arith, e)
+within (extended_json_mode e) = omega (arith, e)
 
 -- a number chooses one mode
 pub one_mode : {number : ℕ} {mode other : Mode} → NumberChooses number mode → NumberChooses number other → mode ≡ other
 one_mode (standard_mode e) (standard_mode f) = refl
 one_mode (standard_mode e) (extended_mode f) = absurd (omega (arith, e, f))
+one_mode (standard_mode e) (json_mode f) = absurd (omega (arith, e, f))
+one_mode (standard_mode e) (extended_json_mode f) = absurd (omega (arith, e, f))
 one_mode (extended_mode e) (standard_mode f) = absurd (omega (arith, e, f))
 one_mode (extended_mode e) (extended_mode f) = refl
+one_mode (extended_mode e) (json_mode f) = absurd (omega (arith, e, f))
+one_mode (extended_mode e) (extended_json_mode f) = absurd (omega (arith, e, f))
+one_mode (json_mode e) (standard_mode f) = absurd (omega (arith, e, f))
+one_mode (json_mode e) (extended_mode f) = absurd (omega (arith, e, f))
+one_mode (json_mode e) (json_mode f) = refl
+one_mode (json_mode e) (extended_json_mode f) = absurd (omega (arith, e, f))
+one_mode (extended_json_mode e) (standard_mode f) = absurd (omega (arith, e, f))
+one_mode (extended_json_mode e) (extended_mode f) = absurd (omega (arith, e, f))
+one_mode (extended_json_mode e) (json_mode f) = absurd (omega (arith, e, f))
+one_mode (extended_json_mode e) (extended_json_mode f) = refl
 
 -- ---- from errors to reasons
 

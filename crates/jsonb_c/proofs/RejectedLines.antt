@@ -38,7 +38,7 @@ line_reason number text offset error OutOfMemory chosen rejects says = within ch
 line_reason number text offset error UnknownMode chosen rejects says = absurd says
 
 -- where all lines are accepted, memory ran out
-pub lines_wanting : (number : ℕ) (text : List ℕ) (offset : ℕ) (reason : Failure) → number ≤ 1 → IsReason number (IsLineRejected number text offset) reason → All (IsAccepted number) (lines_of text)
+pub lines_wanting : (number : ℕ) (text : List ℕ) (offset : ℕ) (reason : Failure) → number ≤ 3 → IsReason number (IsLineRejected number text offset) reason → All (IsAccepted number) (lines_of text)
     → status_of reason ≡ 2
 lines_wanting number text offset (Text rejection) known w all = absurd (not_all number rejection (lines_of text) offset w.1 all)
 lines_wanting number text offset OutOfMemory known w all = refl

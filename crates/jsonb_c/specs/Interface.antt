@@ -10,7 +10,7 @@ use Rattle.jsonb_value.specs.Error.CodeView.{code_of}
 use Rattle.jsonb_spec.specs.Code.Code.{control_character_while_parsing_string, depth_limit_exceeded, expected_array_comma_or_end, expected_colon, expected_object_comma_or_end, expected_some_ident, expected_some_value, invalid_eof, invalid_escaped, invalid_hex, invalid_lone_leading_surrogate_in_hex_escape, invalid_number_value, invalid_string_value, invalid_surrogate_in_hex_escape, key_must_be_a_string, number_not_carried, object_duplicate_key, object_key_invalid_character, object_key_invalid_number, unexpected_end_of_hex_escape, unexpected_trailing_characters}
 use Rattle.jsonb_value.specs.Error.ErrorText.{error_text}
 use Rattle.jsonb_spec.specs.Grammar.{IsDocument, IsNoDocument}
-use Rattle.jsonb_spec.specs.Mode.{Mode, standard, extended}
+use Rattle.jsonb_spec.specs.Mode.{Mode, standard, extended, json, extended_json}
 use Rattle.jsonb_spec.specs.Order.{bytes_cmp, tree_cmp}
 use Rattle.jsonb_spec.specs.SortKey.{key_of}
 use Rattle.jsonb_spec.specs.Text.ReadsBack.{ReadsBackAs}
@@ -27,10 +27,12 @@ use Rattle.jsonb_c.specs.declared.Rejection.{Rejection}
 use Rattle.jsonb_c.specs.declared.Failure.{Failure}
 use Rattle.jsonb_c.specs.declared.Failure.TheVariants.{Text, OutOfMemory, UnknownMode}
 
--- Which number chooses which mode.
+-- Which number chooses which grammar.
 pub data NumberChooses (number : ℕ) : Mode → Type 0 where
   standard_mode : number ≡ 0 → NumberChooses number standard
   extended_mode : number ≡ 1 → NumberChooses number extended
+  json_mode : number ≡ 2 → NumberChooses number json
+  extended_json_mode : number ≡ 3 → NumberChooses number extended_json
 
 -- the number of a code: from 1 on, in the order of `ParseErrorCode`
 abbrev pub code_number : Code → ℕ
@@ -100,7 +102,7 @@ pub data IsOneRejected (number : ℕ) (left right : List ℕ) (rejection : Rejec
 -- The status is no greater than this one, and says whether the number chooses a mode.
 pub record IsStatus (number greatest status : ℕ) : Type 0 where
   pub known : status ≤ greatest
-  pub mode : status ≡ 3 ↔ (1 < number)
+  pub mode : status ≡ 3 ↔ (3 < number)
 
 -- The text may allocate, or it is a document, of which something is written.
 abbrev pub FormMayAllocate : ℕ → List ℕ → Type 0
@@ -114,7 +116,7 @@ EitherMayAllocate number left right = MayAllocate left ⊎ (IsAccepted number le
 -- document is accepted, unless memory ran out, which takes a text that may allocate, or a document.
 pub record IsStatusOfForm (number : ℕ) (text : List ℕ) (status : ℕ) : Type 0 where
   pub known : status ≤ 4
-  pub mode : status ≡ 3 ↔ (1 < number)
+  pub mode : status ≡ 3 ↔ (3 < number)
   pub accepted : IsAccepted number text → (status ≡ 0) ⊎ (status ≡ 4) ⊎ (status ≡ 2)
   pub memory : status ≡ 2 → FormMayAllocate number text
 
@@ -253,9 +255,9 @@ IsPartAnswer number path text parts.NoPath = IsAccepted number text × IsNoPath 
 
 -- Why there is no answer: a text is rejected, of which this is reported; memory ran out; or the number chooses no mode.
 abbrev pub IsReason : ℕ → (Rejection → Type 0) → Failure → Type 0
-IsReason number IsReported (Text rejection) = (number ≤ 1) × IsReported rejection
-IsReason number IsReported OutOfMemory = number ≤ 1
-IsReason number IsReported UnknownMode = 1 < number
+IsReason number IsReported (Text rejection) = (number ≤ 3) × IsReported rejection
+IsReason number IsReported OutOfMemory = number ≤ 3
+IsReason number IsReported UnknownMode = 3 < number
 
 -- Why a call has no answer: for such a reason, and memory runs out only where it may be needed.
 pub record FailsFor {X : Type 0} (number : ℕ) (IsReported : Rejection → Type 0) (MayNeedMemory : Type 0)

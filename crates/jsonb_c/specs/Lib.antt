@@ -5,7 +5,6 @@ pub mod KeyEdit
 pub mod KeyParts
 pub mod KeyText
 pub mod Zeros
-pub mod PlainNumbers
 pub mod Rejected
 pub mod Scalars
 pub mod Document

@@ -13,15 +13,13 @@ ghost use Rattle.jsonb_value.specs.Error.ErrorText.{error_text};
 ghost use Rattle.jsonb_spec.specs.Order.{bytes_cmp};
 ghost use Rattle.jsonb_value.specs.View.{view};
 ghost use Rattle.jsonb_spec.specs.Line.{column_at, fault_index, line_at};
-ghost use Rattle.text_scan.specs.Answer.{mode_of, MayAllocate, IsTextError};
-ghost use Rattle.jsonb.specs.Follows.{FollowsSpecification};
-ghost use Rattle.jsonb.specs.Parses.{Parses};
+ghost use Rattle.text_scan.specs.Answer.{grammar_of, MayAllocate, IsTextError};
 ghost use Rattle.jsonb_path.specs.Path.{IsPath};
 ghost use Rattle.jsonb_c.specs.Interface.{NumberChooses, code_number, nothing, sign, status_of, rejection_of, AcceptsDocuments, EitherMayAllocate, FailsFor, FillsBuffer, FormMayAllocate, HasNoPartAt, HasPartAt, IsAccepted, IsNoDocumentOf, IsNoPath, IsOneRejected, IsOrdered, IsDocumentOf, IsKeyOf, IsMessageOf, IsPartAnswer, IsPartOf, IsRejected, IsStatus, IsStatusOfForm, IsTextOf, NeedsCapacityForBoth, OrdersTexts, PartMayAllocate, SaysError, Reports, Writes};
 
 use jsonb::{
-    Error, Mode, ParseErrorCode, Value, append_part, append_sort_key, append_text, check,
-    fault_index, line_and_column, may_allocate, parse_value, parse_value_standard_mode,
+    Error, Grammar, ParseErrorCode, Value, append_part, append_sort_key, append_text, check,
+    fault_index, line_and_column, may_allocate, parse_value_in,
 };
 use jsonb_path::read_keys;
 use std::alloc::Global;
@@ -36,10 +34,8 @@ pub mod key;
 pub mod key_change;
 pub mod key_contains;
 pub mod lines;
-pub mod numbers;
 pub mod rejected;
 pub mod scalar;
-pub mod strict;
 pub mod table;
 pub mod text_of_key;
 pub mod zeros;
@@ -114,7 +110,7 @@ enum Failure {
     UnknownMode,
 }
 
-/// Checks whether the text is a document of the mode, 0 for standard or 1 for extended. What is wrong with a text that
+/// Checks whether the text is a document of the mode: 0 for standard, 1 for extended, 2 for JSON, 3 for extended JSON. What is wrong with a text that
 /// is none is in `rejection`.
 #[unsafe(no_mangle)]
 pub extern "C" fn vizhoniku_check(
@@ -357,7 +353,7 @@ enum Part {
 // What is at the path in the value of a text.
 fn part_of(alloc: Global, mode: u32, path: &[u8], text: &[u8]) -> Result<Part, Failure>
     ensures part { IfOk result (IsPartAnswer mode path.now text.now) }
-    ensures known { IfOk result (λ _. mode ≤ 1) }
+    ensures known { IfOk result (λ _. mode ≤ 3) }
     ensures fails { FailsFor mode (IsRejected mode text.now 1) (PartMayAllocate mode path.now text.now) result }
 {
     match read_keys(alloc, path) {
@@ -377,14 +373,14 @@ fn part_of(alloc: Global, mode: u32, path: &[u8], text: &[u8]) -> Result<Part, F
 fn part_at_keys(alloc: Global, mode: u32, keys: &[String], text: &[u8]) -> Result<Part, Failure>
     ensures part { IfOk result (λ part. (path : List ℕ) → IsPath path (map string_bytes keys.now)
         → IsPartAnswer mode path text.now part) }
-    ensures known { IfOk result (λ _. mode ≤ 1) }
+    ensures known { IfOk result (λ _. mode ≤ 3) }
     ensures fails { FailsFor mode (IsRejected mode text.now 1) (FormMayAllocate mode text.now) result }
 {
-    let Some(mode) = choose_mode(mode) else {
+    let Some(grammar) = choose_grammar(mode) else {
         return Err(Failure::UnknownMode);
     };
     let mut bytes = Vec::new(alloc);
-    match append_part(alloc, text, mode, keys, &mut bytes) {
+    match append_part(alloc, text, grammar, keys, &mut bytes) {
         Ok(true) => Ok(Part::Text(bytes)),
         Ok(false) => Ok(Part::Nothing),
         Err(error) => Err(reason_of(&error, 1)),
@@ -392,7 +388,7 @@ fn part_at_keys(alloc: Global, mode: u32, keys: &[String], text: &[u8]) -> Resul
 }
 
 /// The version of this interface. It grows by one when a function, a status or a code is added.
-pub const VERSION: u32 = 9;
+pub const VERSION: u32 = 10;
 
 /// The version of this interface.
 #[unsafe(no_mangle)]
@@ -508,10 +504,10 @@ fn message_of(alloc: Global, mode: u32, text: &[u8]) -> Result<Option<String>, F
         (λ message. IsMessageOf mode text.now (string_bytes message))) }
     ensures fails { FailsFor mode (λ _. ⊥) (MayAllocate text.now ⊎ IsNoDocumentOf mode text.now) result }
 {
-    let Some(mode) = choose_mode(mode) else {
+    let Some(grammar) = choose_grammar(mode) else {
         return Err(Failure::UnknownMode);
     };
-    let error = match check(alloc, text, mode) {
+    let error = match check(alloc, text, grammar) {
         Ok(()) => return Ok(None),
         Err(error) => error,
     };
@@ -677,11 +673,11 @@ fn text_of(alloc: Global, mode: u32, text: &[u8]) -> Result<Vec<u8>, Failure>
     ensures text { IfOk result (λ bytes. IsTextOf mode text.now bytes.items) }
     ensures fails { FailsFor mode (IsRejected mode text.now 1) (FormMayAllocate mode text.now) result }
 {
-    let Some(mode) = choose_mode(mode) else {
+    let Some(grammar) = choose_grammar(mode) else {
         return Err(Failure::UnknownMode);
     };
     let mut bytes = buffer_of(alloc, text.len());
-    match append_text(alloc, text, mode, &mut bytes) {
+    match append_text(alloc, text, grammar, &mut bytes) {
         Ok(()) => Ok(bytes),
         Err(error) => Err(reason_of(&error, 1)),
     }
@@ -692,11 +688,11 @@ fn sort_key_of(alloc: Global, mode: u32, text: &[u8], which: u32) -> Result<Vec<
     ensures key { IfOk result (λ bytes. IsKeyOf mode text.now bytes.items) }
     ensures fails { FailsFor mode (IsRejected mode text.now which) (FormMayAllocate mode text.now) result }
 {
-    let Some(mode) = choose_mode(mode) else {
+    let Some(grammar) = choose_grammar(mode) else {
         return Err(Failure::UnknownMode);
     };
     let mut bytes = buffer_of(alloc, text.len());
-    match append_sort_key(alloc, text, mode, &mut bytes) {
+    match append_sort_key(alloc, text, grammar, &mut bytes) {
         Ok(()) => Ok(bytes),
         Err(error) => Err(reason_of(&error, which)),
     }
@@ -707,10 +703,10 @@ fn check_text(alloc: Global, mode: u32, text: &[u8]) -> Result<(), Failure>
     ensures accepted { OnOk result (IsAccepted mode text.now) }
     ensures fails { FailsFor mode (IsRejected mode text.now 1) (MayAllocate text.now) result }
 {
-    let Some(mode) = choose_mode(mode) else {
+    let Some(grammar) = choose_grammar(mode) else {
         return Err(Failure::UnknownMode);
     };
-    match check(alloc, text, mode) {
+    match check(alloc, text, grammar) {
         Ok(()) => Ok(()),
         Err(error) => Err(reason_of(&error, 1)),
     }
@@ -746,34 +742,25 @@ fn value_of<'a>(alloc: Global, mode: u32, text: &'a [u8], which: u32) -> Result<
     ensures read { IfOk result (λ held. IsDocumentOf mode text.now (view held.value)) }
     ensures fails { FailsFor mode (IsRejected mode text.now which) (MayAllocate text.now) result }
 {
-    let Some(mode) = choose_mode(mode) else {
+    let Some(grammar) = choose_grammar(mode) else {
         return Err(Failure::UnknownMode);
     };
-    match read(alloc, mode, text) {
+    match parse_value_in(alloc, text, grammar) {
         Ok(value) => Ok(Held { value }),
         Err(error) => Err(reason_of(&error, which)),
     }
 }
 
-// The mode that a number chooses.
-fn choose_mode(number: u32) -> Option<Mode>
-    ensures { MatchOption result (1 < number) (λ mode. NumberChooses number (mode_of mode)) }
+// The grammar that a number chooses.
+fn choose_grammar(number: u32) -> Option<Grammar>
+    ensures { MatchOption result (3 < number) (λ grammar. NumberChooses number (grammar_of grammar)) }
 {
     match number {
-        0 => Some(Mode::Standard),
-        1 => Some(Mode::Extended),
+        0 => Some(Grammar::Standard),
+        1 => Some(Grammar::Extended),
+        2 => Some(Grammar::Json),
+        3 => Some(Grammar::ExtendedJson),
         _ => None,
-    }
-}
-
-// The value of a text, by the reader of the mode.
-fn read<'a>(alloc: Global, mode: Mode, text: &'a [u8]) -> jsonb::Result<Value<'a>>
-    ensures parses { Parses (mode_of mode) view text.now result }
-    ensures follows { FollowsSpecification (mode_of mode) view text.now result }
-{
-    match mode {
-        Mode::Standard => parse_value_standard_mode(alloc, text),
-        Mode::Extended => parse_value(alloc, text),
     }
 }
 

@@ -6,7 +6,7 @@ ghost use Rattle.jsonb_c.specs.Lines.{AreTextsOfLines, IsLineRejected, LinesMayA
 
 use crate::{
     ACCEPTED, Failure, NOTHING, OUT_OF_MEMORY, REJECTED, Rejection, TOO_SHORT, buffer_of,
-    choose_mode, put, reason_of, report,
+    choose_grammar, put, reason_of, report,
 };
 use jsonb::append_text_lines;
 use std::alloc::Global;
@@ -27,7 +27,7 @@ pub extern "C" fn vizhoniku_lines(
 ) -> u32
     // Documents are accepted, unless memory ran out.
     ensures status { IsStatus mode TOO_SHORT result }
-    ensures accepted { mode ≤ 1 → All (IsAccepted mode) (lines_of text.now)
+    ensures accepted { mode ≤ 3 → All (IsAccepted mode) (lines_of text.now)
         → (result ≡ ACCEPTED) ⊎ (result ≡ TOO_SHORT) ⊎ (result ≡ OUT_OF_MEMORY) }
     ensures memory { result ≡ OUT_OF_MEMORY → LinesMayAllocate mode text.now }
 
@@ -63,11 +63,11 @@ fn texts_of_lines(
     ensures no_start { MatchResult result (λ _. start.new ≡ 0) (λ reason. status_of reason ≢ REJECTED → start.new ≡ 0) }
 {
     *start = 0;
-    let Some(mode) = choose_mode(mode) else {
+    let Some(grammar) = choose_grammar(mode) else {
         return Err(Failure::UnknownMode);
     };
     let mut bytes = buffer_of(alloc, text.len());
-    match append_text_lines(alloc, text, mode, &mut bytes) {
+    match append_text_lines(alloc, text, grammar, &mut bytes) {
         Ok(()) => Ok(bytes),
         Err(rejected) => {
             let reason = reason_of(&rejected.error, 1);

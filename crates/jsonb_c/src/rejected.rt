@@ -4,7 +4,7 @@ ghost use Rattle.jsonb_c.specs.Interface.{FillsBuffer};
 ghost use Rattle.jsonb_c.specs.Rejected.{IsSomePath};
 ghost use Rattle.error_path.specs.Characters.{character_at};
 
-use crate::{ACCEPTED, OUT_OF_MEMORY, Rejection, TOO_SHORT, UNKNOWN_MODE, choose_mode, put};
+use crate::{ACCEPTED, OUT_OF_MEMORY, Rejection, TOO_SHORT, UNKNOWN_MODE, choose_grammar, put};
 use error_path::{Fault, character_at, error_path};
 use std::alloc::Global;
 
@@ -25,14 +25,14 @@ pub extern "C" fn vizhoniku_error_path(
     size: &mut usize,
 ) -> u32
     ensures status { (result ≡ ACCEPTED) ⊎ (result ≡ OUT_OF_MEMORY) ⊎ (result ≡ TOO_SHORT) ⊎ (result ≡ UNKNOWN_MODE) }
-    ensures mode { result ≡ UNKNOWN_MODE ↔ 1 < mode }
+    ensures mode { result ≡ UNKNOWN_MODE ↔ 3 < mode }
     ensures fills { FillsBuffer IsSomePath ACCEPTED result size.new out.old out.new }
 {
-    let Some(mode) = choose_mode(mode) else {
+    let Some(grammar) = choose_grammar(mode) else {
         *size = 0;
         return UNKNOWN_MODE;
     };
-    match error_path(alloc, text, mode, fault_of(rejection)) {
+    match error_path(alloc, text, grammar, fault_of(rejection)) {
         Ok(path) => {
             *size = path.len();
             put(&path, out)

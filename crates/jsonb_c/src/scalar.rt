@@ -12,8 +12,8 @@ ghost use Rattle.jsonb_value.specs.Error.CodeView.{code_of};
 ghost use Rattle.jsonb_value.specs.Error.ErrorText.{code_text};
 
 use crate::{
-    ACCEPTED, Failure, NO_KEY, NO_PART, NO_PATH, OUT_OF_MEMORY, REJECTED, TOO_SHORT, choose_mode,
-    put, status,
+    ACCEPTED, Failure, NO_KEY, NO_PART, NO_PATH, OUT_OF_MEMORY, REJECTED, TOO_SHORT,
+    choose_grammar, put, status,
 };
 use error_path::append_step;
 use jsonb::check;
@@ -236,10 +236,10 @@ fn reason_of_text(alloc: Global, mode: u32, text: &[u8]) -> Result<Option<String
         (λ reason. IsReasonOf mode text.now (string_bytes reason))) }
     ensures fails { FailsFor mode (λ _. ⊥) (MayAllocate text.now ⊎ IsNoDocumentOf mode text.now) result }
 {
-    let Some(mode) = choose_mode(mode) else {
+    let Some(grammar) = choose_grammar(mode) else {
         return Err(Failure::UnknownMode);
     };
-    let error = match check(alloc, text, mode) {
+    let error = match check(alloc, text, grammar) {
         Ok(()) => return Ok(None),
         Err(error) => error,
     };

@@ -9,7 +9,7 @@ ghost use Rattle.jsonb.specs.Follows.{FailsAsSpecified};
 ghost use Rattle.jsonb.specs.Parses.{Rejects};
 ghost use Rattle.jsonb_spec.specs.Program.{WordsChoose, IsLineOf, LacksCapacity, IsAccepted, IsAnswered};
 
-use jsonb::parser::Mode;
+use jsonb::parser::{Grammar, Mode};
 use jsonb::{Error, Result, append_text};
 use std::alloc::Global;
 use std::io;
@@ -53,7 +53,7 @@ pub fn convert(alloc: Global, mode: Mode, input: &[u8], out: &mut Vec<u8>) -> Re
         → (line : List ℕ) → IsLineOf (mode_of mode) text line ↔ (line ≡ text ++ ascii.line_feed ∷ [])) }
 {
     let old_len = out.len();
-    append_text(alloc, input, mode, out)?;
+    append_text(alloc, input, Grammar::from(mode), out)?;
     if out.push(b'\n').is_err() {
         out.truncate(old_len);
         return Err(Error::OutOfMemory);

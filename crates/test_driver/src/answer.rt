@@ -1,6 +1,6 @@
 //! The result of one line: a letter, and texts in hexadecimal or numbers, with one space before each part, also where
-//! that part is empty. The letter is `s` for standard or `e` for extended mode, `k` for a sort key, `b` for the
-//! contents of a string, and `n` for numbers.
+//! that part is empty. The letter is `s` for standard and `e` for extended mode, `j` for JSON and `x` for extended JSON,
+//! `k` for a sort key, `b` for the contents of a string, and `n` for numbers.
 //!
 //! | line | result |
 //! |---|---|
@@ -22,15 +22,17 @@
 
 use crate::same::are_same;
 use crate::{numbers, straight, tree};
-use jsonb::{Error, JsonAst, Mode, Value};
+use jsonb::{Error, Grammar, JsonAst, Value};
 use std::alloc::{AllocError, Global};
 use std::cmp::Ordering;
 
 /// The answer, without a line feed.
 pub fn answer(alloc: Global, line: &str) -> Result<String, AllocError> {
     match line.split_once(' ') {
-        Some(("s", texts)) => of_texts(alloc, Mode::Standard, texts),
-        Some(("e", texts)) => of_texts(alloc, Mode::Extended, texts),
+        Some(("s", texts)) => of_texts(alloc, Grammar::Standard, texts),
+        Some(("e", texts)) => of_texts(alloc, Grammar::Extended, texts),
+        Some(("j", texts)) => of_texts(alloc, Grammar::Json, texts),
+        Some(("x", texts)) => of_texts(alloc, Grammar::ExtendedJson, texts),
         Some(("k", text)) => of_key(alloc, text),
         Some(("b", body)) => of_body(alloc, body),
         Some(("n", words)) => match numbers::answer(alloc, words)? {
@@ -45,7 +47,7 @@ fn unknown(alloc: Global) -> Result<String, AllocError> {
     String::from_str(alloc, "unknown")
 }
 
-fn of_texts(alloc: Global, mode: Mode, texts: &str) -> Result<String, AllocError> {
+fn of_texts(alloc: Global, mode: Grammar, texts: &str) -> Result<String, AllocError> {
     match texts.split_once(' ') {
         None => one_text(alloc, mode, texts),
         Some((left, right)) => two_texts(alloc, mode, left, right),
@@ -71,7 +73,7 @@ fn sort_key(alloc: Global, text: &[u8]) -> jsonb::Result<(Vec<u8>, bool)> {
     let value = jsonb::parse_value(alloc, text)?;
     let key = key_of_value(alloc, &value)?;
     let agrees = decodes(alloc, &key, &value)?
-        && straight::gives_key(alloc, Mode::Extended, text, &key)?;
+        && straight::gives_key(alloc, Grammar::Extended, text, &key)?;
     Ok((key, agrees))
 }
 
@@ -116,7 +118,7 @@ fn rejection(alloc: Global, e: &Error) -> Result<String, AllocError> {
     format!(in alloc; "no {printed}")
 }
 
-fn one_text(alloc: Global, mode: Mode, text: &str) -> Result<String, AllocError> {
+fn one_text(alloc: Global, mode: Grammar, text: &str) -> Result<String, AllocError> {
     let Ok(text) = hex::decode(alloc, text) else {
         return unknown(alloc);
     };
@@ -133,14 +135,14 @@ fn one_text(alloc: Global, mode: Mode, text: &str) -> Result<String, AllocError>
 }
 
 // Whether the parser of values fails with this error, which that of trees had.
-fn value_is_rejected(alloc: Global, mode: Mode, text: &[u8], error: &Error) -> bool {
+fn value_is_rejected(alloc: Global, mode: Grammar, text: &[u8], error: &Error) -> bool {
     match read(alloc, mode, text) {
         Ok(_) => false,
         Err(e) => e == *error,
     }
 }
 
-fn two_texts(alloc: Global, mode: Mode, left: &str, right: &str) -> Result<String, AllocError> {
+fn two_texts(alloc: Global, mode: Grammar, left: &str, right: &str) -> Result<String, AllocError> {
     let (Ok(left), Ok(right)) = (hex::decode(alloc, left), hex::decode(alloc, right)) else {
         return unknown(alloc);
     };
@@ -154,15 +156,17 @@ fn two_texts(alloc: Global, mode: Mode, left: &str, right: &str) -> Result<Strin
     String::from_str(alloc, word)
 }
 
-fn read(alloc: Global, mode: Mode, text: &[u8]) -> jsonb::Result<Value<'_>> {
-    match mode {
-        Mode::Standard => jsonb::parse_value_standard_mode(alloc, text),
-        Mode::Extended => jsonb::parse_value(alloc, text),
-    }
+fn read(alloc: Global, mode: Grammar, text: &[u8]) -> jsonb::Result<Value<'_>> {
+    jsonb::parse_value_in(alloc, text, mode)
 }
 
 // The order of two texts' values, or `None` where that of their sort keys is another.
-fn order(alloc: Global, mode: Mode, left: &[u8], right: &[u8]) -> jsonb::Result<Option<Ordering>> {
+fn order(
+    alloc: Global,
+    mode: Grammar,
+    left: &[u8],
+    right: &[u8],
+) -> jsonb::Result<Option<Ordering>> {
     let order = order_of_values(alloc, mode, left, right)?;
     let first = straight::key(alloc, mode, left)?;
     let second = straight::key(alloc, mode, right)?;
@@ -175,7 +179,7 @@ fn order(alloc: Global, mode: Mode, left: &[u8], right: &[u8]) -> jsonb::Result<
 
 fn order_of_values(
     alloc: Global,
-    mode: Mode,
+    mode: Grammar,
     left: &[u8],
     right: &[u8],
 ) -> jsonb::Result<Ordering> {
@@ -185,19 +189,19 @@ fn order_of_values(
 }
 
 // The answer to a text that is read.
-fn describe(alloc: Global, mode: Mode, text: &[u8]) -> jsonb::Result<String> {
+fn describe(alloc: Global, mode: Grammar, text: &[u8]) -> jsonb::Result<String> {
     let tree = tree_of(alloc, mode, text)?;
     let form = form_of(alloc, mode, text)?;
     Ok(format!(in alloc; "ok {tree} {form}")?)
 }
 
-fn tree_of(alloc: Global, mode: Mode, text: &[u8]) -> jsonb::Result<String> {
-    let tree = JsonAst::parse(alloc, text, mode)?;
+fn tree_of(alloc: Global, mode: Grammar, text: &[u8]) -> jsonb::Result<String> {
+    let tree = JsonAst::parse_in(alloc, text, mode)?;
     Ok(tree::describe(alloc, &tree)?)
 }
 
 // The serialized form, and whether all agrees with it.
-fn form_of(alloc: Global, mode: Mode, text: &[u8]) -> jsonb::Result<String> {
+fn form_of(alloc: Global, mode: Grammar, text: &[u8]) -> jsonb::Result<String> {
     let written = text_of(alloc, mode, text)?;
     let word = if agree(alloc, mode, text, &written)? {
         "same"
@@ -208,7 +212,7 @@ fn form_of(alloc: Global, mode: Mode, text: &[u8]) -> jsonb::Result<String> {
     Ok(format!(in alloc; "{digits} {word}")?)
 }
 
-fn text_of(alloc: Global, mode: Mode, text: &[u8]) -> jsonb::Result<Vec<u8>> {
+fn text_of(alloc: Global, mode: Grammar, text: &[u8]) -> jsonb::Result<Vec<u8>> {
     text_of_value(alloc, &read(alloc, mode, text)?)
 }
 
@@ -219,7 +223,12 @@ fn text_of_value(alloc: Global, value: &Value<'_>) -> jsonb::Result<Vec<u8>> {
 }
 
 // Whether the value is that of the tree, what its text reads back as is equal to it, and the text is written again.
-fn agree<'a>(alloc: Global, mode: Mode, text: &'a [u8], written: &'a [u8]) -> jsonb::Result<bool> {
+fn agree<'a>(
+    alloc: Global,
+    mode: Grammar,
+    text: &'a [u8],
+    written: &'a [u8],
+) -> jsonb::Result<bool> {
     let value = read(alloc, mode, text)?;
     Ok(
         is_of_tree(alloc, mode, text, &value)?
@@ -232,18 +241,18 @@ fn agree<'a>(alloc: Global, mode: Mode, text: &'a [u8], written: &'a [u8]) -> js
 // Whether the value is that of the tree.
 fn is_of_tree<'a>(
     alloc: Global,
-    mode: Mode,
+    mode: Grammar,
     text: &'a [u8],
     value: &Value<'a>,
 ) -> jsonb::Result<bool> {
-    let converted = JsonAst::parse(alloc, text, mode)?.into_value(alloc)?;
+    let converted = JsonAst::parse_in(alloc, text, mode)?.into_value(alloc)?;
     Ok(are_same(&converted, value))
 }
 
 // Whether the serialized form is read as an equal value, and written again.
 fn is_read_back<'a>(
     alloc: Global,
-    mode: Mode,
+    mode: Grammar,
     written: &'a [u8],
     value: &Value<'a>,
 ) -> jsonb::Result<bool> {
@@ -254,7 +263,7 @@ fn is_read_back<'a>(
 // Whether the key that is appended straight is the value's.
 fn straight_key_agrees(
     alloc: Global,
-    mode: Mode,
+    mode: Grammar,
     text: &[u8],
     value: &Value<'_>,
 ) -> jsonb::Result<bool> {

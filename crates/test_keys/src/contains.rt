@@ -1,4 +1,4 @@
-use jsonb::{Error, Mode, append_sort_key};
+use jsonb::{Error, Grammar, append_sort_key};
 use jsonb_value::sort_key::kind;
 use key_walk::{Key, NoKey, contains};
 use std::alloc::{AllocError, Global};
@@ -6,7 +6,7 @@ use std::process::Abort;
 
 fn key_of(alloc: Global, text: &str) -> Result<Vec<u8>, Error> {
     let mut key = Vec::new(alloc);
-    append_sort_key(alloc, text.as_bytes(), Mode::Extended, &mut key)?;
+    append_sort_key(alloc, text.as_bytes(), Grammar::Extended, &mut key)?;
     Ok(key)
 }
 

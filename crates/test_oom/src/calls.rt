@@ -3,7 +3,7 @@
 //! printed of the error.
 
 use crate::{documents, numbers};
-use jsonb::{Error, JsonAst, Mode, Result, Value, append_part};
+use jsonb::{Error, Grammar, JsonAst, Result, Value, append_part};
 use jsonb_path::read_keys;
 use key_value::{KeyError, value_of_sort_key};
 use std::alloc::Global;
@@ -33,8 +33,8 @@ fn put_line<W: Write>(out: &mut W, name: &str, answer: &Result<Vec<u8>>) -> io::
 /// A line of another form is `InvalidInput`, and so is one for which there is no memory.
 pub fn report<W: Write>(alloc: Global, line: &str, out: &mut W) -> io::Result<()> {
     let (mode, text) = match line.split_once(' ') {
-        Some(("s", text)) => (Mode::Standard, text),
-        Some(("e", text)) => (Mode::Extended, text),
+        Some(("s", text)) => (Grammar::Standard, text),
+        Some(("e", text)) => (Grammar::Extended, text),
         _ => return Err(io::Error::from(io::ErrorKind::InvalidInput)),
     };
     let Ok(text) = hex::decode(alloc, text) else {
@@ -44,7 +44,7 @@ pub fn report<W: Write>(alloc: Global, line: &str, out: &mut W) -> io::Result<()
 }
 
 // Writes a line for each call on the text.
-fn report_text<W: Write>(alloc: Global, mode: Mode, text: &[u8], out: &mut W) -> io::Result<()> {
+fn report_text<W: Write>(alloc: Global, mode: Grammar, text: &[u8], out: &mut W) -> io::Result<()> {
     say(out, "reads", reads(alloc, mode, text))?;
     say(out, "checks", checks(alloc, mode, text))?;
     say(out, "value", value(alloc, mode, text))?;
@@ -68,11 +68,8 @@ fn report_text<W: Write>(alloc: Global, mode: Mode, text: &[u8], out: &mut W) ->
     numbers::report(alloc, mode, text, out)
 }
 
-fn read(alloc: Global, mode: Mode, text: &[u8]) -> Result<Value<'_>> {
-    match mode {
-        Mode::Standard => jsonb::parse_value_standard_mode(alloc, text),
-        Mode::Extended => jsonb::parse_value(alloc, text),
-    }
+fn read(alloc: Global, mode: Grammar, text: &[u8]) -> Result<Value<'_>> {
+    jsonb::parse_value_in(alloc, text, mode)
 }
 
 fn text_of(alloc: Global, value: &Value) -> Result<Vec<u8>> {
@@ -82,50 +79,50 @@ fn text_of(alloc: Global, value: &Value) -> Result<Vec<u8>> {
 }
 
 // Nothing but reading.
-fn reads(alloc: Global, mode: Mode, text: &[u8]) -> Result<Vec<u8>> {
+fn reads(alloc: Global, mode: Grammar, text: &[u8]) -> Result<Vec<u8>> {
     read(alloc, mode, text)?;
     Ok(Vec::new(alloc))
 }
 
 // Nothing but checking.
-fn checks(alloc: Global, mode: Mode, text: &[u8]) -> Result<Vec<u8>> {
+fn checks(alloc: Global, mode: Grammar, text: &[u8]) -> Result<Vec<u8>> {
     jsonb::check(alloc, text, mode)?;
     Ok(Vec::new(alloc))
 }
 
-fn value(alloc: Global, mode: Mode, text: &[u8]) -> Result<Vec<u8>> {
+fn value(alloc: Global, mode: Grammar, text: &[u8]) -> Result<Vec<u8>> {
     text_of(alloc, &read(alloc, mode, text)?)
 }
 
-fn tree(alloc: Global, mode: Mode, text: &[u8]) -> Result<Vec<u8>> {
+fn tree(alloc: Global, mode: Grammar, text: &[u8]) -> Result<Vec<u8>> {
     text_of(
         alloc,
-        &JsonAst::parse(alloc, text, mode)?.into_value(alloc)?,
+        &JsonAst::parse_in(alloc, text, mode)?.into_value(alloc)?,
     )
 }
 
-fn clone(alloc: Global, mode: Mode, text: &[u8]) -> Result<Vec<u8>> {
+fn clone(alloc: Global, mode: Grammar, text: &[u8]) -> Result<Vec<u8>> {
     text_of(alloc, &read(alloc, mode, text)?.clone()?)
 }
 
-fn text_of_owned(alloc: Global, mode: Mode, text: &[u8]) -> Result<Vec<u8>> {
+fn text_of_owned(alloc: Global, mode: Grammar, text: &[u8]) -> Result<Vec<u8>> {
     text_of(alloc, &read(alloc, mode, text)?.to_owned_value(alloc)?)
 }
 
-fn tree_clone(alloc: Global, mode: Mode, text: &[u8]) -> Result<Vec<u8>> {
-    let tree = JsonAst::parse(alloc, text, mode)?.clone()?;
+fn tree_clone(alloc: Global, mode: Grammar, text: &[u8]) -> Result<Vec<u8>> {
+    let tree = JsonAst::parse_in(alloc, text, mode)?.clone()?;
     text_of(alloc, &tree.into_value(alloc)?)
 }
 
 // A text's serialized form, appended straight behind what the buffer held.
-fn straight(alloc: Global, mode: Mode, text: &[u8]) -> Result<Vec<u8>> {
+fn straight(alloc: Global, mode: Grammar, text: &[u8]) -> Result<Vec<u8>> {
     let mut buffer = Vec::from_slice(alloc, b"x")?;
     let done = jsonb::append_text(alloc, text, mode, &mut buffer);
     bytes_or_error(alloc, done, buffer)
 }
 
 // Its sort key, in hexadecimal.
-fn straight_key(alloc: Global, mode: Mode, text: &[u8]) -> Result<Vec<u8>> {
+fn straight_key(alloc: Global, mode: Grammar, text: &[u8]) -> Result<Vec<u8>> {
     let mut buffer = Vec::from_slice(alloc, b"x")?;
     let done = jsonb::append_sort_key(alloc, text, mode, &mut buffer);
     let key = bytes_or_error(alloc, done, buffer)?;
@@ -146,14 +143,14 @@ pub fn bytes_or_error(alloc: Global, done: Result<()>, buffer: Vec<u8>) -> Resul
 }
 
 // The text of what the sort key is decoded as.
-fn text_of_key(alloc: Global, mode: Mode, text: &[u8]) -> Result<Vec<u8>> {
+fn text_of_key(alloc: Global, mode: Grammar, text: &[u8]) -> Result<Vec<u8>> {
     let mut key = Vec::new(alloc);
     read(alloc, mode, text)?.write_sort_key(&mut key)?;
     value_of(alloc, &key)
 }
 
 // What a sort key without its last byte is decoded as.
-fn cut_key(alloc: Global, mode: Mode, text: &[u8]) -> Result<Vec<u8>> {
+fn cut_key(alloc: Global, mode: Grammar, text: &[u8]) -> Result<Vec<u8>> {
     let mut key = Vec::new(alloc);
     read(alloc, mode, text)?.write_sort_key(&mut key)?;
     let _last = key.pop();
@@ -169,7 +166,7 @@ fn value_of(alloc: Global, key: &[u8]) -> Result<Vec<u8>> {
 }
 
 // The text over lines, behind what the buffer held, in hexadecimal.
-fn indented_text(alloc: Global, mode: Mode, text: &[u8]) -> Result<Vec<u8>> {
+fn indented_text(alloc: Global, mode: Grammar, text: &[u8]) -> Result<Vec<u8>> {
     let value = read(alloc, mode, text)?;
     let mut buffer = Vec::from_slice(alloc, b"x")?;
     let done = write_text_indented(&value, 1, &mut buffer);
@@ -179,7 +176,7 @@ fn indented_text(alloc: Global, mode: Mode, text: &[u8]) -> Result<Vec<u8>> {
 }
 
 // The text of the part at a path, behind what the buffer held, or what there is instead of it.
-fn part(alloc: Global, mode: Mode, text: &[u8], path: &[u8]) -> Result<Vec<u8>> {
+fn part(alloc: Global, mode: Grammar, text: &[u8], path: &[u8]) -> Result<Vec<u8>> {
     let Some(keys) = read_keys(alloc, path)? else {
         return Ok(Vec::from_slice(alloc, b"no path")?);
     };
@@ -193,7 +190,7 @@ fn part(alloc: Global, mode: Mode, text: &[u8], path: &[u8]) -> Result<Vec<u8>> 
     }
 }
 
-fn keys(alloc: Global, mode: Mode, text: &[u8]) -> Result<Vec<u8>> {
+fn keys(alloc: Global, mode: Grammar, text: &[u8]) -> Result<Vec<u8>> {
     match read(alloc, mode, text)?.object_keys(alloc)? {
         Some(keys) => text_of(alloc, &keys),
         None => Ok(Vec::from_slice(alloc, b"no object")?),
@@ -201,7 +198,7 @@ fn keys(alloc: Global, mode: Mode, text: &[u8]) -> Result<Vec<u8>> {
 }
 
 // The buffer holds what it held, where the text found no space.
-fn without_capacity(alloc: Global, mode: Mode, text: &[u8]) -> Result<Vec<u8>> {
+fn without_capacity(alloc: Global, mode: Grammar, text: &[u8]) -> Result<Vec<u8>> {
     let value = read(alloc, mode, text)?;
     let mut buffer = Vec::from_slice(alloc, b"x")?;
     let done = value.write_text(&mut buffer);
@@ -209,7 +206,7 @@ fn without_capacity(alloc: Global, mode: Mode, text: &[u8]) -> Result<Vec<u8>> {
 }
 
 // Where there is space, no memory is asked for.
-fn with_capacity(alloc: Global, mode: Mode, text: &[u8]) -> Result<Vec<u8>> {
+fn with_capacity(alloc: Global, mode: Grammar, text: &[u8]) -> Result<Vec<u8>> {
     let value = read(alloc, mode, text)?;
     let length = text_of(alloc, &value)?.len();
     let mut buffer = Vec::with_capacity(alloc, length)?;

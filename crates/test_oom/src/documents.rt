@@ -1,7 +1,7 @@
 //! The calls on the document of a text's value, and on its table.
 
 use crate::calls::say;
-use jsonb::{Error, Mode, Result};
+use jsonb::{Error, Grammar, Result};
 use jsonb_path::read_keys;
 use key_document::{
     DocumentError, Insertion, append_document_of_text, append_merged, append_next_range,
@@ -18,7 +18,7 @@ use std::io::Write;
 const WITH_ZERO: &[u8] = b"\xa1\x1e\x00\x01\x02\xff";
 
 /// Writes a line for each call on the document of the text's value, and on its table.
-pub fn report<W: Write>(alloc: Global, mode: Mode, text: &[u8], out: &mut W) -> io::Result<()> {
+pub fn report<W: Write>(alloc: Global, mode: Grammar, text: &[u8], out: &mut W) -> io::Result<()> {
     for call in [
         "text", "cut", "range", "next", "set", "remove", "insert", "put", "push", "merge",
         "without", "strip",
@@ -30,7 +30,7 @@ pub fn report<W: Write>(alloc: Global, mode: Mode, text: &[u8], out: &mut W) -> 
 }
 
 // What the call makes of the document, behind what the buffer held.
-fn made(alloc: Global, call: &str, mode: Mode, text: &[u8]) -> Result<Vec<u8>> {
+fn made(alloc: Global, call: &str, mode: Grammar, text: &[u8]) -> Result<Vec<u8>> {
     let document = document_of(alloc, mode, text)?;
     let Some(names) = read_keys(alloc, b"/1")? else {
         return Ok(Vec::from_slice(alloc, b"no path")?);
@@ -87,7 +87,7 @@ fn insert(
 }
 
 // The document of the text's value, behind what the buffer held.
-fn document(alloc: Global, mode: Mode, text: &[u8]) -> Result<Vec<u8>> {
+fn document(alloc: Global, mode: Grammar, text: &[u8]) -> Result<Vec<u8>> {
     let mut written = Vec::new(alloc);
     jsonb::append_text(alloc, text, mode, &mut written)?;
     let mut buffer = Vec::from_slice(alloc, b"x")?;
@@ -96,7 +96,7 @@ fn document(alloc: Global, mode: Mode, text: &[u8]) -> Result<Vec<u8>> {
 }
 
 // The document of the text's value.
-fn document_of(alloc: Global, mode: Mode, text: &[u8]) -> Result<Vec<u8>> {
+fn document_of(alloc: Global, mode: Grammar, text: &[u8]) -> Result<Vec<u8>> {
     let mut written = Vec::new(alloc);
     jsonb::append_text(alloc, text, mode, &mut written)?;
     let mut document = Vec::new(alloc);
@@ -107,7 +107,7 @@ fn document_of(alloc: Global, mode: Mode, text: &[u8]) -> Result<Vec<u8>> {
 }
 
 // The table of the text's value, behind what the buffer held.
-fn table(alloc: Global, mode: Mode, text: &[u8]) -> Result<Vec<u8>> {
+fn table(alloc: Global, mode: Grammar, text: &[u8]) -> Result<Vec<u8>> {
     let mut key = Vec::new(alloc);
     jsonb::append_sort_key(alloc, text, mode, &mut key)?;
     let mut buffer = Vec::from_slice(alloc, b"x")?;

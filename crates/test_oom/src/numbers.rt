@@ -1,20 +1,22 @@
-//! The calls on lines and on numbers with exponents, the path of an error, and the calls of the program `vjson`.
+//! The calls on lines, the path of an error, and the calls of the program `vjson`.
 
 use crate::calls::{bytes_or_error, say};
 use error_path::{Fault, error_path};
-use jsonb::{Error, Mode, ParseErrorCode, Result};
+use jsonb::{Error, ParseErrorCode, Result};
 use jsonb_path::read_keys;
-use plain_numbers::{PlainError, write_masked_numbers, write_plain_numbers};
 use std::alloc::Global;
 use std::io;
 use std::io::Write;
 use vjson_text::{Grammar, Layout, append, append_key, append_part, append_raw, check};
 
 /// Writes a line for each call on the text.
-pub fn report<W: Write>(alloc: Global, mode: Mode, text: &[u8], out: &mut W) -> io::Result<()> {
+pub fn report<W: Write>(
+    alloc: Global,
+    mode: jsonb::Grammar,
+    text: &[u8],
+    out: &mut W,
+) -> io::Result<()> {
     say(out, "lines", lines(alloc, mode, text))?;
-    say(out, "plain", plain(alloc, text))?;
-    say(out, "masked", masked(alloc, text))?;
     say(out, "path", path(alloc, mode, text))?;
     for call in [
         "vjson_check",
@@ -29,7 +31,7 @@ pub fn report<W: Write>(alloc: Global, mode: Mode, text: &[u8], out: &mut W) -> 
 }
 
 // The text as lines, behind what the buffer held.
-fn lines(alloc: Global, mode: Mode, text: &[u8]) -> Result<Vec<u8>> {
+fn lines(alloc: Global, mode: jsonb::Grammar, text: &[u8]) -> Result<Vec<u8>> {
     let mut buffer = Vec::from_slice(alloc, b"x")?;
     let done = match jsonb::append_text_lines(alloc, text, mode, &mut buffer) {
         Ok(()) => Ok(()),
@@ -38,31 +40,8 @@ fn lines(alloc: Global, mode: Mode, text: &[u8]) -> Result<Vec<u8>> {
     in_digits(alloc, done, buffer)
 }
 
-// The text with its numbers written out, behind what the buffer held.
-fn plain(alloc: Global, text: &[u8]) -> Result<Vec<u8>> {
-    let mut buffer = Vec::from_slice(alloc, b"x")?;
-    let done = match write_plain_numbers(text, &mut buffer) {
-        Ok(()) => Ok(()),
-        Err(PlainError::DoesNotFit(end)) => {
-            Err(Error::Syntax(ParseErrorCode::NumberNotCarried, end))
-        }
-        Err(PlainError::OutOfMemory) => Err(Error::OutOfMemory),
-    };
-    in_digits(alloc, done, buffer)
-}
-
-// The text with its numbers masked, behind what the buffer held.
-fn masked(alloc: Global, text: &[u8]) -> Result<Vec<u8>> {
-    let mut buffer = Vec::from_slice(alloc, b"x")?;
-    let done = match write_masked_numbers(text, &mut buffer) {
-        Ok(()) => Ok(()),
-        Err(_) => Err(Error::OutOfMemory),
-    };
-    in_digits(alloc, done, buffer)
-}
-
 // The path of the error.
-fn path(alloc: Global, mode: Mode, text: &[u8]) -> Result<Vec<u8>> {
+fn path(alloc: Global, mode: jsonb::Grammar, text: &[u8]) -> Result<Vec<u8>> {
     let fault = match jsonb::check(alloc, text, mode) {
         Err(Error::OutOfMemory) => return Err(Error::OutOfMemory),
         Err(Error::Syntax(ParseErrorCode::ObjectDuplicateKey(_), end)) => Fault::Key(end),
@@ -73,11 +52,9 @@ fn path(alloc: Global, mode: Mode, text: &[u8]) -> Result<Vec<u8>> {
 }
 
 // What a call of the program makes of the text, behind what the buffer held.
-fn by_program(alloc: Global, call: &str, mode: Mode, text: &[u8]) -> Result<Vec<u8>> {
-    let mut plain = Vec::new(alloc);
+fn by_program(alloc: Global, call: &str, mode: jsonb::Grammar, text: &[u8]) -> Result<Vec<u8>> {
     let mut buffer = Vec::from_slice(alloc, b"x")?;
-    let done = append_made(alloc, call, mode, text, &mut plain, &mut buffer);
-    let done = match done {
+    let done = match append_made(alloc, call, mode, text, &mut buffer) {
         Ok(()) => Ok(()),
         Err(fault) => Err(error_of(alloc, &fault)?),
     };
@@ -88,21 +65,20 @@ fn by_program(alloc: Global, call: &str, mode: Mode, text: &[u8]) -> Result<Vec<
 fn append_made(
     alloc: Global,
     call: &str,
-    mode: Mode,
+    mode: jsonb::Grammar,
     text: &[u8],
-    plain: &mut Vec<u8>,
     out: &mut Vec<u8>,
 ) -> std::result::Result<(), vjson_text::Fault> {
     let grammar = match mode {
-        Mode::Standard => Grammar::Json,
-        Mode::Extended => Grammar::Extended,
+        jsonb::Grammar::Standard | jsonb::Grammar::Json => Grammar::Json,
+        jsonb::Grammar::Extended | jsonb::Grammar::ExtendedJson => Grammar::Extended,
     };
     match call {
-        "vjson_check" => check(alloc, grammar, text, plain),
-        "vjson_line" => append(alloc, grammar, Layout::Compact, text, plain, out),
-        "vjson_lines" => append(alloc, grammar, Layout::Indent(2), text, plain, out),
-        "vjson_key" => append_key(alloc, grammar, text, plain, out),
-        _ => part(alloc, grammar, text, plain, out),
+        "vjson_check" => check(alloc, grammar, text),
+        "vjson_line" => append(alloc, grammar, Layout::Compact, text, out),
+        "vjson_lines" => append(alloc, grammar, Layout::Indent(2), text, out),
+        "vjson_key" => append_key(alloc, grammar, text, out),
+        _ => part(alloc, grammar, text, out),
     }
 }
 
@@ -111,13 +87,12 @@ fn part(
     alloc: Global,
     grammar: Grammar,
     text: &[u8],
-    plain: &mut Vec<u8>,
     out: &mut Vec<u8>,
 ) -> std::result::Result<(), vjson_text::Fault> {
     let Some(keys) = read_keys(alloc, b"/1")? else {
         return Ok(());
     };
-    let _found = append_part(alloc, grammar, &keys, text, plain, out)?;
+    let _found = append_part(alloc, grammar, &keys, text, out)?;
     Ok(())
 }
 

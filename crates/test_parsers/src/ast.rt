@@ -1,4 +1,4 @@
-use jsonb::{Error, JsonAst, Mode};
+use jsonb::{Error, Grammar, JsonAst};
 use jsonb_value::number::Number;
 use jsonb_value::value::Value;
 use std::alloc::{AllocError, Global};
@@ -144,7 +144,7 @@ fn deep_text(alloc: Global) -> Result<Vec<u8>, AllocError> {
 #[test]
 fn deep_trees_are_cloned_and_compared(rt: HostRuntime) -> Result<(), Fail> {
     let text = deep_text(rt.alloc())?;
-    let tree = JsonAst::parse(rt.alloc(), &text, Mode::Standard)?;
+    let tree = JsonAst::parse_in(rt.alloc(), &text, Grammar::Standard)?;
     assert!(rt; is_cloned(&tree));
     Ok(())
 }

@@ -1,7 +1,5 @@
 // Values made by hand: what is written of them, and what is read of that.
-use jsonb::{
-    Decimal64, Decimal128, Error, Mode, Number, Value, parse_value, parse_value_standard_mode,
-};
+use jsonb::{Decimal64, Decimal128, Error, Grammar, Number, Value, parse_value_in};
 use std::alloc::{AllocError, Global};
 use std::process::Abort;
 use std::test::Fail;
@@ -21,16 +19,13 @@ fn bytes_of(alloc: Global, value: &Value) -> Result<Vec<u8>, Error> {
 }
 
 // The text of the document's value.
-fn text_of(alloc: Global, mode: Mode, input: &[u8]) -> Result<Vec<u8>, Error> {
-    let value = match mode {
-        Mode::Standard => parse_value_standard_mode(alloc, input)?,
-        Mode::Extended => parse_value(alloc, input)?,
-    };
+fn text_of(alloc: Global, mode: Grammar, input: &[u8]) -> Result<Vec<u8>, Error> {
+    let value = parse_value_in(alloc, input, mode)?;
     bytes_of(alloc, &value)
 }
 
 // Whether the document's value has this text, or the error is printed so.
-fn is_answer(alloc: Global, mode: Mode, input: &[u8], wanted: &str) -> Result<bool, AllocError> {
+fn is_answer(alloc: Global, mode: Grammar, input: &[u8], wanted: &str) -> Result<bool, AllocError> {
     match text_of(alloc, mode, input) {
         Ok(text) => Ok(text.as_slice() == wanted.as_bytes()),
         Err(error) => Ok(format!(in alloc; "{error}")?.as_str() == wanted),
@@ -48,9 +43,9 @@ fn expect_scalar(
     let alloc = rt.alloc();
     let bytes = bytes_of(alloc, &value).ok().expect(rt, "no text");
     assert!(rt; &bytes[..] == text.as_bytes(), "of {text}");
-    let is_standard = is_answer(alloc, Mode::Standard, &bytes, standard);
+    let is_standard = is_answer(alloc, Grammar::Standard, &bytes, standard);
     assert_eq!(rt; is_standard, Ok(true), "of {text}: {standard}");
-    let is_extended = is_answer(alloc, Mode::Extended, &bytes, extended);
+    let is_extended = is_answer(alloc, Grammar::Extended, &bytes, extended);
     assert_eq!(rt; is_extended, Ok(true), "of {text}: {extended}");
 }
 
@@ -109,7 +104,7 @@ fn text_of_depth(alloc: Global, depth: usize) -> Result<Vec<u8>, Error> {
 }
 
 // Whether the text is read, and written again.
-fn is_kept(alloc: Global, mode: Mode, text: &[u8]) -> bool {
+fn is_kept(alloc: Global, mode: Grammar, text: &[u8]) -> bool {
     match text_of(alloc, mode, text) {
         Ok(again) => again.as_slice() == text,
         Err(_) => false,
@@ -122,7 +117,7 @@ fn nested_arrays(rt: HostRuntime) -> Result<(), Fail> {
     let deepest = text_of_depth(alloc, 512)?;
     let too_deep = text_of_depth(alloc, 513)?;
     assert_eq!(rt; deepest.len(), 1024);
-    for mode in [Mode::Standard, Mode::Extended] {
+    for mode in [Grammar::Standard, Grammar::Extended] {
         assert!(rt; is_kept(alloc, mode, &deepest), "{mode:?}");
         let is_rejected = is_answer(alloc, mode, &too_deep, "depth limit exceeded, pos 513");
         assert_eq!(rt; is_rejected, Ok(true), "{mode:?}");

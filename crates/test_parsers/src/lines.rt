@@ -1,12 +1,12 @@
 // Lines that are read one after the other, beside each as a text of its own.
-use jsonb::{Error, Mode, ParseErrorCode, RejectedLine, append_text_lines};
+use jsonb::{Error, Grammar, ParseErrorCode, RejectedLine, append_text_lines};
 use std::alloc::{AllocError, Global};
 use std::test::Fail;
 
 // What is appended of the lines, behind a front; or the line that is rejected, with the front as it was.
 fn written(
     alloc: Global,
-    mode: Mode,
+    mode: Grammar,
     text: &[u8],
 ) -> Result<(Vec<u8>, Option<RejectedLine>), AllocError> {
     let mut out = Vec::from_slice(alloc, b"front")?;
@@ -16,14 +16,14 @@ fn written(
     }
 }
 
-fn is_written(alloc: Global, mode: Mode, text: &[u8], wanted: &[u8]) -> bool {
+fn is_written(alloc: Global, mode: Grammar, text: &[u8], wanted: &[u8]) -> bool {
     let Ok((out, rejected)) = written(alloc, mode, text) else {
         return false;
     };
     rejected.is_none() && out.as_slice() == wanted
 }
 
-fn is_rejected(alloc: Global, mode: Mode, text: &[u8], start: usize, wanted: Error) -> bool {
+fn is_rejected(alloc: Global, mode: Grammar, text: &[u8], start: usize, wanted: Error) -> bool {
     let Ok((out, rejected)) = written(alloc, mode, text) else {
         return false;
     };
@@ -36,19 +36,23 @@ fn is_rejected(alloc: Global, mode: Mode, text: &[u8], start: usize, wanted: Err
 #[test]
 fn each_line_is_written(rt: HostRuntime) {
     for (mode, text, wanted) in [
-        (Mode::Standard, b"" as &[u8], b"front" as &[u8]),
-        (Mode::Standard, b"1", b"front1\n"),
-        (Mode::Standard, b"1\n", b"front1\n"),
-        (Mode::Standard, b"1\n2", b"front1\n2\n"),
+        (Grammar::Standard, b"" as &[u8], b"front" as &[u8]),
+        (Grammar::Standard, b"1", b"front1\n"),
+        (Grammar::Standard, b"1\n", b"front1\n"),
+        (Grammar::Standard, b"1\n2", b"front1\n2\n"),
         (
-            Mode::Standard,
+            Grammar::Standard,
             b"{\"b\":[ 1 ],\"a\":\"\\u0041\"}\r\n[{}]\n \"x\" \n",
             b"front{\"a\":\"A\",\"b\":[1]}\n[{}]\n\"x\"\n",
         ),
-        (Mode::Extended, b"\n", b"frontnull\n"),
-        (Mode::Extended, b"1\n\n.5 // a half", b"front1\nnull\n0.5\n"),
+        (Grammar::Extended, b"\n", b"frontnull\n"),
         (
-            Mode::Extended,
+            Grammar::Extended,
+            b"1\n\n.5 // a half",
+            b"front1\nnull\n0.5\n",
+        ),
+        (
+            Grammar::Extended,
             b"{b:1,a:2}\n{b:1,a:2}\n{a:1,b:2}",
             b"front{\"a\":2,\"b\":1}\n{\"a\":2,\"b\":1}\n{\"a\":1,\"b\":2}\n",
         ),
@@ -74,7 +78,7 @@ fn the_first_line_that_is_rejected(rt: HostRuntime) {
         ),
     ] {
         assert!(rt;
-            is_rejected(rt.alloc(), Mode::Standard, text, start, wanted),
+            is_rejected(rt.alloc(), Grammar::Standard, text, start, wanted),
             "{text:?}"
         );
     }
@@ -98,7 +102,7 @@ fn many_out_of_order(alloc: Global) -> Result<bool, AllocError> {
         line.extend_from_slice(b",\"a\":0}")?;
     }
     let mut wanted = Vec::new(alloc);
-    if jsonb::append_text(alloc, &line, Mode::Standard, &mut wanted).is_err() {
+    if jsonb::append_text(alloc, &line, Grammar::Standard, &mut wanted).is_err() {
         return Ok(false);
     }
     let mut text = Vec::new(alloc);
@@ -109,5 +113,5 @@ fn many_out_of_order(alloc: Global) -> Result<bool, AllocError> {
         all.extend_from_slice(&wanted)?;
         all.extend_from_slice(b"\n[1]\n")?;
     }
-    Ok(is_written(alloc, Mode::Standard, &text, &all))
+    Ok(is_written(alloc, Grammar::Standard, &text, &all))
 }

@@ -1,5 +1,5 @@
 // Texts of parts at paths, with no value made of the document.
-use jsonb::{Error, Mode, ParseErrorCode};
+use jsonb::{Error, Grammar, ParseErrorCode};
 use std::alloc::{AllocError, Global};
 
 fn keys_of(alloc: Global, path: &[&str]) -> Result<Vec<String>, AllocError> {
@@ -14,7 +14,7 @@ fn keys_of(alloc: Global, path: &[&str]) -> Result<Vec<String>, AllocError> {
 fn part(alloc: Global, text: &[u8], path: &[&str]) -> Result<Option<Vec<u8>>, Error> {
     let keys = keys_of(alloc, path)?;
     let mut buf = Vec::new(alloc);
-    let is_found = jsonb::append_part(alloc, text, Mode::Extended, &keys, &mut buf)?;
+    let is_found = jsonb::append_part(alloc, text, Grammar::Extended, &keys, &mut buf)?;
     Ok(if is_found { Some(buf) } else { None })
 }
 

@@ -1,5 +1,5 @@
 // Paths of RFC 6901, and the parts of documents that are there.
-use jsonb::{Error, Mode};
+use jsonb::{Error, Grammar};
 use jsonb_path::read_keys;
 use std::alloc::{AllocError, Global};
 
@@ -47,7 +47,7 @@ fn gives(alloc: Global, path: &str, document: &str, expected: &str) -> Result<bo
     };
     let mut text = Vec::new(alloc);
     let document = document.as_bytes();
-    let is_found = jsonb::append_part(alloc, document, Mode::Extended, &keys, &mut text)?;
+    let is_found = jsonb::append_part(alloc, document, Grammar::Extended, &keys, &mut text)?;
     Ok(if is_found {
         text.as_slice() == expected.as_bytes()
     } else {

@@ -1,43 +1,40 @@
 // Serialized forms and sort keys that are appended straight from a text, beside those of its value, and texts that are
 // only checked.
-use jsonb::{Error, JsonAst, Mode, Value, parse_value, parse_value_standard_mode};
+use jsonb::{Error, Grammar, JsonAst, Value, parse_value_in};
 use std::alloc::{AllocError, Global};
 use std::test::Fail;
 
-fn parse(alloc: Global, mode: Mode, text: &[u8]) -> Result<Value<'_>, Error> {
-    match mode {
-        Mode::Standard => parse_value_standard_mode(alloc, text),
-        Mode::Extended => parse_value(alloc, text),
-    }
+fn parse(alloc: Global, mode: Grammar, text: &[u8]) -> Result<Value<'_>, Error> {
+    parse_value_in(alloc, text, mode)
 }
 
 // The serialized form of the text's value, behind a front.
-fn form_of_value(alloc: Global, mode: Mode, text: &[u8]) -> Result<Vec<u8>, Error> {
+fn form_of_value(alloc: Global, mode: Grammar, text: &[u8]) -> Result<Vec<u8>, Error> {
     let mut form = Vec::from_slice(alloc, b"front")?;
     parse(alloc, mode, text)?.write_text(&mut form)?;
     Ok(form)
 }
 
-fn key_of_value(alloc: Global, mode: Mode, text: &[u8]) -> Result<Vec<u8>, Error> {
+fn key_of_value(alloc: Global, mode: Grammar, text: &[u8]) -> Result<Vec<u8>, Error> {
     let mut key = Vec::from_slice(alloc, b"front")?;
     parse(alloc, mode, text)?.write_sort_key(&mut key)?;
     Ok(key)
 }
 
 // What is appended straight, behind a front.
-fn form(alloc: Global, mode: Mode, text: &[u8]) -> Result<Vec<u8>, Error> {
+fn form(alloc: Global, mode: Grammar, text: &[u8]) -> Result<Vec<u8>, Error> {
     let mut form = Vec::from_slice(alloc, b"front")?;
     jsonb::append_text(alloc, text, mode, &mut form)?;
     Ok(form)
 }
 
-fn key(alloc: Global, mode: Mode, text: &[u8]) -> Result<Vec<u8>, Error> {
+fn key(alloc: Global, mode: Grammar, text: &[u8]) -> Result<Vec<u8>, Error> {
     let mut key = Vec::from_slice(alloc, b"front")?;
     jsonb::append_sort_key(alloc, text, mode, &mut key)?;
     Ok(key)
 }
 
-fn is_appended(alloc: Global, mode: Mode, text: &[u8]) -> bool {
+fn is_appended(alloc: Global, mode: Grammar, text: &[u8]) -> bool {
     form(alloc, mode, text).is_ok()
 }
 
@@ -46,7 +43,7 @@ fn are_equal(left: Result<Vec<u8>, Error>, right: Result<Vec<u8>, Error>) -> boo
 }
 
 // Whether both functions agree with the text's value, and the text is accepted where it is only checked.
-fn agree(alloc: Global, mode: Mode, text: &[u8]) -> bool {
+fn agree(alloc: Global, mode: Grammar, text: &[u8]) -> bool {
     are_equal(form(alloc, mode, text), form_of_value(alloc, mode, text))
         && are_equal(key(alloc, mode, text), key_of_value(alloc, mode, text))
         && jsonb::check(alloc, text, mode).is_ok()
@@ -66,9 +63,12 @@ fn as_of_the_value_in_both_modes(rt: HostRuntime) {
         b" { \"b\" : [ ] , \"a\" : { } } ",
         b"[[[[]]],{},[{}],true,false,null,\"\"]",
     ] {
-        assert!(rt; is_appended(rt.alloc(), Mode::Standard, text), "{text:?}");
-        assert!(rt; agree(rt.alloc(), Mode::Standard, text), "{text:?}");
-        assert!(rt; agree(rt.alloc(), Mode::Extended, text), "{text:?}");
+        assert!(rt;
+            is_appended(rt.alloc(), Grammar::Standard, text),
+            "{text:?}"
+        );
+        assert!(rt; agree(rt.alloc(), Grammar::Standard, text), "{text:?}");
+        assert!(rt; agree(rt.alloc(), Grammar::Extended, text), "{text:?}");
     }
 }
 
@@ -85,8 +85,11 @@ fn as_of_the_value_in_extended_mode(rt: HostRuntime) {
         b"{$c:{z_:1,y:.25},_b:[1,],'a':nUll}",
         b"{'abcdefgh\\u0062':1,abcdefgha:2}",
     ] {
-        assert!(rt; is_appended(rt.alloc(), Mode::Extended, text), "{text:?}");
-        assert!(rt; agree(rt.alloc(), Mode::Extended, text), "{text:?}");
+        assert!(rt;
+            is_appended(rt.alloc(), Grammar::Extended, text),
+            "{text:?}"
+        );
+        assert!(rt; agree(rt.alloc(), Grammar::Extended, text), "{text:?}");
     }
 }
 
@@ -101,9 +104,9 @@ fn is_made(made: Result<Vec<u8>, Error>, wanted: &[u8]) -> bool {
 #[test]
 fn forms_and_keys(rt: HostRuntime) {
     let text = b"{\"b\":[1,{\"d\":-0,\"c\":\"\\u0041\"}],\"\\u0061\":null}";
-    let made = form(rt.alloc(), Mode::Standard, text);
+    let made = form(rt.alloc(), Grammar::Standard, text);
     assert!(rt; is_made(made, b"front{\"a\":null,\"b\":[1,{\"c\":\"A\",\"d\":0}]}"));
-    let made = key(rt.alloc(), Mode::Extended, b"{b:.5,a:0x1F}");
+    let made = key(rt.alloc(), Grammar::Extended, b"{b:.5,a:0x1F}");
     assert!(rt; is_made(made, b"front\xD1a\x00\x01\xA2>b\x00\x01\xA0d\x00\x00"));
 }
 
@@ -115,7 +118,7 @@ fn is_error(answer: Result<(), Error>, error: &Error) -> bool {
 }
 
 // Whether all three functions fail with a clone of the error, and leave the buffer as it was.
-fn fail_with(alloc: Global, mode: Mode, text: &[u8], error: &Error) -> Result<bool, AllocError> {
+fn fail_with(alloc: Global, mode: Grammar, text: &[u8], error: &Error) -> Result<bool, AllocError> {
     let error = error.clone()?;
     let mut buffer = Vec::from_slice(alloc, b"front")?;
     let fail = is_error(jsonb::append_text(alloc, text, mode, &mut buffer), &error)
@@ -128,8 +131,8 @@ fn fail_with(alloc: Global, mode: Mode, text: &[u8], error: &Error) -> Result<bo
 }
 
 // Whether all three functions fail as the parser of trees does.
-fn fail_as_the_tree(alloc: Global, mode: Mode, text: &[u8]) -> bool {
-    match JsonAst::parse(alloc, text, mode) {
+fn fail_as_the_tree(alloc: Global, mode: Grammar, text: &[u8]) -> bool {
+    match JsonAst::parse_in(alloc, text, mode) {
         Ok(_) => false,
         Err(error) => fail_with(alloc, mode, text, &error) == Ok(true),
     }
@@ -150,11 +153,11 @@ fn faults_are_those_of_the_tree(rt: HostRuntime) {
         &[b'['; 513],
     ] {
         assert!(rt;
-            fail_as_the_tree(rt.alloc(), Mode::Standard, text),
+            fail_as_the_tree(rt.alloc(), Grammar::Standard, text),
             "{text:?}"
         );
         assert!(rt;
-            fail_as_the_tree(rt.alloc(), Mode::Extended, text),
+            fail_as_the_tree(rt.alloc(), Grammar::Extended, text),
             "{text:?}"
         );
     }
@@ -180,9 +183,9 @@ fn deepest(alloc: Global) -> Result<Vec<u8>, AllocError> {
 fn as_deep_as_may_be(rt: HostRuntime) -> Result<(), Fail> {
     let alloc = rt.alloc();
     let text = deepest(alloc)?;
-    assert!(rt; is_appended(alloc, Mode::Standard, &text));
-    assert!(rt; agree(alloc, Mode::Standard, &text));
-    assert!(rt; agree(alloc, Mode::Extended, &text));
+    assert!(rt; is_appended(alloc, Grammar::Standard, &text));
+    assert!(rt; agree(alloc, Grammar::Standard, &text));
+    assert!(rt; agree(alloc, Grammar::Extended, &text));
     Ok(())
 }
 

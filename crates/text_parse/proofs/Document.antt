@@ -6,7 +6,7 @@ use Rattle.text_parse.specs.declared.parser.Parser.{Parser}
 use Rattle.jsonb_spec.specs.Code.Code.{invalid_eof, unexpected_trailing_characters}
 use Rattle.jsonb_spec.specs.Grammar.{max_depth}
 use Rattle.jsonb_spec.specs.Mode.{Mode, strictness, IsLenient}
-use Rattle.text_scan.specs.Answer.{mode_of}
+use Rattle.text_scan.specs.Answer.{grammar_of}
 use Rattle.text_parse.specs.Parser.{Advances, rest_of, size_of}
 use Rattle.jsonb_spec.specs.Source.{Source, null_source}
 use Rattle.text_scan.specs.Parsing.{Fault, fault, ◌>>=◌}
@@ -28,35 +28,35 @@ from_comment size mode [] h e = absurd (omega arith)
 from_comment size mode (b ∷ r) h e = cond-true (opens_comment (strictness mode) (b ∷ r)) (comment_at size null_source r) (value_to_end size mode (b ∷ r)) e
 
 -- what is left after the whitespace, in the same input
-document_same : (p q : Parser) → rest_of q ≡ skip_closed_whitespace (mode_of p.mode) (rest_of p) → Advances p q
-    → source_from (size_of p) (mode_of p.mode) (skip_closed_whitespace (mode_of p.mode) (rest_of p)) ≡ source_from (size_of q) (mode_of q.mode) (rest_of q)
+document_same : (p q : Parser) → rest_of q ≡ skip_closed_whitespace (grammar_of p.grammar) (rest_of p) → Advances p q
+    → source_from (size_of p) (grammar_of p.grammar) (skip_closed_whitespace (grammar_of p.grammar) (rest_of p)) ≡ source_from (size_of q) (grammar_of q.grammar) (rest_of q)
 document_same p q e a =
-    ap (λ (r : List ℕ). source_from (size_of p) (mode_of p.mode) r) (sym e)
-    ∙ ap (λ (n : ℕ). source_from n (mode_of p.mode) (rest_of q)) (sym (same_size p q a)) ∙ ap (λ (m : Mode). source_from (size_of q) m (rest_of q)) (sym (ap mode_of a.mode))
+    ap (λ (r : List ℕ). source_from (size_of p) (grammar_of p.grammar) r) (sym e)
+    ∙ ap (λ (n : ℕ). source_from n (grammar_of p.grammar) (rest_of q)) (sym (same_size p q a)) ∙ ap (λ (m : Mode). source_from (size_of q) m (rest_of q)) (sym (ap grammar_of a.grammar))
 
 -- a text with more than whitespace
-pub document_some : (p q : Parser) → rest_of q ≡ skip_closed_whitespace (mode_of p.mode) (rest_of p) → Advances p q → q.offset < size_of q → opens_comment (strictness (mode_of q.mode)) (rest_of q) ≡ false
-    → source_from (size_of p) (mode_of p.mode) (skip_closed_whitespace (mode_of p.mode) (rest_of p)) ≡ (value_at (size_of q) (mode_of q.mode) max_depth (rest_of q) >>= ended (size_of q) (mode_of q.mode))
-document_some p q e a within closed = document_same p q e a ∙ from_some (size_of q) (mode_of q.mode) (rest_of q) (omega (arith, length-drop q.offset q.buf.now)) closed
+pub document_some : (p q : Parser) → rest_of q ≡ skip_closed_whitespace (grammar_of p.grammar) (rest_of p) → Advances p q → q.offset < size_of q → opens_comment (strictness (grammar_of q.grammar)) (rest_of q) ≡ false
+    → source_from (size_of p) (grammar_of p.grammar) (skip_closed_whitespace (grammar_of p.grammar) (rest_of p)) ≡ (value_at (size_of q) (grammar_of q.grammar) max_depth (rest_of q) >>= ended (size_of q) (grammar_of q.grammar))
+document_some p q e a within closed = document_same p q e a ∙ from_some (size_of q) (grammar_of q.grammar) (rest_of q) (omega (arith, length-drop q.offset q.buf.now)) closed
 
 -- a text with no more than whitespace
-pub document_none : (p q : Parser) → rest_of q ≡ skip_closed_whitespace (mode_of p.mode) (rest_of p) → Advances p q → size_of q ≤ q.offset → IsLenient (mode_of q.mode)
-    → source_from (size_of p) (mode_of p.mode) (skip_closed_whitespace (mode_of p.mode) (rest_of p)) ≡ Ok null_source
-document_none p q e a past is = document_same p q e a ∙ ap (λ (r : List ℕ). source_from (size_of q) (mode_of q.mode) r) (nothing_left q.buf.now q.offset past) ∙ ap (nothing_at (size_of q)) is
+pub document_none : (p q : Parser) → rest_of q ≡ skip_closed_whitespace (grammar_of p.grammar) (rest_of p) → Advances p q → size_of q ≤ q.offset → IsLenient (grammar_of q.grammar)
+    → source_from (size_of p) (grammar_of p.grammar) (skip_closed_whitespace (grammar_of p.grammar) (rest_of p)) ≡ Ok null_source
+document_none p q e a past is = document_same p q e a ∙ ap (λ (r : List ℕ). source_from (size_of q) (grammar_of q.grammar) r) (nothing_left q.buf.now q.offset past) ∙ ap (nothing_at (size_of q)) is
 
 -- a text that ends in a comment
-pub document_comment : (p q : Parser) → rest_of q ≡ skip_closed_whitespace (mode_of p.mode) (rest_of p) → Advances p q → q.offset < size_of q → opens_comment (strictness (mode_of q.mode)) (rest_of q) ≡ true
-    → source_from (size_of p) (mode_of p.mode) (skip_closed_whitespace (mode_of p.mode) (rest_of p)) ≡ comment_at (size_of q) null_source (drop 1 (rest_of q))
-document_comment p q e a within opens = document_same p q e a ∙ from_comment (size_of q) (mode_of q.mode) (rest_of q) (omega (arith, length-drop q.offset q.buf.now)) opens
+pub document_comment : (p q : Parser) → rest_of q ≡ skip_closed_whitespace (grammar_of p.grammar) (rest_of p) → Advances p q → q.offset < size_of q → opens_comment (strictness (grammar_of q.grammar)) (rest_of q) ≡ true
+    → source_from (size_of p) (grammar_of p.grammar) (skip_closed_whitespace (grammar_of p.grammar) (rest_of p)) ≡ comment_at (size_of q) null_source (drop 1 (rest_of q))
+document_comment p q e a within opens = document_same p q e a ∙ from_comment (size_of q) (grammar_of q.grammar) (rest_of q) (omega (arith, length-drop q.offset q.buf.now)) opens
 
 -- ---- after the value
 
 -- what is left after the whitespace, in the same input
-ending_same : (p q : Parser) (t : Source) → rest_of q ≡ skip_closed_whitespace (mode_of p.mode) (rest_of p) → Advances p q
-    → at_end (size_of p) (mode_of p.mode) t (skip_closed_whitespace (mode_of p.mode) (rest_of p)) ≡ at_end (size_of q) (mode_of q.mode) t (rest_of q)
+ending_same : (p q : Parser) (t : Source) → rest_of q ≡ skip_closed_whitespace (grammar_of p.grammar) (rest_of p) → Advances p q
+    → at_end (size_of p) (grammar_of p.grammar) t (skip_closed_whitespace (grammar_of p.grammar) (rest_of p)) ≡ at_end (size_of q) (grammar_of q.grammar) t (rest_of q)
 ending_same p q t e a =
-    ap (λ (r : List ℕ). at_end (size_of p) (mode_of p.mode) t r) (sym e)
-    ∙ ap (λ (n : ℕ). at_end n (mode_of p.mode) t (rest_of q)) (sym (same_size p q a)) ∙ ap (λ (m : Mode). at_end (size_of q) m t (rest_of q)) (sym (ap mode_of a.mode))
+    ap (λ (r : List ℕ). at_end (size_of p) (grammar_of p.grammar) t r) (sym e)
+    ∙ ap (λ (n : ℕ). at_end n (grammar_of p.grammar) t (rest_of q)) (sym (same_size p q a)) ∙ ap (λ (m : Mode). at_end (size_of q) m t (rest_of q)) (sym (ap grammar_of a.grammar))
 
 past_end : (size : ℕ) (mode : Mode) (t : Source) (r : List ℕ) (i : ℕ) → length r + i ≡ size → 0 < length r → opens_comment (strictness mode) r ≡ false → at_end size mode t r ≡ Err (record { code = unexpected_trailing_characters; offset = i + 1 })
 past_end size mode t [] i e h closed = absurd (omega arith)
@@ -68,23 +68,23 @@ comment_end : (size : ℕ) (mode : Mode) (t : Source) (r : List ℕ) → 0 < len
 comment_end size mode t [] h opens = absurd (omega arith)
 comment_end size mode t (b ∷ r) h opens = cond-true (opens_comment (strictness mode) (b ∷ r)) (comment_at size t r) (fault unexpected_trailing_characters (size - length (b ∷ r) + 1)) opens
 
-pub ends_trailing : (p q : Parser) (t : Source) → rest_of q ≡ skip_closed_whitespace (mode_of p.mode) (rest_of p) → Advances p q → q.offset < size_of q → opens_comment (strictness (mode_of q.mode)) (rest_of q) ≡ false
-    → at_end (size_of p) (mode_of p.mode) t (skip_closed_whitespace (mode_of p.mode) (rest_of p)) ≡ Err (record { code = unexpected_trailing_characters; offset = q.offset + 1 })
+pub ends_trailing : (p q : Parser) (t : Source) → rest_of q ≡ skip_closed_whitespace (grammar_of p.grammar) (rest_of p) → Advances p q → q.offset < size_of q → opens_comment (strictness (grammar_of q.grammar)) (rest_of q) ≡ false
+    → at_end (size_of p) (grammar_of p.grammar) t (skip_closed_whitespace (grammar_of p.grammar) (rest_of p)) ≡ Err (record { code = unexpected_trailing_characters; offset = q.offset + 1 })
 ends_trailing p q t e a within closed =
-    ending_same p q t e a ∙ past_end (size_of q) (mode_of q.mode) t (rest_of q) q.offset (omega (arith, length-drop q.offset q.buf.now)) (omega (arith, length-drop q.offset q.buf.now)) closed
+    ending_same p q t e a ∙ past_end (size_of q) (grammar_of q.grammar) t (rest_of q) q.offset (omega (arith, length-drop q.offset q.buf.now)) (omega (arith, length-drop q.offset q.buf.now)) closed
 
-pub ends_comment : (p q : Parser) (t : Source) → rest_of q ≡ skip_closed_whitespace (mode_of p.mode) (rest_of p) → Advances p q → q.offset < size_of q → opens_comment (strictness (mode_of q.mode)) (rest_of q) ≡ true
-    → at_end (size_of p) (mode_of p.mode) t (skip_closed_whitespace (mode_of p.mode) (rest_of p)) ≡ comment_at (size_of q) t (drop 1 (rest_of q))
-ends_comment p q t e a within opens = ending_same p q t e a ∙ comment_end (size_of q) (mode_of q.mode) t (rest_of q) (omega (arith, length-drop q.offset q.buf.now)) opens
+pub ends_comment : (p q : Parser) (t : Source) → rest_of q ≡ skip_closed_whitespace (grammar_of p.grammar) (rest_of p) → Advances p q → q.offset < size_of q → opens_comment (strictness (grammar_of q.grammar)) (rest_of q) ≡ true
+    → at_end (size_of p) (grammar_of p.grammar) t (skip_closed_whitespace (grammar_of p.grammar) (rest_of p)) ≡ comment_at (size_of q) t (drop 1 (rest_of q))
+ends_comment p q t e a within opens = ending_same p q t e a ∙ comment_end (size_of q) (grammar_of q.grammar) t (rest_of q) (omega (arith, length-drop q.offset q.buf.now)) opens
 
-pub ends_well : (p q : Parser) (t : Source) → rest_of q ≡ skip_closed_whitespace (mode_of p.mode) (rest_of p) → Advances p q → size_of q ≤ q.offset
-    → at_end (size_of p) (mode_of p.mode) t (skip_closed_whitespace (mode_of p.mode) (rest_of p)) ≡ Ok t
-ends_well p q t e a past = ending_same p q t e a ∙ ap (at_end (size_of q) (mode_of q.mode) t) (nothing_left q.buf.now q.offset past)
+pub ends_well : (p q : Parser) (t : Source) → rest_of q ≡ skip_closed_whitespace (grammar_of p.grammar) (rest_of p) → Advances p q → size_of q ≤ q.offset
+    → at_end (size_of p) (grammar_of p.grammar) t (skip_closed_whitespace (grammar_of p.grammar) (rest_of p)) ≡ Ok t
+ends_well p q t e a past = ending_same p q t e a ∙ ap (at_end (size_of q) (grammar_of q.grammar) t) (nothing_left q.buf.now q.offset past)
 
 -- the end of the text is that of the same input further on
-pub ended_same : (q m : Parser) (t : Source) → Advances q m → ended (size_of q) (mode_of q.mode) (t, rest_of m) ≡ at_end (size_of m) (mode_of m.mode) t (skip_closed_whitespace (mode_of m.mode) (rest_of m))
+pub ended_same : (q m : Parser) (t : Source) → Advances q m → ended (size_of q) (grammar_of q.grammar) (t, rest_of m) ≡ at_end (size_of m) (grammar_of m.grammar) t (skip_closed_whitespace (grammar_of m.grammar) (rest_of m))
 ended_same q m t a =
-    sym (ap (λ (n : ℕ). at_end n (mode_of m.mode) t (skip_closed_whitespace (mode_of m.mode) (rest_of m))) (same_size q m a) ∙ ap (λ (k : Mode). at_end (size_of q) k t (skip_closed_whitespace k (rest_of m))) (ap mode_of a.mode))
+    sym (ap (λ (n : ℕ). at_end n (grammar_of m.grammar) t (skip_closed_whitespace (grammar_of m.grammar) (rest_of m))) (same_size q m a) ∙ ap (λ (k : Mode). at_end (size_of q) k t (skip_closed_whitespace k (rest_of m))) (ap grammar_of a.grammar))
 
 -- ---- a comment at the end
 

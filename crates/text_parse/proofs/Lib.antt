@@ -4,3 +4,4 @@ pub mod Document
 pub mod VerbatimTexts
 pub mod Scalars
 pub mod Steps
+pub mod Grammars

@@ -2,6 +2,7 @@
 pub mod Built
 pub mod Contents
 pub mod Elements
+pub mod ExactNumbers
 pub mod FirstBytes
 pub mod VerbatimNumbers
 pub mod ShortStrings

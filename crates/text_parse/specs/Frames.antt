@@ -9,7 +9,7 @@ use Rattle.jsonb_spec.specs.Tree.Tree.{null}
 use Rattle.text_parse.specs.Handler.{ElseFails}
 use Rattle.text_parse.specs.declared.parser.Parser.{Parser}
 use Rattle.text_parse.specs.declared.parser.frame.Frame.{Frame}
-use Rattle.text_scan.specs.Answer.{mode_of}
+use Rattle.text_scan.specs.Answer.{grammar_of}
 use Rattle.text_parse.specs.Parser.{rest_of, size_of}
 use Rattle.text_scan.specs.Parsing.{Parse, begins, ◌>>=◌}
 use Rattle.text_scan.specs.Parsing.Container.{is_left_out}
@@ -104,14 +104,14 @@ module _ {I M K : Type 0} (Holds : Bool → List (Frame I M K) → List Open →
   abbrev pub BeforeValue : Parse Source → Parser → List (Frame I M K) → Type 0
   BeforeValue whole p stack =
       Remains whole true stack
-      (λ cs. value_at (size_of p) (mode_of p.mode) (depth_within stack) (rest_of p) >>= resume (size_of p)
-      (mode_of p.mode) (depth_within stack) cs)
+      (λ cs. value_at (size_of p) (grammar_of p.grammar) (depth_within stack) (rest_of p) >>= resume (size_of p)
+      (grammar_of p.grammar) (depth_within stack) cs)
 
   -- The innermost container was parsed to its end, or a part of it begins.
   abbrev pub AtPart : Parse Source → Parser → List (Frame I M K) → Bool → Type 0
   AtPart whole p stack closed =
       Remains whole false stack
-      (λ cs. resume_stack (size_of p) (mode_of p.mode) (depth_within stack) closed cs (rest_of p))
+      (λ cs. resume_stack (size_of p) (grammar_of p.grammar) (depth_within stack) closed cs (rest_of p))
 
   -- A part of the innermost container begins.
   abbrev pub AtNextPart : Parse Source → Parser → List (Frame I M K) → Type 0

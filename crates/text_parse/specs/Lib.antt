@@ -1,4 +1,5 @@
 pub mod Frames
+pub mod Grammars
 pub mod Handler
 pub mod Literals
 pub mod Parser

@@ -18,7 +18,7 @@ use Rattle.text_scan.specs.Parsing.String.{quote_end, string_at}
 use Rattle.text_scan.specs.Parsing.Scalar.{scalar_at}
 use Rattle.text_scan.specs.Parsing.Document.{source_from}
 use Rattle.text_scan.specs.Parsing.Whitespace.{skip_closed_whitespace}
-use Rattle.text_scan.specs.Answer.{mode_of, Gives}
+use Rattle.text_scan.specs.Answer.{grammar_of, Gives}
 
 -- the bytes from the index on
 abbrev pub rest_of : Parser → List ℕ
@@ -49,6 +49,7 @@ IsTextOf text p = text ≡ take (length text) p.buf.now
 pub record Advances (old new : Parser) : Type 0 where
   pub buf : new.buf ≡ old.buf
   pub mode : new.mode ≡ old.mode
+  pub grammar : new.grammar ≡ old.grammar
   pub onward : old.offset ≤ new.offset
 
 -- The parser has gone on in the same input, and what was in the sink before the text stays.
@@ -81,14 +82,14 @@ pub record TakesByte (byte : ℕ) (is_next result : Bool) (old new : Parser) : T
 -- The parser has passed all that this function skips.
 pub record Skips (skip : Mode → List ℕ → List ℕ) (old new : Parser) : Type 0 where
   -- what is left is what the function leaves
-  pub rest : rest_of new ≡ skip (mode_of old.mode) (rest_of old)
+  pub rest : rest_of new ≡ skip (grammar_of old.grammar) (rest_of old)
   -- the parser has gone on in its input
   pub advances : Advances old new
 
 -- The parser has passed some of what this function skips, or nothing.
 pub record SkipsSome (skip : Mode → List ℕ → List ℕ) (old new : Parser) : Type 0 where
   -- the function leaves the same bytes as before
-  pub rest : skip (mode_of old.mode) (rest_of new) ≡ skip (mode_of old.mode) (rest_of old)
+  pub rest : skip (grammar_of old.grammar) (rest_of new) ≡ skip (grammar_of old.grammar) (rest_of old)
   -- the parser has gone on in its input
   pub advances : Advances old new
 
@@ -99,21 +100,21 @@ pub record SkipsSome (skip : Mode → List ℕ → List ℕ) (old new : Parser) 
 abbrev pub ParsesAs : {X Y : Type 0} → (X → Y) → (ℕ → Mode → List ℕ → Parse Y) → Result X Error → Parser → Parser
     → Type 0
 ParsesAs view read result old new =
-    Gives (λ x. (view x, rest_of new)) result (read (size_of old) (mode_of old.mode) (rest_of old))
+    Gives (λ x. (view x, rest_of new)) result (read (size_of old) (grammar_of old.grammar) (rest_of old))
 
 -- What a call returned that returns `None` where it did not parse: where it is `Some`, it is seen so.
 abbrev pub FindsAs : {X Y : Type 0} → (X → Y) → (ℕ → Mode → List ℕ → Parse Y) → Option X → Parser → Parser → Type 0
 FindsAs view read result old new =
-    IfSome result (λ x. read (size_of old) (mode_of old.mode) (rest_of old) ≡ Ok (view x, rest_of new))
+    IfSome result (λ x. read (size_of old) (grammar_of old.grammar) (rest_of old) ≡ Ok (view x, rest_of new))
 
 -- what this function parses from where the parser is
 abbrev pub parse_at : {Y : Type 0} → (ℕ → Mode → List ℕ → Parse Y) → Parser → Parse Y
-parse_at read p = read (size_of p) (mode_of p.mode) (rest_of p)
+parse_at read p = read (size_of p) (grammar_of p.grammar) (rest_of p)
 
 -- the whole text, with whitespace before its value
 abbrev pub source_at : Parser → Result Source Fault
 source_at p =
-    source_from (size_of p) (mode_of p.mode) (skip_closed_whitespace (mode_of p.mode) (rest_of p))
+    source_from (size_of p) (grammar_of p.grammar) (skip_closed_whitespace (grammar_of p.grammar) (rest_of p))
 
 -- A string or a key is what this function parses; memory runs out only where the text has a backslash.
 pub record ParsesString {X : Type 0} (view : X → Mark × List ℕ) (read : ℕ → Mode → List ℕ → Parse (Mark × List ℕ))

@@ -1,8 +1,8 @@
 -- What begins with the next byte.
-use Rattle.std.specs.Prelude.{◌≡◌, ℕ, true, false, List, drop, codes}
+use Rattle.std.specs.Prelude.{◌≡◌, ℕ, true, false, List, ◌∷◌, drop, codes}
 use Rattle.jsonb_spec.specs.Ascii as ascii
 use Rattle.jsonb_spec.specs.Code.{expected_some_value}
-use Rattle.jsonb_spec.specs.Mode.{Mode, strictness}
+use Rattle.jsonb_spec.specs.Mode.{Mode, Strictness, strictness}
 use Rattle.jsonb_spec.specs.Tree.{Tree, boolean}
 use Rattle.text_scan.specs.Parsing.{Parse, begins, reject}
 use Rattle.text_scan.specs.Parsing.Scalar.{null_at, number_value_at, quoted_at, scalar_at, word_at}
@@ -39,3 +39,8 @@ pub record IsStart (start : Start) (mode : Mode) (bytes : List ℕ) : Type 0 whe
   pub scalar : (size : ℕ) → scalar_at size mode bytes ≡ scalar_from start size mode bytes
   -- A bracket, a brace or a quote comes next, where it says so.
   pub next : ComesNext start bytes
+
+-- It does so where this byte comes next, in each mode of this strictness.
+abbrev pub IsStartIn : Start → Strictness → ℕ → Type 0
+IsStartIn start s byte =
+    (mode : Mode) → strictness mode ≡ s → (rest : List ℕ) → IsStart start mode (byte ∷ rest)

@@ -7,7 +7,7 @@ use Rattle.jsonb_spec.specs.Mode.{Mode, strictness}
 use Rattle.jsonb_spec.specs.Tree.{Mark, Tree}
 use Rattle.jsonb_spec.specs.Source.{Source}
 use Rattle.jsonb_value.specs.declared.error.Error.TheVariants.{OutOfMemory}
-use Rattle.text_scan.specs.Answer.{mode_of}
+use Rattle.text_scan.specs.Answer.{grammar_of}
 use Rattle.text_scan.specs.Open.{Open}
 use Rattle.text_scan.specs.Parsing.{Parse, begins}
 use Rattle.text_scan.specs.Parsing.Container.{is_left_out}
@@ -26,7 +26,7 @@ use Rattle.text_parse.specs.declared.parser.handler.Handler.{Ghosts}
 pub record EndsPart {F : Type 0} (code : Code) (close : ℕ) (result : Result Bool F) (old new : Parser) : Type 0 where
   -- what was returned is what the executable specification says, or the fault is reported
   pub parses : Builds false new.reported (λ x y. x ≡ y) result
-      (part_end (size_of old) code close (skip_whitespace (mode_of old.mode) (rest_of old))) (rest_of new)
+      (part_end (size_of old) code close (skip_whitespace (grammar_of old.grammar) (rest_of old))) (rest_of new)
   -- a byte was passed
   pub onward : IfOk result (λ closed. old.offset < new.offset)
   -- the parser has gone on in its input
@@ -77,7 +77,7 @@ module _ {V R I M K : Type 0} (h : Ghosts V R I M K) where
     pub same_sink : filled ≡ sink
     pub same_frame : after ≡ before
     pub opens : OpensContainer (rest_of start)
-    pub is_there : is_left_out (strictness (mode_of start.mode)) (rest_of start) ≡ false
+    pub is_there : is_left_out (strictness (grammar_of start.grammar)) (rest_of start) ≡ false
 
   -- A scalar that this function parses here was put in.
   pub record PutsThere (read : ℕ → Mode → List ℕ → Parse Tree) (start new : Parser) (sink filled : R)
@@ -128,9 +128,9 @@ module _ {V R I M K : Type 0} (h : Ghosts V R I M K) where
     pub parses : (depth : ℕ) → (c : Open) → (fs : List (Frame I M K)) → (cs : List Open) → Fits frame c
         → h.holds old.buf.now sink false (frame ∷ fs) (c ∷ cs)
         → ElseFails h.silent new.reported result
-        (next_part_at (size_of old) (mode_of old.mode) depth c (rest_of old))
-        (λ closed. ParsesParts (h.holds old.buf.now filled) (size_of old) (mode_of old.mode) depth
-        (next_part_at (size_of old) (mode_of old.mode) depth c (rest_of old)) closed more fs cs (rest_of new))
+        (next_part_at (size_of old) (grammar_of old.grammar) depth c (rest_of old))
+        (λ closed. ParsesParts (h.holds old.buf.now filled) (size_of old) (grammar_of old.grammar) depth
+        (next_part_at (size_of old) (grammar_of old.grammar) depth c (rest_of old)) closed more fs cs (rest_of new))
     -- A closing byte was passed, or a container opens here.
     pub onward : IfOk result (λ closed. MatchBool closed (old.offset < new.offset) (Unit {0}))
     -- where the container did not end, another opens here

@@ -4,5 +4,5 @@
 mod parser;
 
 pub use parser::handler::{Failed, Handler, Wants};
-pub use parser::{Frame, Mode, OpenObject, Scalar, Text, parse_text};
+pub use parser::{Frame, Grammar, Mode, OpenObject, Scalar, Text, parse_text};
 pub use text_common::verbatim::Verbatim;

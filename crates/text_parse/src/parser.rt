@@ -1,15 +1,18 @@
 //! The parser of JSON texts: from left to right, up to the first fault.
 
-ghost use Rattle.std.specs.Prelude.{◌≡◌, ◌≢◌, ◌+◌, ◌<◌, ◌≤◌, ℕ, List, [], ◌∷◌, drop, ◌⊎◌, MatchOption, IfOk, IfErr, IfSome, Err, None, Ok, Some, true, length};
+ghost use Rattle.std.specs.Prelude.{◌≡◌, ◌≢◌, ◌+◌, ◌<◌, ◌≤◌, ℕ, List, [], ◌∷◌, drop, take, ◌⊎◌, MatchOption, IfOk, IfErr, IfSome, Err, None, Ok, Some, true, length};
 ghost use Rattle.jsonb_value.specs.Error.CodeView.{code_of};
-ghost use Rattle.text_scan.specs.Answer.{mode_of, NamesFault, Gives, MayAllocate};
+ghost use Rattle.text_scan.specs.Answer.{grammar_of, mode_of, NamesFault, Gives, MayAllocate};
 ghost use Rattle.text_scan.specs.Parsing.{begins, fault_at};
 ghost use Rattle.text_scan.specs.Parsing.Whitespace.{skip_closed_whitespace};
 ghost use Rattle.text_scan.specs.Parsing.Document.{at_end, comment_at, source_of};
+ghost use Rattle.jsonb_spec.specs.Mode.{strictness};
 ghost use Rattle.jsonb_spec.specs.Source.{Source};
 ghost use Rattle.text_parse.specs.Handler.{BuildsAll, ElseFails, IsWritten, Misses};
+ghost use Rattle.text_parse.specs.Grammars.{may_cut};
 
 mod ascii;
+mod exact_number;
 mod extended_number;
 mod frame;
 pub mod handler;
@@ -30,7 +33,7 @@ use handler::{Failed, Handler};
 use jsonb_value::error::{Error, ParseErrorCode, Result};
 use std::alloc::{AllocError, Global};
 pub use text::{Scalar, Text};
-pub use text_scan::parser::Mode;
+pub use text_scan::parser::{Grammar, Mode};
 
 /// Parses a whole text: what a handler makes of it, or what is wrong with it.
 ///
@@ -43,20 +46,22 @@ pub fn parse_text<'a, V: Handler<'a>>(
     sink: &mut V::Sink,
     alloc: Global,
     buf: &'a [u8],
-    mode: Mode,
+    grammar: Grammar,
 ) -> std::result::Result<V, Option<Error>>
     ensures parses { V.holds buf.now sink.old true [] []
-        → BuildsAll V.silent (λ v s. V.filled buf.now sink.new v s [] []) result (source_of (mode_of mode) buf.now) }
+        → BuildsAll V.silent (λ v s. V.filled buf.now sink.new v s [] []) result
+        (source_of (grammar_of grammar) buf.now) }
     ensures memory { IfErr result (λ reported. reported ≡ Some Error.OutOfMemory
-        → MayAllocate buf.now ⊎ IsWritten V.writes (source_of (mode_of mode) buf.now)) }
+        → MayAllocate buf.now ⊎ IsWritten V.writes (source_of (grammar_of grammar) buf.now)) }
     ensures base { V.base sink.new ≡ V.base sink.old }
 {
     // Strings without escapes are cut out of the text, which is tested once. Where a comment isn't UTF-8, each string
     // is tested alone, as none can be cut out.
-    let text = whole_text(buf).unwrap_or("");
+    let text = text_to_cut(buf, grammar, V::wants().plain);
     let mut parser = Parser {
         alloc,
-        mode,
+        grammar,
+        mode: grammar.mode(),
         buf,
         offset: 0,
         reported: None,
@@ -65,6 +70,19 @@ pub fn parse_text<'a, V: Handler<'a>>(
         Ok(value) => Ok(value),
         Err(Failed) => Err(parser.reported),
     }
+}
+
+// The text that strings are cut out of, or none. In JSON each string that a handler doesn't want to be distinguished is
+// looked at alone, for control characters.
+#[inline(always)]
+fn text_to_cut(buf: &[u8], grammar: Grammar, reports_plain: bool) -> &str
+    ensures same { result.now ≡ take (length result.now) buf.now }
+    ensures cuts { may_cut reports_plain result.now (grammar_of grammar) ≡ true }
+{
+    if !reports_plain && matches!(grammar, Grammar::Json) {
+        return "";
+    }
+    whole_text(buf).unwrap_or("")
 }
 
 // The bytes as text, where they are UTF-8. The call for long texts looks at 64 bytes at once, and short ones are mostly
@@ -86,12 +104,15 @@ fn whole_text(bytes: &[u8]) -> Option<&str>
 #[derive(Drop)]
 struct Parser<'a> {
     alloc: Global,
+    grammar: Grammar,
+    // Which words, quotes and keys the grammar has, of which more is asked than of the grammar.
     mode: Mode,
     buf: &'a [u8],
     offset: usize,
     // What is wrong, once a call failed.
     reported: Option<Error>,
     ghost inside: { offset ≤ length buf.now },
+    ghost agree: { strictness (mode_of mode) ≡ strictness (grammar_of grammar) },
 }
 
 impl<'a> Parser<'a> {
@@ -203,6 +224,7 @@ impl<'a> Parser<'a> {
         text: &'a str,
     ) -> std::result::Result<V, Failed>
         requires same { IsTextOf text.now self.old }
+        requires cuts { may_cut V.reports_plain text.now (grammar_of self.old.grammar) ≡ true }
         ensures parses { V.holds self.old.buf.now sink.old true [] []
             → ElseFails V.silent self.new.reported result (source_at self.old) (λ v. (s : Source)
             × V.filled self.old.buf.now sink.new v s [] [] × (source_at self.old ≡ Ok s)) }
@@ -270,8 +292,8 @@ impl<'a> Parser<'a> {
 
     // The end of a text, after its value.
     fn end_document(&mut self) -> Result<()>
-        ensures parses { (s : Source) → Gives (λ _. s) result (at_end (size_of self.old) (mode_of self.old.mode) s
-            (skip_closed_whitespace (mode_of self.old.mode) (rest_of self.old))) }
+        ensures parses { (s : Source) → Gives (λ _. s) result (at_end (size_of self.old) (grammar_of self.old.grammar) s
+            (skip_closed_whitespace (grammar_of self.old.grammar) (rest_of self.old))) }
         ensures takes_no_memory { result ≢ Err Error.OutOfMemory }
     {
         self.skip_closed_whitespace();

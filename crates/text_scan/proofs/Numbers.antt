@@ -8,6 +8,7 @@ pub mod DigitValues
 pub mod Ends
 pub mod Exact
 pub mod ExactNumbers
+pub mod ExactRead
 pub mod Extended
 pub mod ExtendedParts
 pub mod ExtendedTexts
@@ -18,6 +19,7 @@ pub mod HexadecimalTexts
 pub mod HexadecimalValues
 pub mod Verbatim
 pub mod VerbatimDecimals
+pub mod Moving
 pub mod Read
 pub mod Reading
 pub mod Runs

@@ -7,4 +7,7 @@ pub mod Decoding
 pub mod Ends
 pub mod Items
 pub mod NearMarks
+pub mod Plain
+pub mod Rows
+pub mod Strict
 pub mod Utf8

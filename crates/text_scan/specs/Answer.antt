@@ -1,10 +1,12 @@
--- The grammar of a mode, and how a result relates to the executable specification.
+-- The grammar of the code's modes, and how a result relates to the executable specification.
 use Rattle.std.specs.Prelude.{◌≡◌, ◌⊎◌, ℕ, List, Contains, Result, Ok, Err}
 use Rattle.jsonb_spec.specs.Ascii as ascii
-use Rattle.jsonb_spec.specs.Mode.{Mode, standard, extended}
+use Rattle.jsonb_spec.specs.Mode.{Mode, standard, extended, json, extended_json}
 use Rattle.jsonb_value.specs.Error.CodeView.{code_of}
 use Rattle.jsonb_value.specs.declared.error.Error.{Error}
 use Rattle.jsonb_value.specs.declared.error.Error.TheVariants.{Syntax, OutOfMemory}
+use Rattle.text_scan.specs.declared.parser.Grammar.{Grammar}
+use Rattle.text_scan.specs.declared.parser.Grammar.TheVariants as grammars
 use Rattle.text_scan.specs.declared.parser.Mode as parser
 use Rattle.text_scan.specs.declared.parser.Mode.TheVariants.{Standard, Extended}
 use Rattle.text_scan.specs.Parsing.{Fault}
@@ -13,6 +15,13 @@ use Rattle.text_scan.specs.Parsing.{Fault}
 abbrev pub mode_of : parser.Mode → Mode
 mode_of Standard = standard
 mode_of Extended = extended
+
+-- the grammar that a parser's grammar means
+abbrev pub grammar_of : Grammar → Mode
+grammar_of grammars.Standard = standard
+grammar_of grammars.Extended = extended
+grammar_of grammars.Json = json
+grammar_of grammars.ExtendedJson = extended_json
 
 -- the error names this fault
 abbrev pub NamesFault : Error → Fault → Type 0

@@ -4,7 +4,9 @@ pub mod Open
 pub mod QuotedString
 pub mod Parsing
 pub mod ScannedNumber
+pub mod ExactRead
 pub mod ShortInteger
 pub mod Encoded
+pub mod StrictString
 pub mod StringError
 pub mod VerbatimNumber

@@ -2,7 +2,7 @@
 use Rattle.std.proofs.Common.{◌≡◌, ◌≢◌, ℕ, ◌&&◌, Bool, true, false, not, List, [], Option, None, Some, MatchBool, All, Vec, refl, sym, ap, subst, ◌∙◌}
 use Rattle.std.proofs.lemmas.List.Elements.{All-nil}
 use Rattle.std.specs.declared.alloc.Global.{Global}
-use Rattle.vjson_text.specs.Json.{AppendsKeyOf}
+use Rattle.vjson_text.specs.Texts.{AppendsKeyOf}
 use Rattle.std.specs.Io.KnownBytes.{Appends, Keeps}
 use Rattle.std.specs.List.{flat_map}
 use Rattle.vjson_run.proofs.Taken.{appended_more, retained_along, same_answered}

@@ -7,7 +7,7 @@ use Rattle.std.specs.List.{AllByRecursion, AllZip}
 use Rattle.std.specs.List.Sorted.{IsSorted, IsStrictlySortedBy}
 use Rattle.std.specs.Ordering.{is_le, ordering_reverse}
 use Rattle.std.specs.declared.alloc.Global.{Global}
-use Rattle.vjson_text.specs.Json.{IsNoTextOf}
+use Rattle.vjson_text.specs.Texts.{IsNoTextOf}
 use Rattle.vjson_run.proofs.Lists.{any_before, any_last, zipped_more}
 use Rattle.vjson_run.specs.Answers.{IsKeyOf}
 use Rattle.vjson_run.specs.InOrder.{key_order, Ascend, may_follow, AreOutOfOrder, AreInOrder, AreInOrderSoFar, is_wrong}

@@ -1,18 +1,16 @@
 -- Texts that are in order aren't out of order.
-use Rattle.std.proofs.Common.{◌≡◌, inl, inr, ℕ, suc, ◌+◌, Bool, true, false, true≢false, List, [], ◌∷◌, ◌++◌, Option, Some, None, Result, Ok, Err, get_or, Ordering, Less, Equal, Greater, is_lt, refl, sym, ap, subst, ◌∙◌, arith}
+use Rattle.std.proofs.Common.{◌≡◌, inl, inr, ℕ, suc, ◌+◌, Bool, true, false, true≢false, List, [], ◌∷◌, ◌++◌, Option, Some, None, get_or, Ordering, Less, Equal, Greater, is_lt, refl, sym, ap, subst, ◌∙◌, arith}
 use Rattle.std.proofs.lemmas.List.Elements.{AllZip-get_or}
 use Rattle.std.specs.List.{AllZip}
 use Rattle.std.specs.List.Sorted.{IsSorted, IsStrictlySortedBy}
 use Rattle.std.specs.Ordering.{is_le, ordering_reverse}
-use Rattle.jsonb_spec.specs.Mode.{standard, extended}
 use Rattle.jsonb_spec.specs.PartAt.{part_at}
 use Rattle.jsonb_spec.specs.SortKey.{key_of}
-use Rattle.jsonb_spec.specs.Grammar.{IsDocument}
 use Rattle.jsonb_spec.specs.Tree.{Tree}
 use Rattle.jsonb.proofs.Documents.Encodings.{document_unique}
-use Rattle.vjson_text.specs.Json.{IsNoTextOf, IsTextOf}
-use Rattle.vjson_text.specs.declared.reader.Grammar.{Grammar}
-use Rattle.vjson_text.specs.declared.reader.Grammar.TheVariants.{Json, Standard, Extended}
+use Rattle.vjson_text.specs.Texts.{IsNoTextOf, IsTextOf}
+use Rattle.text_scan.specs.Answer.{grammar_of}
+use Rattle.text_scan.specs.declared.parser.Grammar.{Grammar}
 use Rattle.vjson_run.proofs.InOrder.{turned}
 use Rattle.vjson_run.specs.Answers.{HasPart, IsKeyOf, LacksPart, keys_of, no_key, part_key, whole_key}
 use Rattle.vjson_run.specs.InOrder.{key_order, Ascend, may_follow, AreOutOfOrder, AreInOrder}
@@ -20,19 +18,8 @@ use Rattle.vjson_run.specs.declared.options.Options.{Options}
 
 -- ---- a text has one key
 
-bytes_of : Result (List ℕ) ℕ → List ℕ
-bytes_of (Ok bytes) = bytes
-bytes_of (Err offset) = []
-
-same_bytes : (xs ys : List ℕ) (r : Result (List ℕ) ℕ) → r ≡ Ok xs → r ≡ Ok ys → xs ≡ ys
-unfolding bytes_of
-same_bytes xs ys r p q = ap bytes_of (sym p ∙ q)
-
 one_tree : (g : Grammar) (text : List ℕ) (t u : Tree) → IsTextOf g text t → IsTextOf g text u → t ≡ u
-one_tree Json text t u h k =
-    document_unique extended h.written t u h.document (subst (λ bytes. IsDocument extended bytes u) (same_bytes k.written h.written _ k.is_written h.is_written) k.document)
-one_tree Standard text t u h k = document_unique standard text t u h k
-one_tree Extended text t u h k = document_unique extended text t u h k
+one_tree g text t u h k = document_unique (grammar_of g) text t u h k
 
 same_tree : (t u : Tree) → Some t ≡ Some u → t ≡ u
 same_tree t u e = cc

@@ -4,20 +4,21 @@ use Rattle.std.specs.Option.{option_and_then}
 use Rattle.std.specs.Str.{bytes_eq}
 use Rattle.jsonb_spec.specs.Accessors.{find_member, item_at}
 use Rattle.jsonb_spec.specs.Grammar.{max_depth}
-use Rattle.jsonb_spec.specs.Mode.{standard, extended}
+use Rattle.jsonb_spec.specs.Mode.{Mode, standard, extended, json, extended_json}
 use Rattle.jsonb_spec.specs.PartAt.{child_at, index_named, part_at}
 use Rattle.jsonb_spec.specs.Proper.{IsProper, AreProper, HaveProperParts}
 use Rattle.jsonb_spec.specs.SortKey.{key_of}
-use Rattle.jsonb_spec.specs.Text.Range.{IsWithin, AreWithin, HaveWithin, HasFewDigits}
+use Rattle.jsonb_spec.specs.Text.Range.{IsWithin, AreWithin, HaveWithin, HasFewDigits, IsInRangeOf}
 use Rattle.jsonb_spec.specs.Text.{text_of}
 use Rattle.jsonb_spec.specs.Tree.{Tree, null, boolean, string, number, array, object, Trees, no_trees, more_trees, Members, no_members, more_members}
 use Rattle.jsonb_value.proofs.SortKeys.Trees.{keys_same}
 use Rattle.jsonb_value.proofs.Trees.RangeTexts.{document_in_range, integer_range, range_reads_back}
 use Rattle.jsonb.proofs.Documents.Bounds.{document_proper}
 use Rattle.jsonb.proofs.Documents.Encodings.{document_unique}
-use Rattle.vjson_text.specs.Json.{AppendsKeyOf, IsTextOf}
-use Rattle.vjson_text.specs.declared.reader.Grammar.{Grammar}
-use Rattle.vjson_text.specs.declared.reader.Grammar.TheVariants.{Json, Standard, Extended}
+use Rattle.vjson_text.specs.Texts.{AppendsKeyOf, IsTextOf}
+use Rattle.text_scan.specs.Answer.{grammar_of}
+use Rattle.text_scan.specs.declared.parser.Grammar.{Grammar}
+use Rattle.text_scan.specs.declared.parser.Grammar.TheVariants.{Extended}
 
 -- ---- a part is in range where the whole is
 
@@ -86,10 +87,15 @@ part_sound (key ∷ keys) t part depth e s = by (child_at key t) e (λ u child a
     by None e others = absurd (no_tree part e)
     by (Some u) e others = others u refl e
 
+-- what is in a mode's range is in range
+in_range : (mode : Mode) (t : Tree) → IsProper t → IsInRangeOf mode t → IsWithin HasFewDigits t max_depth
+in_range standard t p w = integer_range t p w
+in_range extended t p w = w
+in_range json t p w = w
+in_range extended_json t p w = w
+
 text_sound : (g : Grammar) (text : List ℕ) (t : Tree) → IsTextOf g text t → IsSound max_depth t
-text_sound Json text t h = document_in_range extended h.written t h.document
-text_sound Standard text t h = let r = document_in_range standard text t h in (integer_range t r.1 r.0, r.1)
-text_sound Extended text t h = document_in_range extended text t h
+text_sound g text t h = let r = document_in_range (grammar_of g) text t h in (in_range (grammar_of g) t r.1 r.0, r.1)
 
 pub part_key_is : (g : Grammar) (text : List ℕ) (t part : Tree) (keys : List (List ℕ)) (bytes key : List ℕ) → IsTextOf g text t → part_at keys t ≡ Some part → text_of part ≡ Some bytes → AppendsKeyOf Extended bytes [] key → key ≡ key_of part
 part_key_is g text t part keys bytes key is at is_part h =

@@ -4,9 +4,9 @@ use Rattle.std.specs.declared.alloc.Global.{Global}
 use Rattle.std.specs.Prelude.{String, Vec, map, string_bytes}
 use Rattle.jsonb_spec.specs.Indented.{indented_text}
 use Rattle.jsonb_spec.specs.Tree.{Tree}
-use Rattle.vjson_text.specs.Json.{AppendsKeyOf, AppendsLaidOut, AppendsPartOf, AppendsTextOf}
-use Rattle.vjson_text.specs.declared.reader.Grammar.{Grammar}
-use Rattle.vjson_text.specs.declared.reader.Grammar.TheVariants.{Extended}
+use Rattle.vjson_text.specs.Texts.{AppendsKeyOf, AppendsLaidOut, AppendsPartOf, AppendsTextOf}
+use Rattle.text_scan.specs.declared.parser.Grammar.{Grammar}
+use Rattle.text_scan.specs.declared.parser.Grammar.TheVariants.{Extended}
 use Rattle.vjson_text.specs.declared.reader.Layout.{Layout}
 use Rattle.vjson_text.specs.declared.reader.Layout.TheVariants.{Compact, Indent}
 use Rattle.vjson_run.proofs.PartKeys.{part_key_is}

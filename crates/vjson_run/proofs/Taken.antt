@@ -6,7 +6,7 @@ use Rattle.std.proofs.lemmas.List.Elements.{All-nil, All-cons, All-push}
 use Rattle.std.specs.Bool.{⊤}
 use Rattle.std.specs.declared.alloc.Global.{Global}
 use Rattle.std.specs.List.{flat_map, list_all}
-use Rattle.vjson_text.specs.Json.{AppendsKeyOf, IsNoTextOf}
+use Rattle.vjson_text.specs.Texts.{AppendsKeyOf, IsNoTextOf}
 use Rattle.vjson_run.proofs.InOrder.{disordered_more, in_order_more, out_of_order, rejected_order}
 use Rattle.vjson_run.proofs.Lists.{any_before, any_last, zipped_more}
 use Rattle.vjson_run.specs.Answers.{Answers, IsFound, IsLaidOut, IsOne, LacksPart, Prints, PrintsKeyed, asked, checked, checks_order, found, keyed, lacking, laid_out, printed, rejected}

@@ -2,9 +2,10 @@
 use Rattle.std.proofs.Common.{◌≡◌, ◌⊎◌, inl, inr, ℕ, suc, Bool, true, false, List, [], ◌∷◌, ◌++◌, Option, None, Some, IfSome, OnOk, Result, Ok, Err, if◌then◌else◌, refl, sym, subst, ◌∙◌, arith, append-nil}
 use Rattle.std.specs.List.{Any}
 use Rattle.jsonb_spec.specs.Tree.{Tree}
-use Rattle.vjson_text.specs.Json.{IsNoTextOf}
-use Rattle.vjson_text.specs.Memory.{LacksSpace, LacksSpaceForPart, MayRunOut}
-use Rattle.vjson_text.specs.declared.reader.Grammar.{Grammar}
+use Rattle.text_scan.specs.Answer.{MayAllocate}
+use Rattle.vjson_text.specs.Texts.{IsNoTextOf}
+use Rattle.vjson_text.specs.Memory.{LacksSpace, LacksSpaceForPart}
+use Rattle.text_scan.specs.declared.parser.Grammar.{Grammar}
 use Rattle.vjson_run.proofs.Lists.{any_before, any_last}
 use Rattle.vjson_run.proofs.Taken.{Flushed, Rejected, error_taken, rejected_taken, flushed_taken, nothing_taken, over_taken, takes_no_more, takes_then, trouble_taken}
 use Rattle.vjson_run.specs.Answers.{IsKeyOf, IsOne, no_key, part_key, whole_key}
@@ -19,11 +20,11 @@ use Rattle.vjson_run.specs.declared.session.Status.TheVariants.{Yes, No, Trouble
 
 -- ---- memory
 
-pub space_taken : (g : Grammar) (made : Tree → List ℕ) (text : List ℕ) (capacity len : ℕ) → MayRunOut g text ⊎ LacksSpace g made text capacity len → MayTakeMemory g text
+pub space_taken : (g : Grammar) (made : Tree → List ℕ) (text : List ℕ) (capacity len : ℕ) → MayAllocate text ⊎ LacksSpace g made text capacity len → MayTakeMemory g text
 space_taken g made text capacity len (inl may) = inl may
 space_taken g made text capacity len (inr lacks) = inr (lacks.tree, lacks.is_text)
 
-pub part_space_taken : (g : Grammar) (keys : List (List ℕ)) (text : List ℕ) (capacity len : ℕ) → MayRunOut g text ⊎ LacksSpaceForPart g keys text capacity len → MayTakeMemory g text
+pub part_space_taken : (g : Grammar) (keys : List (List ℕ)) (text : List ℕ) (capacity len : ℕ) → MayAllocate text ⊎ LacksSpaceForPart g keys text capacity len → MayTakeMemory g text
 part_space_taken g keys text capacity len (inl may) = inl may
 part_space_taken g keys text capacity len (inr lacks) = inr (lacks.tree, lacks.is_text)
 

@@ -6,9 +6,9 @@ use Rattle.jsonb_spec.specs.PartAt.{part_at}
 use Rattle.jsonb_spec.specs.SortKey.{key_of}
 use Rattle.jsonb_spec.specs.Text.{text_of}
 use Rattle.jsonb_spec.specs.Tree.{Tree}
-use Rattle.vjson_text.specs.Json.{AppendsKeyOf, AppendsTextOf, IsTextOf, IsNoTextOf}
+use Rattle.vjson_text.specs.Texts.{AppendsKeyOf, AppendsTextOf, IsTextOf, IsNoTextOf}
 use Rattle.vjson_text.specs.Raw.{IsRaw}
-use Rattle.vjson_text.specs.declared.reader.Grammar.{Grammar}
+use Rattle.text_scan.specs.declared.parser.Grammar.{Grammar}
 use Rattle.vjson_text.specs.declared.reader.Layout.{Layout}
 use Rattle.vjson_text.specs.declared.reader.Layout.TheVariants.{Compact, Indent}
 use Rattle.vjson_run.specs.Lines.{key_line}

@@ -1,10 +1,9 @@
 -- The texts of an input: its lines, or all of it.
-use Rattle.std.specs.Prelude.{ℕ, ◌-◌, ◌==◌, ◌&&◌, Bool, true, false, not, if◌then◌else◌, List, [], ◌∷◌, length, take, drop, slice_index}
+use Rattle.std.specs.Prelude.{ℕ, ◌-◌, ◌==◌, ◌&&◌, ◌||◌, Bool, true, false, not, if◌then◌else◌, List, [], ◌∷◌, length, take, drop, slice_index}
 use Rattle.std.specs.Io.BufRead.{ends_with_byte}
 use Rattle.std.specs.List.{filter, list_all}
 use Rattle.std.specs.Str.Lines.{lines, strip_carriage_return}
 use Rattle.jsonb_spec.specs.Ascii as ascii
-use Rattle.text_strict.specs.Word.{is_blank}
 
 -- the bytes of a byte order mark in UTF-8, EF BB BF
 abbrev pub mark_first : ℕ
@@ -27,6 +26,10 @@ without_mark bytes =
 abbrev pub without_end : List ℕ → List ℕ
 without_end line =
     if ends_with_byte ascii.line_feed line then strip_carriage_return (take (length line - 1) line) else line
+
+-- a space, a tab, a line feed or a carriage return
+abbrev pub is_blank : ℕ → Bool
+is_blank byte = byte == ascii.space || (byte == ascii.tab || (byte == ascii.line_feed || byte == ascii.carriage_return))
 
 -- whitespace alone
 abbrev pub is_blank_line : List ℕ → Bool

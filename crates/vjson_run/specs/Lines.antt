@@ -9,8 +9,8 @@ use Rattle.jsonb_spec.specs.Ascii as ascii
 use Rattle.jsonb_spec.specs.Order.{bytes_cmp}
 use Rattle.jsonb_spec.specs.SortKey.{key_of}
 use Rattle.jsonb_spec.specs.Tree.{Tree}
-use Rattle.vjson_text.specs.Json.{IsTextOf}
-use Rattle.vjson_text.specs.declared.reader.Grammar.{Grammar}
+use Rattle.vjson_text.specs.Texts.{IsTextOf}
+use Rattle.text_scan.specs.declared.parser.Grammar.{Grammar}
 use Rattle.vjson_run.specs.declared.lines.Line.{Line}
 
 -- the key of a line

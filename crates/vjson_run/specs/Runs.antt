@@ -3,7 +3,7 @@ use Rattle.std.specs.Prelude.{◌≡◌, ◌≢◌, ℕ, Bool, true, false, not,
 use Rattle.std.specs.Io.KnownBytes.{Appends}
 use Rattle.std.specs.List.{All, AllZip, Any, filter, flat_map, list_all}
 use Rattle.std.specs.declared.alloc.Global.{Global}
-use Rattle.vjson_text.specs.Json.{AppendsKeyOf, IsNoTextOf}
+use Rattle.vjson_text.specs.Texts.{AppendsKeyOf, IsNoTextOf}
 use Rattle.vjson_run.specs.Answers.{Answers, IsFound, IsKeyOf, IsKeyed, LacksPart, Prints}
 use Rattle.vjson_run.specs.Input.{is_blank_line, without_end}
 use Rattle.vjson_run.specs.InOrder.{AreInOrder, AreInOrderSoFar, is_wrong}

@@ -1,9 +1,9 @@
 -- What a run may end in trouble for: a text, and what is left to do at its end.
 use Rattle.std.specs.Prelude.{◌≡◌, ◌≢◌, ◌⊎◌, ℕ, true, List, Option, None}
 use Rattle.std.specs.List.{Any}
-use Rattle.vjson_text.specs.Json.{IsNoTextOf}
-use Rattle.vjson_text.specs.Memory.{MayRunOut}
-use Rattle.vjson_text.specs.declared.reader.Grammar.{Grammar}
+use Rattle.text_scan.specs.Answer.{MayAllocate}
+use Rattle.text_scan.specs.declared.parser.Grammar.{Grammar}
+use Rattle.vjson_text.specs.Texts.{IsNoTextOf}
 use Rattle.vjson_run.specs.Answers.{IsOne}
 use Rattle.vjson_run.specs.Runs.{Takes, sorts}
 use Rattle.vjson_run.specs.declared.options.Command.{Command}
@@ -15,11 +15,11 @@ use Rattle.vjson_run.specs.declared.session.Status.TheVariants.{Trouble}
 
 -- Memory may run out at a text: while it is read, or for what is printed or kept of one of the grammar.
 abbrev pub MayTakeMemory : Grammar → List ℕ → Type 0
-MayTakeMemory grammar text = MayRunOut grammar text ⊎ IsOne grammar text
+MayTakeMemory grammar text = MayAllocate text ⊎ IsOne grammar text
 
 -- The same by a command: `check` prints and keeps nothing.
 abbrev pub MayRunOutBy : Command → Grammar → List ℕ → Type 0
-MayRunOutBy Check grammar text = MayRunOut grammar text
+MayRunOutBy Check grammar text = MayAllocate text
 MayRunOutBy command grammar text = MayTakeMemory grammar text
 
 -- A run may end in trouble at a text: memory may run out there, or it is to be compared and is none of the grammar.

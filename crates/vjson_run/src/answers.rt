@@ -1,17 +1,14 @@
 //! What the commands answer to one text, and print of it.
 
 ghost use Rattle.std.specs.Prelude.{◌≡◌, ◌≢◌, ◌⊎◌, [], false, map, string_bytes, IfOk, IfErr, OnOk, MatchBool, Err, None};
-ghost use Rattle.vjson_text.specs.Memory.{MayRunOut};
-ghost use Rattle.vjson_text.specs.Read.{Rejects};
-ghost use Rattle.vjson_text.specs.Json.{AppendsKeyOf, AppendsPartOf};
-ghost use Rattle.vjson_text.specs.declared.reader.Grammar.{Grammar};
+ghost use Rattle.vjson_text.specs.Texts.{AppendsKeyOf, AppendsPartOf, Rejects};
+ghost use Rattle.text_scan.specs.declared.parser.Grammar.{Grammar};
 ghost use Rattle.vjson_run.specs.Trouble.{MayTakeMemory};
 ghost use Rattle.vjson_run.specs.Answers.{
   AppendsLine,
   IsFound,
   IsKeyOf,
   IsLaidOut,
-  IsOne,
   IsShown,
   LacksPart,
   Prints,
@@ -28,8 +25,6 @@ use vjson_text::{Fault, Grammar, Layout};
 /// Buffers that serve one text after the other.
 #[derive(Drop)]
 pub struct Buffers {
-    // A text with its numbers written out.
-    plain: Vec<u8>,
     // The serialized form of a part.
     part: Vec<u8>,
     /// A key.
@@ -40,7 +35,6 @@ impl Buffers {
     /// Buffers of which nothing is used yet.
     pub fn new(alloc: Global) -> Buffers {
         Buffers {
-            plain: Vec::new(alloc),
             part: Vec::new(alloc),
             key: Vec::new(alloc),
         }
@@ -63,44 +57,19 @@ fn layout_of(options: &Options) -> Layout
     }
 }
 
-/// Whether the text is one of the grammar.
-///
-/// # Errors
-///
-/// As of [`vjson_text::check`].
-pub fn check(
-    alloc: Global,
-    grammar: Grammar,
-    text: &[u8],
-    buffers: &mut Buffers,
-) -> Result<(), Fault>
-    ensures ok { OnOk result (IsOne grammar text.now) }
-    ensures rejected { Rejects grammar text.now result }
-    ensures memory { result ≡ Err Fault.NoMemory → MayRunOut grammar text.now }
-{
-    vjson_text::check(alloc, grammar, text, &mut buffers.plain)
-}
-
 /// Prints the text laid out.
 ///
 /// # Errors
 ///
 /// As of [`vjson_text::check`].
-pub fn format(
-    alloc: Global,
-    options: &Options,
-    text: &[u8],
-    buffers: &mut Buffers,
-    out: &mut Vec<u8>,
-) -> Result<(), Fault>
+pub fn format(alloc: Global, options: &Options, text: &[u8], out: &mut Vec<u8>) -> Result<(), Fault>
     ensures ok { OnOk result (Prints (IsLaidOut options.now text.now) out.old.items out.new.items) }
     ensures err { IfErr result (λ f. f ≢ Fault.NoMemory → out.new.items ≡ out.old.items) }
     ensures rejected { Rejects options.now.grammar text.now result }
     ensures memory { result ≡ Err Fault.NoMemory → MayTakeMemory options.now.grammar text.now }
 {
     let layout = layout_of(options);
-    let plain = &mut buffers.plain;
-    vjson_text::append(alloc, options.grammar, layout, text, plain, out)?;
+    vjson_text::append(alloc, options.grammar, layout, text, out)?;
     out.push(b'\n')?;
     Ok(())
 }
@@ -118,14 +87,7 @@ fn find_part(
     ensures memory { result ≡ Err Fault.NoMemory → MayTakeMemory grammar text.now }
 {
     buffers.part.clear();
-    vjson_text::append_part(
-        alloc,
-        grammar,
-        path,
-        text,
-        &mut buffers.plain,
-        &mut buffers.part,
-    )
+    vjson_text::append_part(alloc, grammar, path, text, &mut buffers.part)
 }
 
 // Prints what `get` prints of the serialized form of a part.
@@ -199,8 +161,7 @@ pub fn make_whole_key(
     ensures memory { result ≡ Err Fault.NoMemory → MayTakeMemory grammar text.now }
 {
     buffers.key.clear();
-    let plain = &mut buffers.plain;
-    vjson_text::append_key(alloc, grammar, text, plain, &mut buffers.key)
+    vjson_text::append_key(alloc, grammar, text, &mut buffers.key)
 }
 
 /// Puts the key that the text is sorted by instead of the one in the buffers.
@@ -235,9 +196,7 @@ fn make_part_key(alloc: Global, buffers: &mut Buffers) -> Result<(), AllocError>
     ensures ok { OnOk result (AppendsKeyOf Grammar.Extended buffers.old.part.items [] buffers.new.key.items) }
 {
     buffers.key.clear();
-    let plain = &mut buffers.plain;
-    let key = &mut buffers.key;
-    match vjson_text::append_key(alloc, Grammar::Extended, &buffers.part, plain, key) {
+    match vjson_text::append_key(alloc, Grammar::Extended, &buffers.part, &mut buffers.key) {
         Ok(()) => Ok(()),
         Err(_) => Err(AllocError),
     }
@@ -252,11 +211,9 @@ pub fn append_line(
     alloc: Global,
     options: &Options,
     text: &[u8],
-    buffers: &mut Buffers,
     out: &mut Vec<u8>,
 ) -> Result<(), Fault>
     ensures ok { OnOk result (AppendsLine options.now text.now out.old.items out.new.items) }
-    ensures key { buffers.new.key.items ≡ buffers.old.key.items }
     ensures err { IfErr result (λ f. f ≢ Fault.NoMemory → out.new.items ≡ out.old.items) }
     ensures rejected { Rejects options.now.grammar text.now result }
     ensures memory { result ≡ Err Fault.NoMemory → MayTakeMemory options.now.grammar text.now
@@ -266,8 +223,7 @@ pub fn append_line(
         out.extend_from_slice(text)?;
         return Ok(());
     }
-    let plain = &mut buffers.plain;
-    vjson_text::append(alloc, options.grammar, Layout::Compact, text, plain, out)
+    vjson_text::append(alloc, options.grammar, Layout::Compact, text, out)
 }
 
 /// Prints the text's line behind the key that it is sorted by.
@@ -293,7 +249,7 @@ pub fn print_key(
         return Ok(());
     }
     let mut line = Vec::new(alloc);
-    append_line(alloc, options, text, buffers, &mut line)?;
+    append_line(alloc, options, text, &mut line)?;
     append_key_line(&buffers.key, &line, out)?;
     Ok(())
 }

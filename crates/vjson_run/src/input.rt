@@ -5,12 +5,11 @@ ghost use Rattle.std.specs.Io.BufRead.{take_through, drop_through, DropsThrough}
 ghost use Rattle.std.specs.Io.KnownBytes.{IsAtEnd, Keeps};
 ghost use Rattle.std.specs.Str.Lines.{lines};
 ghost use Rattle.jsonb_spec.specs.Ascii as ascii;
-ghost use Rattle.vjson_run.specs.Input.{is_blank_line, without_end, without_mark};
+ghost use Rattle.vjson_run.specs.Input.{is_blank, is_blank_line, without_end, without_mark};
 
 use memchr::memchr;
 use std::io;
 use std::io::{BufRead, ErrorKind};
-use text_strict::word::is_blank;
 
 /// The bytes without a byte order mark at their start.
 pub fn without_mark(bytes: &[u8]) -> &[u8]
@@ -31,6 +30,13 @@ pub fn without_end(line: &[u8]) -> &[u8]
         [text @ .., b'\n'] => text,
         _ => line,
     }
+}
+
+// Whether the byte is a space, a tab, a line feed or a carriage return.
+fn is_blank(byte: u8) -> bool
+    ensures { result ≡ is_blank byte }
+{
+    byte == b' ' || (byte == b'\t' || (byte == b'\n' || byte == b'\r'))
 }
 
 /// Whether a line has whitespace alone.

@@ -6,7 +6,7 @@ ghost use Rattle.jsonb_spec.specs.Ascii as ascii;
 ghost use Rattle.std.specs.Ordering.{ordering_then};
 ghost use Rattle.jsonb_spec.specs.Order.{bytes_cmp, tree_cmp};
 ghost use Rattle.jsonb_spec.specs.Tree.{Tree};
-ghost use Rattle.vjson_text.specs.declared.reader.Grammar.{Grammar};
+ghost use Rattle.text_scan.specs.declared.parser.Grammar.{Grammar};
 ghost use Rattle.vjson_run.specs.declared.options.Options.{Options};
 ghost use Rattle.vjson_run.specs.InOrder.{AreInOrder, key_order, may_follow};
 ghost use Rattle.vjson_run.specs.Lines.{

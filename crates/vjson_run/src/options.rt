@@ -21,6 +21,7 @@ standard input is read.
 
   -l, --lines            each line is a text (sort and keys always)
       --extended         also comments, single quotes, unquoted keys and more
+      --extended-json    the same, and decimals may have exponents
       --standard         numbers are integers of 64 bits alone
   -c, --compact          format: on one line
       --indent N         format: N spaces, 0 to 16 (2)
@@ -252,6 +253,7 @@ impl Options {
         match name {
             "--lines" => self.lines = true,
             "--extended" => self.grammar = Grammar::Extended,
+            "--extended-json" => self.grammar = Grammar::ExtendedJson,
             "--standard" => self.grammar = Grammar::Standard,
             "--compact" => self.layout = Some(Layout::Compact),
             "--raw" => self.raw = true,

@@ -1,9 +1,8 @@
 //! A run of the program over its files.
 
 ghost use Rattle.std.specs.Prelude.{◌≡◌, ◌≢◌, ◌⊎◌, ◌≤◌, ◌∷◌, ◌==◌, [], List, ℕ, Option, OnOk, IfErr, IfSome, Err, None, Some, if◌then◌else◌, true, false};
-ghost use Rattle.vjson_text.specs.Json.{IsNoTextOf};
-ghost use Rattle.vjson_text.specs.Memory.{MayRunOut};
-ghost use Rattle.vjson_text.specs.Read.{Rejects};
+ghost use Rattle.text_scan.specs.Answer.{MayAllocate};
+ghost use Rattle.vjson_text.specs.Texts.{IsNoTextOf, Rejects};
 ghost use Rattle.vjson_run.specs.Answers.{IsLaidOut, IsOne, Prints, PrintsKeyed, checks_order};
 ghost use Rattle.vjson_run.specs.InOrder.{is_wrong};
 ghost use Rattle.vjson_run.specs.Input.{text_lines, texts_of, without_mark};
@@ -315,10 +314,9 @@ impl<'o, W: Write, E: Write> Session<'o, W, E> {
         ensures ok { OnOk result (IsOne self.old.options.now.grammar text.now) }
         ensures rejected { Rejects self.old.options.now.grammar text.now result }
         ensures same { IsSame self.old self.new }
-        ensures memory { result ≡ Err Fault.NoMemory → MayRunOut self.old.options.now.grammar text.now }
+        ensures memory { result ≡ Err Fault.NoMemory → MayAllocate text.now }
     {
-        let grammar = self.options.grammar;
-        answers::check(self.alloc, grammar, text, &mut self.buffers)
+        vjson_text::check(self.alloc, self.options.grammar, text)
     }
 
     fn answer_format(&mut self, text: &[u8]) -> Result<(), Fault>
@@ -330,7 +328,7 @@ impl<'o, W: Write, E: Write> Session<'o, W, E> {
         ensures memory { result ≡ Err Fault.NoMemory → MayTakeMemory self.old.options.now.grammar text.now }
     {
         let out = &mut self.out.bytes;
-        answers::format(self.alloc, self.options, text, &mut self.buffers, out)
+        answers::format(self.alloc, self.options, text, out)
     }
 
     fn answer_get(&mut self, text: &[u8]) -> Result<(), Fault>
@@ -405,7 +403,7 @@ impl<'o, W: Write, E: Write> Session<'o, W, E> {
             return Ok(());
         }
         let mut line = Vec::new(self.alloc);
-        answers::append_line(self.alloc, self.options, text, &mut self.buffers, &mut line)?;
+        answers::append_line(self.alloc, self.options, text, &mut line)?;
         self.lines.push(Line { key, text: line })?;
         Ok(())
     }

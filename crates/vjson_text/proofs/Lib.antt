@@ -1,14 +1,2 @@
-pub mod Inverted
-pub mod JsonWords
 pub mod LaidOut
-pub mod LaidOutTexts
 pub mod Memory
-pub mod NumberTexts
-pub mod Numbers
-pub mod Pieces
-pub mod PlainTexts
-pub mod PlainWords
-pub mod Readings
-pub mod Sources
-pub mod StrictTexts
-pub mod Written

@@ -14,13 +14,6 @@ pub enum Message {
     /// A number is well formed, and out of range.
     OutOfRange,
     NotUtf8,
-    /// The text ends where RFC 8259's grammar has more.
-    EndsTooEarly,
-    ControlCharacter,
-    /// RFC 8259's grammar has no such escape.
-    Escape,
-    /// RFC 8259's grammar has no such thing.
-    NotJson,
     NoDocument,
     /// Behind a text on a line of its own is something, which may be the text of the next line.
     Trailing,
@@ -34,12 +27,6 @@ impl fmt::Display for Message {
                 "number out of range (38 digits, written out; with --standard, 64-bit integers)",
             ),
             Message::NotUtf8 => f.write_str("not UTF-8"),
-            Message::EndsTooEarly => f.write_str("the text ends too early"),
-            Message::ControlCharacter => f.write_str(
-                "control character in a string: JSON writes it as \\u and four digits",
-            ),
-            Message::Escape => f.write_str("escape that JSON doesn't have"),
-            Message::NotJson => f.write_str("JSON doesn't have this (--extended may)"),
             Message::NoDocument => f.write_str("not a document"),
             Message::Trailing => f.write_str("trailing characters (one text a line? --lines)"),
         }

@@ -3,8 +3,8 @@
 
 pub mod fault;
 pub mod laws;
-pub mod mask;
 pub mod reader;
 
 pub use fault::{Fault, Message};
-pub use reader::{Grammar, Layout, append, append_key, append_part, append_raw, check};
+pub use jsonb::Grammar;
+pub use reader::{Layout, append, append_key, append_part, append_raw, check};

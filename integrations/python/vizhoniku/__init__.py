@@ -1,9 +1,9 @@
 """JSON documents by value, over the library libvizhoniku: check, text, sort key, part and comparison; sort keys as
 stored documents, and with all digits of their numbers.
 
-A document is a str or bytes in UTF-8. Every call takes a mode: EXTENDED, the default, or STANDARD. A text that is no
-document of the mode raises RejectedText, a ValueError with line and column. A call that runs out of memory raises
-MemoryError. The calls keep no state: threads need no lock, and other threads run while a call reads a long text.
+A document is a str or bytes in UTF-8. Every call takes a mode: EXTENDED_JSON, the default, JSON, EXTENDED or STANDARD. A
+text that is no document of the mode raises RejectedText, a ValueError with line and column. A call that runs out of
+memory raises MemoryError. The calls keep no state: threads need no lock, and other threads run while a call reads a long text.
 
 Where the module in C is built, which has the library in it, the calls go by that; else they go by ctypes, and so they
 do where the environment variable VIZHONIKU names a shared library. NATIVE says which it is.
@@ -13,11 +13,11 @@ import importlib.util
 import os
 from typing import TYPE_CHECKING
 
-from ._common import EXTENDED, STANDARD, Mode, PathError, RejectedText, Text
+from ._common import EXTENDED, EXTENDED_JSON, JSON, STANDARD, Mode, PathError, RejectedText, Text
 
 __all__ = [
-    "EXTENDED", "NATIVE", "STANDARD", "Document", "Key", "Mode", "PathError", "RejectedText", "Text", "check",
-    "compare", "get", "is_valid", "sort_key", "text", "text_and_key",
+    "EXTENDED", "EXTENDED_JSON", "JSON", "NATIVE", "STANDARD", "Document", "Key", "Mode", "PathError", "RejectedText",
+    "Text", "check", "compare", "get", "is_valid", "sort_key", "text", "text_and_key",
 ]
 
 __version__ = "0.2.0"

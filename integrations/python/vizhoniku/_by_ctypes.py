@@ -10,12 +10,12 @@ import os
 import subprocess
 from typing import Any, Callable, Iterator, List, Optional, Tuple, TypeVar, Union
 
-from ._common import (BAD_PATH, EXTENDED, NO_DOCUMENT, NO_KEY, NO_NAME, STANDARD, TOO_DEEP, Mode, PathError,
-                      RejectedText, Text, rejection)
+from ._common import (BAD_PATH, EXTENDED_JSON, NO_DOCUMENT, NO_KEY, NO_NAME, TOO_DEEP, Mode, PathError, RejectedText,
+                      Text, rejection)
 from ._values import text_of, value_of
 
 _SONAME = "libvizhoniku.so.0"
-_VERSION = 9  # the version of the interface, VIZHONIKU_VERSION of the header; a later one only adds to it
+_VERSION = 10  # the version of the interface, VIZHONIKU_VERSION of the header; a later one only adds to it
 
 (_ACCEPTED, _REJECTED, _OUT_OF_MEMORY, _UNKNOWN_MODE, _TOO_SHORT, _NO_PART, _NO_PATH, _NO_KEY,
  _TOO_DEEP, _NO_ZEROS, _NO_DOCUMENT) = range(11)
@@ -77,8 +77,6 @@ def _load() -> ctypes.CDLL:
         library.vizhoniku_compare.argtypes = [mode, *text_in, *text_in, ctypes.POINTER(ctypes.c_int32), error]
         library.vizhoniku_reason.argtypes = [mode, *text_in, *text_out]
         library.vizhoniku_locate.argtypes = [*text_in, error, location]
-        library.vizhoniku_plain_numbers.argtypes = [*text_in, *text_out, error]
-        library.vizhoniku_masked_numbers.argtypes = [*text_in, *text_out]
         library.vizhoniku_error_path.argtypes = [mode, *text_in, error, *text_out]
         found = [ctypes.POINTER(size), ctypes.POINTER(size)]
         library.vizhoniku_key_check.argtypes = text_in
@@ -110,9 +108,8 @@ def _load() -> ctypes.CDLL:
         for name in ("check", "text", "part", "sort_key", "text_and_key", "compare", "reason", "key_check", "key_kind",
                      "key_count", "key_member", "key_item", "key_part", "key_begin", "key_next", "key_name",
                      "key_text", "key_contains", "key_set", "key_remove", "key_put", "key_push", "key_merge",
-                     "plain_numbers", "masked_numbers", "error_path", "document", "document_check", "document_text",
-                     "document_part", "document_set", "document_remove", "document_put", "document_push",
-                     "document_merge"):
+                     "error_path", "document", "document_check", "document_text", "document_part", "document_set",
+                     "document_remove", "document_put", "document_push", "document_merge"):
             getattr(library, "vizhoniku_" + name).restype = status
         library.vizhoniku_document_key.restype = size
         library.vizhoniku_locate.restype = None
@@ -150,10 +147,6 @@ def _words(mode: int, data: bytes) -> bytes:
     return ctypes.string_at(buffer, size.value)
 
 
-_NOT_CARRIED = 20  # the code of a number that isn't representable
-_TOO_LONG = b"number not carried"  # as the library reports it of a number without an exponent
-
-
 def _path(mode: int, data: bytes, error: _Error) -> Optional[str]:
     """The path of the innermost item or member at which the text was rejected."""
     capacity = 256
@@ -168,31 +161,12 @@ def _path(mode: int, data: bytes, error: _Error) -> Optional[str]:
     return ctypes.string_at(buffer, size.value).decode("utf-8", "replace") if status == _ACCEPTED else None
 
 
-def _rejected(mode: int, error: _Error, text: Text, data: bytes, words: Optional[bytes] = None) -> RejectedText:
-    """The error of a text, of which the data are the bytes, or are those with numbers masked."""
+def _rejected(mode: int, error: _Error, text: Text, data: bytes) -> RejectedText:
+    """The error of a text, of which the data are the bytes."""
     location = _Location()
     _library.vizhoniku_locate(data, len(data), error, location)
-    return rejection(text, data, _words(mode, data) if words is None else words, error.code, error.which,
-                     location.index, location.line, location.column, _path(mode, _bytes(text), error))
-
-
-def _of_the_user(text: Text, data: bytes, fault: RejectedText) -> RejectedText:
-    """The first error of a text whose numbers can't be written out, or that is rejected then, with its place in the
-    text itself.
-
-    That place is where the text is rejected with these numbers masked, since then each byte stays where it is.
-    """
-    buffer, size, error = ctypes.create_string_buffer(len(data)), ctypes.c_size_t(), _Error()
-    status = _library.vizhoniku_masked_numbers(data, len(data), buffer, len(data), size)
-    masked = ctypes.string_at(buffer, size.value)
-    if status == _ACCEPTED:
-        status = _library.vizhoniku_check(EXTENDED, masked, len(masked), error)
-    if status == _OUT_OF_MEMORY:
-        raise MemoryError
-    if status != _REJECTED:
-        return fault
-    error.which = fault.which
-    return _rejected(EXTENDED, error, text, masked, _TOO_LONG if error.code == _NOT_CARRIED else None)
+    return rejection(text, data, _words(mode, data), error.code, error.which, location.index, location.line,
+                     location.column, _path(mode, data, error))
 
 
 def _raise(status: int, mode: int, error: _Error, texts: List[Tuple[Text, bytes]]) -> None:
@@ -206,66 +180,22 @@ def _raise(status: int, mode: int, error: _Error, texts: List[Tuple[Text, bytes]
     raise RuntimeError(f"unknown status {status}")
 
 
-def _plain(text: Text, data: bytes, which: int) -> bytes:
-    """The bytes with each number that has an exponent written out."""
-    error, size, capacity = _Error(), ctypes.c_size_t(), len(data) + 64
-    while True:
-        buffer = ctypes.create_string_buffer(capacity)
-        status = _library.vizhoniku_plain_numbers(data, len(data), buffer, capacity, size, error)
-        if status != _TOO_SHORT:
-            break
-        capacity = size.value
-    if status == _REJECTED:
-        error.which = which
-        raise _of_the_user(text, data, _rejected(EXTENDED, error, text, data, _TOO_LONG))
-    _raise(status, 0, error, [(text, data)])
-    return ctypes.string_at(buffer, size.value)
-
-
-def _reads_exponents(call: Any) -> Any:
-    """The call, which is made once more where extended mode rejects a number, with the numbers written out."""
-
-    @functools.wraps(call)
-    def again(text: Text, *others: Any, **named: Any) -> Any:
-        try:
-            return call(text, *others, **named)
-        except RejectedText as fault:
-            if fault.code != _NOT_CARRIED or named.get("mode", others[-1] if others else EXTENDED) == STANDARD:
-                raise
-        data = _bytes(text)
-        plain = _plain(text, data, 1)
-        try:
-            return call(plain, *others, **named)
-        except RejectedText as fault:
-            raise _of_the_user(text, data, fault) from None
-
-    return again
-
-
-@_reads_exponents
-def check(text: Text, mode: int = EXTENDED) -> None:
+def check(text: Text, mode: int = EXTENDED_JSON) -> None:
     """Raises RejectedText where the text is no document."""
     mode, data, error = _mode(mode), _bytes(text), _Error()
     _raise(_library.vizhoniku_check(mode, data, len(data), error), mode, error, [(text, data)])
 
 
-def is_valid(text: Text, mode: int = EXTENDED) -> bool:
+def is_valid(text: Text, mode: int = EXTENDED_JSON) -> bool:
     """Whether the text is a document."""
     mode, data, error = _mode(mode), _bytes(text), _Error()
     status = _library.vizhoniku_check(mode, data, len(data), error)
-    if status == _REJECTED and mode == EXTENDED and error.code == _NOT_CARRIED:
-        try:
-            data = _plain(text, data, 1)
-        except RejectedText:
-            return False
-        status = _library.vizhoniku_check(mode, data, len(data), error)
     if status != _REJECTED:
         _raise(status, mode, error, [(text, data)])
     return bool(status == _ACCEPTED)
 
 
-@_reads_exponents
-def text(text: Text, mode: int = EXTENDED) -> str:
+def text(text: Text, mode: int = EXTENDED_JSON) -> str:
     """The text of the document's value: no whitespace, and members in the order of their keys' bytes."""
     mode, data, error, size = _mode(mode), _bytes(text), _Error(), ctypes.c_size_t()
     capacity = len(data) + 16
@@ -279,14 +209,12 @@ def text(text: Text, mode: int = EXTENDED) -> str:
     return ctypes.string_at(buffer, size.value).decode()
 
 
-@_reads_exponents
-def sort_key(text: Text, mode: int = EXTENDED) -> bytes:
+def sort_key(text: Text, mode: int = EXTENDED_JSON) -> bytes:
     """Bytes that compare as the values of documents do: equal for equal values, and none the beginning of others."""
     return _made(_library.vizhoniku_sort_key, text, mode)
 
 
-@_reads_exponents
-def _document(text: Text, mode: int = EXTENDED) -> bytes:
+def _document(text: Text, mode: int = EXTENDED_JSON) -> bytes:
     """The bytes of a document."""
     return _made(_library.vizhoniku_document, text, mode)
 
@@ -305,8 +233,7 @@ def _made(call: Callable[..., int], text: Text, mode: int) -> bytes:
     return ctypes.string_at(buffer, size.value)
 
 
-@_reads_exponents
-def text_and_key(text: Text, mode: int = EXTENDED) -> Tuple[str, bytes]:
+def text_and_key(text: Text, mode: int = EXTENDED_JSON) -> Tuple[str, bytes]:
     """What text and sort_key return, of one reading."""
     mode, data, error = _mode(mode), _bytes(text), _Error()
     size, key_size = ctypes.c_size_t(), ctypes.c_size_t()
@@ -322,8 +249,7 @@ def text_and_key(text: Text, mode: int = EXTENDED) -> Tuple[str, bytes]:
     return ctypes.string_at(buffer, size.value).decode(), ctypes.string_at(key_buffer, key_size.value)
 
 
-@_reads_exponents
-def get(text: Text, path: Text, mode: int = EXTENDED) -> Optional[str]:
+def get(text: Text, path: Text, mode: int = EXTENDED_JSON) -> Optional[str]:
     """The text of the part at the path, a JSON Pointer (RFC 6901), or None where there is none.
 
     The path "" is the whole document, and "/a/0" the first item of the member "a". PathError is raised where the path
@@ -346,18 +272,11 @@ def get(text: Text, path: Text, mode: int = EXTENDED) -> Optional[str]:
     return ctypes.string_at(buffer, size.value).decode()
 
 
-def compare(left: Text, right: Text, mode: int = EXTENDED) -> int:
+def compare(left: Text, right: Text, mode: int = EXTENDED_JSON) -> int:
     """-1, 0 or 1: the first document's value is below the second's, equal to it, or above it."""
-    mode, texts, read = _mode(mode), [left, right], [_bytes(left), _bytes(right)]
-    error, order, plain = _Error(), ctypes.c_int32(), [False, False]
-    while True:
-        status = _library.vizhoniku_compare(mode, read[0], len(read[0]), read[1], len(read[1]), order, error)
-        at = error.which - 1
-        if status != _REJECTED or error.code != _NOT_CARRIED or mode == STANDARD or plain[at]:
-            break
-        read[at], plain[at] = _plain(texts[at], read[at], at + 1), True
-    if status == _REJECTED and plain[at]:
-        raise _of_the_user(texts[at], _bytes(texts[at]), _rejected(mode, error, read[at], read[at]))
+    mode, read = _mode(mode), [_bytes(left), _bytes(right)]
+    error, order = _Error(), ctypes.c_int32()
+    status = _library.vizhoniku_compare(mode, read[0], len(read[0]), read[1], len(read[1]), order, error)
     _raise(status, mode, error, [(left, read[0]), (right, read[1])])
     return order.value
 
@@ -458,7 +377,7 @@ class Key(_Stored):
     __slots__ = ()
     _noun = "key"
 
-    def __new__(cls, text: Text, mode: int = EXTENDED) -> "Key":
+    def __new__(cls, text: Text, mode: int = EXTENDED_JSON) -> "Key":
         return cls._of(sort_key(text, mode))
 
     @classmethod
@@ -658,7 +577,7 @@ class Document(_Stored):
     __slots__ = ()
     _noun = "document"
 
-    def __new__(cls, text: Text, mode: int = EXTENDED) -> "Document":
+    def __new__(cls, text: Text, mode: int = EXTENDED_JSON) -> "Document":
         return cls._of(_document(text, mode))
 
     @classmethod

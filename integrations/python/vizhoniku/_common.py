@@ -17,10 +17,14 @@ class Mode(enum.IntEnum):
 
     STANDARD = 0  # JSON as RFC 8259 has it, numbers as integers of 64 bits alone
     EXTENDED = 1  # also decimals, hexadecimals, comments, single quotes, keys without quotes and more
+    JSON = 2  # RFC 8259 to the letter, with fractions and exponents at their exact value
+    EXTENDED_JSON = 3  # extended, with exponents
 
 
 STANDARD = Mode.STANDARD
 EXTENDED = Mode.EXTENDED
+JSON = Mode.JSON
+EXTENDED_JSON = Mode.EXTENDED_JSON
 
 
 class RejectedText(ValueError):

@@ -19,11 +19,13 @@
 /* How many parameters a function has at most. */
 #define MOST 3
 
+/* How many modes there are. */
+#define MODES 4
+
 /* What the functions need of Python: the module's own, since there may be several interpreters. */
 struct state {
   PyObject *mode;      /* the class Mode */
-  PyObject *standard;  /* its members */
-  PyObject *extended;
+  PyObject *modes[MODES]; /* its members, each at its number */
   PyObject *path_error;
   PyObject *rejection; /* makes a RejectedText */
   PyObject *rejected;  /* the class RejectedText */
@@ -122,12 +124,22 @@ static int sort_arguments(const char *function, const char *const *names, Py_ssi
   return 1;
 }
 
-/* Reads a mode: Mode(2) raises the error of what is none. Returns 0 where an exception is raised. */
+#define DEFAULT_MODE VIZHONIKU_EXTENDED_JSON
+
+/* The members of the class Mode, each at its number. */
+static const char *const mode_names[MODES] = {
+    [VIZHONIKU_STANDARD] = "STANDARD",
+    [VIZHONIKU_EXTENDED] = "EXTENDED",
+    [VIZHONIKU_JSON] = "JSON",
+    [VIZHONIKU_EXTENDED_JSON] = "EXTENDED_JSON",
+};
+
+/* Reads a mode: Mode(4) raises the error of what is none. Returns 0 where an exception is raised. */
 static int read_mode(const struct state *state, PyObject *object, uint32_t *mode) {
-  *mode = VIZHONIKU_EXTENDED;
-  if (!object || object == state->extended) return 1;
-  *mode = VIZHONIKU_STANDARD;
-  if (object == state->standard) return 1;
+  *mode = DEFAULT_MODE;
+  if (!object) return 1;
+  for (*mode = 0; *mode < MODES; ++*mode)
+    if (object == state->modes[*mode]) return 1;
   PyObject *member = PyObject_CallFunctionObjArgs(state->mode, object, NULL);
   if (!member) return 0;
   *mode = (uint32_t)PyLong_AsUnsignedLong(member);
@@ -176,15 +188,13 @@ static PyObject *path_of(uint32_t mode, const struct vizhoniku_error *error, con
   return result;
 }
 
-/* Raises RejectedText, in these words, or in those of the library where there are none. The text is the one that was
- * passed, or is that with numbers masked. */
+/* Raises RejectedText for the text of an object. */
 static void raise_rejected(const struct state *state, uint32_t mode, const struct vizhoniku_error *error,
-                           PyObject *object, const struct text *text, const struct text *passed,
-                           const char *own_words) {
+                           PyObject *object, const struct text *text) {
   struct vizhoniku_location location;
   vizhoniku_locate(text->at, text->size, error, &location);
-  PyObject *words = own_words ? PyBytes_FromString(own_words) : words_of(mode, text);
-  PyObject *path = words ? path_of(mode, error, passed) : NULL;
+  PyObject *words = words_of(mode, text);
+  PyObject *path = words ? path_of(mode, error, text) : NULL;
   PyObject *raised = !path ? NULL : PyObject_CallFunction(
       state->rejection, "Oy#OIInnnO", object, (const char *)text->at, (Py_ssize_t)text->size, words, error->code,
       error->which, (Py_ssize_t)location.index, (Py_ssize_t)location.line, (Py_ssize_t)location.column, path);
@@ -193,41 +203,6 @@ static void raise_rejected(const struct state *state, uint32_t mode, const struc
   if (!raised) return;
   PyErr_SetObject((PyObject *)Py_TYPE(raised), raised);
   Py_DECREF(raised);
-}
-
-/* Masks the numbers of a text that have an exponent, and finds what is wrong with it then: at the same offset as in the
- * text, since each byte stays where it is. Returns 0 where it isn't rejected, or an exception is raised. */
-static int check_masked(const struct text *text, struct text *masked, struct vizhoniku_error *error) {
-  masked->holder = PyBytes_FromStringAndSize(NULL, (Py_ssize_t)text->size);
-  if (!masked->holder) return 0;
-  unsigned char *at = (unsigned char *)PyBytes_AsString(masked->holder);
-  masked->at = at;
-  uint32_t status = vizhoniku_masked_numbers(text->at, text->size, at, text->size, &masked->size);
-  if (status == VIZHONIKU_ACCEPTED) status = vizhoniku_check(VIZHONIKU_EXTENDED, masked->at, masked->size, error);
-  if (status == VIZHONIKU_OUT_OF_MEMORY) PyErr_NoMemory();
-  return status == VIZHONIKU_REJECTED;
-}
-
-#define TOO_LONG "number not carried" /* as the library reports it of a number without an exponent */
-
-static const char *words_for(const struct vizhoniku_error *error) {
-  return error->code == VIZHONIKU_NUMBER_NOT_CARRIED ? TOO_LONG : NULL;
-}
-
-/* Raises RejectedText for the first fault of a text that was rejected with its numbers written out, as `plain`, or
- * whose numbers can't be written out: then `plain` is the text itself. */
-static void raise_of_plain(const struct state *state, const struct vizhoniku_error *error, PyObject *object,
-                           const struct text *text, const struct text *plain) {
-  struct vizhoniku_error of_masked;
-  struct text masked;
-  if (check_masked(text, &masked, &of_masked)) {
-    of_masked.which = error->which;
-    raise_rejected(state, VIZHONIKU_EXTENDED, &of_masked, object, &masked, text, words_for(&of_masked));
-  } else if (!PyErr_Occurred()) {
-    if (plain != text) object = plain->holder;
-    raise_rejected(state, VIZHONIKU_EXTENDED, error, object, plain, plain, words_for(error));
-  }
-  free_text(&masked);
 }
 
 /* Raises what a status says that is neither success nor about a text. */
@@ -285,34 +260,6 @@ static PyObject *bytes_of(const struct written *written) {
   return PyBytes_FromStringAndSize((const char *)written->at, (Py_ssize_t)written->size);
 }
 
-/* Writes out the numbers of a text that have an exponent, where extended mode rejected a number, and holds what was
- * written. Returns 0 where it didn't, with the status and the error of that, or where an exception is raised, which is
- * the status VIZHONIKU_OUT_OF_MEMORY. */
-static int write_plain(uint32_t mode, uint32_t *status, struct vizhoniku_error *error, const struct text *text,
-                       struct text *plain) {
-  if (*status != VIZHONIKU_REJECTED || mode != VIZHONIKU_EXTENDED || error->code != VIZHONIKU_NUMBER_NOT_CARRIED)
-    return 0;
-  uint32_t which = error->which;
-  size_t capacity = text->size + 64;
-  for (;;) {
-    plain->holder = PyBytes_FromStringAndSize(NULL, (Py_ssize_t)capacity);
-    if (!plain->holder) {
-      PyErr_Clear();
-      *status = VIZHONIKU_OUT_OF_MEMORY;
-      return 0;
-    }
-    unsigned char *at = (unsigned char *)PyBytes_AsString(plain->holder);
-    plain->at = at;
-    *status = vizhoniku_plain_numbers(text->at, text->size, at, capacity, &plain->size, error);
-    if (*status == VIZHONIKU_ACCEPTED) return 1;
-    free_text(plain);
-    if (*status != VIZHONIKU_TOO_SHORT) break;
-    capacity = plain->size;
-  }
-  if (*status == VIZHONIKU_REJECTED) error->which = which;
-  return 0;
-}
-
 /* What a call of the library does with a text. */
 enum what { CHECK, TEXT, SORT_KEY, DOCUMENT, TEXT_AND_KEY, PART };
 
@@ -338,12 +285,11 @@ static uint32_t call_once(enum what what, uint32_t mode, const struct text *path
 }
 
 /* Calls the library until the buffers are long enough, and raises what the status says unless it is success, or
- * VIZHONIKU_NO_PART, or VIZHONIKU_REJECTED of a call that only checks. Where extended mode rejects a number, the text is
- * read once more with its numbers written out, and `user` is the text that was passed then, else NULL. Returns the
- * status, or -1 where an exception is raised. */
+ * VIZHONIKU_NO_PART, or VIZHONIKU_REJECTED of a call that only checks. Returns the status, or -1 where an exception is
+ * raised. */
 static int64_t call_library(const struct state *state, enum what what, uint32_t mode, const struct text *path,
                             PyObject *object, const struct text *text, struct written *written, struct written *key,
-                            int reports_rejection, const struct text *user) {
+                            int reports_rejection) {
   struct vizhoniku_error error;
   uint32_t status;
   if (what != PART && written && !ensure_capacity(written, text->size + 16)) return -1;
@@ -361,20 +307,9 @@ static int64_t call_library(const struct state *state, enum what what, uint32_t 
     if (key && !ensure_capacity(key, key->size)) return -1;
   }
   if (status == VIZHONIKU_ACCEPTED || status == VIZHONIKU_NO_PART) return status;
-  int rejected = status == VIZHONIKU_REJECTED;
-  struct text plain;
-  if (!user && write_plain(mode, &status, &error, text, &plain)) {
-    int64_t again = call_library(state, what, mode, path, object, &plain, written, key, reports_rejection, text);
-    free_text(&plain);
-    return again;
-  }
   if (status == VIZHONIKU_REJECTED) {
     if (reports_rejection) return status;
-    int too_long = rejected && mode == VIZHONIKU_EXTENDED && error.code == VIZHONIKU_NUMBER_NOT_CARRIED;
-    if (user || too_long)
-      raise_of_plain(state, &error, object, user ? user : text, text);
-    else
-      raise_rejected(state, mode, &error, object, text, text, NULL);
+    raise_rejected(state, mode, &error, object, text);
   } else {
     raise_status(state, status);
   }
@@ -398,7 +333,7 @@ static PyObject *py_check(PyObject *module, PyObject *const *given, Py_ssize_t c
   struct text text;
   uint32_t mode;
   if (!read_call(state, "check", given, count, keywords, &object, &text, &mode)) return NULL;
-  int64_t status = call_library(state, CHECK, mode, NULL, object, &text, NULL, NULL, 0, NULL);
+  int64_t status = call_library(state, CHECK, mode, NULL, object, &text, NULL, NULL, 0);
   free_text(&text);
   if (status < 0) return NULL;
   Py_RETURN_NONE;
@@ -410,7 +345,7 @@ static PyObject *py_is_valid(PyObject *module, PyObject *const *given, Py_ssize_
   struct text text;
   uint32_t mode;
   if (!read_call(state, "is_valid", given, count, keywords, &object, &text, &mode)) return NULL;
-  int64_t status = call_library(state, CHECK, mode, NULL, object, &text, NULL, NULL, 1, NULL);
+  int64_t status = call_library(state, CHECK, mode, NULL, object, &text, NULL, NULL, 1);
   free_text(&text);
   return status < 0 ? NULL : PyBool_FromLong(status == VIZHONIKU_ACCEPTED);
 }
@@ -423,7 +358,7 @@ static PyObject *py_text(PyObject *module, PyObject *const *given, Py_ssize_t co
   uint32_t mode;
   if (!read_call(state, "text", given, count, keywords, &object, &text, &mode)) return NULL;
   begin_written(&written);
-  if (call_library(state, TEXT, mode, NULL, object, &text, &written, NULL, 0, NULL) >= 0) result = str_of(&written);
+  if (call_library(state, TEXT, mode, NULL, object, &text, &written, NULL, 0) >= 0) result = str_of(&written);
   free_written(&written);
   free_text(&text);
   return result;
@@ -436,7 +371,7 @@ static PyObject *data_of_text(const struct state *state, enum what what, PyObjec
   struct written key;
   if (!read_text(object, A_TEXT, &text)) return NULL;
   begin_written(&key);
-  if (call_library(state, what, mode, NULL, object, &text, NULL, &key, 0, NULL) >= 0) result = bytes_of(&key);
+  if (call_library(state, what, mode, NULL, object, &text, NULL, &key, 0) >= 0) result = bytes_of(&key);
   free_written(&key);
   free_text(&text);
   return result;
@@ -459,7 +394,7 @@ static PyObject *py_text_and_key(PyObject *module, PyObject *const *given, Py_ss
   if (!read_call(state, "text_and_key", given, count, keywords, &object, &text, &mode)) return NULL;
   begin_written(&written);
   begin_written(&key);
-  if (call_library(state, TEXT_AND_KEY, mode, NULL, object, &text, &written, &key, 0, NULL) >= 0)
+  if (call_library(state, TEXT_AND_KEY, mode, NULL, object, &text, &written, &key, 0) >= 0)
     result = Py_BuildValue("(NN)", str_of(&written), bytes_of(&key));
   free_written(&written);
   free_written(&key);
@@ -478,7 +413,7 @@ static PyObject *py_get(PyObject *module, PyObject *const *given, Py_ssize_t cou
   if (!read_mode(state, arguments[2], &mode) || !read_text(arguments[0], A_TEXT, &text)) return NULL;
   if (read_text(arguments[1], A_TEXT, &path)) {
     begin_written(&written);
-    int64_t status = call_library(state, PART, mode, &path, arguments[0], &text, &written, NULL, 0, NULL);
+    int64_t status = call_library(state, PART, mode, &path, arguments[0], &text, &written, NULL, 0);
     if (status == VIZHONIKU_NO_PART) {
       result = Py_None;
       Py_INCREF(result);
@@ -492,47 +427,24 @@ static PyObject *py_get(PyObject *module, PyObject *const *given, Py_ssize_t cou
   return result;
 }
 
-/* Compares two texts, each as it is or with its numbers written out. */
-static uint32_t compare_once(uint32_t mode, const struct text *left, const struct text *right, int32_t *order,
-                             struct vizhoniku_error *error) {
+static PyObject *compare_texts(const struct state *state, uint32_t mode, PyObject **objects, const struct text *left,
+                               const struct text *right) {
+  struct vizhoniku_error error;
+  int32_t order;
   uint32_t status;
   if (left->size + right->size >= RELEASED) {
     Py_BEGIN_ALLOW_THREADS
-    status = vizhoniku_compare(mode, left->at, left->size, right->at, right->size, order, error);
+    status = vizhoniku_compare(mode, left->at, left->size, right->at, right->size, &order, &error);
     Py_END_ALLOW_THREADS
   } else {
-    status = vizhoniku_compare(mode, left->at, left->size, right->at, right->size, order, error);
+    status = vizhoniku_compare(mode, left->at, left->size, right->at, right->size, &order, &error);
   }
-  return status;
-}
-
-static PyObject *compare_texts(const struct state *state, uint32_t mode, PyObject **objects, const struct text *left,
-                               const struct text *right) {
-  const struct text *user[2] = {left, right}, *read[2] = {left, right};
-  struct text plain[2] = {{NULL, 0, NULL}, {NULL, 0, NULL}};
-  struct vizhoniku_error error;
-  PyObject *result = NULL;
-  int32_t order;
-  uint32_t status;
-  int at, again;
-  do {
-    status = compare_once(mode, read[0], read[1], &order, &error);
-    at = status == VIZHONIKU_REJECTED ? (int)error.which - 1 : 0;
-    again = !plain[at].holder && write_plain(mode, &status, &error, user[at], &plain[at]);
-    if (again) read[at] = &plain[at];
-  } while (again);
-  int too_long = mode == VIZHONIKU_EXTENDED && error.code == VIZHONIKU_NUMBER_NOT_CARRIED;
-  if (status == VIZHONIKU_ACCEPTED)
-    result = PyLong_FromLong(order);
-  else if (status != VIZHONIKU_REJECTED)
-    raise_status(state, status);
-  else if (plain[at].holder || too_long)
-    raise_of_plain(state, &error, objects[at], user[at], read[at]);
+  if (status == VIZHONIKU_ACCEPTED) return PyLong_FromLong(order);
+  if (status == VIZHONIKU_REJECTED)
+    raise_rejected(state, mode, &error, objects[error.which - 1], error.which == 2 ? right : left);
   else
-    raise_rejected(state, mode, &error, objects[at], user[at], user[at], NULL);
-  free_text(&plain[0]);
-  free_text(&plain[1]);
-  return result;
+    raise_status(state, status);
+  return NULL;
 }
 
 static PyObject *py_compare(PyObject *module, PyObject *const *given, Py_ssize_t count, PyObject *keywords) {
@@ -1135,7 +1047,7 @@ static PyObject *data_of_usual(const struct state *state, enum what what, PyObje
   begin_written(&key);
   if (put_usual(state, &text, value)) {
     struct text read = {text.at, text.size, NULL};
-    if (call_library(state, what, VIZHONIKU_EXTENDED, NULL, NULL, &read, NULL, &key, 1, NULL) == VIZHONIKU_ACCEPTED)
+    if (call_library(state, what, DEFAULT_MODE, NULL, NULL, &read, NULL, &key, 1) == VIZHONIKU_ACCEPTED)
       data = bytes_of(&key);
   }
   free_written(&text);
@@ -1166,7 +1078,7 @@ static PyObject *data_of(const struct state *state, enum what what, PyObject *va
   PyObject *text = PyObject_CallFunctionObjArgs(state->text_of, value, state->stored,
                                                 what == DOCUMENT ? Py_True : Py_False, NULL);
   if (!text) return NULL;
-  data = data_of_text(state, what, text, VIZHONIKU_EXTENDED);
+  data = data_of_text(state, what, text, DEFAULT_MODE);
   Py_DECREF(text);
   if (data || !PyErr_ExceptionMatches(state->rejected)) return data;
   /* Of a key or a document in the value, whose arrays and objects are within those of the value. */
@@ -1432,7 +1344,7 @@ static PyGetSetDef key_properties[] = {
 };
 
 static PyType_Slot key_slots[] = {
-    {Py_tp_doc, "Key(text, mode=EXTENDED)\n--\n\n"
+    {Py_tp_doc, "Key(text, mode=EXTENDED_JSON)\n--\n\n"
                 "A document as its sort key: bytes that compare as the values do. Its parts are found in them.\n\n"
                 "Keys are compared and hashed by their bytes, so by value. An array is iterated over its items, which\n"
                 "are keys, and an object over the names of its members, which are str; len counts either. A key is\n"
@@ -1508,7 +1420,7 @@ static PyGetSetDef document_properties[] = {
 };
 
 static PyType_Slot document_slots[] = {
-    {Py_tp_doc, "Document(text, mode=EXTENDED)\n--\n\n"
+    {Py_tp_doc, "Document(text, mode=EXTENDED_JSON)\n--\n\n"
                 "A value as a store keeps it: its sort key, and behind it the zeros that end its decimals, so 1.50\n"
                 "stays 1.50.\n\n"
                 "Documents are compared and hashed by their bytes: they are in the order of their values, and those\n"
@@ -1540,25 +1452,25 @@ static PyType_Spec parts_spec = {"vizhoniku._native.Parts", sizeof(struct parts)
 
 static PyMethodDef functions[] = {
     {"check", CALL(py_check),
-     HELP("check($module, text, mode=EXTENDED)", "Raises RejectedText where the text is no document.")},
+     HELP("check($module, text, mode=EXTENDED_JSON)", "Raises RejectedText where the text is no document.")},
     {"is_valid", CALL(py_is_valid),
-     HELP("is_valid($module, text, mode=EXTENDED)", "Whether the text is a document.")},
+     HELP("is_valid($module, text, mode=EXTENDED_JSON)", "Whether the text is a document.")},
     {"text", CALL(py_text),
-     HELP("text($module, text, mode=EXTENDED)",
+     HELP("text($module, text, mode=EXTENDED_JSON)",
           "The text of the document's value: no whitespace, and members in the order of their keys' bytes.")},
     {"sort_key", CALL(py_sort_key),
-     HELP("sort_key($module, text, mode=EXTENDED)",
+     HELP("sort_key($module, text, mode=EXTENDED_JSON)",
           "Bytes that compare as the values of documents do: equal for equal values, and none the beginning of\n"
           "others.")},
     {"text_and_key", CALL(py_text_and_key),
-     HELP("text_and_key($module, text, mode=EXTENDED)", "What text and sort_key return, of one reading.")},
+     HELP("text_and_key($module, text, mode=EXTENDED_JSON)", "What text and sort_key return, of one reading.")},
     {"get", CALL(py_get),
-     HELP("get($module, text, path, mode=EXTENDED)",
+     HELP("get($module, text, path, mode=EXTENDED_JSON)",
           "The text of the part at the path, a JSON Pointer (RFC 6901), or None where there is none.\n\n"
           "The path \"\" is the whole document, and \"/a/0\" the first item of the member \"a\". PathError is raised\n"
           "where the path is no JSON Pointer.")},
     {"compare", CALL(py_compare),
-     HELP("compare($module, left, right, mode=EXTENDED)",
+     HELP("compare($module, left, right, mode=EXTENDED_JSON)",
           "-1, 0 or 1: the first document's value is below the second's, equal to it, or above it.")},
     {NULL, NULL, 0, NULL},
 };
@@ -1569,8 +1481,7 @@ static int fill_state(PyObject *module, struct state *state) {
   PyObject *common = PyImport_ImportModule("vizhoniku._common");
   if (!common) return -1;
   state->mode = PyObject_GetAttrString(common, "Mode");
-  state->standard = PyObject_GetAttrString(common, "STANDARD");
-  state->extended = PyObject_GetAttrString(common, "EXTENDED");
+  for (uint32_t i = 0; i < MODES; i++) state->modes[i] = PyObject_GetAttrString(common, mode_names[i]);
   state->path_error = PyObject_GetAttrString(common, "PathError");
   state->rejection = PyObject_GetAttrString(common, "rejection");
   state->rejected = PyObject_GetAttrString(common, "RejectedText");
@@ -1596,7 +1507,7 @@ static int fill_state(PyObject *module, struct state *state) {
   if (!state->key_type || !state->document_type || !state->parts_type) return -1;
   if (!(state->stored = PyTuple_Pack(2, state->key_type, state->document_type))) return -1;
   /* The default of a parameter is looked up by its name. */
-  if (PyModule_AddObjectRef(module, "EXTENDED", state->extended) < 0) return -1;
+  if (PyModule_AddObjectRef(module, mode_names[DEFAULT_MODE], state->modes[DEFAULT_MODE]) < 0) return -1;
   if (PyModule_AddObjectRef(module, "Key", state->key_type) < 0) return -1;
   return PyModule_AddObjectRef(module, "Document", state->document_type);
 }
@@ -1613,8 +1524,7 @@ static int execute(PyObject *module) {
 static int traverse(PyObject *module, visitproc visit, void *arg) {
   struct state *state = PyModule_GetState(module);
   Py_VISIT(state->mode);
-  Py_VISIT(state->standard);
-  Py_VISIT(state->extended);
+  for (size_t i = 0; i < MODES; i++) Py_VISIT(state->modes[i]);
   Py_VISIT(state->path_error);
   Py_VISIT(state->rejection);
   Py_VISIT(state->rejected);
@@ -1631,8 +1541,7 @@ static int traverse(PyObject *module, visitproc visit, void *arg) {
 static int clear(PyObject *module) {
   struct state *state = PyModule_GetState(module);
   Py_CLEAR(state->mode);
-  Py_CLEAR(state->standard);
-  Py_CLEAR(state->extended);
+  for (size_t i = 0; i < MODES; i++) Py_CLEAR(state->modes[i]);
   Py_CLEAR(state->path_error);
   Py_CLEAR(state->rejection);
   Py_CLEAR(state->rejected);

@@ -12,7 +12,7 @@ fn main() -> io::Result<ExitCode> {
     let (mut kept, mut status) = (BTreeMap::new(), ExitCode::SUCCESS);
     for (number, line) in io::stdin().lock().lines().enumerate() {
         let line = line?;
-        match sort_key(&line, Mode::Extended) {
+        match sort_key(&line, Mode::ExtendedJson) {
             Ok(key) => {
                 kept.entry(key).or_insert(line);
             }

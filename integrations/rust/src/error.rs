@@ -1,8 +1,6 @@
 //! Why a call has no answer.
 
-use crate::parse::masked_numbers;
 use crate::{ffi, write, Mode};
-use std::borrow::Cow;
 use std::fmt;
 
 /// What is wrong with a text.
@@ -108,24 +106,18 @@ pub struct Rejection {
 }
 
 impl Rejection {
-    /// Of a text that is rejected, also with its numbers written out, and is the first or the second of a call's. What
-    /// is reported is what is wrong with the text whose numbers are masked, in which all has its location.
-    pub(crate) fn of(text: &[u8], mode: Mode, which: u32) -> Result<Rejection, Error> {
-        let masked = match mode {
-            Mode::Standard => Cow::Borrowed(text),
-            Mode::Extended => Cow::Owned(masked_numbers(text)?),
-        };
-        let error = error(&masked, mode)?;
-        let location = location(text, &error);
+    /// Of a text that a call has rejected with this error.
+    pub(crate) fn of(text: &[u8], mode: Mode, error: &ffi::TextError) -> Result<Rejection, Error> {
+        let location = location(text, error);
         Ok(Rejection {
             code: Code::of(error.code),
-            is_second: which == 2,
+            is_second: error.which == 2,
             position: error.position,
             offset: location.index,
             line: location.line,
             column: location.column,
-            path: path(&masked, mode, &error)?,
-            message: reason(&masked, mode)?,
+            path: path(text, mode, error)?,
+            message: reason(text, mode)?,
         })
     }
 
@@ -168,16 +160,6 @@ impl Rejection {
     /// What is wrong, in words. A name that is repeated is in it verbatim, with any control characters.
     pub fn message(&self) -> &str {
         &self.message
-    }
-}
-
-/// What is wrong with a text that is rejected.
-fn error(text: &[u8], mode: Mode) -> Result<ffi::TextError, Error> {
-    let mut error = ffi::TextError::default();
-    // SAFETY: the text has its size, and the error is whole.
-    match unsafe { ffi::vizhoniku_check(mode as u32, text.as_ptr(), text.len(), &mut error) } {
-        ffi::REJECTED => Ok(error),
-        _ => Err(Error::OutOfMemory),
     }
 }
 

@@ -80,7 +80,5 @@ extern "C" {
     pub fn vizhoniku_document_put(document: *const u8, document_size: usize, name: *const u8, name_size: usize, value: *const u8, value_size: usize, buffer: *mut u8, buffer_size: usize, size: *mut usize) -> u32;
     pub fn vizhoniku_document_push(document: *const u8, document_size: usize, item: *const u8, item_size: usize, buffer: *mut u8, buffer_size: usize, size: *mut usize) -> u32;
     pub fn vizhoniku_document_merge(left: *const u8, left_size: usize, right: *const u8, right_size: usize, buffer: *mut u8, buffer_size: usize, size: *mut usize) -> u32;
-    pub fn vizhoniku_plain_numbers(text: *const u8, text_size: usize, buffer: *mut u8, buffer_size: usize, size: *mut usize, error: *mut TextError) -> u32;
-    pub fn vizhoniku_masked_numbers(text: *const u8, text_size: usize, buffer: *mut u8, buffer_size: usize, size: *mut usize) -> u32;
     pub fn vizhoniku_error_path(mode: u32, text: *const u8, text_size: usize, error: *const TextError, buffer: *mut u8, buffer_size: usize, size: *mut usize) -> u32;
 }

@@ -46,9 +46,11 @@ pub enum Mode {
     /// JSON as RFC 8259 has it, with integers of 64 bits alone as numbers.
     Standard = 0,
     /// Also decimals of up to 38 digits, hexadecimals, comments, single quotes, names without quotes and more.
-    ///
-    /// A number of JSON with an exponent is taken as the decimal of exactly its value, which has at most 38 digits too.
     Extended = 1,
+    /// RFC 8259 to the letter. Numbers, also those with exponents, have their exact value, of at most 38 digits.
+    Json = 2,
+    /// [`Mode::Extended`] in which decimals may have exponents.
+    ExtendedJson = 3,
 }
 
 /// What a call has made, and its status.
@@ -131,7 +133,7 @@ pub fn check(text: impl AsRef<[u8]>, mode: Mode) -> Result<(), Error> {
 /// ```
 /// let text = vizhoniku::text("{b: 0x1F, /* x */ a: [, +.5]} // end", vizhoniku::Mode::Extended)?;
 /// assert_eq!(text, r#"{"a":[null,0.5],"b":31}"#);
-/// assert_eq!(vizhoniku::text("[1e5, 1.50e-7]", vizhoniku::Mode::Extended)?, "[100000,0.000000150]");
+/// assert_eq!(vizhoniku::text("[1e5, 1.50e-7]", vizhoniku::Mode::Json)?, "[100000,0.000000150]");
 /// # Ok::<(), vizhoniku::Error>(())
 /// ```
 pub fn text(text: impl AsRef<[u8]>, mode: Mode) -> Result<String, Error> {

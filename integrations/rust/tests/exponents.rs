@@ -1,14 +1,14 @@
-//! Numbers with exponents: extended mode takes those of JSON with exactly their values, and standard mode takes none.
+//! Numbers with exponents: JSON and extended JSON take them with exactly their values, and the other modes take none.
 
 use std::cmp::Ordering;
 use vizhoniku::{check, compare, part, sort_key, text, text_and_key, Code, Error, Key, Mode, Rejection};
 
 fn written(given: &str) -> String {
-    text(given, Mode::Extended).expect(given)
+    text(given, Mode::ExtendedJson).expect(given)
 }
 
 fn key(given: &str) -> Key {
-    sort_key(given, Mode::Extended).expect(given)
+    sort_key(given, Mode::ExtendedJson).expect(given)
 }
 
 fn rejection<T>(answer: Result<T, Error>) -> Rejection {
@@ -17,13 +17,13 @@ fn rejection<T>(answer: Result<T, Error>) -> Rejection {
 
 /// Code, offset, line, column and message of what is wrong with a text, which each call says.
 fn fault(given: &str) -> (Code, usize, usize, usize, String) {
-    let found = rejection(check(given, Mode::Extended));
-    assert_eq!(rejection(text(given, Mode::Extended)), found);
-    assert_eq!(rejection(sort_key(given, Mode::Extended)), found);
-    assert_eq!(rejection(text_and_key(given, Mode::Extended)), found);
-    assert_eq!(rejection(part(given, "", Mode::Extended)), found);
-    assert_eq!(rejection(compare(given, "1e1", Mode::Extended)), found);
-    let second = rejection(compare("1e1", given, Mode::Extended));
+    let found = rejection(check(given, Mode::ExtendedJson));
+    assert_eq!(rejection(text(given, Mode::ExtendedJson)), found);
+    assert_eq!(rejection(sort_key(given, Mode::ExtendedJson)), found);
+    assert_eq!(rejection(text_and_key(given, Mode::ExtendedJson)), found);
+    assert_eq!(rejection(part(given, "", Mode::ExtendedJson)), found);
+    assert_eq!(rejection(compare(given, "1e1", Mode::ExtendedJson)), found);
+    let second = rejection(compare("1e1", given, Mode::ExtendedJson));
     assert!(second.is_second() && !found.is_second());
     assert_eq!((second.code(), second.position(), second.offset()), (found.code(), found.position(), found.offset()));
     (found.code(), found.offset(), found.line(), found.column(), found.message().to_string())
@@ -43,38 +43,58 @@ fn values() {
         ("[1e2,\n{\"1e2\": \"1e2 \\\" 1e2\"}, 1.50]", "[100,{\"1e2\":\"1e2 \\\" 1e2\"},1.50]"),
         ("[1e2] // 1e2 'and' /* more", "[100]"),
     ] {
-        assert_eq!(check(given, Mode::Extended), Ok(()), "{given}");
+        assert_eq!(check(given, Mode::ExtendedJson), Ok(()), "{given}");
         assert_eq!(written(given), wanted);
         assert_eq!(key(given), key(wanted));
-        assert_eq!(text_and_key(given, Mode::Extended), Ok((wanted.to_string(), key(wanted))));
-        assert_eq!(part(given, "", Mode::Extended), Ok(Some(wanted.to_string())));
-        assert_eq!(compare(given, wanted, Mode::Extended), Ok(Ordering::Equal));
-        assert_eq!(compare(wanted, given, Mode::Extended), Ok(Ordering::Equal));
-        assert_eq!(compare(given, given, Mode::Extended), Ok(Ordering::Equal));
+        assert_eq!(text_and_key(given, Mode::ExtendedJson), Ok((wanted.to_string(), key(wanted))));
+        assert_eq!(part(given, "", Mode::ExtendedJson), Ok(Some(wanted.to_string())));
+        assert_eq!(compare(given, wanted, Mode::ExtendedJson), Ok(Ordering::Equal));
+        assert_eq!(compare(wanted, given, Mode::ExtendedJson), Ok(Ordering::Equal));
+        assert_eq!(compare(given, given, Mode::ExtendedJson), Ok(Ordering::Equal));
     }
     assert_eq!(key("1e2"), key("100"));
-    assert_eq!(compare("99", "1e2", Mode::Extended), Ok(Ordering::Less));
-    assert_eq!(compare("1e2", "99", Mode::Extended), Ok(Ordering::Greater));
+    assert_eq!(compare("99", "1e2", Mode::ExtendedJson), Ok(Ordering::Less));
+    assert_eq!(compare("1e2", "99", Mode::ExtendedJson), Ok(Ordering::Greater));
     let document = "{\"a\": [6.02e23, 'b']}";
-    assert_eq!(part(document, "/a/0", Mode::Extended), Ok(Some("602000000000000000000000".to_string())));
-    assert_eq!(part(document, "/b", Mode::Extended), Ok(None));
-    assert_eq!(part(document, "a", Mode::Extended), Err(Error::NoPath));
+    assert_eq!(part(document, "/a/0", Mode::ExtendedJson), Ok(Some("602000000000000000000000".to_string())));
+    assert_eq!(part(document, "/b", Mode::ExtendedJson), Ok(None));
+    assert_eq!(part(document, "a", Mode::ExtendedJson), Err(Error::NoPath));
     let long = format!("[{}0]", "1e37,".repeat(1000));
     assert_eq!(written(&long), long.replace("1e37", &format!("1{}", "0".repeat(37))));
 }
 
 #[test]
-fn standard_mode_takes_none() {
-    for given in ["1e5", "[1E+2]", "{\"a\":1.5e-7}"] {
-        let found = rejection(check(given, Mode::Standard));
+fn two_modes_take_none() {
+    for (given, mode) in
+        ["1e5", "[1E+2]", "{\"a\":1.5e-7}"].map(|it| [(it, Mode::Standard), (it, Mode::Extended)]).concat()
+    {
+        let found = rejection(check(given, mode));
         assert_eq!((found.code(), found.message()), (Code::NumberNotCarried, "number not carried"));
-        assert_eq!(rejection(text(given, Mode::Standard)), found);
-        assert_eq!(rejection(sort_key(given, Mode::Standard)), found);
-        assert_eq!(rejection(text_and_key(given, Mode::Standard)), found);
-        assert_eq!(rejection(part(given, "", Mode::Standard)), found);
-        assert_eq!(rejection(compare(given, "1", Mode::Standard)), found);
-        assert!(rejection(compare("1", given, Mode::Standard)).is_second());
+        assert_eq!(rejection(text(given, mode)), found);
+        assert_eq!(rejection(sort_key(given, mode)), found);
+        assert_eq!(rejection(text_and_key(given, mode)), found);
+        assert_eq!(rejection(part(given, "", mode)), found);
+        assert_eq!(rejection(compare(given, "1", mode)), found);
+        assert!(rejection(compare("1", given, mode)).is_second());
     }
+}
+
+/// JSON takes RFC 8259 alone.
+#[test]
+fn only_json() {
+    for (given, message) in [
+        ("[1e5, +1e5]", "line 1, column 7: expected value"),
+        ("[1e5, .5]", "line 1, column 7: expected value"),
+        ("[01]", "line 1, column 3: invalid number"),
+        ("[1e5,\n\x0c1]", "line 2, column 1: expected value"),
+        ("[\"\t\"]", "line 1, column 3: control character (\\u0000-\\u001F) found while parsing a string"),
+        ("{a: 1}", "line 1, column 2: expected ident"),
+        ("[1e39]", "line 1, column 5: number not carried"),
+    ] {
+        assert_eq!(rejection(check(given, Mode::Json)).to_string(), message, "{given}");
+    }
+    assert_eq!(text("{\"a\": 1.50e1}", Mode::Json), Ok("{\"a\":15.0}".to_string()));
+    assert_eq!(rejection(check("[1,]", Mode::Json)).code(), Code::ExpectedSomeValue);
 }
 
 #[test]
@@ -87,8 +107,7 @@ fn numbers_that_are_too_long() {
     let digits = "9".repeat(39);
     assert_eq!(fault(&digits), not_carried(38, 1, 39));
     assert_eq!(fault(&format!("[1e5,{digits}]")), not_carried(43, 1, 44));
-    // An exponent is that of JSON: a plus before the number is in extended mode alone.
-    assert_eq!(fault("[1e5, +1e5]"), not_carried(9, 1, 10));
+    assert_eq!(fault("[1e5, +1e39]"), not_carried(10, 1, 11));
 }
 
 #[test]
@@ -124,9 +143,9 @@ fn errors_have_their_location_in_the_text_that_was_passed() {
         assert_eq!(fault(given), fault(&given.replace("1e2", "100")), "{given}");
     }
     // Of two texts the first that is wrong is reported, each in its own text.
-    let found = rejection(compare("[1e5,x", "[1e5,x", Mode::Extended));
+    let found = rejection(compare("[1e5,x", "[1e5,x", Mode::ExtendedJson));
     assert_eq!((found.is_second(), found.offset()), (false, 5));
-    let found = rejection(compare("[1e5]", "[1e5,x", Mode::Extended));
+    let found = rejection(compare("[1e5]", "[1e5,x", Mode::ExtendedJson));
     assert_eq!((found.is_second(), found.offset()), (true, 5));
 }
 
@@ -149,7 +168,7 @@ fn error_paths() {
         ("[0,{\"k\":\"x", "/1/k"),
         ("[1e5]]", ""),
     ] {
-        assert_eq!(rejection(check(given, Mode::Extended)).path(), wanted, "{given}");
+        assert_eq!(rejection(check(given, Mode::ExtendedJson)).path(), wanted, "{given}");
     }
     assert_eq!(rejection(check("{\"a\":[true,1e5]}", Mode::Standard)).path(), "/a/1");
 }

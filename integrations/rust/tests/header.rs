@@ -5,7 +5,7 @@
 use std::collections::BTreeMap;
 use std::path::Path;
 
-const LEFT_OUT: [&str; 19] = [
+const LEFT_OUT: [&str; 18] = [
     "vizhoniku_lines",
     "vizhoniku_character",
     "vizhoniku_text_with_zeros",
@@ -16,7 +16,6 @@ const LEFT_OUT: [&str; 19] = [
     "vizhoniku_document_range",
     "vizhoniku_document_begin",
     "vizhoniku_document_next",
-    "vizhoniku_is_strict",
     "vizhoniku_key_of_integer",
     "vizhoniku_document_without",
     "vizhoniku_document_strip_nulls",

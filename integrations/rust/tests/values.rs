@@ -229,7 +229,7 @@ fn deep() {
 }
 
 fn kept(text: &str) -> Document {
-    document(text, Mode::Extended).expect(text)
+    document(text, Mode::ExtendedJson).expect(text)
 }
 
 #[test]

@@ -1,7 +1,7 @@
 //! JSON values as they were written.
 ghost use Rattle.std.specs.Prelude.{◌≡◌, ◌<◌, IfOk, Err};
 ghost use Rattle.jsonb.specs.AstView.{ast_view};
-ghost use Rattle.text_scan.specs.Answer.{mode_of};
+ghost use Rattle.text_scan.specs.Answer.{grammar_of, mode_of};
 ghost use Rattle.jsonb_spec.specs.Located.{IsLocated};
 ghost use Rattle.jsonb.specs.Follows.{FollowsSpecification};
 ghost use Rattle.jsonb.specs.Parses.{Parses};
@@ -11,7 +11,7 @@ mod clone;
 mod equality;
 mod into_value;
 
-use super::Mode;
+use super::{Grammar, Mode};
 use jsonb_value::error::{Error, Result};
 use jsonb_value::number::Number;
 use std::alloc::Global;
@@ -55,7 +55,20 @@ impl<'a> JsonAst<'a> {
         // at its index.
         ensures source { IfOk result (λ v. IsLocated (mode_of mode) buf.now (source_view v)) }
     {
-        match parse_text::<JsonAst>(&mut (), alloc, buf, mode) {
+        JsonAst::parse_in(alloc, buf, Grammar::from(mode))
+    }
+
+    /// Parses a whole text of one of four grammars. The cost and the errors are those of [`JsonAst::parse`].
+    pub fn parse_in(alloc: Global, buf: &'a [u8], grammar: Grammar) -> Result<JsonAst<'a>>
+        // What is returned is the one tree of the document; what is rejected is none, unless memory ran out.
+        ensures parses { Parses (grammar_of grammar) ast_view buf.now result }
+        ensures follows { FollowsSpecification (grammar_of grammar) ast_view buf.now result }
+
+        // Each value is in the text where it was parsed. Each object's keys ascend, and each member's own key ends
+        // at its index.
+        ensures source { IfOk result (λ v. IsLocated (grammar_of grammar) buf.now (source_view v)) }
+    {
+        match parse_text::<JsonAst>(&mut (), alloc, buf, grammar) {
             Ok(tree) => Ok(tree),
             Err(reported) => match reported {
                 Some(error) => Err(error),

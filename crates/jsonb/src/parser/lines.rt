@@ -1,13 +1,13 @@
 //! Texts whose lines are texts of their own, which are parsed one after the other for their serialized forms.
 ghost use Rattle.std.specs.Prelude.{◌≡◌, ◌⊎◌, ◌+◌, ◌<◌, ◌≤◌, ℕ, [], ◌∷◌, length, Contains, Err, IfErr, OnErr, OnOk, vec_capacity, vec_len};
 ghost use Rattle.jsonb_spec.specs.Text.Appending.{Extends};
-ghost use Rattle.text_scan.specs.Answer.{mode_of, MayAllocate};
+ghost use Rattle.text_scan.specs.Answer.{grammar_of, MayAllocate};
 ghost use Rattle.jsonb.specs.Appends.{AppendsTextOf, LacksCapacityForText};
 ghost use Rattle.jsonb.specs.Follows.{FailsAsSpecified};
 ghost use Rattle.jsonb.specs.Lines.{AppendsTextOfLine, AppendsTextOfLines, LacksCapacityForLine, LacksCapacityForLines, RejectsLine, lines_of};
 ghost use Rattle.jsonb.specs.Parses.{AppendsParsed, Rejects};
 
-use super::Mode;
+use super::Grammar;
 use super::straight::{may_allocate, write_form, write_form_of_value};
 use jsonb_value::error::{Error, Result};
 use memchr::memchr;
@@ -32,7 +32,7 @@ pub struct RejectedLine {
 ///
 /// ```
 /// let mut buf = Vec::new(rt.alloc());
-/// jsonb::append_text_lines(rt.alloc(), b"{b: .5, a: null}\n[ ]", Mode::Extended, &mut buf)?;
+/// jsonb::append_text_lines(rt.alloc(), b"{b: .5, a: null}\n[ ]", Grammar::Extended, &mut buf)?;
 /// // appends {"a":null,"b":0.5} and [], each with a line feed
 /// ```
 ///
@@ -44,26 +44,26 @@ pub struct RejectedLine {
 pub fn append_text_lines(
     alloc: Global,
     text: &[u8],
-    mode: Mode,
+    grammar: Grammar,
     buf: &mut Vec<u8>,
 ) -> std::result::Result<(), RejectedLine>
     // Each line is a document, whose text is appended. After an error the buffer has its old bytes.
-    ensures appends { OnOk result (AppendsTextOfLines (mode_of mode) (lines_of text.now) buf.old.items buf.new.items) }
+    ensures appends { OnOk result (AppendsTextOfLines (grammar_of grammar) (lines_of text.now) buf.old.items buf.new.items) }
     ensures preserves { OnErr result (buf.new.items ≡ buf.old.items) }
 
     // Memory runs out only where the text may allocate, or where the space for the lines is missing. A buffer that has
     // space holds it, where the text doesn't allocate.
     ensures memory { IfErr result (λ e. e.error ≡ Error.OutOfMemory → MayAllocate text.now
-        ⊎ LacksCapacityForLines (mode_of mode) (lines_of text.now) (vec_capacity buf.old) (vec_len buf.old)) }
+        ⊎ LacksCapacityForLines (grammar_of grammar) (lines_of text.now) (vec_capacity buf.old) (vec_len buf.old)) }
     ensures capacity { MayAllocate text.now ⊎ (vec_capacity buf.old ≤ vec_capacity buf.new) }
 
     // An error is that of the parsers, of the first line that has one.
-    ensures rejects { IfErr result (λ e. RejectsLine (mode_of mode) e.error (lines_of text.now) e.start) }
+    ensures rejects { IfErr result (λ e. RejectsLine (grammar_of grammar) e.error (lines_of text.now) e.start) }
 {
     let before = buf.len();
     let out = mem::replace(buf, Vec::new(alloc));
     let mut sink = TextSink::new(alloc, text, out);
-    let written = write_lines(&mut sink, alloc, text, mode);
+    let written = write_lines(&mut sink, alloc, text, grammar);
     *buf = sink.into_buffer();
     if written.is_err() {
         buf.truncate(before);
@@ -76,22 +76,22 @@ fn write_lines<'a>(
     sink: &mut TextSink<'a>,
     alloc: Global,
     text: &'a [u8],
-    mode: Mode,
+    grammar: Grammar,
 ) -> std::result::Result<(), RejectedLine>
-    ensures appends { OnOk result (AppendsTextOfLines (mode_of mode) (lines_of text.now) sink.old.written.out.items
+    ensures appends { OnOk result (AppendsTextOfLines (grammar_of grammar) (lines_of text.now) sink.old.written.out.items
         sink.new.written.out.items) }
     ensures retained { Extends sink.old.written.out.items sink.new.written.out.items }
     ensures memory { IfErr result (λ e. e.error ≡ Error.OutOfMemory → MayAllocate text.now
-        ⊎ LacksCapacityForLines (mode_of mode) (lines_of text.now) (vec_capacity sink.old.written.out)
+        ⊎ LacksCapacityForLines (grammar_of grammar) (lines_of text.now) (vec_capacity sink.old.written.out)
         (vec_len sink.old.written.out)) }
     ensures capacity { MayAllocate text.now
         ⊎ (vec_capacity sink.old.written.out ≤ vec_capacity sink.new.written.out) }
-    ensures rejects { IfErr result (λ e. RejectsLine (mode_of mode) e.error (lines_of text.now) e.start) }
+    ensures rejects { IfErr result (λ e. RejectsLine (grammar_of grammar) e.error (lines_of text.now) e.start) }
 {
     let mut rest = text;
     'lines: while !rest.is_empty() {
         let (line, others) = split_line(rest);
-        if let Err(error) = write_line(sink, alloc, line, mode) {
+        if let Err(error) = write_line(sink, alloc, line, grammar) {
             let start = text.len() - rest.len();
             return Err(RejectedLine { start, error });
         }
@@ -116,18 +116,23 @@ fn split_line(bytes: &[u8]) -> (&[u8], &[u8])
 
 // Writes the serialized form of a line's value, and a line feed, behind what is in the sink's buffer.
 #[inline(always)]
-fn write_line<'a>(sink: &mut TextSink<'a>, alloc: Global, line: &'a [u8], mode: Mode) -> Result<()>
-    ensures appends { OnOk result (AppendsTextOfLine (mode_of mode) line.now sink.old.written.out.items
+fn write_line<'a>(
+    sink: &mut TextSink<'a>,
+    alloc: Global,
+    line: &'a [u8],
+    grammar: Grammar,
+) -> Result<()>
+    ensures appends { OnOk result (AppendsTextOfLine (grammar_of grammar) line.now sink.old.written.out.items
         sink.new.written.out.items) }
     ensures retained { Extends sink.old.written.out.items sink.new.written.out.items }
-    ensures memory { result ≡ Err Error.OutOfMemory → MayAllocate line.now ⊎ LacksCapacityForLine (mode_of mode) line.now
+    ensures memory { result ≡ Err Error.OutOfMemory → MayAllocate line.now ⊎ LacksCapacityForLine (grammar_of grammar) line.now
         (vec_capacity sink.old.written.out) (vec_len sink.old.written.out) }
     ensures capacity { MayAllocate line.now
         ⊎ (vec_capacity sink.old.written.out ≤ vec_capacity sink.new.written.out) }
-    ensures rejects { Rejects (mode_of mode) line.now result }
-    ensures follows { FailsAsSpecified (mode_of mode) line.now result }
+    ensures rejects { Rejects (grammar_of grammar) line.now result }
+    ensures follows { FailsAsSpecified (grammar_of grammar) line.now result }
 {
-    write_line_form(sink, alloc, line, mode)?;
+    write_line_form(sink, alloc, line, grammar)?;
     let written = &mut sink.written;
     match written.out.push(b'\n') {
         Ok(()) => Ok(()),
@@ -141,17 +146,17 @@ fn write_line_form<'a>(
     sink: &mut TextSink<'a>,
     alloc: Global,
     line: &'a [u8],
-    mode: Mode,
+    grammar: Grammar,
 ) -> Result<()>
-    ensures appends { AppendsParsed (AppendsTextOf (mode_of mode) line.now)
-        (LacksCapacityForText (mode_of mode) line.now) line.now result sink.old.written.out sink.new.written.out }
-    ensures rejects { Rejects (mode_of mode) line.now result }
-    ensures follows { FailsAsSpecified (mode_of mode) line.now result }
+    ensures appends { AppendsParsed (AppendsTextOf (grammar_of grammar) line.now)
+        (LacksCapacityForText (grammar_of grammar) line.now) line.now result sink.old.written.out sink.new.written.out }
+    ensures rejects { Rejects (grammar_of grammar) line.now result }
+    ensures follows { FailsAsSpecified (grammar_of grammar) line.now result }
 {
     sink.restart(line);
     if may_allocate(line) {
-        write_form(sink, alloc, line, mode)
+        write_form(sink, alloc, line, grammar)
     } else {
-        write_form_of_value(sink, alloc, line, mode)
+        write_form_of_value(sink, alloc, line, grammar)
     }
 }

@@ -1,14 +1,14 @@
 //! The text of one part of a document, with no value made of the document.
 ghost use Rattle.std.specs.Prelude.{◌≡◌, ◌⊎◌, map, string_bytes, vec_len, IfOk, OnErr, Err};
 ghost use Rattle.std.specs.Vec.{vec_capacity};
-ghost use Rattle.text_scan.specs.Answer.{mode_of, MayAllocate};
+ghost use Rattle.text_scan.specs.Answer.{grammar_of, MayAllocate};
 ghost use Rattle.jsonb.specs.Appends.{AppendsPartOf, LacksCapacityForPart};
 ghost use Rattle.jsonb.specs.Follows.{FailsAsSpecified};
 ghost use Rattle.jsonb.specs.Parses.{Rejects};
 
-use super::Mode;
 use super::handler::SinkPart;
-use super::straight::{may_allocate, value_of};
+use super::straight::may_allocate;
+use super::{Grammar, parse_value_in};
 use crate::part::part_at;
 use jsonb_value::error::{Error, Result};
 use jsonb_value::value::Value;
@@ -26,7 +26,7 @@ use text_write::part::PartSink;
 /// ```
 /// let path = [String::from_str(rt.alloc(), "b")?, String::from_str(rt.alloc(), "1")?];
 /// let mut buf = Vec::new(rt.alloc());
-/// jsonb::append_part(rt.alloc(), b"{\"b\": [1, 2.50]}", Mode::Extended, &path, &mut buf)?; // appends 2.50
+/// jsonb::append_part(rt.alloc(), b"{\"b\": [1, 2.50]}", Grammar::Extended, &path, &mut buf)?; // appends 2.50
 /// ```
 ///
 /// # Errors
@@ -38,29 +38,29 @@ use text_write::part::PartSink;
 pub fn append_part(
     alloc: Global,
     text: &[u8],
-    mode: Mode,
+    grammar: Grammar,
     path: &[String],
     buf: &mut Vec<u8>,
 ) -> Result<bool>
     // What is appended is the text of the part of the document's one tree.
-    ensures ok { IfOk result (AppendsPartOf (mode_of mode) text.now (map string_bytes path.now) buf.old.items
+    ensures ok { IfOk result (AppendsPartOf (grammar_of grammar) text.now (map string_bytes path.now) buf.old.items
         buf.new.items) }
     ensures err { OnErr result (buf.new.items ≡ buf.old.items) }
     // Memory runs out only where the text may take some, or where the space for all that is appended is missing.
     ensures memory { result ≡ Err Error.OutOfMemory → MayAllocate text.now
-        ⊎ LacksCapacityForPart (mode_of mode) text.now (map string_bytes path.now) (vec_capacity buf.old)
+        ⊎ LacksCapacityForPart (grammar_of grammar) text.now (map string_bytes path.now) (vec_capacity buf.old)
         (vec_len buf.old) }
 
     // An error is that of the parsers.
-    ensures rejects { Rejects (mode_of mode) text.now result }
-    ensures follows { FailsAsSpecified (mode_of mode) text.now result }
+    ensures rejects { Rejects (grammar_of grammar) text.now result }
+    ensures follows { FailsAsSpecified (grammar_of grammar) text.now result }
 {
     if !may_allocate(text) {
-        return append_part_of_value(alloc, text, mode, path, buf);
+        return append_part_of_value(alloc, text, grammar, path, buf);
     }
     let out = mem::replace(buf, Vec::new(alloc));
     let mut sink = PartSink::new(alloc, text, path, out);
-    match parse_text::<SinkPart<PartSink>>(&mut sink, alloc, text, mode) {
+    match parse_text::<SinkPart<PartSink>>(&mut sink, alloc, text, grammar) {
         Ok(_) => {
             let found = sink.found;
             *buf = sink.into_buffer();
@@ -70,7 +70,7 @@ pub fn append_part(
             *buf = sink.take_back();
             match reported {
                 Some(error) => Err(error),
-                None => append_part_of_value(alloc, text, mode, path, buf),
+                None => append_part_of_value(alloc, text, grammar, path, buf),
             }
         }
     }
@@ -84,20 +84,20 @@ pub fn append_part(
 fn append_part_of_value(
     alloc: Global,
     text: &[u8],
-    mode: Mode,
+    grammar: Grammar,
     path: &[String],
     buf: &mut Vec<u8>,
 ) -> Result<bool>
-    ensures ok { IfOk result (AppendsPartOf (mode_of mode) text.now (map string_bytes path.now) buf.old.items
+    ensures ok { IfOk result (AppendsPartOf (grammar_of grammar) text.now (map string_bytes path.now) buf.old.items
         buf.new.items) }
     ensures err { OnErr result (buf.new.items ≡ buf.old.items) }
     ensures memory { result ≡ Err Error.OutOfMemory → MayAllocate text.now
-        ⊎ LacksCapacityForPart (mode_of mode) text.now (map string_bytes path.now) (vec_capacity buf.old)
+        ⊎ LacksCapacityForPart (grammar_of grammar) text.now (map string_bytes path.now) (vec_capacity buf.old)
         (vec_len buf.old) }
-    ensures rejects { Rejects (mode_of mode) text.now result }
-    ensures follows { FailsAsSpecified (mode_of mode) text.now result }
+    ensures rejects { Rejects (grammar_of grammar) text.now result }
+    ensures follows { FailsAsSpecified (grammar_of grammar) text.now result }
 {
-    let value = value_of(alloc, text, mode)?;
+    let value = parse_value_in(alloc, text, grammar)?;
     let Some(part) = part_at(&value, path) else {
         value.dismantle();
         return Ok(false);

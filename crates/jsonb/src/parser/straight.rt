@@ -2,16 +2,15 @@
 ghost use Rattle.std.specs.Prelude.{◌≡◌, [], true, MatchBool, OnErr, OnOk, Err};
 ghost use Rattle.jsonb_spec.specs.Tree.{Tree};
 ghost use Rattle.jsonb_value.specs.View.{view};
-ghost use Rattle.text_scan.specs.Answer.{mode_of, MayAllocate};
+ghost use Rattle.text_scan.specs.Answer.{grammar_of, MayAllocate};
 ghost use Rattle.text_write.specs.TextSink.{TextHolds, base_of};
 ghost use Rattle.jsonb.specs.Appends.{AppendsKeyOf, AppendsTextOf, IsParsed, LacksCapacityForKey, LacksCapacityForText};
-ghost use Rattle.jsonb.specs.Follows.{FailsAsSpecified, FollowsSpecification};
-ghost use Rattle.jsonb.specs.Parses.{AppendsParsed, Parses, Rejects};
+ghost use Rattle.jsonb.specs.Follows.{FailsAsSpecified};
+ghost use Rattle.jsonb.specs.Parses.{AppendsParsed, Rejects};
 
 use super::handler::{CheckedPart, SinkPart};
-use super::{Mode, parse_value, parse_value_standard_mode};
+use super::{Grammar, parse_value_in};
 use jsonb_value::error::{Error, Result};
-use jsonb_value::value::Value;
 use memchr::memchr3;
 use std::alloc::Global;
 use std::mem;
@@ -40,8 +39,8 @@ pub fn may_allocate(text: &[u8]) -> bool
 /// strings and keys with escapes. Machine stack doesn't grow with the depth of the text.
 ///
 /// ```
-/// jsonb::check(rt.alloc(), b"{b: .5, a: null}", Mode::Extended)?;
-/// assert!(rt; jsonb::check(rt.alloc(), b"[1,", Mode::Standard).is_err());
+/// jsonb::check(rt.alloc(), b"{b: .5, a: null}", Grammar::Extended)?;
+/// assert!(rt; jsonb::check(rt.alloc(), b"[1,", Grammar::Standard).is_err());
 /// ```
 ///
 /// # Errors
@@ -49,17 +48,34 @@ pub fn may_allocate(text: &[u8]) -> bool
 /// Those of [`JsonAst::parse`].
 ///
 /// [`JsonAst::parse`]: crate::JsonAst::parse
-pub fn check(alloc: Global, text: &[u8], mode: Mode) -> Result<()>
+pub fn check(alloc: Global, text: &[u8], grammar: Grammar) -> Result<()>
     // What is accepted is a document, of one tree.
-    ensures document { OnOk result ((t : Tree) × IsParsed (mode_of mode) text.now t) }
+    ensures document { OnOk result ((t : Tree) × IsParsed (grammar_of grammar) text.now t) }
     ensures memory { result ≡ Err Error.OutOfMemory → MayAllocate text.now }
 
     // An error is that of the parsers.
-    ensures rejects { Rejects (mode_of mode) text.now result }
-    ensures follows { FailsAsSpecified (mode_of mode) text.now result }
+    ensures rejects { Rejects (grammar_of grammar) text.now result }
+    ensures follows { FailsAsSpecified (grammar_of grammar) text.now result }
+{
+    match grammar {
+        Grammar::Json => check_by::<true>(alloc, text, grammar),
+        Grammar::Standard | Grammar::Extended | Grammar::ExtendedJson => {
+            check_by::<false>(alloc, text, grammar)
+        }
+    }
+}
+
+// The same by a handler that distinguishes strings without an escape, or doesn't. Where it does, the control characters
+// that JSON has not are found where a string's end is.
+#[inline(always)]
+fn check_by<const PLAIN: bool>(alloc: Global, text: &[u8], grammar: Grammar) -> Result<()>
+    ensures document { OnOk result ((t : Tree) × IsParsed (grammar_of grammar) text.now t) }
+    ensures memory { result ≡ Err Error.OutOfMemory → MayAllocate text.now }
+    ensures rejects { Rejects (grammar_of grammar) text.now result }
+    ensures follows { FailsAsSpecified (grammar_of grammar) text.now result }
 {
     let mut sink = CheckSink::new(alloc, text);
-    let read = parse_text::<CheckedPart>(&mut sink, alloc, text, mode);
+    let read = parse_text::<CheckedPart<PLAIN>>(&mut sink, alloc, text, grammar);
     match read {
         Ok(_) => Ok(()),
         Err(reported) => match reported {
@@ -80,7 +96,7 @@ pub fn check(alloc: Global, text: &[u8], mode: Mode) -> Result<()>
 ///
 /// ```
 /// let mut buf = Vec::new(rt.alloc());
-/// jsonb::append_text(rt.alloc(), b"{b: .5, a: null}", Mode::Extended, &mut buf)?; // appends {"a":null,"b":0.5}
+/// jsonb::append_text(rt.alloc(), b"{b: .5, a: null}", Grammar::Extended, &mut buf)?; // appends {"a":null,"b":0.5}
 /// ```
 ///
 /// # Errors
@@ -88,21 +104,21 @@ pub fn check(alloc: Global, text: &[u8], mode: Mode) -> Result<()>
 /// Those of [`JsonAst::parse`], and `OutOfMemory` also where `buf` could not grow.
 ///
 /// [`JsonAst::parse`]: crate::JsonAst::parse
-pub fn append_text(alloc: Global, text: &[u8], mode: Mode, buf: &mut Vec<u8>) -> Result<()>
+pub fn append_text(alloc: Global, text: &[u8], grammar: Grammar, buf: &mut Vec<u8>) -> Result<()>
     // What is appended is of the one tree of the document. After an error the buffer has its old bytes.
-    ensures appends { AppendsParsed (AppendsTextOf (mode_of mode) text.now)
-        (LacksCapacityForText (mode_of mode) text.now) text.now result buf.old buf.new }
+    ensures appends { AppendsParsed (AppendsTextOf (grammar_of grammar) text.now)
+        (LacksCapacityForText (grammar_of grammar) text.now) text.now result buf.old buf.new }
 
     // An error is that of the parsers.
-    ensures rejects { Rejects (mode_of mode) text.now result }
-    ensures follows { FailsAsSpecified (mode_of mode) text.now result }
+    ensures rejects { Rejects (grammar_of grammar) text.now result }
+    ensures follows { FailsAsSpecified (grammar_of grammar) text.now result }
 {
     if !may_allocate(text) {
-        return append_text_of_value(alloc, text, mode, buf);
+        return append_text_of_value(alloc, text, grammar, buf);
     }
     let out = mem::replace(buf, Vec::new(alloc));
     let mut sink = TextSink::new(alloc, text, out);
-    let written = write_form(&mut sink, alloc, text, mode);
+    let written = write_form(&mut sink, alloc, text, grammar);
     *buf = sink.into_buffer();
     written
 }
@@ -118,7 +134,7 @@ pub fn append_text(alloc: Global, text: &[u8], mode: Mode, buf: &mut Vec<u8>) ->
 ///
 /// ```
 /// let mut buf = Vec::new(rt.alloc());
-/// jsonb::append_sort_key(rt.alloc(), b"[1, \"x\"]", Mode::Standard, &mut buf)?; // below the key of [2]
+/// jsonb::append_sort_key(rt.alloc(), b"[1, \"x\"]", Grammar::Standard, &mut buf)?; // below the key of [2]
 /// ```
 ///
 /// # Errors
@@ -126,21 +142,26 @@ pub fn append_text(alloc: Global, text: &[u8], mode: Mode, buf: &mut Vec<u8>) ->
 /// Those of [`JsonAst::parse`], and `OutOfMemory` also where `buf` could not grow.
 ///
 /// [`JsonAst::parse`]: crate::JsonAst::parse
-pub fn append_sort_key(alloc: Global, text: &[u8], mode: Mode, buf: &mut Vec<u8>) -> Result<()>
+pub fn append_sort_key(
+    alloc: Global,
+    text: &[u8],
+    grammar: Grammar,
+    buf: &mut Vec<u8>,
+) -> Result<()>
     // What is appended is of the one tree of the document. After an error the buffer has its old bytes.
-    ensures appends { AppendsParsed (AppendsKeyOf (mode_of mode) text.now)
-        (LacksCapacityForKey (mode_of mode) text.now) text.now result buf.old buf.new }
+    ensures appends { AppendsParsed (AppendsKeyOf (grammar_of grammar) text.now)
+        (LacksCapacityForKey (grammar_of grammar) text.now) text.now result buf.old buf.new }
 
     // An error is that of the parsers.
-    ensures rejects { Rejects (mode_of mode) text.now result }
-    ensures follows { FailsAsSpecified (mode_of mode) text.now result }
+    ensures rejects { Rejects (grammar_of grammar) text.now result }
+    ensures follows { FailsAsSpecified (grammar_of grammar) text.now result }
 {
     if !may_allocate(text) {
-        return append_sort_key_of_value(alloc, text, mode, buf);
+        return append_sort_key_of_value(alloc, text, grammar, buf);
     }
     let out = mem::replace(buf, Vec::new(alloc));
     let mut sink = KeySink::new(alloc, text, out);
-    let read = parse_text::<SinkPart<KeySink>>(&mut sink, alloc, text, mode);
+    let read = parse_text::<SinkPart<KeySink>>(&mut sink, alloc, text, grammar);
     match read {
         Ok(_) => {
             if sink.finish().is_err() {
@@ -154,20 +175,9 @@ pub fn append_sort_key(alloc: Global, text: &[u8], mode: Mode, buf: &mut Vec<u8>
             *buf = sink.take_back();
             match reported {
                 Some(error) => Err(error),
-                None => append_sort_key_of_value(alloc, text, mode, buf),
+                None => append_sort_key_of_value(alloc, text, grammar, buf),
             }
         }
-    }
-}
-
-// The value of a text, by the parser of the mode.
-pub(super) fn value_of(alloc: Global, text: &[u8], mode: Mode) -> Result<Value<'_>>
-    ensures parses { Parses (mode_of mode) view text.now result }
-    ensures follows { FollowsSpecification (mode_of mode) view text.now result }
-{
-    match mode {
-        Mode::Standard => parse_value_standard_mode(alloc, text),
-        Mode::Extended => parse_value(alloc, text),
     }
 }
 
@@ -177,15 +187,15 @@ pub(super) fn write_form<'a>(
     sink: &mut TextSink<'a>,
     alloc: Global,
     text: &'a [u8],
-    mode: Mode,
+    grammar: Grammar,
 ) -> Result<()>
     requires holds { TextHolds text.now sink.old true [] [] }
-    ensures appends { OnOk result (AppendsTextOf (mode_of mode) text.now (base_of sink.old) sink.new.written.out.items) }
+    ensures appends { OnOk result (AppendsTextOf (grammar_of grammar) text.now (base_of sink.old) sink.new.written.out.items) }
     ensures preserves { OnErr result (sink.new.written.out.items ≡ base_of sink.old) }
-    ensures rejects { Rejects (mode_of mode) text.now result }
-    ensures follows { FailsAsSpecified (mode_of mode) text.now result }
+    ensures rejects { Rejects (grammar_of grammar) text.now result }
+    ensures follows { FailsAsSpecified (grammar_of grammar) text.now result }
 {
-    match parse_text::<SinkPart<TextSink>>(sink, alloc, text, mode) {
+    match parse_text::<SinkPart<TextSink>>(sink, alloc, text, grammar) {
         Ok(_) => {
             if sink.finish().is_err() {
                 sink.undo();
@@ -197,7 +207,7 @@ pub(super) fn write_form<'a>(
             sink.undo();
             match reported {
                 Some(error) => Err(error),
-                None => write_form_of_value(sink, alloc, text, mode),
+                None => write_form_of_value(sink, alloc, text, grammar),
             }
         }
     }
@@ -210,15 +220,15 @@ pub(super) fn write_form_of_value(
     sink: &mut TextSink<'_>,
     alloc: Global,
     text: &[u8],
-    mode: Mode,
+    grammar: Grammar,
 ) -> Result<()>
-    ensures appends { AppendsParsed (AppendsTextOf (mode_of mode) text.now)
-        (LacksCapacityForText (mode_of mode) text.now) text.now result sink.old.written.out sink.new.written.out }
-    ensures rejects { Rejects (mode_of mode) text.now result }
-    ensures follows { FailsAsSpecified (mode_of mode) text.now result }
+    ensures appends { AppendsParsed (AppendsTextOf (grammar_of grammar) text.now)
+        (LacksCapacityForText (grammar_of grammar) text.now) text.now result sink.old.written.out sink.new.written.out }
+    ensures rejects { Rejects (grammar_of grammar) text.now result }
+    ensures follows { FailsAsSpecified (grammar_of grammar) text.now result }
 {
     let written = &mut sink.written;
-    append_text_of_value(alloc, text, mode, &mut written.out)
+    append_text_of_value(alloc, text, grammar, &mut written.out)
 }
 
 // Appends the serialized form of a text's value, which is made first. Scalars without escapes go this way, of which it
@@ -226,13 +236,18 @@ pub(super) fn write_form_of_value(
 // and its members are out of order at each: there it takes less time.
 #[cold]
 #[inline(never)]
-fn append_text_of_value(alloc: Global, text: &[u8], mode: Mode, buf: &mut Vec<u8>) -> Result<()>
-    ensures appends { AppendsParsed (AppendsTextOf (mode_of mode) text.now)
-        (LacksCapacityForText (mode_of mode) text.now) text.now result buf.old buf.new }
-    ensures rejects { Rejects (mode_of mode) text.now result }
-    ensures follows { FailsAsSpecified (mode_of mode) text.now result }
+fn append_text_of_value(
+    alloc: Global,
+    text: &[u8],
+    grammar: Grammar,
+    buf: &mut Vec<u8>,
+) -> Result<()>
+    ensures appends { AppendsParsed (AppendsTextOf (grammar_of grammar) text.now)
+        (LacksCapacityForText (grammar_of grammar) text.now) text.now result buf.old buf.new }
+    ensures rejects { Rejects (grammar_of grammar) text.now result }
+    ensures follows { FailsAsSpecified (grammar_of grammar) text.now result }
 {
-    let value = value_of(alloc, text, mode)?;
+    let value = parse_value_in(alloc, text, grammar)?;
     let written = value.write_text(buf);
     value.dismantle();
     match written {
@@ -246,13 +261,18 @@ fn append_text_of_value(alloc: Global, text: &[u8], mode: Mode, buf: &mut Vec<u8
 // members are out of order at each: there it takes less time.
 #[cold]
 #[inline(never)]
-fn append_sort_key_of_value(alloc: Global, text: &[u8], mode: Mode, buf: &mut Vec<u8>) -> Result<()>
-    ensures appends { AppendsParsed (AppendsKeyOf (mode_of mode) text.now)
-        (LacksCapacityForKey (mode_of mode) text.now) text.now result buf.old buf.new }
-    ensures rejects { Rejects (mode_of mode) text.now result }
-    ensures follows { FailsAsSpecified (mode_of mode) text.now result }
+fn append_sort_key_of_value(
+    alloc: Global,
+    text: &[u8],
+    grammar: Grammar,
+    buf: &mut Vec<u8>,
+) -> Result<()>
+    ensures appends { AppendsParsed (AppendsKeyOf (grammar_of grammar) text.now)
+        (LacksCapacityForKey (grammar_of grammar) text.now) text.now result buf.old buf.new }
+    ensures rejects { Rejects (grammar_of grammar) text.now result }
+    ensures follows { FailsAsSpecified (grammar_of grammar) text.now result }
 {
-    let value = value_of(alloc, text, mode)?;
+    let value = parse_value_in(alloc, text, grammar)?;
     let written = value.write_sort_key(buf);
     value.dismantle();
     match written {

@@ -2,7 +2,7 @@ use Rattle.std.proofs.Common.{◌<◌, ◌^◌, ◌⊎◌, true, false, inl, inr
 use Rattle.jsonb_spec.specs.Grammar.{IsDocument}
 use Rattle.jsonb_spec.specs.Tree.{Tree}
 use Rattle.jsonb.specs.Appends.{AppendsPartOf}
-use Rattle.text_scan.specs.Answer.{MayAllocate, mode_of}
+use Rattle.text_scan.specs.Answer.{MayAllocate, grammar_of}
 use Rattle.jsonb_c.proofs.DocumentParts.{IsNothingThere, IsTextThere, document_needs, nothing_there, text_there}
 use Rattle.jsonb_c.specs.Interface.{IsAccepted}
 use Rattle.jsonb_c.proofs.Reasons.{memory_said, reason_says}
@@ -11,7 +11,7 @@ use Rattle.jsonb_c.proofs.part_at_keys.Goals as goal
 
 pub returns-in-Ok-true-clause-part : goal.returns-in-Ok-true-clause-part
 returns-in-Ok-true-clause-part c = λ path is_path.
-    let mode = mode_of c.in-Some.mode in
+    let mode = grammar_of c.in-Some.grammar in
     let text = c.args.text.now in
     let keys = map string_bytes c.args.keys.now in
     let old = c.new-bytes.result.items in
@@ -33,7 +33,7 @@ returns-in-Ok-true-clause-part c = λ path is_path.
 
 pub returns-in-Ok-false-clause-part : goal.returns-in-Ok-false-clause-part
 returns-in-Ok-false-clause-part c = λ path is_path.
-    let mode = mode_of c.in-Some.mode in
+    let mode = grammar_of c.in-Some.grammar in
     let text = c.args.text.now in
     let keys = map string_bytes c.args.keys.now in
     let old = c.new-bytes.result.items in
@@ -51,12 +51,12 @@ returns-in-Ok-false-clause-part c = λ path is_path.
 
 pub returns-in-Err-clause-fails : goal.returns-in-Err-clause-fails
 returns-in-Err-clause-fails c = record {
-  reason = reason_says c.args.mode (mode_of c.in-Some.mode) c.args.text.now 1 c.in-Err.error c.reason_of.result c.in-Some.ensures c.in-Err.ensures.rejects.rejected c.in-Err.ensures.follows.exact c.in-Err.ensures.follows.explained
+  reason = reason_says c.args.mode (grammar_of c.in-Some.grammar) c.args.text.now 1 c.in-Err.error c.reason_of.result c.in-Some.ensures c.in-Err.ensures.rejects.rejected c.in-Err.ensures.follows.exact c.in-Err.ensures.follows.explained
       c.reason_of.ensures;
   memory = λ is.
       by_memory (document_needs (c.in-Err.ensures.memory (memory_said 1 c.in-Err.error c.reason_of.result c.reason_of.ensures is)));
 }
   where
-    by_memory : MayAllocate c.args.text.now ⊎ ((t : Tree) × IsDocument (mode_of c.in-Some.mode) c.args.text.now t) → MayAllocate c.args.text.now ⊎ IsAccepted c.args.mode c.args.text.now
+    by_memory : MayAllocate c.args.text.now ⊎ ((t : Tree) × IsDocument (grammar_of c.in-Some.grammar) c.args.text.now t) → MayAllocate c.args.text.now ⊎ IsAccepted c.args.mode c.args.text.now
     by_memory (inl may) = inl may
     by_memory (inr read) = inr (document_accepted c.args.mode c.args.text.now read.0 c.in-Some.ensures read.1)

@@ -2,7 +2,7 @@ use Rattle.std.proofs.Common.{◌++◌, ◌⊎◌, inl, inr, ap, ◌∙◌}
 use Rattle.std.specs.Vec.{vec_capacity, vec_len}
 use Rattle.jsonb_spec.specs.SortKey.{key_of}
 use Rattle.jsonb.specs.Appends.{LacksCapacityForKey}
-use Rattle.text_scan.specs.Answer.{MayAllocate, mode_of}
+use Rattle.text_scan.specs.Answer.{MayAllocate, grammar_of}
 use Rattle.jsonb_c.proofs.Keys.{key_is}
 use Rattle.jsonb_c.proofs.Reasons.{memory_said, reason_says}
 use Rattle.jsonb_c.proofs.Texts.{document_accepted, parsed_accepted}
@@ -16,12 +16,12 @@ returns-in-Ok-clause-key c =
 
 pub returns-in-Err-clause-fails : goal.returns-in-Err-clause-fails
 returns-in-Err-clause-fails c = record {
-  reason = reason_says c.args.mode (mode_of c.in-Some.mode) c.args.text.now c.args.which c.in-Err.error c.reason_of.result c.in-Some.ensures c.in-Err.ensures.rejects.rejected c.in-Err.ensures.follows.exact c.in-Err.ensures.follows.explained
+  reason = reason_says c.args.mode (grammar_of c.in-Some.grammar) c.args.text.now c.args.which c.in-Err.error c.reason_of.result c.in-Some.ensures c.in-Err.ensures.rejects.rejected c.in-Err.ensures.follows.exact c.in-Err.ensures.follows.explained
       c.reason_of.ensures;
   memory = λ is.
       by_memory (c.in-Err.ensures.appends.memory (memory_said c.args.which c.in-Err.error c.reason_of.result c.reason_of.ensures is));
 }
   where
-    by_memory : MayAllocate c.args.text.now ⊎ LacksCapacityForKey (mode_of c.in-Some.mode) c.args.text.now (vec_capacity c.buffer_of-bytes.result) (vec_len c.buffer_of-bytes.result) → MayAllocate c.args.text.now ⊎ IsAccepted c.args.mode c.args.text.now
+    by_memory : MayAllocate c.args.text.now ⊎ LacksCapacityForKey (grammar_of c.in-Some.grammar) c.args.text.now (vec_capacity c.buffer_of-bytes.result) (vec_len c.buffer_of-bytes.result) → MayAllocate c.args.text.now ⊎ IsAccepted c.args.mode c.args.text.now
     by_memory (inl may) = inl may
     by_memory (inr lacks) = inr (document_accepted c.args.mode c.args.text.now lacks.tree c.in-Some.ensures lacks.document)

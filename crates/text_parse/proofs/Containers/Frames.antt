@@ -17,7 +17,7 @@ use Rattle.text_parse.specs.declared.parser.frame.Frame.TheVariants as variants
 use Rattle.text_parse.specs.Handler.{Builds, ElseFails, Misses}
 use Rattle.text_parse.specs.Frames.{AllFit, AtPart, BeforeValue, IsParsedToEnd, OpensContainer, ParsesParts, depth_within, finish_container, resume_part, resume_stack, resume_value, scalar_or_null}
 use Rattle.text_parse.specs.Slots.{Fits, IsArray, IsObject}
-use Rattle.text_scan.specs.Answer.{MayAllocate, mode_of}
+use Rattle.text_scan.specs.Answer.{MayAllocate, grammar_of}
 use Rattle.text_parse.specs.Parser.{Advances, parse_at, rest_of, size_of}
 use Rattle.text_scan.specs.Parsing.{Fault, Parse, begins, on_byte, reject, ◌>>=◌}
 use Rattle.text_scan.specs.Parsing.Whitespace.{skip_whitespace}
@@ -51,16 +51,16 @@ each_error (Err f) h = h f
 
 -- ---- the same in one input
 
-pub value_same : (p q : Parser) (depth : ℕ) (bytes : List ℕ) → Advances p q → value_at (size_of p) (mode_of p.mode) depth bytes ≡ value_at (size_of q) (mode_of q.mode) depth bytes
-value_same p q depth bytes a = sym (ap₂ (λ n m. value_at n m depth bytes) (same_size p q a) (ap mode_of a.mode))
+pub value_same : (p q : Parser) (depth : ℕ) (bytes : List ℕ) → Advances p q → value_at (size_of p) (grammar_of p.grammar) depth bytes ≡ value_at (size_of q) (grammar_of q.grammar) depth bytes
+value_same p q depth bytes a = sym (ap₂ (λ n m. value_at n m depth bytes) (same_size p q a) (ap grammar_of a.grammar))
 
-pub skip_same : (p q : Parser) (bytes : List ℕ) → Advances p q → skip_whitespace (mode_of p.mode) bytes ≡ skip_whitespace (mode_of q.mode) bytes
-skip_same p q bytes a = ap (λ m. skip_whitespace (mode_of m) bytes) (sym a.mode)
+pub skip_same : (p q : Parser) (bytes : List ℕ) → Advances p q → skip_whitespace (grammar_of p.grammar) bytes ≡ skip_whitespace (grammar_of q.grammar) bytes
+skip_same p q bytes a = ap (λ m. skip_whitespace (grammar_of m) bytes) (sym a.grammar)
 
 -- a value that holds no others, at any depth
 pub value_alone : (p q : Parser) (depth : ℕ) → Advances p q → begins 91 (rest_of q) ≡ false → begins 123 (rest_of q) ≡ false
-    → value_at (size_of p) (mode_of p.mode) depth (rest_of q) ≡ alone_at (scalar_at (size_of q) (mode_of q.mode) (rest_of q))
-value_alone p q depth a no_array no_object = value_same p q depth (rest_of q) a ∙ value_plain (size_of q) (mode_of q.mode) depth (rest_of q) no_array no_object
+    → value_at (size_of p) (grammar_of p.grammar) depth (rest_of q) ≡ alone_at (scalar_at (size_of q) (grammar_of q.grammar) (rest_of q))
+value_alone p q depth a no_array no_object = value_same p q depth (rest_of q) a ∙ value_plain (size_of q) (grammar_of q.grammar) depth (rest_of q) no_array no_object
 
 or_null_alone : (left_out : Bool) (bytes : List ℕ) (read : Parse Tree) → cond left_out (Ok (null_source, bytes)) (alone_at read) ≡ alone_at (cond left_out (Ok (null, bytes)) read)
 or_null_alone true bytes read = refl
@@ -88,62 +88,62 @@ module _ (size : ℕ) (mode : Mode) (depth : ℕ) where
 -- ---- a turn of the loops over parts
 
 -- an element is due
-pub element_stops : (p l s : Parser) (depth : ℕ) (front : List Source) → Advances p l → Advances l s → rest_of s ≡ skip_whitespace (mode_of l.mode) (rest_of l) → is_left_out (strictness (mode_of s.mode)) (rest_of s) ≡ false
-    → elements_from (size_of p) (mode_of p.mode) depth front (rest_of l) ≡ (value_at (size_of p) (mode_of p.mode) depth (rest_of s) >>= finish_open (size_of p) (mode_of p.mode) depth (elements_so_far front))
+pub element_stops : (p l s : Parser) (depth : ℕ) (front : List Source) → Advances p l → Advances l s → rest_of s ≡ skip_whitespace (grammar_of l.grammar) (rest_of l) → is_left_out (strictness (grammar_of s.grammar)) (rest_of s) ≡ false
+    → elements_from (size_of p) (grammar_of p.grammar) depth front (rest_of l) ≡ (value_at (size_of p) (grammar_of p.grammar) depth (rest_of s) >>= finish_open (size_of p) (grammar_of p.grammar) depth (elements_so_far front))
 element_stops p l s depth front a b skipped due =
-    let here : rest_of s ≡ skip_whitespace (mode_of p.mode) (rest_of l) = skipped ∙ sym (skip_same p l (rest_of l) a) in
-    element-due (size_of p) (mode_of p.mode) depth front (rest_of l) (ap₂ (λ m r. is_left_out (strictness m) r) (sym (ap mode_of (goes_on p l s a b).mode)) (sym here) ∙ due)
-    ∙ ap (λ r. value_at (size_of p) (mode_of p.mode) depth r >>= finish_open (size_of p) (mode_of p.mode) depth (elements_so_far front)) (sym here)
+    let here : rest_of s ≡ skip_whitespace (grammar_of p.grammar) (rest_of l) = skipped ∙ sym (skip_same p l (rest_of l) a) in
+    element-due (size_of p) (grammar_of p.grammar) depth front (rest_of l) (ap₂ (λ m r. is_left_out (strictness m) r) (sym (ap grammar_of (goes_on p l s a b).grammar)) (sym here) ∙ due)
+    ∙ ap (λ r. value_at (size_of p) (grammar_of p.grammar) depth r >>= finish_open (size_of p) (grammar_of p.grammar) depth (elements_so_far front)) (sym here)
 
 -- the part that ends here, and what is left of the container
 abbrev pub after_element : Parser → ℕ → List Source → Tree × List ℕ → Parse Source
 after_element p depth front x =
-    part_end (size_of p) expected_array_comma_or_end 93 (skip_whitespace (mode_of p.mode) x.1) >>= λ y. resume_part (size_of p) (mode_of p.mode) depth y.0 (elements_so_far (front ++ source_alone x.0 ∷ [])) y.1
+    part_end (size_of p) expected_array_comma_or_end 93 (skip_whitespace (grammar_of p.grammar) x.1) >>= λ y. resume_part (size_of p) (grammar_of p.grammar) depth y.0 (elements_so_far (front ++ source_alone x.0 ∷ [])) y.1
 
 abbrev pub after_member : Parser → ℕ → List Found → Mark × List ℕ → ℕ → Tree × List ℕ → Parse Source
 after_member p depth front k offset x =
-    part_end (size_of p) expected_object_comma_or_end 125 (skip_whitespace (mode_of p.mode) x.1) >>= λ y. resume_part (size_of p) (mode_of p.mode) depth y.0 (members_so_far (front ++ found_member k (source_alone x.0) offset ∷ []) (plain, []) 0) y.1
+    part_end (size_of p) expected_object_comma_or_end 125 (skip_whitespace (grammar_of p.grammar) x.1) >>= λ y. resume_part (size_of p) (grammar_of p.grammar) depth y.0 (members_so_far (front ++ found_member k (source_alone x.0) offset ∷ []) (plain, []) 0) y.1
 
 -- an element that holds no others is due, or none
-pub element_turn : (p l s : Parser) (depth : ℕ) (front : List Source) → Advances p l → Advances l s → rest_of s ≡ skip_whitespace (mode_of l.mode) (rest_of l) → begins 91 (rest_of s) ≡ false → begins 123 (rest_of s) ≡ false
-    → elements_from (size_of p) (mode_of p.mode) depth front (rest_of l) ≡ (parse_at scalar_or_null s >>= after_element p depth front)
+pub element_turn : (p l s : Parser) (depth : ℕ) (front : List Source) → Advances p l → Advances l s → rest_of s ≡ skip_whitespace (grammar_of l.grammar) (rest_of l) → begins 91 (rest_of s) ≡ false → begins 123 (rest_of s) ≡ false
+    → elements_from (size_of p) (grammar_of p.grammar) depth front (rest_of l) ≡ (parse_at scalar_or_null s >>= after_element p depth front)
 element_turn p l s depth front a b skipped no_array no_object =
     let on = goes_on p l s a b in
-    let read : Parse Tree = scalar_or_null (size_of s) (mode_of s.mode) (rest_of s) in
-    let here : rest_of s ≡ skip_whitespace (mode_of p.mode) (rest_of l) = skipped ∙ sym (skip_same p l (rest_of l) a) in
-    elements-turn (size_of p) (mode_of p.mode) depth front (rest_of l)
-    ∙ ap (λ x. x >>= finish_open (size_of p) (mode_of p.mode) depth (elements_so_far front))
-    (ap (λ u. value_or_null (strictness (mode_of p.mode)) (value_at (size_of p) (mode_of p.mode) depth) u) (sym here)
-    ∙ ap (λ v. cond (is_left_out (strictness (mode_of p.mode)) (rest_of s)) (Ok (null_source, rest_of s)) v) (value_alone p s depth on no_array no_object)
-    ∙ ap (λ m. cond (is_left_out (strictness (mode_of m)) (rest_of s)) (Ok (null_source, rest_of s)) (alone_at (scalar_at (size_of s) (mode_of s.mode) (rest_of s)))) (sym on.mode)
-    ∙ or_null_alone (is_left_out (strictness (mode_of s.mode)) (rest_of s)) (rest_of s) (scalar_at (size_of s) (mode_of s.mode) (rest_of s)))
-    ∙ then-then read (λ (x : Tree × List ℕ). Ok (source_alone x.0, x.1)) (finish_open (size_of p) (mode_of p.mode) depth (elements_so_far front))
-    ∙ then-same read (λ (x : Tree × List ℕ). finish_open (size_of p) (mode_of p.mode) depth (elements_so_far front) (source_alone x.0, x.1)) (after_element p depth front)
-    (λ x. element_ends (size_of p) (mode_of p.mode) depth (front ++ source_alone x.0 ∷ []) (skip_whitespace (mode_of p.mode) x.1))
+    let read : Parse Tree = scalar_or_null (size_of s) (grammar_of s.grammar) (rest_of s) in
+    let here : rest_of s ≡ skip_whitespace (grammar_of p.grammar) (rest_of l) = skipped ∙ sym (skip_same p l (rest_of l) a) in
+    elements-turn (size_of p) (grammar_of p.grammar) depth front (rest_of l)
+    ∙ ap (λ x. x >>= finish_open (size_of p) (grammar_of p.grammar) depth (elements_so_far front))
+    (ap (λ u. value_or_null (strictness (grammar_of p.grammar)) (value_at (size_of p) (grammar_of p.grammar) depth) u) (sym here)
+    ∙ ap (λ v. cond (is_left_out (strictness (grammar_of p.grammar)) (rest_of s)) (Ok (null_source, rest_of s)) v) (value_alone p s depth on no_array no_object)
+    ∙ ap (λ m. cond (is_left_out (strictness (grammar_of m)) (rest_of s)) (Ok (null_source, rest_of s)) (alone_at (scalar_at (size_of s) (grammar_of s.grammar) (rest_of s)))) (sym on.grammar)
+    ∙ or_null_alone (is_left_out (strictness (grammar_of s.grammar)) (rest_of s)) (rest_of s) (scalar_at (size_of s) (grammar_of s.grammar) (rest_of s)))
+    ∙ then-then read (λ (x : Tree × List ℕ). Ok (source_alone x.0, x.1)) (finish_open (size_of p) (grammar_of p.grammar) depth (elements_so_far front))
+    ∙ then-same read (λ (x : Tree × List ℕ). finish_open (size_of p) (grammar_of p.grammar) depth (elements_so_far front) (source_alone x.0, x.1)) (after_element p depth front)
+    (λ x. element_ends (size_of p) (grammar_of p.grammar) depth (front ++ source_alone x.0 ∷ []) (skip_whitespace (grammar_of p.grammar) x.1))
 
 -- a member is due
 abbrev pub waits : Parser → ℕ → List Found → ((Mark × List ℕ) × ℕ) × List ℕ → Parse Source
 waits p depth front k =
-    value_at (size_of p) (mode_of p.mode) depth k.1 >>= finish_open (size_of p) (mode_of p.mode) depth (members_so_far front k.0.0 k.0.1)
+    value_at (size_of p) (grammar_of p.grammar) depth k.1 >>= finish_open (size_of p) (grammar_of p.grammar) depth (members_so_far front k.0.0 k.0.1)
 
-pub member_due : (p l : Parser) (depth : ℕ) (front : List Found) → Advances p l → object_members_from (size_of p) (mode_of p.mode) depth front (rest_of l) ≡ (parse_at member_start l >>= waits p depth front)
+pub member_due : (p l : Parser) (depth : ℕ) (front : List Found) → Advances p l → object_members_from (size_of p) (grammar_of p.grammar) depth front (rest_of l) ≡ (parse_at member_start l >>= waits p depth front)
 member_due p l depth front a =
-    members-turn (size_of p) (mode_of p.mode) depth front (rest_of l)
-    ∙ ap (λ (r : Parse ((Mark × List ℕ) × ℕ)). r >>= waits p depth front) (sym (ap₂ (λ n m. member_start n m (rest_of l)) (same_size p l a) (ap mode_of a.mode)))
+    members-turn (size_of p) (grammar_of p.grammar) depth front (rest_of l)
+    ∙ ap (λ (r : Parse ((Mark × List ℕ) × ℕ)). r >>= waits p depth front) (sym (ap₂ (λ n m. member_start n m (rest_of l)) (same_size p l a) (ap grammar_of a.grammar)))
 
 -- a member's value, which holds no others
 pub member_turn : (p s : Parser) (depth : ℕ) (front : List Found) (k : Mark × List ℕ) (offset : ℕ) → Advances p s → begins 91 (rest_of s) ≡ false → begins 123 (rest_of s) ≡ false
     → waits p depth front ((k, offset), rest_of s) ≡ (parse_at scalar_at s >>= after_member p depth front k offset)
 member_turn p s depth front k offset a no_array no_object =
-    let read : Parse Tree = scalar_at (size_of s) (mode_of s.mode) (rest_of s) in
-    ap (λ (r : Parse Source). r >>= finish_open (size_of p) (mode_of p.mode) depth (members_so_far front k offset)) (value_alone p s depth a no_array no_object)
-    ∙ then-then read (λ (x : Tree × List ℕ). Ok (source_alone x.0, x.1)) (finish_open (size_of p) (mode_of p.mode) depth (members_so_far front k offset))
-    ∙ then-same read (λ (x : Tree × List ℕ). finish_open (size_of p) (mode_of p.mode) depth (members_so_far front k offset) (source_alone x.0, x.1)) (after_member p depth front k offset)
-    (λ x. member_ends (size_of p) (mode_of p.mode) depth (front ++ found_member k (source_alone x.0) offset ∷ []) (plain, []) 0 (skip_whitespace (mode_of p.mode) x.1))
+    let read : Parse Tree = scalar_at (size_of s) (grammar_of s.grammar) (rest_of s) in
+    ap (λ (r : Parse Source). r >>= finish_open (size_of p) (grammar_of p.grammar) depth (members_so_far front k offset)) (value_alone p s depth a no_array no_object)
+    ∙ then-then read (λ (x : Tree × List ℕ). Ok (source_alone x.0, x.1)) (finish_open (size_of p) (grammar_of p.grammar) depth (members_so_far front k offset))
+    ∙ then-same read (λ (x : Tree × List ℕ). finish_open (size_of p) (grammar_of p.grammar) depth (members_so_far front k offset) (source_alone x.0, x.1)) (after_member p depth front k offset)
+    (λ x. member_ends (size_of p) (grammar_of p.grammar) depth (front ++ found_member k (source_alone x.0) offset ∷ []) (plain, []) 0 (skip_whitespace (grammar_of p.grammar) x.1))
 
 -- the end of a part, reported of the parser that is there
-pub same_end : (p q : Parser) (code : Code) (close : ℕ) → Advances p q → part_end (size_of q) code close (skip_whitespace (mode_of q.mode) (rest_of q)) ≡ part_end (size_of p) code close (skip_whitespace (mode_of p.mode) (rest_of q))
-same_end p q code close a = ap₂ (λ n m. part_end n code close (skip_whitespace m (rest_of q))) (same_size p q a) (ap mode_of a.mode)
+pub same_end : (p q : Parser) (code : Code) (close : ℕ) → Advances p q → part_end (size_of q) code close (skip_whitespace (grammar_of q.grammar) (rest_of q)) ≡ part_end (size_of p) code close (skip_whitespace (grammar_of p.grammar) (rest_of q))
+same_end p q code close a = ap₂ (λ n m. part_end n code close (skip_whitespace m (rest_of q))) (same_size p q a) (ap grammar_of a.grammar)
 
 -- ---- lists that end in one more
 
@@ -215,8 +215,8 @@ module _ (size : ℕ) (mode : Mode) (depth : ℕ) (bytes rest : List ℕ) where
       ∙ sym (ap (λ o. object_or_fault o [] rest) (no_repeat [] tt))
   object-starts key offset false e = object-begun size mode depth bytes e.0 ∙ ap (λ (u : List ℕ). object_members_from size mode depth [] u) e.1
 
-outer-same : (p q : Parser) (depth : ℕ) (closed : Bool) (cs : List Open) (bytes : List ℕ) → Advances p q → resume_stack (size_of p) (mode_of p.mode) depth closed cs bytes ≡ resume_stack (size_of q) (mode_of q.mode) depth closed cs bytes
-outer-same p q depth closed cs bytes a = sym (ap₂ (λ n m. resume_stack n m depth closed cs bytes) (same_size p q a) (ap mode_of a.mode))
+outer-same : (p q : Parser) (depth : ℕ) (closed : Bool) (cs : List Open) (bytes : List ℕ) → Advances p q → resume_stack (size_of p) (grammar_of p.grammar) depth closed cs bytes ≡ resume_stack (size_of q) (grammar_of q.grammar) depth closed cs bytes
+outer-same p q depth closed cs bytes a = sym (ap₂ (λ n m. resume_stack n m depth closed cs bytes) (same_size p q a) (ap grammar_of a.grammar))
 
 -- ---- the stack
 
@@ -248,10 +248,10 @@ none_open I M K [] fit = refl
 none_open I M K (c ∷ cs) fit = absurd fit
 
 -- no container is open yet
-pub outermost_due : {I M K : Type 0} (Holds : Bool → List (Frame I M K) → List Open → Type 0) (p : Parser) (fs : List (Frame I M K)) → fs ≡ [] → Holds true [] [] → BeforeValue Holds (value_at (size_of p) (mode_of p.mode) max_depth (rest_of p)) p fs
+pub outermost_due : {I M K : Type 0} (Holds : Bool → List (Frame I M K) → List Open → Type 0) (p : Parser) (fs : List (Frame I M K)) → fs ≡ [] → Holds true [] [] → BeforeValue Holds (value_at (size_of p) (grammar_of p.grammar) max_depth (rest_of p)) p fs
 outermost_due Holds p fs e held =
-    subst (λ gs. BeforeValue Holds (value_at (size_of p) (mode_of p.mode) max_depth (rest_of p)) p gs) (sym e)
-    (record { opens = []; fit = tt; held = held; parses = sym (resume-none (size_of p) (mode_of p.mode) max_depth (value_at (size_of p) (mode_of p.mode) max_depth (rest_of p))) })
+    subst (λ gs. BeforeValue Holds (value_at (size_of p) (grammar_of p.grammar) max_depth (rest_of p)) p gs) (sym e)
+    (record { opens = []; fit = tt; held = held; parses = sym (resume-none (size_of p) (grammar_of p.grammar) max_depth (value_at (size_of p) (grammar_of p.grammar) max_depth (rest_of p))) })
 
 pub opens_within : (p : Parser) → OpensContainer (rest_of p) → p.offset < size_of p
 opens_within p (inl e) = omega (arith, ap length (next_found 91 p e), length-drop p.offset p.buf.now)
@@ -262,29 +262,29 @@ pub too_many : {I M K : Type 0} (Holds : Bool → List (Frame I M K) → List Op
 too_many Holds p fs whole full opens due =
     let none : depth_within fs ≡ 0 = omega arith in
     due.parses
-    ∙ ap (λ n. value_at (size_of p) (mode_of p.mode) n (rest_of p) >>= resume (size_of p) (mode_of p.mode) n due.opens) none
-    ∙ ap (λ (r : Parse Source). r >>= resume (size_of p) (mode_of p.mode) 0 due.opens) (rejected_here opens)
+    ∙ ap (λ n. value_at (size_of p) (grammar_of p.grammar) n (rest_of p) >>= resume (size_of p) (grammar_of p.grammar) n due.opens) none
+    ∙ ap (λ (r : Parse Source). r >>= resume (size_of p) (grammar_of p.grammar) 0 due.opens) (rejected_here opens)
   where
     offset-is : (c : ℕ) → rest_of p ≡ c ∷ drop (p.offset + 1) p.buf.now → size_of p - length (drop (p.offset + 1) p.buf.now) ≡ p.offset + 1
     offset-is c e = omega (arith, ap length e, length-drop p.offset p.buf.now, length-drop (p.offset + 1) p.buf.now)
 
-    rejected_here : OpensContainer (rest_of p) → value_at (size_of p) (mode_of p.mode) 0 (rest_of p) ≡ Err (record { code = depth_limit_exceeded; offset = p.offset + 1 })
+    rejected_here : OpensContainer (rest_of p) → value_at (size_of p) (grammar_of p.grammar) 0 (rest_of p) ≡ Err (record { code = depth_limit_exceeded; offset = p.offset + 1 })
     rejected_here (inl e) =
         let next = next_found 91 p e in
-        ap (λ r. value_at (size_of p) (mode_of p.mode) 0 r) next
-        ∙ array-value (size_of p) (mode_of p.mode) 0 (drop (p.offset + 1) p.buf.now)
+        ap (λ r. value_at (size_of p) (grammar_of p.grammar) 0 r) next
+        ∙ array-value (size_of p) (grammar_of p.grammar) 0 (drop (p.offset + 1) p.buf.now)
         ∙ ap (λ n. Err (record { code = depth_limit_exceeded; offset = n })) (offset-is 91 next)
     rejected_here (inr e) =
         let next = next_found 123 p e in
-        ap (λ r. value_at (size_of p) (mode_of p.mode) 0 r) next
-        ∙ object-value (size_of p) (mode_of p.mode) 0 (drop (p.offset + 1) p.buf.now)
+        ap (λ r. value_at (size_of p) (grammar_of p.grammar) 0 r) next
+        ∙ object-value (size_of p) (grammar_of p.grammar) 0 (drop (p.offset + 1) p.buf.now)
         ∙ ap (λ n. Err (record { code = depth_limit_exceeded; offset = n })) (offset-is 123 next)
 
 -- Old and New are what the sink means before and after a step.
 module _ {I M K : Type 0} (Old New : Bool → List (Frame I M K) → List Open → Type 0) where
   -- a container was pushed that is parsed from here on
   opened : (p q : Parser) (fs gs : List (Frame I M K)) (f : Frame I M K) (c : Open) (closed : Bool) (whole : Parse Source) → Advances p q → gs ≡ fs ++ f ∷ [] → Fits f c → ((cs : List Open) → Old true (reverse fs) cs → New false (f ∷ reverse fs) (c ∷ cs)) → length gs ≤ max_depth
-      → ((depth : ℕ) → value_at (size_of p) (mode_of p.mode) (suc depth) (rest_of p) ≡ resume_part (size_of p) (mode_of p.mode) depth closed c (rest_of q))
+      → ((depth : ℕ) → value_at (size_of p) (grammar_of p.grammar) (suc depth) (rest_of p) ≡ resume_part (size_of p) (grammar_of p.grammar) depth closed c (rest_of q))
       → BeforeValue Old whole p fs → AtPart New whole q gs closed
   opened p q fs gs f c closed whole a e fits held within parses due =
       let deep : depth_within fs ≡ suc (depth_within gs) = omega (arith, ap length e, length-append fs (f ∷ [])) in
@@ -295,29 +295,29 @@ module _ {I M K : Type 0} (Old New : Bool → List (Frame I M K) → List Open �
         held = subst (λ hs. New false hs (c ∷ due.opens)) turned (held due.opens due.held);
         parses =
             due.parses
-            ∙ ap (λ n. value_at (size_of p) (mode_of p.mode) n (rest_of p) >>= resume (size_of p) (mode_of p.mode) n due.opens) deep
-            ∙ ap (λ r. r >>= resume (size_of p) (mode_of p.mode) (suc (depth_within gs)) due.opens) (parses (depth_within gs))
+            ∙ ap (λ n. value_at (size_of p) (grammar_of p.grammar) n (rest_of p) >>= resume (size_of p) (grammar_of p.grammar) n due.opens) deep
+            ∙ ap (λ r. r >>= resume (size_of p) (grammar_of p.grammar) (suc (depth_within gs)) due.opens) (parses (depth_within gs))
             ∙ outer-same p q (depth_within gs) closed (c ∷ due.opens) (rest_of q) a;
       }
 
-  pub array_opened : (p o s q : Parser) (fs gs : List (Frame I M K)) (v : I) (closed : Bool) (whole : Parse Source) → Advances p o → Advances p q → rest_of p ≡ 91 ∷ rest_of o → rest_of s ≡ skip_whitespace (mode_of o.mode) (rest_of o)
+  pub array_opened : (p o s q : Parser) (fs gs : List (Frame I M K)) (v : I) (closed : Bool) (whole : Parse Source) → Advances p o → Advances p q → rest_of p ≡ 91 ∷ rest_of o → rest_of s ≡ skip_whitespace (grammar_of o.grammar) (rest_of o)
       → closed ≡ begins 93 (rest_of s) → cond closed (rest_of s ≡ 93 ∷ rest_of q) (q ≡ s) → ((cs : List Open) → Old true (reverse fs) cs → New false (variants.Array v ∷ reverse fs) (elements_so_far [] ∷ cs)) → gs ≡ fs ++ variants.Array v ∷ [] → length gs ≤ max_depth → BeforeValue Old whole p fs → AtPart New whole q gs closed
   array_opened p o s q fs gs v closed whole a b bracket skipped found_member closes held e fits due =
       opened p q fs gs (variants.Array v) (elements_so_far []) closed whole b e tt held fits
       (λ depth.
-      ap (λ r. value_at (size_of p) (mode_of p.mode) (suc depth) r) bracket
-      ∙ array-value (size_of p) (mode_of p.mode) (suc depth) (rest_of o)
-      ∙ array-starts (size_of p) (mode_of p.mode) depth (rest_of o) (rest_of q) closed (closing 93 (mode_of p.mode) (rest_of o) s q closed (skipped ∙ sym (skip_same p o (rest_of o) a)) found_member closes))
+      ap (λ r. value_at (size_of p) (grammar_of p.grammar) (suc depth) r) bracket
+      ∙ array-value (size_of p) (grammar_of p.grammar) (suc depth) (rest_of o)
+      ∙ array-starts (size_of p) (grammar_of p.grammar) depth (rest_of o) (rest_of q) closed (closing 93 (grammar_of p.grammar) (rest_of o) s q closed (skipped ∙ sym (skip_same p o (rest_of o) a)) found_member closes))
       due
 
-  pub object_opened : (p o s q : Parser) (fs gs : List (Frame I M K)) (v : OpenObject M K) (key : Mark × List ℕ) (offset : ℕ) (closed : Bool) (whole : Parse Source) → Advances p o → Advances p q → rest_of p ≡ 123 ∷ rest_of o → rest_of s ≡ skip_whitespace (mode_of o.mode) (rest_of o)
+  pub object_opened : (p o s q : Parser) (fs gs : List (Frame I M K)) (v : OpenObject M K) (key : Mark × List ℕ) (offset : ℕ) (closed : Bool) (whole : Parse Source) → Advances p o → Advances p q → rest_of p ≡ 123 ∷ rest_of o → rest_of s ≡ skip_whitespace (grammar_of o.grammar) (rest_of o)
       → closed ≡ begins 125 (rest_of s) → cond closed (rest_of s ≡ 125 ∷ rest_of q) (q ≡ s) → ((cs : List Open) → Old true (reverse fs) cs → New false (variants.Object v ∷ reverse fs) (members_so_far [] key offset ∷ cs)) → gs ≡ fs ++ variants.Object v ∷ [] → length gs ≤ max_depth → BeforeValue Old whole p fs → AtPart New whole q gs closed
   object_opened p o s q fs gs v key offset closed whole a b brace skipped found_member closes held e fits due =
       opened p q fs gs (variants.Object v) (members_so_far [] key offset) closed whole b e tt held fits
       (λ depth.
-      ap (λ r. value_at (size_of p) (mode_of p.mode) (suc depth) r) brace
-      ∙ object-value (size_of p) (mode_of p.mode) (suc depth) (rest_of o)
-      ∙ object-starts (size_of p) (mode_of p.mode) depth (rest_of o) (rest_of q) key offset closed (closing 125 (mode_of p.mode) (rest_of o) s q closed (skipped ∙ sym (skip_same p o (rest_of o) a)) found_member closes))
+      ap (λ r. value_at (size_of p) (grammar_of p.grammar) (suc depth) r) brace
+      ∙ object-value (size_of p) (grammar_of p.grammar) (suc depth) (rest_of o)
+      ∙ object-starts (size_of p) (grammar_of p.grammar) depth (rest_of o) (rest_of q) key offset closed (closing 125 (grammar_of p.grammar) (rest_of o) s q closed (skipped ∙ sym (skip_same p o (rest_of o) a)) found_member closes))
       due
 
   -- ---- parts are parsed
@@ -326,12 +326,12 @@ module _ {I M K : Type 0} (Old New : Bool → List (Frame I M K) → List Open �
   same_depth fs gs hs f g e d = ap (λ n. max_depth - n) (let same : length gs ≡ length fs = omega (arith, ap length e, ap length d, length-append hs (f ∷ []), length-append hs (g ∷ [])) in same)
 
   module _ (p q : Parser) (fs gs hs : List (Frame I M K)) (f g : Frame I M K) (whole : Parse Source) (a : Advances p q) (e : fs ≡ hs ++ f ∷ []) (d : gs ≡ hs ++ g ∷ []) where
-    stopped : (closed : Bool) (ahead : AtPart Old whole p fs false) (i : Innermost Old false (reverse hs) f ahead.opens) (s : ParsesParts New (size_of p) (mode_of p.mode) (depth_within fs) (next_part_at (size_of p) (mode_of p.mode) (depth_within fs) i.inner (rest_of p)) closed g (reverse hs) i.others (rest_of q))
-        → whole ≡ (resume_value (size_of p) (mode_of p.mode) (depth_within fs) closed s.so_far (rest_of q) >>= resume (size_of p) (mode_of p.mode) (suc (depth_within fs)) i.others)
+    stopped : (closed : Bool) (ahead : AtPart Old whole p fs false) (i : Innermost Old false (reverse hs) f ahead.opens) (s : ParsesParts New (size_of p) (grammar_of p.grammar) (depth_within fs) (next_part_at (size_of p) (grammar_of p.grammar) (depth_within fs) i.inner (rest_of p)) closed g (reverse hs) i.others (rest_of q))
+        → whole ≡ (resume_value (size_of p) (grammar_of p.grammar) (depth_within fs) closed s.so_far (rest_of q) >>= resume (size_of p) (grammar_of p.grammar) (suc (depth_within fs)) i.others)
     stopped closed ahead i s =
         ahead.parses
-        ∙ ap (λ cs. resume_stack (size_of p) (mode_of p.mode) (depth_within fs) false cs (rest_of p)) i.are
-        ∙ ap (λ (r : Parse Source). r >>= resume (size_of p) (mode_of p.mode) (suc (depth_within fs)) i.others) s.parses
+        ∙ ap (λ cs. resume_stack (size_of p) (grammar_of p.grammar) (depth_within fs) false cs (rest_of p)) i.are
+        ∙ ap (λ (r : Parse Source). r >>= resume (size_of p) (grammar_of p.grammar) (suc (depth_within fs)) i.others) s.parses
 
     -- what is once the innermost was parsed so far
     hold_on : (due : Bool) (c : Open) (cs : List Open) → New due (g ∷ reverse hs) (c ∷ cs) → New due (reverse gs) (c ∷ cs)
@@ -341,7 +341,7 @@ module _ {I M K : Type 0} (Old New : Bool → List (Frame I M K) → List Open �
     fit_on c cs h i = subst (λ ks. AllFit ks (c ∷ cs)) (sym (ap reverse d ∙ innermost_first hs g)) (h, i)
 
     -- up to the end of the container
-    pub read_to_end : ((depth : ℕ) (c : Open) (ks : List (Frame I M K)) (cs : List Open) → Fits f c → Old false (f ∷ ks) (c ∷ cs) → ParsesParts New (size_of p) (mode_of p.mode) depth (next_part_at (size_of p) (mode_of p.mode) depth c (rest_of p)) true g ks cs (rest_of q))
+    pub read_to_end : ((depth : ℕ) (c : Open) (ks : List (Frame I M K)) (cs : List Open) → Fits f c → Old false (f ∷ ks) (c ∷ cs) → ParsesParts New (size_of p) (grammar_of p.grammar) depth (next_part_at (size_of p) (grammar_of p.grammar) depth c (rest_of p)) true g ks cs (rest_of q))
         → AtPart Old whole p fs false → AtPart New whole q gs true
     read_to_end stops ahead =
         let i = innermost_of Old false hs fs f ahead.opens e ahead.fit ahead.held in
@@ -353,11 +353,11 @@ module _ {I M K : Type 0} (Old New : Bool → List (Frame I M K) → List Open �
           parses =
               stopped true ahead i s
               ∙ outer-same p q (depth_within fs) true (s.so_far ∷ i.others) (rest_of q) a
-              ∙ ap (λ n. resume_stack (size_of q) (mode_of q.mode) n true (s.so_far ∷ i.others) (rest_of q)) (sym (same_depth fs gs hs f g e d));
+              ∙ ap (λ n. resume_stack (size_of q) (grammar_of q.grammar) n true (s.so_far ∷ i.others) (rest_of q)) (sym (same_depth fs gs hs f g e d));
         }
 
     -- up to a part that is a container
-    pub stopped_due : ((depth : ℕ) (c : Open) (ks : List (Frame I M K)) (cs : List Open) → Fits f c → Old false (f ∷ ks) (c ∷ cs) → ParsesParts New (size_of p) (mode_of p.mode) depth (next_part_at (size_of p) (mode_of p.mode) depth c (rest_of p)) false g ks cs (rest_of q))
+    pub stopped_due : ((depth : ℕ) (c : Open) (ks : List (Frame I M K)) (cs : List Open) → Fits f c → Old false (f ∷ ks) (c ∷ cs) → ParsesParts New (size_of p) (grammar_of p.grammar) depth (next_part_at (size_of p) (grammar_of p.grammar) depth c (rest_of p)) false g ks cs (rest_of q))
         → AtPart Old whole p fs false → BeforeValue New whole q gs
     stopped_due stops ahead =
         let i = innermost_of Old false hs fs f ahead.opens e ahead.fit ahead.held in
@@ -368,20 +368,20 @@ module _ {I M K : Type 0} (Old New : Bool → List (Frame I M K) → List Open �
           held = hold_on true s.so_far i.others s.held;
           parses =
               stopped false ahead i s
-              ∙ resume-part (size_of p) (mode_of p.mode) (depth_within fs) s.so_far i.others (value_at (size_of p) (mode_of p.mode) (depth_within fs) (rest_of q))
-              ∙ ap₂ (λ n m. value_at n m (depth_within fs) (rest_of q) >>= resume n m (depth_within fs) (s.so_far ∷ i.others)) (sym (same_size p q a)) (ap mode_of (sym a.mode))
-              ∙ ap (λ n. value_at (size_of q) (mode_of q.mode) n (rest_of q) >>= resume (size_of q) (mode_of q.mode) n (s.so_far ∷ i.others)) (sym (same_depth fs gs hs f g e d));
+              ∙ resume-part (size_of p) (grammar_of p.grammar) (depth_within fs) s.so_far i.others (value_at (size_of p) (grammar_of p.grammar) (depth_within fs) (rest_of q))
+              ∙ ap₂ (λ n m. value_at n m (depth_within fs) (rest_of q) >>= resume n m (depth_within fs) (s.so_far ∷ i.others)) (sym (same_size p q a)) (ap grammar_of (sym a.grammar))
+              ∙ ap (λ n. value_at (size_of q) (grammar_of q.grammar) n (rest_of q) >>= resume (size_of q) (grammar_of q.grammar) n (s.so_far ∷ i.others)) (sym (same_depth fs gs hs f g e d));
         }
 
   -- the fault of a part of the innermost
   pub part_misses : (p : Parser) (fs hs : List (Frame I M K)) (f : Frame I M K) (whole : Parse Source) (silent : Bool) (t : Option Error) → fs ≡ hs ++ f ∷ []
-      → ((depth : ℕ) (c : Open) (ks : List (Frame I M K)) (cs : List Open) → Fits f c → Old false (f ∷ ks) (c ∷ cs) → Misses silent t (next_part_at (size_of p) (mode_of p.mode) depth c (rest_of p))) → AtPart Old whole p fs false → Misses silent t whole
+      → ((depth : ℕ) (c : Open) (ks : List (Frame I M K)) (cs : List Open) → Fits f c → Old false (f ∷ ks) (c ∷ cs) → Misses silent t (next_part_at (size_of p) (grammar_of p.grammar) depth c (rest_of p))) → AtPart Old whole p fs false → Misses silent t whole
   part_misses p fs hs f whole silent t is h ahead =
       let i = innermost_of Old false hs fs f ahead.opens is ahead.fit ahead.held in
-      let part = next_part_at (size_of p) (mode_of p.mode) (depth_within fs) i.inner (rest_of p) in
-      misses_same silent t (part >>= resume (size_of p) (mode_of p.mode) (suc (depth_within fs)) i.others) whole
-      (ahead.parses ∙ ap (λ cs. resume_stack (size_of p) (mode_of p.mode) (depth_within fs) false cs (rest_of p)) i.are)
-      (misses_through silent t part (resume (size_of p) (mode_of p.mode) (suc (depth_within fs)) i.others) (h (depth_within fs) i.inner (reverse hs) i.others i.fits i.held))
+      let part = next_part_at (size_of p) (grammar_of p.grammar) (depth_within fs) i.inner (rest_of p) in
+      misses_same silent t (part >>= resume (size_of p) (grammar_of p.grammar) (suc (depth_within fs)) i.others) whole
+      (ahead.parses ∙ ap (λ cs. resume_stack (size_of p) (grammar_of p.grammar) (depth_within fs) false cs (rest_of p)) i.are)
+      (misses_through silent t part (resume (size_of p) (grammar_of p.grammar) (suc (depth_within fs)) i.others) (h (depth_within fs) i.inner (reverse hs) i.others i.fits i.held))
 
   -- ---- a container ends
 
@@ -392,7 +392,7 @@ module _ {I M K : Type 0} (Old New : Bool → List (Frame I M K) → List Open �
     pub fits : Fits f inner
     pub others_fit : AllFit (reverse gs) others
     pub held : Old false (f ∷ reverse gs) (inner ∷ others)
-    pub parses : whole ≡ (finish_container inner (rest_of p) >>= resume (size_of p) (mode_of p.mode) (depth_within gs) others)
+    pub parses : whole ≡ (finish_container inner (rest_of p) >>= resume (size_of p) (grammar_of p.grammar) (depth_within gs) others)
 
   pub ended : (p : Parser) (fs gs : List (Frame I M K)) (f : Frame I M K) (whole : Parse Source) → fs ≡ gs ++ f ∷ [] → length fs ≤ max_depth → AtPart Old whole p fs true → Ended whole p gs f
   ended p fs gs f whole e fits ahead =
@@ -406,8 +406,8 @@ module _ {I M K : Type 0} (Old New : Bool → List (Frame I M K) → List Open �
         held = i.held;
         parses =
             ahead.parses
-            ∙ ap (λ cs. resume_stack (size_of p) (mode_of p.mode) (depth_within fs) true cs (rest_of p)) i.are
-            ∙ ap (λ n. finish_container i.inner (rest_of p) >>= resume (size_of p) (mode_of p.mode) n i.others) deep;
+            ∙ ap (λ cs. resume_stack (size_of p) (grammar_of p.grammar) (depth_within fs) true cs (rest_of p)) i.are
+            ∙ ap (λ n. finish_container i.inner (rest_of p) >>= resume (size_of p) (grammar_of p.grammar) n i.others) deep;
       }
 
   pub outermost : (p : Parser) (fs : List (Frame I M K)) (f : Frame I M K) (whole : Parse Source) → fs ≡ f ∷ [] → AtPart Old whole p fs true → length fs ≤ max_depth → IsParsedToEnd Old whole fs (rest_of p)
@@ -420,14 +420,14 @@ module _ {I M K : Type 0} (Old New : Bool → List (Frame I M K) → List Open �
         x.fits,
         subst (λ cs. Old false (f ∷ []) (x.inner ∷ cs)) none x.held,
         x.parses
-            ∙ ap (λ cs. finish_container x.inner (rest_of p) >>= resume (size_of p) (mode_of p.mode) (depth_within {I = I} {M = M} {K = K} []) cs) none
-            ∙ resume-none (size_of p) (mode_of p.mode) (depth_within {I = I} {M = M} {K = K} []) (finish_container x.inner (rest_of p)),
+            ∙ ap (λ cs. finish_container x.inner (rest_of p) >>= resume (size_of p) (grammar_of p.grammar) (depth_within {I = I} {M = M} {K = K} []) cs) none
+            ∙ resume-none (size_of p) (grammar_of p.grammar) (depth_within {I = I} {M = M} {K = K} []) (finish_container x.inner (rest_of p)),
       )
 
   -- the fault at its end
   pub end_misses : (p : Parser) (gs : List (Frame I M K)) (f : Frame I M K) (whole : Parse Source) (silent : Bool) (t : Option Error) (x : Ended whole p gs f) → Misses silent t (finish_container x.inner (rest_of p)) → Misses silent t whole
   end_misses p gs f whole silent t x h =
-      let then = resume (size_of p) (mode_of p.mode) (depth_within gs) x.others in
+      let then = resume (size_of p) (grammar_of p.grammar) (depth_within gs) x.others in
       misses_same silent t (finish_container x.inner (rest_of p) >>= then) whole x.parses (misses_through silent t (finish_container x.inner (rest_of p)) then h)
 
   -- The container around a value, with the value put in, goes on at the end of the part.
@@ -443,9 +443,9 @@ module _ {I M K : Type 0} (Old New : Bool → List (Frame I M K) → List Open �
       pub others : List Open
       pub are : x.others ≡ outer ∷ others
       pub others_fit : AllFit (reverse hs) others
-      pub joins : Joins (size_of p) (mode_of p.mode) s outer others g (reverse hs) code close
+      pub joins : Joins (size_of p) (grammar_of p.grammar) s outer others g (reverse hs) code close
 
-    around : (x : Ended whole p gs inner) → ((c : Open) (cs : List Open) → Fits f c → x.others ≡ c ∷ cs → Joins (size_of p) (mode_of p.mode) s c cs g (reverse hs) code close) → Around x
+    around : (x : Ended whole p gs inner) → ((c : Open) (cs : List Open) → Fits f c → x.others ≡ c ∷ cs → Joins (size_of p) (grammar_of p.grammar) s c cs g (reverse hs) code close) → Around x
     around x joins = by_cases x.others refl (subst (λ ls. AllFit ls x.others) (ap reverse e ∙ innermost_first hs f) x.others_fit)
       where
         by_cases : (cs : List Open) → x.others ≡ cs → AllFit (f ∷ reverse hs) cs → Around x
@@ -453,23 +453,23 @@ module _ {I M K : Type 0} (Old New : Bool → List (Frame I M K) → List Open �
         by_cases (c ∷ cs) same fit = record { outer = c; others = cs; are = same; others_fit = fit.1; joins = joins c cs fit.0 same }
 
     pub joined : {F : Type 0} (silent : Bool) (reported : Option Error) (r : Result Bool F) (x : Ended whole p gs inner) → finish_container x.inner (rest_of p) ≡ Ok (s, rest_of p)
-        → ((c : Open) (cs : List Open) → Fits f c → x.others ≡ c ∷ cs → Joins (size_of p) (mode_of p.mode) s c cs g (reverse hs) code close)
-        → Builds silent reported (λ b c. b ≡ c) r (part_end (size_of p) code close (skip_whitespace (mode_of p.mode) (rest_of p))) (rest_of q) → ElseFails silent reported r whole (AtPart New whole q ks)
+        → ((c : Open) (cs : List Open) → Fits f c → x.others ≡ c ∷ cs → Joins (size_of p) (grammar_of p.grammar) s c cs g (reverse hs) code close)
+        → Builds silent reported (λ b c. b ≡ c) r (part_end (size_of p) code close (skip_whitespace (grammar_of p.grammar) (rest_of p))) (rest_of q) → ElseFails silent reported r whole (AtPart New whole q ks)
     unfolding resume
     joined silent reported r x finished joins built =
         let i = around x joins in
         let j = i.joins in
         let depth = depth_within gs in
-        let others = resume (size_of p) (mode_of p.mode) (suc depth) i.others in
-        let then : Bool × List ℕ → Parse Source = λ y. resume_part (size_of p) (mode_of p.mode) depth y.0 (add_part i.outer s) y.1 >>= others in
-        let read = part_end (size_of p) code close (skip_whitespace (mode_of p.mode) (rest_of p)) in
+        let others = resume (size_of p) (grammar_of p.grammar) (suc depth) i.others in
+        let then : Bool × List ℕ → Parse Source = λ y. resume_part (size_of p) (grammar_of p.grammar) depth y.0 (add_part i.outer s) y.1 >>= others in
+        let read = part_end (size_of p) code close (skip_whitespace (grammar_of p.grammar) (rest_of p)) in
         let turned = sym (ap reverse d ∙ innermost_first hs g) in
         builds_then silent reported (λ b c. b ≡ c) r read (rest_of q) then whole (AtPart New whole q ks) built
         (x.parses
-        ∙ ap (λ (u : Parse Source). u >>= resume (size_of p) (mode_of p.mode) depth x.others) finished
-        ∙ ap (λ cs. resume (size_of p) (mode_of p.mode) depth cs (s, rest_of p)) i.are
-        ∙ ap (λ (u : Parse Source). u >>= others) (j.ends depth (skip_whitespace (mode_of p.mode) (rest_of p)))
-        ∙ then-then read (λ (y : Bool × List ℕ). resume_part (size_of p) (mode_of p.mode) depth y.0 (add_part i.outer s) y.1) others)
+        ∙ ap (λ (u : Parse Source). u >>= resume (size_of p) (grammar_of p.grammar) depth x.others) finished
+        ∙ ap (λ cs. resume (size_of p) (grammar_of p.grammar) depth cs (s, rest_of p)) i.are
+        ∙ ap (λ (u : Parse Source). u >>= others) (j.ends depth (skip_whitespace (grammar_of p.grammar) (rest_of p)))
+        ∙ then-then read (λ (y : Bool × List ℕ). resume_part (size_of p) (grammar_of p.grammar) depth y.0 (add_part i.outer s) y.1) others)
         (λ closed y same is.
         record {
           opens = add_part i.outer s ∷ i.others;
@@ -477,9 +477,9 @@ module _ {I M K : Type 0} (Old New : Bool → List (Frame I M K) → List Open �
           held = subst (λ ls. New false ls (add_part i.outer s ∷ i.others)) turned j.held;
           parses =
               is
-              ∙ ap (λ b. resume_part (size_of p) (mode_of p.mode) depth b (add_part i.outer s) (rest_of q) >>= others) (sym same)
+              ∙ ap (λ b. resume_part (size_of p) (grammar_of p.grammar) depth b (add_part i.outer s) (rest_of q) >>= others) (sym same)
               ∙ outer-same p q depth closed (add_part i.outer s ∷ i.others) (rest_of q) a
-              ∙ ap (λ n. resume_stack (size_of q) (mode_of q.mode) n closed (add_part i.outer s ∷ i.others) (rest_of q)) (sym (same_depth gs ks hs f g e d));
+              ∙ ap (λ n. resume_stack (size_of q) (grammar_of q.grammar) n closed (add_part i.outer s ∷ i.others) (rest_of q)) (sym (same_depth gs ks hs f g e d));
         })
 
   -- an element, and a member
@@ -516,10 +516,10 @@ bracket-there lenient rest = refl
 
 -- it waits for that
 pub array_awaits : {I M K : Type 0} (Before After : Bool → List (Frame I M K) → List Open → Type 0) (p : Parser) (items more : I) → begins 91 (rest_of p) ≡ true → (depth : ℕ) (o : Open) (fs : List (Frame I M K)) (cs : List Open) → ((ss : List Source) → Before false (variants.Array items ∷ fs) (elements_so_far ss ∷ cs) → After true (variants.Array more ∷ fs) (elements_so_far ss ∷ cs)) → IsArray o → Before false (variants.Array items ∷ fs) (o ∷ cs)
-    → ParsesParts After (size_of p) (mode_of p.mode) depth (next_part_at (size_of p) (mode_of p.mode) depth o (rest_of p)) false (variants.Array more) fs cs (rest_of p)
+    → ParsesParts After (size_of p) (grammar_of p.grammar) depth (next_part_at (size_of p) (grammar_of p.grammar) depth o (rest_of p)) false (variants.Array more) fs cs (rest_of p)
 array_awaits Before After p items more next depth (elements_so_far ss) fs cs due fits held =
     let e = next_found 91 p next in
-    let mode = mode_of p.mode in
+    let mode = grammar_of p.grammar in
     let rest = drop (p.offset + 1) p.buf.now in
     record {
       so_far = elements_so_far ss;

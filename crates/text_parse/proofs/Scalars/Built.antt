@@ -9,7 +9,7 @@ use Rattle.jsonb_spec.specs.Mode.{Mode, Strictness, strict, lenient, strictness,
 use Rattle.text_scan.specs.declared.parser.number.ShortInteger.{ShortInteger}
 use Rattle.jsonb_spec.specs.Tree.{Mark, Num, Tree, int64, uint64, null, boolean, number, string}
 use Rattle.text_parse.specs.declared.parser.Parser.{Parser}
-use Rattle.text_scan.specs.Answer.{Fails, mode_of}
+use Rattle.text_scan.specs.Answer.{Fails, grammar_of}
 use Rattle.text_scan.specs.Parsing.{Fault, Parse, begins, ◌>>=◌}
 use Rattle.text_scan.specs.Parsing.Number.{is_number_start}
 use Rattle.text_scan.specs.Parsing.Scalar.{begins_number, letters_at, null_at, null_or, number_at, number_value_at, or_else, other_scalar_at, quoted_at, scalar_at}
@@ -122,7 +122,7 @@ key_holds p q r body some on a behind e =
     let back : q.offset - 1 + 1 ≡ q.offset = omega (arith, some) in
     let more : rest_of before ≡ 34 ∷ rest_of q =
     drop_more q.buf.now (q.offset - 1) 0 (omega (arith, q.inside, some)) ∙ ap₂ (λ b r. b ∷ r) behind.1 (ap (λ n. drop n q.buf.now) back) in
-    let on_before : Advances before r = record { buf = a.buf; mode = a.mode; onward = omega (arith, a.onward) } in
+    let on_before : Advances before r = record { buf = a.buf; mode = a.mode; grammar = a.grammar; onward = omega (arith, a.onward) } in
     ap (λ b. slice_range b.now (q.offset - 1) r.offset) (sym on.buf)
     ∙ between before r (34 ∷ body ++ 34 ∷ []) on_before (more ∙ ap (λ xs. 34 ∷ xs) (e ∙ sym (append_assoc body (34 ∷ []) (rest_of r))))
 
@@ -205,8 +205,8 @@ number_at_once size mode bytes n rest first read =
     ∙ number_here size mode bytes begun.1 ∙ ap (λ (r : Parse Num). r >>= λ x. Ok (number x.0, x.1)) read
 
 -- what the parser parses where it paused
-pub scalar_still : (p q : Parser) → q ≡ p → scalar_at (size_of p) (mode_of p.mode) (rest_of p) ≡ scalar_at (size_of q) (mode_of q.mode) (rest_of q)
-scalar_still p q same = sym (ap (λ o. scalar_at (size_of o) (mode_of o.mode) (rest_of o)) same)
+pub scalar_still : (p q : Parser) → q ≡ p → scalar_at (size_of p) (grammar_of p.grammar) (rest_of p) ≡ scalar_at (size_of q) (grammar_of q.grammar) (rest_of q)
+scalar_still p q same = sym (ap (λ o. scalar_at (size_of o) (grammar_of o.grammar) (rest_of o)) same)
 
 -- a literal as it is encoded
 pub literal_encoded : (l : Literal) (bytes : List ℕ) → bytes ≡ literal_text l → IsEncoded bytes (source_alone (literal_tree l))

@@ -3,7 +3,7 @@ use Rattle.std.proofs.Common.{◌≡◌, false, List, ℕ, ◌∷◌, Ok, refl, 
 use Rattle.std.proofs.lemmas.Bool.{cond-false}
 use Rattle.jsonb_spec.specs.Mode.{Strictness, strict, lenient, strictness}
 use Rattle.jsonb_spec.specs.Tree.{null}
-use Rattle.text_scan.specs.Answer.{mode_of}
+use Rattle.text_scan.specs.Answer.{grammar_of}
 use Rattle.text_scan.specs.Parsing.{begins}
 use Rattle.text_scan.specs.Parsing.Container.{is_left_out}
 use Rattle.text_scan.specs.Parsing.Scalar.{quoted_at, scalar_at}
@@ -24,13 +24,13 @@ module _ (p o : Parser) (e : rest_of p ≡ 34 ∷ rest_of o) where
   -- it is parsed as a string
   pub quoted_element : Advances p o → parse_at scalar_or_null p ≡ parse_at (λ size mode. quoted_at size mode 34) o
   quoted_element on =
-      cond-false (is_left_out (strictness (mode_of p.mode)) (rest_of p)) (Ok (null, rest_of p)) (scalar_at (size_of p) (mode_of p.mode) (rest_of p)) (ap (is_left_out (strictness (mode_of p.mode))) e ∙ quote-there (strictness (mode_of p.mode)) (rest_of o))
+      cond-false (is_left_out (strictness (grammar_of p.grammar)) (rest_of p)) (Ok (null, rest_of p)) (scalar_at (size_of p) (grammar_of p.grammar) (rest_of p)) (ap (is_left_out (strictness (grammar_of p.grammar))) e ∙ quote-there (strictness (grammar_of p.grammar)) (rest_of o))
       ∙ scalar_quoted p o on e
 
   -- nothing is skipped
   pub quote_stays : Skips skip_whitespace p p
   quote_stays = record {
-    rest = e ∙ sym (ap (skip_whitespace (mode_of p.mode)) e ∙ skip-stop (mode_of p.mode) 34 (rest_of o) refl);
+    rest = e ∙ sym (ap (skip_whitespace (grammar_of p.grammar)) e ∙ skip-stop (grammar_of p.grammar) 34 (rest_of o) refl);
     advances = stays p;
   }
 

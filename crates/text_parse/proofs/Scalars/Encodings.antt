@@ -314,7 +314,8 @@ number_start_apart b e =
     ascii_digit : (c : ℕ) → is_ascii_digit c ≡ true → (48 ≤ c) × (c ≤ 57)
     ascii_digit c d = grind (arith, nat_tests)
 
-break_ends : (b : ℕ) → is_break b ≡ true → ¬ (ContinuesNumber b)
+-- no byte that may follow a value goes on with a number
+pub break_ends : (b : ℕ) → is_break b ≡ true → ¬ (ContinuesNumber b)
 break_ends b e g = true≢false (sym e ∙ ⊎_elim (λ d. (apart_from b (inr d)).no_break) (λ (h : (b ≡ 46) ⊎ IsExponentMark b). ⊎_elim (λ p. ap is_break p) (λ (m : IsExponentMark b). ⊎_elim (λ p. ap is_break p) (λ p. ap is_break p) m) h) g)
 
 follows_number : (rest : List ℕ) → Follows rest → IsNumberBoundary rest

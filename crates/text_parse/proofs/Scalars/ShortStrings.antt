@@ -22,7 +22,7 @@ use Rattle.text_parse.specs.ShortString.{IsShortEnd, IsShortFront, PassesShort}
 use Rattle.text_parse.specs.Parser.{IsBehind, rest_of, size_of}
 use Rattle.text_parse.specs.declared.parser.Parser.{Parser}
 use Rattle.text_parse.proofs.Scalars.Built.{string_read}
-use Rattle.text_scan.specs.Answer.{mode_of}
+use Rattle.text_scan.specs.Answer.{grammar_of}
 use Rattle.text_scan.proofs.Strings.Bodies.{string-closed}
 use Rattle.jsonb_spec.specs.Source.{string_source}
 use Rattle.jsonb_spec.specs.Text.{in_quotes}
@@ -182,7 +182,7 @@ verbatim_as verbatim.Short is_same text from to mark body meaning reported insid
 pub passes_short : (p q : Parser) (kind : Verbatim) (end : ℕ) (is_same : Bool) → same_or_short kind is_same → IsBehind 34 p → IsShortEnd (rest_of p) end is_same → IsUtf8 (take end (rest_of p)) → q.buf ≡ p.buf → q.offset ≡ p.offset + end + 1
     → PassesShort p q kind
 passes_short p q kind end is_same reported opened found utf8 buf offset =
-    let mode = mode_of p.mode in
+    let mode = grammar_of p.grammar in
     let rest = rest_of p in
     let body = take end rest in
     let front = found.front in

@@ -23,10 +23,10 @@ fails other f read is r = absurd is
 -- ---- going on
 
 pub stays : (p : Parser) → Advances p p
-stays p = record { buf = refl; mode = refl; onward = omega arith }
+stays p = record { buf = refl; mode = refl; grammar = refl; onward = omega arith }
 
 pub goes_on : (p q r : Parser) → Advances p q → Advances q r → Advances p r
-goes_on p q r a b = record { buf = b.buf ∙ a.buf; mode = b.mode ∙ a.mode; onward = omega (arith, a.onward, b.onward) }
+goes_on p q r a b = record { buf = b.buf ∙ a.buf; mode = b.mode ∙ a.mode; grammar = b.grammar ∙ a.grammar; onward = omega (arith, a.onward, b.onward) }
 
 -- ---- words
 

@@ -7,7 +7,7 @@ use Rattle.jsonb_value.specs.declared.error.Error.TheVariants.{Syntax, OutOfMemo
 use Rattle.jsonb_spec.specs.Mode.{Mode, strictness}
 use Rattle.jsonb_spec.specs.Tree.Tree.{boolean}
 use Rattle.jsonb_value.specs.declared.value.Value.{Value}
-use Rattle.text_scan.specs.Answer.{Fails, mode_of}
+use Rattle.text_scan.specs.Answer.{Fails, grammar_of}
 use Rattle.text_parse.specs.Parser.{Advances, rest_of, size_of}
 use Rattle.text_scan.specs.Parsing.{Fault, begins, ◌>>=◌}
 use Rattle.text_scan.specs.Parsing.Scalar.{begins_letter, begins_single_quote, false_at, key_at, null_at, number_or_fault, on_single_quote, quoted_at, scalar_at, true_or_false_at, unquoted_at, word_at, words_at}
@@ -34,17 +34,17 @@ module _ (p q : Parser) (same : q ≡ p) where
   unmoved f = ap f (sym same)
 
 -- the bytes after the next one, in the same input
-pub read_past : {A : Type 0} (p q : Parser) (c : ℕ) (read : ℕ → Mode → List ℕ → A) → Advances p q → rest_of p ≡ c ∷ rest_of q → read (size_of p) (mode_of p.mode) (drop 1 (rest_of p)) ≡ read (size_of q) (mode_of q.mode) (rest_of q)
-read_past p q c read a e = ap (λ (u : List ℕ). read (size_of p) (mode_of p.mode) (drop 1 u)) e ∙ sym (ap₂ (λ n m. read n m (rest_of q)) (same_size p q a) (ap mode_of a.mode))
+pub read_past : {A : Type 0} (p q : Parser) (c : ℕ) (read : ℕ → Mode → List ℕ → A) → Advances p q → rest_of p ≡ c ∷ rest_of q → read (size_of p) (grammar_of p.grammar) (drop 1 (rest_of p)) ≡ read (size_of q) (grammar_of q.grammar) (rest_of q)
+read_past p q c read a e = ap (λ (u : List ℕ). read (size_of p) (grammar_of p.grammar) (drop 1 u)) e ∙ sym (ap₂ (λ n m. read n m (rest_of q)) (same_size p q a) (ap grammar_of a.grammar))
 
 -- ---- keys
 
-pub key_quoted : (p q : Parser) {bytes : List ℕ} → Advances p q → bytes ≡ 34 ∷ rest_of q → key_at (size_of p) (mode_of p.mode) bytes ≡ string_at (size_of q) (mode_of q.mode) 34 (rest_of q)
+pub key_quoted : (p q : Parser) {bytes : List ℕ} → Advances p q → bytes ≡ 34 ∷ rest_of q → key_at (size_of p) (grammar_of p.grammar) bytes ≡ string_at (size_of q) (grammar_of q.grammar) 34 (rest_of q)
 unfolding key_at
 key_quoted p q a e =
-    ap (λ (u : List ℕ). key_at (size_of p) (mode_of p.mode) u) e
-    ∙ on_byte-found 34 (rest_of q) (string_at (size_of p) (mode_of p.mode) 34) (on_single_quote (strictness (mode_of p.mode)) (34 ∷ rest_of q) (string_at (size_of p) (mode_of p.mode) 39) (unquoted_at (size_of p) (strictness (mode_of p.mode)) (34 ∷ rest_of q)))
-    ∙ sym (ap₂ (λ n m. string_at n m 34 (rest_of q)) (same_size p q a) (ap mode_of a.mode))
+    ap (λ (u : List ℕ). key_at (size_of p) (grammar_of p.grammar) u) e
+    ∙ on_byte-found 34 (rest_of q) (string_at (size_of p) (grammar_of p.grammar) 34) (on_single_quote (strictness (grammar_of p.grammar)) (34 ∷ rest_of q) (string_at (size_of p) (grammar_of p.grammar) 39) (unquoted_at (size_of p) (strictness (grammar_of p.grammar)) (34 ∷ rest_of q)))
+    ∙ sym (ap₂ (λ n m. string_at n m 34 (rest_of q)) (same_size p q a) (ap grammar_of a.grammar))
 
 key-single : (size : ℕ) (mode : Mode) (bytes : List ℕ) → begins 34 bytes ≡ false → begins_single_quote (strictness mode) bytes ≡ true → key_at size mode bytes ≡ string_at size mode 39 (drop 1 bytes)
 unfolding key_at
@@ -56,26 +56,26 @@ unfolding key_at
 key-unquoted size mode bytes none single =
     on_byte-none 34 bytes (string_at size mode 34) (on_single_quote (strictness mode) bytes (string_at size mode 39) (unquoted_at size (strictness mode) bytes)) none ∙ single-false (strictness mode) bytes (string_at size mode 39) (unquoted_at size (strictness mode) bytes) single
 
-pub key_single : (p q r : Parser) → q ≡ p → begins 34 (rest_of p) ≡ false → Advances q r → begins_single_quote (strictness (mode_of q.mode)) (rest_of q) ≡ true → rest_of q ≡ 39 ∷ rest_of r
-    → key_at (size_of p) (mode_of p.mode) (rest_of p) ≡ string_at (size_of r) (mode_of r.mode) 39 (rest_of r)
+pub key_single : (p q r : Parser) → q ≡ p → begins 34 (rest_of p) ≡ false → Advances q r → begins_single_quote (strictness (grammar_of q.grammar)) (rest_of q) ≡ true → rest_of q ≡ 39 ∷ rest_of r
+    → key_at (size_of p) (grammar_of p.grammar) (rest_of p) ≡ string_at (size_of r) (grammar_of r.grammar) 39 (rest_of r)
 key_single p q r same none a single e =
-    key-single (size_of p) (mode_of p.mode) (rest_of p) none (unmoved p q same (λ o. begins_single_quote (strictness (mode_of o.mode)) (rest_of o)) ∙ single)
-    ∙ unmoved p q same (λ o. string_at (size_of o) (mode_of o.mode) 39 (drop 1 (rest_of o))) ∙ read_past q r 39 (λ n m u. string_at n m 39 u) a e
+    key-single (size_of p) (grammar_of p.grammar) (rest_of p) none (unmoved p q same (λ o. begins_single_quote (strictness (grammar_of o.grammar)) (rest_of o)) ∙ single)
+    ∙ unmoved p q same (λ o. string_at (size_of o) (grammar_of o.grammar) 39 (drop 1 (rest_of o))) ∙ read_past q r 39 (λ n m u. string_at n m 39 u) a e
 
-pub key_bare : (p q r : Parser) → q ≡ p → begins 34 (rest_of p) ≡ false → r ≡ q → begins_single_quote (strictness (mode_of q.mode)) (rest_of q) ≡ false
-    → key_at (size_of p) (mode_of p.mode) (rest_of p) ≡ unquoted_at (size_of r) (strictness (mode_of r.mode)) (rest_of r)
+pub key_bare : (p q r : Parser) → q ≡ p → begins 34 (rest_of p) ≡ false → r ≡ q → begins_single_quote (strictness (grammar_of q.grammar)) (rest_of q) ≡ false
+    → key_at (size_of p) (grammar_of p.grammar) (rest_of p) ≡ unquoted_at (size_of r) (strictness (grammar_of r.grammar)) (rest_of r)
 key_bare p q r same none still single =
-    key-unquoted (size_of p) (mode_of p.mode) (rest_of p) none (unmoved p q same (λ o. begins_single_quote (strictness (mode_of o.mode)) (rest_of o)) ∙ single)
-    ∙ unmoved p q same (λ o. unquoted_at (size_of o) (strictness (mode_of o.mode)) (rest_of o)) ∙ unmoved q r still (λ o. unquoted_at (size_of o) (strictness (mode_of o.mode)) (rest_of o))
+    key-unquoted (size_of p) (grammar_of p.grammar) (rest_of p) none (unmoved p q same (λ o. begins_single_quote (strictness (grammar_of o.grammar)) (rest_of o)) ∙ single)
+    ∙ unmoved p q same (λ o. unquoted_at (size_of o) (strictness (grammar_of o.grammar)) (rest_of o)) ∙ unmoved q r still (λ o. unquoted_at (size_of o) (strictness (grammar_of o.grammar)) (rest_of o))
 
 -- ---- scalars
 
-pub scalar_quoted : (p q : Parser) → Advances p q → rest_of p ≡ 34 ∷ rest_of q → scalar_at (size_of p) (mode_of p.mode) (rest_of p) ≡ quoted_at (size_of q) (mode_of q.mode) 34 (rest_of q)
+pub scalar_quoted : (p q : Parser) → Advances p q → rest_of p ≡ 34 ∷ rest_of q → scalar_at (size_of p) (grammar_of p.grammar) (rest_of p) ≡ quoted_at (size_of q) (grammar_of q.grammar) 34 (rest_of q)
 unfolding scalar_at
 scalar_quoted p q a e =
-    ap (λ (u : List ℕ). scalar_at (size_of p) (mode_of p.mode) u) e
-    ∙ on_byte-found 34 (rest_of q) (quoted_at (size_of p) (mode_of p.mode) 34) (on_single_quote (strictness (mode_of p.mode)) (34 ∷ rest_of q) (quoted_at (size_of p) (mode_of p.mode) 39) (words_at (size_of p) (mode_of p.mode) (34 ∷ rest_of q)))
-    ∙ sym (ap₂ (λ n m. quoted_at n m 34 (rest_of q)) (same_size p q a) (ap mode_of a.mode))
+    ap (λ (u : List ℕ). scalar_at (size_of p) (grammar_of p.grammar) u) e
+    ∙ on_byte-found 34 (rest_of q) (quoted_at (size_of p) (grammar_of p.grammar) 34) (on_single_quote (strictness (grammar_of p.grammar)) (34 ∷ rest_of q) (quoted_at (size_of p) (grammar_of p.grammar) 39) (words_at (size_of p) (grammar_of p.grammar) (34 ∷ rest_of q)))
+    ∙ sym (ap₂ (λ n m. quoted_at n m 34 (rest_of q)) (same_size p q a) (ap grammar_of a.grammar))
 
 -- where no word begins
 module _ (size : ℕ) (mode : Mode) (bytes : List ℕ) where

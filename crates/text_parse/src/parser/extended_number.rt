@@ -1,8 +1,8 @@
 //! The numbers of extended texts: decimals, hexadecimals, `nan` and `infinity`.
-ghost use Rattle.std.specs.Prelude.{◌≡◌, ◌+◌, ◌-◌, ◌<◌, Err, Some, None};
-ghost use Rattle.jsonb_spec.specs.Mode.{extended};
+ghost use Rattle.std.specs.Prelude.{◌≡◌, ◌+◌, ◌-◌, ◌<◌, true, Err, Some, None};
 ghost use Rattle.jsonb_value.specs.View.{number_view};
-ghost use Rattle.text_scan.specs.Answer.{mode_of};
+ghost use Rattle.text_scan.specs.Answer.{grammar_of};
+ghost use Rattle.text_parse.specs.Grammars.{takes_decimals};
 ghost use Rattle.text_parse.specs.Parser.{PreservesNumber, ParsesAtOffset, rest_of};
 ghost use Rattle.text_scan.specs.Parsing.ExtendedNumber.{extended_number_at};
 
@@ -14,11 +14,11 @@ use text_scan::parser::extended_number::{scan_number, short_number};
 use text_scan::parser::verbatim::verbatim_number;
 
 impl Parser<'_> {
-    // Passes a number of an extended text that is written by the same bytes again, if that is asked and one comes
-    // next, with a separator behind it.
+    // Passes a number that is written by the same bytes again, where the grammar has decimals, if that is asked and one
+    // comes next, with a separator behind it.
     #[inline(always)]
     pub(super) fn verbatim_number(&mut self, is_asked: bool) -> Option<Verbatim>
-        requires mode { mode_of self.old.mode ≡ extended }
+        requires decimals { takes_decimals (grammar_of self.old.grammar) ≡ true }
         ensures { PreservesNumber is_asked result self.old self.new }
     {
         if !is_asked {

@@ -28,7 +28,8 @@ pub struct Failed;
 /// Which scalars and keys a handler wants to be distinguished from others.
 #[derive(Clone, Copy)]
 pub struct Wants {
-    /// Strings and keys that are written without an escape, as `Text::Plain`.
+    /// Strings and keys that are written without an escape, as `Text::Plain`. In JSON, which has no control characters
+    /// in strings, a handler that doesn't want this has each string decoded apart, which takes more time.
     pub plain: bool,
     /// Numbers whose serialized form is their own text, and strings whose escapes are of one letter, as
     /// `Scalar::Verbatim`.
@@ -86,16 +87,20 @@ pub trait Handler<'a>: Drop + Sized {
     /// Whether scalars are put in from where they are in the text.
     ghost preserves: { Bool };
 
+    /// Whether strings and keys that are written without an escape are distinguished.
+    ghost reports_plain: { Bool };
+
     /// What the handler wants.
     fn wants() -> Wants
-        ensures { result.verbatim ≡ preserves };
+        ensures verbatim { result.verbatim ≡ preserves }
+        ensures plain { result.plain ≡ reports_plain };
 
     /// A scalar. It is a `null` also where an element is left out, or the text has no value.
     fn scalar(value: Scalar<'a>) -> Self
         ensures { SeesScalar sees is_verbatim preserves result value.entry };
 
     /// A string that has escapes, given its contents. An error counts from `offset`: the index after the opening quote,
-    /// and one more.
+    /// and one more. The mode is that of the grammar; what JSON has otherwise was checked before.
     fn escaped_string(
         alloc: Global,
         body: &'a str,

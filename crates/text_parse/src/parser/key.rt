@@ -1,12 +1,13 @@
 //! Keys, in quotes and without.
-ghost use Rattle.std.specs.Prelude.{◌<◌, ◌≢◌, Err, ◌+◌, IfSome, None, Ok};
+ghost use Rattle.std.specs.Prelude.{◌≡◌, ◌<◌, ◌≢◌, true, Err, ◌+◌, IfSome, None, Ok};
 ghost use Rattle.std.specs.Cow.{cow_str_bytes};
 ghost use Rattle.jsonb_spec.specs.Ascii as ascii;
 ghost use Rattle.jsonb_spec.specs.Code.Code.{expected_colon};
 ghost use Rattle.jsonb_value.specs.View.{mark_view};
-ghost use Rattle.text_scan.specs.Answer.{NamesFault};
+ghost use Rattle.text_scan.specs.Answer.{grammar_of, NamesFault};
 ghost use Rattle.text_scan.specs.Parsing.{fault_at};
 ghost use Rattle.text_parse.specs.Handler.{AsNamed, Begins, Builds};
+ghost use Rattle.text_parse.specs.Grammars.{may_cut};
 ghost use Rattle.text_parse.specs.Parser.{Advances, AdvancesOver, IsTextOf, ParsesAtOffset, ParsesString, parse_at, rest_of, size_of};
 ghost use Rattle.text_parse.specs.Stack.{member_start};
 ghost use Rattle.text_scan.specs.Parsing.Whitespace.{skip_whitespace};
@@ -33,6 +34,7 @@ impl<'a> Parser<'a> {
         text: &'a str,
     ) -> std::result::Result<V::Key, Failed>
         requires same { IsTextOf text.now self.old }
+        requires cuts { may_cut V.reports_plain text.now (grammar_of self.old.grammar) ≡ true }
         ensures parses { Builds V.silent self.new.reported
             (AsNamed (Begins (V.holds self.old.buf.now) sink.old object.old sink.new object.new)) result
             (parse_at member_start self.old)
@@ -72,6 +74,7 @@ impl<'a> Parser<'a> {
         text: &'a str,
     ) -> std::result::Result<V::Key, Failed>
         requires same { IsTextOf text.now self.old }
+        requires cuts { may_cut V.reports_plain text.now (grammar_of self.old.grammar) ≡ true }
         ensures { BeginsWith V.Handler (λ size mode bytes. key_at size mode (skip_whitespace mode bytes)) result
             self.old self.new sink.old sink.new object.old object.new }
     {

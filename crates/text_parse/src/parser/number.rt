@@ -3,8 +3,8 @@ ghost use Rattle.std.specs.Prelude.{◌≡◌, ◌≢◌, ℕ, List, ◌++◌, �
 ghost use Rattle.jsonb_value.specs.View.{number_view};
 ghost use Rattle.jsonb_value.specs.declared.error.Error.TheVariants.{Syntax, OutOfMemory};
 ghost use Rattle.jsonb_value.specs.declared.error.ParseErrorCode.TheVariants.{InvalidNumberValue};
-ghost use Rattle.text_scan.specs.Answer.{Fails, mode_of};
-ghost use Rattle.jsonb_spec.specs.Mode.{standard};
+ghost use Rattle.text_scan.specs.Answer.{Fails, grammar_of};
+ghost use Rattle.jsonb_spec.specs.Mode.{standard, strict, strictness};
 ghost use Rattle.jsonb_spec.specs.Grammar.StandardNumber.{IsStandardNumber};
 ghost use Rattle.jsonb_spec.specs.Tree.{number};
 ghost use Rattle.text_parse.specs.Parser.{Finds, PreservesInteger, ParsesAtOffset, rest_of, size_of};
@@ -22,11 +22,11 @@ use text_scan::parser::number::{
 };
 
 impl Parser<'_> {
-    // Passes an integer of a standard text that is written by the same bytes again, if that is asked and one comes
+    // Passes an integer of a strict text that is written by the same bytes again, if that is asked and one comes
     // next.
     #[inline(always)]
     pub(super) fn verbatim_integer(&mut self, is_asked: bool) -> bool
-        requires mode { mode_of self.old.mode ≡ standard }
+        requires strict { strictness (grammar_of self.old.grammar) ≡ strict }
         ensures { PreservesInteger is_asked result self.old self.new }
     {
         if !is_asked {
@@ -44,7 +44,7 @@ impl Parser<'_> {
     // Parses an integer of a standard text, if one of at most 19 digits comes next.
     #[inline(always)]
     pub(super) fn short_integer(&mut self) -> Option<ShortInteger>
-        requires mode { mode_of self.old.mode ≡ standard }
+        requires standard { grammar_of self.old.grammar ≡ standard }
         ensures finds { Finds (λ read. number (short_view read)) scalar_at result self.old self.new }
         ensures encoded { IfSome result (λ read. (bytes : List ℕ) × (rest_of self.old ≡ bytes ++ rest_of self.new)
             × IsStandardNumber bytes (short_view read)) }
@@ -83,7 +83,7 @@ impl Parser<'_> {
     }
 
     // The fault in a number text, at this offset of the bytes that are still to be parsed.
-    fn invalid_number(&self, offset: usize) -> Error
+    pub(super) fn invalid_number(&self, offset: usize) -> Error
         requires { offset ≤ length (rest_of self.now) + 2 }
         ensures { result ≡ Syntax InvalidNumberValue (self.now.offset + offset) }
     {

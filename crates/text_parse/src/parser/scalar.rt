@@ -1,12 +1,13 @@
 //! Values that hold no others.
 ghost use Rattle.std.specs.Prelude.{◌≡◌, ◌≢◌, ◌<◌, ◌≤◌, ◌∷◌, ◌++◌, drop, length, MatchBool, Err, IfSome, Some, true, false, ◌^◌, pos, neg_ℤ};
 ghost use Rattle.jsonb_spec.specs.Ascii as ascii;
-ghost use Rattle.jsonb_spec.specs.Mode.{standard, extended, strictness};
+ghost use Rattle.jsonb_spec.specs.Mode.{strict, strictness};
 ghost use Rattle.jsonb_value.specs.View.{number_view};
-ghost use Rattle.text_scan.specs.Answer.{mode_of, Gives};
+ghost use Rattle.text_scan.specs.Answer.{mode_of, grammar_of, Gives};
 ghost use Rattle.text_parse.specs.Scalars.{IsGiven};
 ghost use Rattle.text_parse.specs.Literals.{literal_text, literal_tree};
 ghost use Rattle.jsonb_spec.specs.Tree.{boolean, int64};
+ghost use Rattle.text_parse.specs.Grammars.{may_cut, takes_decimals};
 ghost use Rattle.text_parse.specs.Parser.{Advances, Finds, IsAfterQuote, IsBehind, IsTextOf, ParsesAtOffset, TakesByte, rest_of, size_of};
 ghost use Rattle.text_scan.specs.Parsing.{begins};
 ghost use Rattle.text_scan.specs.Parsing.Scalar.{number_value_at, begins_letter, begins_single_quote, fold_letter, letters_at, null_at, number_at, quoted_at, scalar_at, word_at};
@@ -16,7 +17,7 @@ use super::handler::{Failed, Handler};
 use super::slot::Slot;
 use super::start::Start;
 use super::text::{Scalar, Text};
-use super::{Mode, Parser};
+use super::{Grammar, Mode, Parser};
 use jsonb_value::error::{Error, ParseErrorCode};
 use jsonb_value::number::Number;
 use text_common::verbatim::Verbatim;
@@ -75,6 +76,14 @@ impl<'a> Parser<'a> {
         self.put_result(put)
     }
 
+    // Whether the grammar has decimals.
+    #[inline(always)]
+    fn takes_decimals(&self) -> bool
+        ensures { result ≡ takes_decimals (grammar_of self.now.grammar) }
+    {
+        !matches!(self.grammar, Grammar::Standard)
+    }
+
     // Puts in a string in double quotes, from the byte after its opening quote on.
     #[inline(always)]
     pub(super) fn put_quoted<V: Handler<'a>, S: Slot<'a, V>>(
@@ -86,6 +95,7 @@ impl<'a> Parser<'a> {
     ) -> Result<(), Failed>
         requires opened { IsBehind ascii.quote self.old }
         requires same { IsTextOf text.now self.old }
+        requires cuts { may_cut V.reports_plain text.now (grammar_of self.old.grammar) ≡ true }
         ensures { Puts V.Handler (λ size mode. quoted_at size mode ascii.quote) result
             self.old self.new sink.old sink.new (S.before container.old slot) (S.after container.new) }
     {
@@ -109,6 +119,7 @@ impl<'a> Parser<'a> {
     ) -> Result<(), Failed>
         requires opened { IsBehind ascii.quote self.old }
         requires same { IsTextOf text.now self.old }
+        requires cuts { may_cut V.reports_plain text.now (grammar_of self.old.grammar) ≡ true }
         ensures { Puts V.Handler (λ size mode. quoted_at size mode ascii.quote) result
             self.old self.new sink.old sink.new (S.before container.old slot) (S.after container.new) }
     {
@@ -126,6 +137,7 @@ impl<'a> Parser<'a> {
         text: &'a str,
     ) -> Result<(), Failed>
         requires same { IsTextOf text.now self.old }
+        requires cuts { may_cut V.reports_plain text.now (grammar_of self.old.grammar) ≡ true }
         ensures { Puts V.Handler scalar_at result self.old self.new sink.old sink.new (S.before container.old slot)
             (S.after container.new) }
     {
@@ -133,7 +145,7 @@ impl<'a> Parser<'a> {
             return self.put_later_quoted::<V, S>(sink, container, slot, text);
         }
         match self.mode {
-            Mode::Standard => self.put_standard_value::<V, S>(sink, container, slot, text),
+            Mode::Standard => self.put_strict_value::<V, S>(sink, container, slot, text),
             Mode::Extended if V::wants().verbatim => {
                 self.put_extended_value::<V, S>(sink, container, slot, text)
             }
@@ -141,17 +153,17 @@ impl<'a> Parser<'a> {
         }
     }
 
-    // Puts in a scalar of a standard text that is no string. Most numbers are integers of few digits, and many are
+    // Puts in a scalar of a strict text that is no string. Most numbers are integers of few digits, and many are
     // written by the same bytes again.
     #[inline(always)]
-    fn put_standard_value<V: Handler<'a>, S: Slot<'a, V>>(
+    fn put_strict_value<V: Handler<'a>, S: Slot<'a, V>>(
         &mut self,
         sink: &mut V::Sink,
         container: &mut S::Container,
         slot: S,
         text: &'a str,
     ) -> Result<(), Failed>
-        requires mode { mode_of self.old.mode ≡ standard }
+        requires strict { strictness (grammar_of self.old.grammar) ≡ strict }
         requires same { IsTextOf text.now self.old }
         ensures { Puts V.Handler scalar_at result self.old self.new sink.old sink.new (S.before container.old slot)
             (S.after container.new) }
@@ -167,6 +179,9 @@ impl<'a> Parser<'a> {
             );
         }
         if !matches!(self.peek(), Some(b'a'..=b'z')) {
+            if self.takes_decimals() {
+                return self.put_extended_value::<V, S>(sink, container, slot, text);
+            }
             if let Some(read) = self.short_integer() {
                 if read.negative {
                     let number = Scalar::Number(negative_number(read.magnitude));
@@ -179,7 +194,7 @@ impl<'a> Parser<'a> {
         self.put_word::<V, S>(sink, container, slot, text)
     }
 
-    // Puts in a scalar of an extended text that is no string in double quotes.
+    // Puts in a scalar that is no string in double quotes, of a text that has decimals.
     #[inline(never)]
     fn put_extended_value<V: Handler<'a>, S: Slot<'a, V>>(
         &mut self,
@@ -188,7 +203,7 @@ impl<'a> Parser<'a> {
         slot: S,
         text: &'a str,
     ) -> Result<(), Failed>
-        requires mode { mode_of self.old.mode ≡ extended }
+        requires decimals { takes_decimals (grammar_of self.old.grammar) ≡ true }
         requires same { IsTextOf text.now self.old }
         ensures { Puts V.Handler scalar_at result self.old self.new sink.old sink.new (S.before container.old slot)
             (S.after container.new) }
@@ -351,8 +366,8 @@ impl<'a> Parser<'a> {
             self.new }
     {
         self.offset += 1;
-        if let Some(body) = self.borrowed_string(quote, text) {
-            return Ok(V::scalar(Scalar::String(Text::Borrowed(body))));
+        if let Some(cut) = self.whole_string(quote, text) {
+            return Ok(V::scalar(Scalar::String(cut)));
         }
         self.parse_escaped_string(quote, text)
     }
@@ -375,6 +390,9 @@ impl<'a> Parser<'a> {
                 Err(error) => Err(self.fail(error)),
             };
         };
+        if let Err(error) = self.check_grammar(body.as_bytes(), from + 1) {
+            return Err(self.fail(error));
+        }
         match V::escaped_string(self.alloc, body, self.mode, from + 1) {
             Ok(value) => Ok(value),
             Err(error) => Err(self.fail(error)),
@@ -384,7 +402,7 @@ impl<'a> Parser<'a> {
     // Passes a single quote, where one comes next that begins a string.
     #[inline(always)]
     pub(super) fn take_single_quote(&mut self) -> bool
-        ensures { TakesByte ascii.single_quote (begins_single_quote (strictness (mode_of self.old.mode))
+        ensures { TakesByte ascii.single_quote (begins_single_quote (strictness (grammar_of self.old.grammar))
             (rest_of self.old)) result self.old self.new }
     {
         match self.mode {
@@ -423,16 +441,17 @@ impl<'a> Parser<'a> {
     fn parse_number(&mut self) -> std::result::Result<Number, Error>
         ensures { ParsesAtOffset number_view number_at result self.old self.new }
     {
-        match self.mode {
-            Mode::Standard => self.parse_standard_number(),
-            Mode::Extended => self.parse_extended_number(),
+        match self.grammar {
+            Grammar::Standard => self.parse_standard_number(),
+            Grammar::Extended => self.parse_extended_number(),
+            Grammar::Json | Grammar::ExtendedJson => self.parse_exact_number(),
         }
     }
 
     // A word, byte by byte.
     fn parse_word(&mut self, word: &[u8]) -> std::result::Result<(), Error>
         ensures parses { Gives (λ _. rest_of self.new) result
-            (letters_at (size_of self.old) (strictness (mode_of self.old.mode)) word.now (rest_of self.old)) }
+            (letters_at (size_of self.old) (strictness (grammar_of self.old.grammar)) word.now (rest_of self.old)) }
         ensures takes_no_memory { result ≢ Err Error.OutOfMemory }
         ensures advances { Advances self.old self.new }
     {
@@ -448,7 +467,7 @@ impl<'a> Parser<'a> {
     // Whether this letter comes next.
     #[inline(always)]
     pub(super) fn next_is_letter(&self, letter: u8) -> bool
-        ensures found { result ≡ begins_letter (strictness (mode_of self.now.mode)) letter (rest_of self.now) }
+        ensures found { result ≡ begins_letter (strictness (grammar_of self.now.grammar)) letter (rest_of self.now) }
         ensures within { MatchBool result (self.now.offset < size_of self.now) (Unit {0}) }
     {
         matches!(self.peek(), Some(next) if fold(next, self.mode) == letter)

@@ -1,13 +1,13 @@
 //! What a value is, by its first byte.
-ghost use Rattle.std.specs.Prelude.{◌≡◌, false, ℕ, List, ◌∷◌, MatchBool};
+ghost use Rattle.std.specs.Prelude.{◌≡◌, false, MatchBool};
 ghost use Rattle.jsonb_spec.specs.Ascii as ascii;
 ghost use Rattle.jsonb_spec.specs.Mode.{strictness};
-ghost use Rattle.text_scan.specs.Answer.{mode_of};
+ghost use Rattle.text_scan.specs.Answer.{mode_of, grammar_of};
 ghost use Rattle.text_scan.specs.Parsing.{begins};
 ghost use Rattle.text_scan.specs.Parsing.Container.{is_left_out};
 ghost use Rattle.text_parse.specs.Frames.{OpensContainer};
 ghost use Rattle.text_parse.specs.Parser.{rest_of};
-ghost use Rattle.text_parse.specs.Start.{IsStart};
+ghost use Rattle.text_parse.specs.Start.{IsStart, IsStartIn};
 
 use super::{Mode, Parser};
 
@@ -30,7 +30,7 @@ pub(super) enum Start {
 // What begins with this byte.
 #[inline(always)]
 fn start_of(byte: u8, mode: Mode) -> Start
-    ensures { (rest : List ℕ) → IsStart result (mode_of mode) (byte ∷ rest) }
+    ensures { IsStartIn result (strictness (mode_of mode)) byte }
 {
     match byte {
         b'[' => Start::Array,
@@ -59,7 +59,7 @@ impl<'a> Parser<'a> {
     // What begins here.
     #[inline(always)]
     pub(super) fn start(&self) -> Start
-        ensures { IsStart result (mode_of self.now.mode) (rest_of self.now) }
+        ensures { IsStart result (grammar_of self.now.grammar) (rest_of self.now) }
     {
         match self.peek() {
             Some(byte) => start_of(byte, self.mode),
@@ -71,7 +71,8 @@ impl<'a> Parser<'a> {
     // alone.
     #[inline(always)]
     pub(super) fn begins_container(&self) -> bool
-        ensures other { MatchBool result (is_left_out (strictness (mode_of self.now.mode)) (rest_of self.now) ≡ false)
+        ensures other { MatchBool result
+            (is_left_out (strictness (grammar_of self.now.grammar)) (rest_of self.now) ≡ false)
             ((begins ascii.open_bracket (rest_of self.now) ≡ false)
             × (begins ascii.open_brace (rest_of self.now) ≡ false)) }
         ensures opens { MatchBool result (OpensContainer (rest_of self.now)) (Unit {0}) }

@@ -1,19 +1,23 @@
 //! Quoted strings.
-ghost use Rattle.std.specs.Prelude.{◌≡◌, ◌≢◌, ◌+◌, ◌<◌, Err, IfNone, IfSome, length, slice_index};
+ghost use Rattle.std.specs.Prelude.{◌≡◌, ◌≢◌, ◌+◌, ◌<◌, ◌^◌, true, false, IfErr, IfNone, IfSome, OnOk, length, slice_index};
 ghost use Rattle.std.specs.Cow.{cow_str_bytes};
 ghost use Rattle.jsonb_spec.specs.Ascii as ascii;
 ghost use Rattle.jsonb_value.specs.View.{mark_view};
 ghost use Rattle.jsonb_spec.specs.Tree.Mark.{plain};
+ghost use Rattle.text_parse.specs.Grammars.{is_json, may_cut};
 ghost use Rattle.text_parse.specs.Parser.{Advances, CutsString, CutsTo, IsAfterQuote, IsBehind, IsTextOf, PassesContents, ParsesString, rest_of};
 ghost use Rattle.text_parse.specs.Scalars.{IsCut, text_view};
-ghost use Rattle.text_scan.specs.Parsing.String.{string_at};
+ghost use Rattle.text_scan.specs.Answer.{grammar_of, mode_of};
+ghost use Rattle.text_scan.specs.Parsing.String.{body_of, string_at};
+ghost use Rattle.text_scan.specs.StrictString.{RejectsContents};
 
-use super::Parser;
 use super::text::Text;
+use super::{Grammar, Parser};
 use jsonb_value::error::{Error, ParseErrorCode, Result};
 use jsonb_value::plain::first_escaped;
 use std::borrow::CowStr;
 use text_scan::parser::string::{StringEnd, decode_contents, find_end, near_mark};
+use text_scan::util::check_strict;
 
 impl<'a> Parser<'a> {
     // Parses a string from the byte after its opening quote on. It is borrowed where no backslash is in it. Most strings
@@ -30,13 +34,10 @@ impl<'a> Parser<'a> {
                 Err(Error::Syntax(ParseErrorCode::InvalidEOF, self.offset + at))
             }
             StringEnd::Closed { end, escaped } => {
-                let text = decode_contents(
-                    self.alloc,
-                    &rest[..end],
-                    self.mode,
-                    escaped,
-                    self.offset + 1,
-                )?;
+                let body = &rest[..end];
+                let after = self.offset + 1;
+                self.check_grammar(body, after)?;
+                let text = decode_contents(self.alloc, body, self.mode, escaped, after)?;
                 self.offset += end + 1;
                 Ok(text)
             }
@@ -52,6 +53,7 @@ impl<'a> Parser<'a> {
         requires inside { len < length (rest_of self.old) }
         requires closed { slice_index (rest_of self.old) len ≡ quote }
         ensures cuts { IfSome result (λ body. CutsTo len self.old self.new body.now) }
+        ensures some { IfSome result (λ _. 0 < length text.now) }
         ensures stays { IfNone result (self.new ≡ self.old) }
         ensures advances { Advances self.old self.new }
     {
@@ -66,11 +68,34 @@ impl<'a> Parser<'a> {
         Some(body)
     }
 
-    // A string without escapes, from the byte after its opening quote on.
+    // Whether the grammar is JSON.
     #[inline(always)]
-    pub(super) fn borrowed_string(&mut self, quote: u8, text: &'a str) -> Option<&'a str>
+    fn is_json(&self) -> bool
+        ensures { result ≡ is_json (grammar_of self.now.grammar) }
+    {
+        matches!(self.grammar, Grammar::Json)
+    }
+
+    // What JSON rejects of the contents of a string, and its mode doesn't. An error counts from `idx`.
+    #[inline(always)]
+    pub(super) fn check_grammar(&self, body: &[u8], idx: usize) -> Result<()>
+        requires space { idx + length body.now < 2 ^ 64 }
+        ensures passed { OnOk result (body_of (grammar_of self.now.grammar) body.now
+            ≡ body_of (mode_of self.now.mode) body.now) }
+        ensures rejected { IfErr result (λ e. RejectsContents idx e (body_of (grammar_of self.now.grammar) body.now)) }
+    {
+        if self.is_json() {
+            return check_strict(body, idx);
+        }
+        Ok(())
+    }
+
+    // A string without escapes, from the byte after its opening quote on. Control characters in it aren't seen.
+    #[inline(always)]
+    fn borrowed_string(&mut self, quote: u8, text: &'a str) -> Option<&'a str>
         requires quote { IsAfterQuote quote self.old }
         requires same { IsTextOf text.now self.old }
+        requires cuts { may_cut false text.now (grammar_of self.old.grammar) ≡ true }
         ensures { CutsString (λ s. s.now) quote result self.old self.new }
     {
         let rest = self.rest();
@@ -107,6 +132,7 @@ impl<'a> Parser<'a> {
     pub(super) fn cut_string(&mut self, reports_plain: bool, text: &'a str) -> Option<Text<'a>>
         requires opened { IsBehind ascii.quote self.old }
         requires same { IsTextOf text.now self.old }
+        requires cuts { may_cut reports_plain text.now (grammar_of self.old.grammar) ≡ true }
         ensures cuts { CutsString (λ text. (text_view text).1) ascii.quote result self.old self.new }
         ensures cut { IfSome result IsCut }
     {
@@ -121,5 +147,23 @@ impl<'a> Parser<'a> {
         }
         let body = self.cut(end, b'"', text)?;
         Some(Text::Plain(body))
+    }
+
+    // A string without escapes, from the byte after its opening quote of this kind on.
+    #[inline(always)]
+    pub(super) fn whole_string(&mut self, quote: u8, text: &'a str) -> Option<Text<'a>>
+        requires quote { IsAfterQuote quote self.old }
+        requires same { IsTextOf text.now self.old }
+        ensures cuts { CutsString (λ text. (text_view text).1) quote result self.old self.new }
+        ensures cut { IfSome result IsCut }
+    {
+        if self.is_json() {
+            if quote != b'"' {
+                return None;
+            }
+            return self.cut_string(true, text);
+        }
+        let body = self.borrowed_string(quote, text)?;
+        Some(Text::Borrowed(body))
     }
 }

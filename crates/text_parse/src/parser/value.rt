@@ -8,7 +8,8 @@ ghost use Rattle.text_parse.specs.declared.parser.frame.Frame.{Frame};
 ghost use Rattle.text_parse.specs.declared.parser.frame.Frame.TheVariants.{Array, Object};
 ghost use Rattle.text_parse.specs.Handler.{ElseFails, Builds};
 ghost use Rattle.text_parse.specs.Frames.{AtEnd, AtNextPart, BeforeValue, IsParsedToEnd, OpensContainer, finish_container, scalar_or_null};
-ghost use Rattle.text_scan.specs.Answer.{mode_of};
+ghost use Rattle.text_scan.specs.Answer.{grammar_of};
+ghost use Rattle.text_parse.specs.Grammars.{may_cut};
 ghost use Rattle.text_parse.specs.Parser.{Advances, AdvancesOver, IsBehind, IsTextOf, parse_at, rest_of, size_of};
 ghost use Rattle.text_scan.specs.Parsing.{begins};
 ghost use Rattle.text_scan.specs.Parsing.Whitespace.{is_whitespace_start, skip_whitespace};
@@ -50,6 +51,7 @@ impl<'a> Parser<'a> {
         text: &'a str,
     ) -> Result<V, Failed>
         requires same { IsTextOf text.now self.old }
+        requires cuts { may_cut V.reports_plain text.now (grammar_of self.old.grammar) ≡ true }
         requires opens { OpensContainer (rest_of self.old) }
         ensures parses { V.holds self.old.buf.now sink.old true [] []
             → Builds V.silent self.new.reported (λ v s. V.filled self.old.buf.now sink.new v s [] []) result
@@ -80,6 +82,7 @@ impl<'a> Parser<'a> {
         text: &'a str,
     ) -> Result<(), Failed>
         requires same { IsTextOf text.now self.old }
+        requires cuts { may_cut V.reports_plain text.now (grammar_of self.old.grammar) ≡ true }
         requires opens { OpensContainer (rest_of self.old) }
         requires none { stack.old.items ≡ [] }
         ensures parses { V.holds self.old.buf.now sink.old true [] []
@@ -151,6 +154,7 @@ impl<'a> Parser<'a> {
         requires open { 0 < length stack.old.items }
         requires depth { length stack.old.items ≤ max_depth }
         requires same { IsTextOf text.now self.old }
+        requires cuts { may_cut V.reports_plain text.now (grammar_of self.old.grammar) ≡ true }
         ensures { Turns V.Handler AtNextPart result self.old self.new sink.old sink.new stack.old.items
             stack.new.items }
     {
@@ -173,6 +177,7 @@ impl<'a> Parser<'a> {
         text: &'a str,
     ) -> Result<bool, Failed>
         requires same { IsTextOf text.now self.old }
+        requires cuts { may_cut V.reports_plain text.now (grammar_of self.old.grammar) ≡ true }
         ensures { FillsFrame V.Handler result self.old self.new sink.old sink.new frame.old frame.new }
     {
         match frame {
@@ -195,6 +200,7 @@ impl<'a> Parser<'a> {
         text: &'a str,
     ) -> Result<bool, Failed>
         requires same { IsTextOf text.now self.old }
+        requires cuts { may_cut V.reports_plain text.now (grammar_of self.old.grammar) ≡ true }
         ensures { FillsFrame V.Handler result self.old self.new sink.old sink.new (Array items.old) (Array items.new) }
     {
         'elements: loop {
@@ -220,6 +226,7 @@ impl<'a> Parser<'a> {
         text: &'a str,
     ) -> Result<bool, Failed>
         requires same { IsTextOf text.now self.old }
+        requires cuts { may_cut V.reports_plain text.now (grammar_of self.old.grammar) ≡ true }
         ensures { PutsNext V.Handler result self.old self.new sink.old sink.new (Array items.old) (Array items.new) }
     {
         if self.take_byte(b'"') {
@@ -243,6 +250,7 @@ impl<'a> Parser<'a> {
         text: &'a str,
     ) -> Result<(), Failed>
         requires same { IsTextOf text.now self.old }
+        requires cuts { may_cut V.reports_plain text.now (grammar_of self.old.grammar) ≡ true }
         ensures { Puts V.Handler scalar_or_null result self.old self.new sink.old sink.new (Array items.old)
             (Array items.new) }
     {
@@ -255,7 +263,7 @@ impl<'a> Parser<'a> {
 
     // Whether an element is left out here.
     fn is_left_out(&self) -> bool
-        ensures { result ≡ is_left_out (strictness (mode_of self.now.mode)) (rest_of self.now) }
+        ensures { result ≡ is_left_out (strictness (grammar_of self.now.grammar)) (rest_of self.now) }
     {
         match self.mode {
             Mode::Standard => false,
@@ -272,6 +280,7 @@ impl<'a> Parser<'a> {
         text: &'a str,
     ) -> Result<bool, Failed>
         requires same { IsTextOf text.now self.old }
+        requires cuts { may_cut V.reports_plain text.now (grammar_of self.old.grammar) ≡ true }
         ensures { FillsFrame V.Handler result self.old self.new sink.old sink.new (Object object.old)
             (Object object.new) }
     {
@@ -296,6 +305,7 @@ impl<'a> Parser<'a> {
         text: &'a str,
     ) -> Result<bool, Failed>
         requires same { IsTextOf text.now self.old }
+        requires cuts { may_cut V.reports_plain text.now (grammar_of self.old.grammar) ≡ true }
         ensures puts { PutsOrStops V.Handler scalar_at result self.old self.new sink.old sink.new
             (Object (record { members = object.old.members; key = key })) (Object object.new) }
         ensures advances { AdvancesOver V.base self.old self.new sink.old sink.new }
@@ -341,7 +351,7 @@ impl<'a> Parser<'a> {
     #[inline(always)]
     pub(super) fn take_after_whitespace(&mut self, byte: u8) -> bool
         requires stop { is_whitespace_start byte ≡ false }
-        ensures rest { skip_whitespace (mode_of self.old.mode) (rest_of self.old)
+        ensures rest { skip_whitespace (grammar_of self.old.grammar) (rest_of self.old)
             ≡ (if result then byte ∷ rest_of self.new else rest_of self.new) }
         ensures other { MatchBool result (Unit {0}) (begins byte (rest_of self.new) ≡ false) }
         ensures onward { MatchBool result (self.old.offset < self.new.offset) (Unit {0}) }

@@ -1,7 +1,7 @@
 //! Whitespace between the parts of a text.
 ghost use Rattle.std.specs.Prelude.{◌≡◌, ◌+◌, ◌<◌, MatchBool};
 ghost use Rattle.jsonb_spec.specs.Mode.{strictness};
-ghost use Rattle.text_scan.specs.Answer.{mode_of};
+ghost use Rattle.text_scan.specs.Answer.{grammar_of};
 ghost use Rattle.text_parse.specs.Parser.{Skips, SkipsSome, rest_of};
 ghost use Rattle.text_scan.specs.Parsing.Whitespace.{opens_comment, skip_closed_whitespace, skip_whitespace};
 
@@ -16,10 +16,10 @@ impl Parser<'_> {
     // Whether the next byte may begin whitespace. Few bytes may, so this is asked before the call.
     #[inline(always)]
     fn may_begin_whitespace(&self) -> bool
-        ensures skips { MatchBool result (Unit {0}) (skip_whitespace (mode_of self.now.mode) (rest_of self.now)
+        ensures skips { MatchBool result (Unit {0}) (skip_whitespace (grammar_of self.now.grammar) (rest_of self.now)
             ≡ rest_of self.now) }
-        ensures passes { MatchBool result (Unit {0}) (skip_closed_whitespace (mode_of self.now.mode) (rest_of self.now)
-            ≡ rest_of self.now) }
+        ensures passes { MatchBool result (Unit {0})
+            (skip_closed_whitespace (grammar_of self.now.grammar) (rest_of self.now) ≡ rest_of self.now) }
     {
         let Some(byte) = self.peek() else {
             return false;
@@ -94,7 +94,7 @@ impl Parser<'_> {
         ensures { Skips skip_closed_whitespace self.old self.new }
     {
         'whitespace: while self.offset < self.buf.len() {
-            let n = piece_len(self.rest(), self.mode);
+            let n = piece_len(self.rest(), self.grammar);
             if n == 0 {
                 return;
             }
@@ -156,7 +156,7 @@ impl Parser<'_> {
 
     // Whether a comment begins here. After the whitespace, this is one that never ends.
     pub(super) fn opens_comment(&self) -> bool
-        ensures value { result ≡ opens_comment (strictness (mode_of self.now.mode)) (rest_of self.now) }
+        ensures value { result ≡ opens_comment (strictness (grammar_of self.now.grammar)) (rest_of self.now) }
     {
         if self.offset >= self.buf.len() {
             return false;

@@ -7,7 +7,7 @@ use Rattle.std.proofs.lemmas.Bool.Decides.{nat_tests}
 use Rattle.jsonb_spec.specs.Tree.{Num}
 use Rattle.jsonb_spec.specs.Grammar.StandardNumber.{IsInteger, IsStandardNumber, IsStandardText}
 use Rattle.text_scan.specs.Parsing.Number.{End, then_from, digits_length, sign_end, exponent_from, fraction_from, has_minus, whole_start, standard_end, integer_of, whole_digits, integer_at}
-use Rattle.text_scan.proofs.Numbers.Steps.{differs, digits_more, ok_no_err, then_ok, by_digits, whole_end, HasWhole, whole_missing, whole_needless, whole_found}
+use Rattle.text_scan.proofs.Numbers.Steps.{differs, digits_more, ok_no_err, then_ok, by_digits, IsWholeAt, whole_end, HasWhole, whole_missing, whole_needless, whole_found}
 use Rattle.text_scan.proofs.Numbers.Scan.{IsDigitRun, IsScan, inside_of, digits_run, fraction_is, fraction_fault_is, exponent_is, exponent_fault_is}
 use Rattle.text_scan.proofs.Numbers.Automaton.{Start, state_at, NoneEnds, EndsWhole}
 use Rattle.text_scan.proofs.Numbers.ScanStates.{due, fault_no_digit, fault_needless_zero, whole_state, fraction_state, fault_bare_point, fault_bare_mark}
@@ -24,19 +24,16 @@ whole_start_within bs =
     (λ minus. let byte : slice_index bs 0 ≡ 45 = grind (arith, nat_tests) in rw minus (omega (arith, inside_of bs 0 (omega (arith, byte)))))
     (λ no_minus. rw no_minus (omega arith)) (cases_Bool (slice_index bs 0 == 45))
 
-abbrev pub IsNeedless : List ℕ → Type 0
-IsNeedless bs = (1 < digits_length (drop (whole_start bs) bs)) × (slice_index bs (whole_start bs) ≡ 48)
-
-whole_cases : (bs : List ℕ) → (digits_length (drop (whole_start bs) bs) ≡ 0) ⊎ (IsNeedless bs ⊎ HasWhole bs)
-whole_cases bs =
+pub whole_cases : (bs : List ℕ) (start : ℕ) → (digits_length (drop start bs) ≡ 0) ⊎ (((1 < digits_length (drop start bs)) × (slice_index bs start ≡ 48)) ⊎ IsWholeAt bs start)
+whole_cases bs start =
     ⊎_elim inl
     (λ some. ⊎_elim
     (λ few. inr (inr (some, inr (omega (arith, few)))))
     (λ many. ⊎_elim
     (λ zero_byte. inr (inl (omega (arith, many), zero_byte)))
-    (λ other. inr (inr (some, inl other))) (cases_eq (slice_index bs (whole_start bs)) 48))
-    (cases_lt (digits_length (drop (whole_start bs) bs)) 2))
-    (by_digits (digits_length (drop (whole_start bs) bs)))
+    (λ other. inr (inr (some, inl other))) (cases_eq (slice_index bs start) 48))
+    (cases_lt (digits_length (drop start bs)) 2))
+    (by_digits (digits_length (drop start bs)))
 
 whole_run : (bs : List ℕ) → IsDigitRun bs (whole_start bs) (whole_end bs)
 whole_run bs = digits_run bs (whole_start bs) (whole_end bs) (whole_start_within bs) refl
@@ -73,7 +70,7 @@ scanned bs end at =
         fraction_end = fraction;
         exponent_end = exponent_is bs parts.0 end (fraction_within bs (whole_end bs) parts.0 run.within fraction).1 parts.2;
       };
-    }) some) (whole_cases bs)
+    }) some) (whole_cases bs (whole_start bs))
 
 pub scanned_text : (bs : List ℕ) (end : ℕ) → ScannedTo bs end → IsStandardText (take end bs)
 scanned_text bs end s = standard_text_of (take end bs) (has_minus bs) _ _ _ (scan_parts bs (whole_start bs) (whole_end bs) s.fraction end s.scan)
@@ -97,7 +94,7 @@ none_ends bs offset at =
     let fraction = fraction_is bs (whole_end bs) parts.0 run.within parts.1 in
     let done = fraction_state bs (whole_end bs) parts.0 run.within run.ends (whole_ends bs has_whole) fraction in
     fault_bare_mark bs parts.0 (sign_end bs (parts.0 + 1)) done (exponent_fault_is bs parts.0 offset done.within parts.2))
-    (then_err (fraction_from bs (whole_end bs)) (exponent_from bs) offset (sym (whole_found bs has_whole) ∙ at))) some) (whole_cases bs)
+    (then_err (fraction_from bs (whole_end bs)) (exponent_from bs) offset (sym (whole_found bs has_whole) ∙ at))) some) (whole_cases bs (whole_start bs))
 
 -- ---- its number
 

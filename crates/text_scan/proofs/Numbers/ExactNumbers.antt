@@ -1,5 +1,5 @@
 -- Parsing a number of JSON or of extended JSON gives what the grammar says, and the grammar's numbers are parsed so.
-use Rattle.std.proofs.Common.{◌≡◌, ◌⊎◌, ℕ, ◌+◌, ◌<◌, ◌≤◌, false, List, ◌++◌, take, refl, sym, subst, ap, ◌∙◌, inl, inr, ⊎_elim, arith, Option, Some, None, Ok, Err}
+use Rattle.std.proofs.Common.{◌≡◌, ℕ, ◌+◌, ◌<◌, false, List, ◌++◌, take, refl, sym, subst, ◌∙◌, inl, inr, ⊎_elim, arith, Option, Some, None, Ok, Err}
 use Rattle.std.specs.Prelude.{slice_index, MatchOption, ◌==◌}
 use Rattle.std.proofs.lemmas.Bool.{cases_eq, cases_lt}
 use Rattle.jsonb_spec.specs.Grammar.ExactNumber.{IsExactDecimal, IsJsonNumber, IsExtendedJsonNumber}
@@ -26,13 +26,13 @@ use Rattle.text_scan.proofs.Numbers.Exact.{exact_at_end, exact_has_parts, exact_
 
 -- ---- a standard text is a decimal one
 
-run_end : (bytes : List ℕ) (start a b : ℕ) → IsDigitRun bytes start a → IsDigitRun bytes start b → a ≡ b
+pub run_end : (bytes : List ℕ) (start a b : ℕ) → IsDigitRun bytes start a → IsDigitRun bytes start b → a ≡ b
 run_end bytes start a b p q =
     ⊎_elim (λ less. absurd (p.ends (q.digits a p.ordered less)))
     (λ most. ⊎_elim (λ less. absurd (q.ends (p.digits b q.ordered less))) (λ least. omega (arith, most, least)) (cases_lt b a)) (cases_lt a b)
 
 -- digits begin where they do in a decimal
-core_is : (bytes : List ℕ) (end : ℕ) → IsDigitRun bytes (whole_start bytes) end → whole_start bytes < end → whole_start bytes ≡ core_start bytes
+pub core_is : (bytes : List ℕ) (end : ℕ) → IsDigitRun bytes (whole_start bytes) end → whole_start bytes < end → whole_start bytes ≡ core_start bytes
 core_is bytes end run some =
     ⊎_elim (λ minus. rw minus refl)
     (λ no_minus.
@@ -47,7 +47,7 @@ point_same bytes start end digits behind (inl none) (inr point) = absurd (none.1
 point_same bytes start end digits behind (inr point) (inl nothing) = absurd (nothing.2 point.0)
 point_same bytes start end digits behind (inr (point, some, run)) (inr (again, offset, others)) = run_end bytes (start + 1) end behind run (subst (λ i. IsDigitRun bytes i behind) offset others)
 
-standard_scan : (bytes : List ℕ) (fraction end : ℕ) → IsScan bytes (whole_start bytes) (whole_end bytes) fraction end → IsDecimalScan bytes (parts_to bytes end)
+pub standard_scan : (bytes : List ℕ) (fraction end : ℕ) → IsScan bytes (whole_start bytes) (whole_end bytes) fraction end → IsDecimalScan bytes (parts_to bytes end)
 standard_scan bytes fraction end scan =
     let core = core_is bytes (whole_end bytes) scan.digits scan.some_digit in
     let front : whole_end bytes ≡ front_end bytes = run_end bytes (core_start bytes) (whole_end bytes) (front_end bytes) (subst (λ i. IsDigitRun bytes i (whole_end bytes)) core scan.digits) (core_digits bytes) in

@@ -1,6 +1,6 @@
 -- Parsing an extended number gives what the grammar says, and the grammar's numbers are parsed so.
-use Rattle.std.proofs.Common.{◌≡◌, ◌≢◌, ◌⊎◌, zero, suc, ℕ, ◌+◌, ◌-◌, ◌<◌, ◌≤◌, true, false, ◌||◌, List, [], ◌∷◌, ◌++◌, length, take, drop, refl, sym, subst, ap, ◌∙◌, inl, inr, ⊎_elim, arith, Option, Some, None, Ok, Err}
-use Rattle.std.specs.Prelude.{replicate, slice_index, MatchOption, ◌==◌, if◌then◌else◌}
+use Rattle.std.proofs.Common.{◌≡◌, ◌≢◌, ◌⊎◌, zero, suc, ℕ, ◌+◌, ◌<◌, ◌≤◌, true, false, ◌||◌, List, [], ◌∷◌, ◌++◌, length, take, drop, refl, sym, subst, ap, ◌∙◌, inl, inr, ⊎_elim, arith, Option, Some, None, Ok, Err}
+use Rattle.std.specs.Prelude.{replicate, slice_index, MatchOption, ◌==◌}
 use Rattle.std.specs.Char.{to_ascii_lowercase}
 use Rattle.std.specs.Int.{IsInRange}
 use Rattle.std.specs.Str.Parse.{AllDigits, starts_with_minus}
@@ -13,8 +13,8 @@ use Rattle.jsonb_spec.specs.Grammar.StandardNumber.{IsSign}
 use Rattle.jsonb_spec.specs.Grammar.ExtendedNumber.{IsDecimalNumber, IsDecimalText, IsHexadecimalNumber, IsExtendedNumber}
 use Rattle.jsonb_spec.specs.Tree.{Num}
 use Rattle.text_scan.specs.Parsing.{Fault}
-use Rattle.text_scan.specs.Parsing.Number.{End, sign_end}
-use Rattle.text_scan.specs.Parsing.ExtendedNumber.{Scanned, core_start, core_byte, front_end, point_end, behind_end, decimal_end, decimal_at, decimal_to, decimal_scan, hexadecimal_scan, word_scan, is_word_start, hexadecimal_starts, is_hexadecimal_start, extended_scan, extended_number_at, is_extended_start, EndsExtended}
+use Rattle.text_scan.specs.Parsing.Number.{End}
+use Rattle.text_scan.specs.Parsing.ExtendedNumber.{Scanned, core_start, core_byte, front_end, point_end, behind_end, decimal_end, decimal_at, decimal_to, decimal_scan, is_word_start, is_hexadecimal_start, extended_scan, extended_number_at, is_extended_start, EndsExtended, scan_by_kind}
 use Rattle.text_scan.proofs.Numbers.Steps.{is_digit}
 use Rattle.text_scan.proofs.Numbers.Scan.{exponent_fault_is}
 use Rattle.text_scan.proofs.Numbers.DecimalScan.{DecimalCase, no_digit, second, further, decimal_case, no_digits, second_point, core_within, core_digits, point_here, point_ordered}
@@ -110,34 +110,9 @@ hexadecimal_front bytes zero_byte letter =
       is_mark = letter;
     }
 
--- which of the three is parsed
-pub scan_word : (bytes : List ℕ) → is_word_start (core_byte bytes) ≡ true → extended_scan bytes ≡ word_scan (core_start bytes) (starts_with_minus bytes) (drop (core_start bytes) bytes)
-unfolding extended_scan
-scan_word bytes word = cond-true (is_word_start (core_byte bytes)) _ _ word
-
-pub scan_hexadecimal : (bytes : List ℕ) → is_word_start (core_byte bytes) ≡ false → is_hexadecimal_start bytes ≡ true → extended_scan bytes ≡ hexadecimal_scan (core_start bytes + 2) (starts_with_minus bytes) (drop (core_start bytes + 2) bytes)
-unfolding extended_scan
-scan_hexadecimal bytes no_word hexadecimal = cond-false (is_word_start (core_byte bytes)) _ _ no_word ∙ cond-true (is_hexadecimal_start bytes) _ _ hexadecimal
-
-pub scan_decimal : (bytes : List ℕ) → is_word_start (core_byte bytes) ≡ false → is_hexadecimal_start bytes ≡ false → extended_scan bytes ≡ decimal_scan bytes
-unfolding extended_scan
-scan_decimal bytes no_word none = cond-false (is_word_start (core_byte bytes)) _ _ no_word ∙ cond-false (is_hexadecimal_start bytes) _ _ none
-
--- what a parser finds of each, at the byte after the sign
-pub found_word : (bytes tail : List ℕ) (start minus first : ℕ) (s : Scanned) → start ≡ sign_end bytes 0 → minus ≡ slice_index bytes 0 → first ≡ slice_index bytes start → is_word_start first ≡ true → tail ≡ drop start bytes → s ≡ word_scan start (minus == 45) tail → s ≡ extended_scan bytes
-found_word bytes tail start minus first s at sign byte word rest is =
-    let tested : is_word_start (core_byte bytes) ≡ true = sym (ap is_word_start (byte ∙ ap (slice_index bytes) at)) ∙ word in
-    is ∙ (ap (word_scan start (minus == 45)) rest ∙ (ap (λ b. word_scan start (b == 45) (drop start bytes)) sign ∙ (ap (λ i. word_scan i (starts_with_minus bytes) (drop i bytes)) at ∙ sym (scan_word bytes tested))))
-
-pub found_hexadecimal : (bytes tail : List ℕ) (start minus first : ℕ) (s : Scanned) → start ≡ sign_end bytes 0 → minus ≡ slice_index bytes 0 → first ≡ slice_index bytes start → is_word_start first ≡ false → hexadecimal_starts bytes start ≡ true → tail ≡ drop (start + 2) bytes → s ≡ hexadecimal_scan (start + 2) (minus == 45) tail → s ≡ extended_scan bytes
-found_hexadecimal bytes tail start minus first s at sign byte no_word starts rest is =
-    let tested : is_word_start (core_byte bytes) ≡ false = sym (ap is_word_start (byte ∙ ap (slice_index bytes) at)) ∙ no_word in
-    let begun : is_hexadecimal_start bytes ≡ true = sym (ap (hexadecimal_starts bytes) at) ∙ starts in
-    is ∙ (ap (hexadecimal_scan (start + 2) (minus == 45)) rest ∙ (ap (λ b. hexadecimal_scan (start + 2) (b == 45) (drop (start + 2) bytes)) sign ∙ (ap (λ i. hexadecimal_scan (i + 2) (starts_with_minus bytes) (drop (i + 2) bytes)) at ∙ sym (scan_hexadecimal bytes tested begun))))
-
-pub found_decimal : (bytes : List ℕ) (start first : ℕ) (s : Scanned) → start ≡ sign_end bytes 0 → first ≡ slice_index bytes start → is_word_start first ≡ false → hexadecimal_starts bytes start ≡ false → s ≡ decimal_scan bytes → s ≡ extended_scan bytes
-found_decimal bytes start first s at byte no_word none is =
-    is ∙ sym (scan_decimal bytes (sym (ap is_word_start (byte ∙ ap (slice_index bytes) at)) ∙ no_word) (sym (ap (hexadecimal_starts bytes) at) ∙ none))
+-- neither a word nor a hexadecimal
+pub decimal_by_kind : (bytes : List ℕ) (decimal : Scanned) → is_word_start (core_byte bytes) ≡ false → is_hexadecimal_start bytes ≡ false → scan_by_kind bytes decimal ≡ decimal
+decimal_by_kind bytes decimal no_word none = cond-false (is_word_start (core_byte bytes)) _ _ no_word ∙ cond-false (is_hexadecimal_start bytes) _ _ none
 
 -- before a word no decimal ends
 no_decimal_there : (bytes : List ℕ) (end : ℕ) → IsWordStart (core_byte bytes) → end ≤ length bytes → ¬ IsDecimalText (take end bytes)
@@ -160,12 +135,6 @@ only_word bytes (Ok (None, end)) letter t = record {
 }
 only_word bytes (Err f) letter t = t
 
--- a word, a hexadecimal, or else what is scanned as a decimal
-abbrev by_kind : List ℕ → Scanned → Scanned
-by_kind bytes decimal =
-    if is_word_start (core_byte bytes) then word_scan (core_start bytes) (starts_with_minus bytes) (drop (core_start bytes) bytes)
-    else (if is_hexadecimal_start bytes then hexadecimal_scan (core_start bytes + 2) (starts_with_minus bytes) (drop (core_start bytes + 2) bytes) else decimal)
-
 module _ (Decimal : List ℕ → Num → Type 0) (is_text : (core : List ℕ) (n : Num) → Decimal core n → IsDecimalText core) (bytes : List ℕ) where
   finds_other : (r : Scanned) → ScansOther bytes r → FindsNumber lenient (IsLenientNumber Decimal) bytes r
   finds_other (Ok (Some n, end)) t = record { within = t.within; text = inr t.text; longest = t.longest }
@@ -178,7 +147,7 @@ module _ (Decimal : List ℕ → Num → Type 0) (is_text : (core : List ℕ) (n
       let u : (to_ascii_lowercase (slice_index bytes (core_start bytes + 1)) == 120) ≡ true = grind (arith, nat_tests) in
       let never : true ≡ false = rw (t, u) at none in false≢true (sym never)
 
-  pub finds_by_kind : (decimal : Scanned) → (IsDecimalHere bytes → FindsNumber lenient (IsLenientNumber Decimal) bytes decimal) → FindsNumber lenient (IsLenientNumber Decimal) bytes (by_kind bytes decimal)
+  pub finds_by_kind : (decimal : Scanned) → (IsDecimalHere bytes → FindsNumber lenient (IsLenientNumber Decimal) bytes decimal) → FindsNumber lenient (IsLenientNumber Decimal) bytes (scan_by_kind bytes decimal)
   finds_by_kind decimal finds =
       ⊎_elim
       (λ word.

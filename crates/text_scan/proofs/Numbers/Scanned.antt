@@ -14,7 +14,7 @@ use Rattle.jsonb_spec.specs.Number.Signed.{signed_by}
 use Rattle.jsonb_spec.specs.Tree.{Num}
 use Rattle.text_scan.specs.Parsing.{fault}
 use Rattle.text_scan.specs.Parsing.Number.{End, digits_from, exponent_from, sign_end}
-use Rattle.text_scan.specs.Parsing.ExtendedNumber.{zeros_from, core_start, zeros_end, front_end, point_end, behind_end, scale_at, precision_at, lacks_digits, has_second_point, decimal_end, all_digits, decimal_at, scanned_to, extended_scan, extended_number_at}
+use Rattle.text_scan.specs.Parsing.ExtendedNumber.{Scanned, zeros_from, core_start, zeros_end, front_end, point_end, behind_end, scale_at, precision_at, lacks_digits, has_second_point, decimal_end, all_digits, decimal_at, scanned_to, extended_scan, extended_number_at}
 use Rattle.text_scan.specs.ScannedNumber.{AreEnds}
 use Rattle.text_scan.specs.declared.parser.extended_number.decimal.DecimalEnds.{DecimalEnds}
 use Rattle.text_scan.proofs.Numbers.DecimalScan.{core_digits, counted_digits, point_here, point_ordered}
@@ -23,24 +23,35 @@ use Rattle.text_scan.proofs.Numbers.DigitValues.{value_after-append}
 use Rattle.text_scan.proofs.Numbers.Steps.{differs}
 use Rattle.text_scan.proofs.Numbers.ScanText.{run_digits}
 
--- ---- a parser at an index of its input
+-- ---- a parser at an index of its input, by any scan
+
+pub number_by : (scan : List ℕ → Scanned) (idx end : ℕ) (buf bs : List ℕ) (n : Num) → bs ≡ drop idx buf → scan bs ≡ Ok (Some n, end) → scanned_to (length buf) (drop idx buf) (scan (drop idx buf)) ≡ Ok (n, drop (idx + end) buf)
+number_by scan idx end buf bs n same found =
+    ap (λ xs. scanned_to (length buf) xs (scan xs)) (sym same) ∙ (ap (scanned_to (length buf) bs) found ∙ ap (λ xs. Ok (n, xs)) (ap (drop end) same ∙ drop-drop end idx buf))
+
+pub missing_by : (scan : List ℕ → Scanned) (idx end : ℕ) (buf bs : List ℕ) → idx ≤ length buf → bs ≡ drop idx buf → end ≤ length bs → scan bs ≡ Ok (None, end) → scanned_to (length buf) (drop idx buf) (scan (drop idx buf)) ≡ Err (record { code = number_not_carried; offset = idx + end })
+missing_by scan idx end buf bs inside same within found =
+    let there : length buf - length (drop end bs) ≡ idx + end = omega (arith, length-drop end bs, length-drop idx buf, ap length same, within, inside) in
+    ap (λ xs. scanned_to (length buf) xs (scan xs)) (sym same) ∙ (ap (scanned_to (length buf) bs) found ∙ ap (λ p. fault number_not_carried p) there)
+
+pub fault_by : (scan : List ℕ → Scanned) (idx offset : ℕ) (code : Code) (buf bs : List ℕ) → idx ≤ length buf → bs ≡ drop idx buf → scan bs ≡ Err (code, offset) → scanned_to (length buf) (drop idx buf) (scan (drop idx buf)) ≡ Err (record { code = code; offset = idx + offset })
+fault_by scan idx offset code buf bs inside same found =
+    let there : length buf - length bs + offset ≡ idx + offset = omega (arith, length-drop idx buf, ap length same, inside) in
+    ap (λ xs. scanned_to (length buf) xs (scan xs)) (sym same) ∙ (ap (scanned_to (length buf) bs) found ∙ ap (λ p. fault code p) there)
+
+-- ---- by the scan of an extended number
 
 pub scanned_number : (idx end : ℕ) (buf bs : List ℕ) (n : Num) → bs ≡ drop idx buf → extended_scan bs ≡ Ok (Some n, end) → extended_number_at (length buf) (drop idx buf) ≡ Ok (n, drop (idx + end) buf)
 unfolding extended_number_at
-scanned_number idx end buf bs n same found =
-    ap (λ xs. scanned_to (length buf) xs (extended_scan xs)) (sym same) ∙ (ap (scanned_to (length buf) bs) found ∙ ap (λ xs. Ok (n, xs)) (ap (drop end) same ∙ drop-drop end idx buf))
+scanned_number idx end buf bs n same found = number_by extended_scan idx end buf bs n same found
 
 pub scanned_missing : (idx end : ℕ) (buf bs : List ℕ) → idx ≤ length buf → bs ≡ drop idx buf → end ≤ length bs → extended_scan bs ≡ Ok (None, end) → extended_number_at (length buf) (drop idx buf) ≡ Err (record { code = number_not_carried; offset = idx + end })
 unfolding extended_number_at
-scanned_missing idx end buf bs inside same within found =
-    let there : length buf - length (drop end bs) ≡ idx + end = omega (arith, length-drop end bs, length-drop idx buf, ap length same, within, inside) in
-    ap (λ xs. scanned_to (length buf) xs (extended_scan xs)) (sym same) ∙ (ap (scanned_to (length buf) bs) found ∙ ap (λ p. fault number_not_carried p) there)
+scanned_missing idx end buf bs inside same within found = missing_by extended_scan idx end buf bs inside same within found
 
 pub scanned_fault : (idx offset : ℕ) (code : Code) (buf bs : List ℕ) → idx ≤ length buf → bs ≡ drop idx buf → extended_scan bs ≡ Err (code, offset) → extended_number_at (length buf) (drop idx buf) ≡ Err (record { code = code; offset = idx + offset })
 unfolding extended_number_at
-scanned_fault idx offset code buf bs inside same found =
-    let there : length buf - length bs + offset ≡ idx + offset = omega (arith, length-drop idx buf, ap length same, inside) in
-    ap (λ xs. scanned_to (length buf) xs (extended_scan xs)) (sym same) ∙ (ap (scanned_to (length buf) bs) found ∙ ap (λ p. fault code p) there)
+scanned_fault idx offset code buf bs inside same found = fault_by extended_scan idx offset code buf bs inside same found
 
 -- ---- where the parts of a decimal end
 

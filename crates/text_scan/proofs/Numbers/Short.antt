@@ -17,7 +17,7 @@ use Rattle.text_scan.specs.Parsing.ExtendedNumber.{FollowsDigits, core_start, co
 use Rattle.text_scan.proofs.Numbers.DecimalScan.{HasDigits, core_zeros, core_digits, counted_digits, point_here, point_ordered, digits_tested}
 use Rattle.text_scan.proofs.Numbers.DecimalScanText.{behind_digits, digits_value_same}
 use Rattle.text_scan.proofs.Numbers.DigitValues.{value_after-append, value_after_lt}
-use Rattle.text_scan.proofs.Numbers.Extended.{is_letter, scan_decimal}
+use Rattle.text_scan.proofs.Numbers.Extended.{is_letter, decimal_by_kind}
 use Rattle.text_scan.proofs.Numbers.ExtendedTexts.{letter_is, mark_is}
 use Rattle.text_scan.proofs.Numbers.Steps.{differs, no_exponent, is_not_below}
 use Rattle.text_scan.proofs.Numbers.ScanText.{range_none, run_digits}
@@ -38,10 +38,10 @@ value_small bytes =
 -- ---- neither a word nor a hexadecimal
 
 -- the byte after the digits goes on with no hexadecimal, and where no digit is there it is a point
-record NoMark (bytes : List ℕ) : Type 0 where
-  small : slice_index bytes (front_end bytes) ≢ 120
-  great : slice_index bytes (front_end bytes) ≢ 88
-  some : (core_start bytes < front_end bytes) ⊎ (slice_index bytes (front_end bytes) ≡ 46)
+pub record NoMark (bytes : List ℕ) : Type 0 where
+  pub small : slice_index bytes (front_end bytes) ≢ 120
+  pub great : slice_index bytes (front_end bytes) ≢ 88
+  pub some : (core_start bytes < front_end bytes) ⊎ (slice_index bytes (front_end bytes) ≡ 46)
 
 core_is : (bytes : List ℕ) → NoMark bytes → core_byte bytes ≤ 57
 core_is bytes m =
@@ -49,10 +49,10 @@ core_is bytes m =
     (λ none. let here : core_start bytes ≡ front_end bytes = omega (arith, none, (core_digits bytes).ordered) in
     ⊎_elim (λ digit. absurd (omega (arith, digit, none))) (λ point. omega (arith, ap (slice_index bytes) here, point)) m.some) (cases_lt (core_start bytes) (front_end bytes))
 
-no_word : (bytes : List ℕ) → NoMark bytes → is_word_start (core_byte bytes) ≡ false
+pub no_word : (bytes : List ℕ) → NoMark bytes → is_word_start (core_byte bytes) ≡ false
 no_word bytes m = ⊎_elim (λ word. absurd (omega (arith, letter_is (core_byte bytes) (is_letter (core_byte bytes) word), core_is bytes m))) (λ none. none) (cases_Bool (is_word_start (core_byte bytes)))
 
-no_hexadecimal : (bytes : List ℕ) → NoMark bytes → is_hexadecimal_start bytes ≡ false
+pub no_hexadecimal : (bytes : List ℕ) → NoMark bytes → is_hexadecimal_start bytes ≡ false
 no_hexadecimal bytes m = ⊎_elim (λ starts. absurd (never starts)) (λ none. none) (cases_Bool (is_hexadecimal_start bytes))
   where
     run : IsInRange 48 57 (slice_index bytes (core_start bytes + 1)) ⊎ (core_start bytes + 1 ≡ front_end bytes) ⊎ (front_end bytes ≡ core_start bytes)
@@ -95,9 +95,9 @@ plain_at bytes p =
     rw (here, small) refl
 
 plain_decimal : (bytes : List ℕ) → IsPlain bytes → extended_scan bytes ≡ Ok (Some (decimal_number (scale_at bytes) (precision_at bytes) (signed_by (starts_with_minus bytes) (digits_value 10 (all_digits bytes)))), behind_end bytes)
-unfolding decimal_scan
+unfolding extended_scan decimal_scan
 plain_decimal bytes p =
-    scan_decimal bytes (no_word bytes p.no_mark) (no_hexadecimal bytes p.no_mark) ∙ (ap (decimal_to bytes) (plain_end bytes p) ∙ ap (λ o. Ok (o, behind_end bytes)) (plain_at bytes p))
+    decimal_by_kind bytes (decimal_scan bytes) (no_word bytes p.no_mark) (no_hexadecimal bytes p.no_mark) ∙ (ap (decimal_to bytes) (plain_end bytes p) ∙ ap (λ o. Ok (o, behind_end bytes)) (plain_at bytes p))
 
 -- ---- the digits that a parser found
 
@@ -116,12 +116,12 @@ front_read bytes ds start len value at same long is =
       value_is = is ∙ ap (λ xs. digits_value_after 10 0 (take (digits_length xs) xs)) there ∙ ap (λ n. digits_value_after 10 0 (take n (drop (core_start bytes) bytes))) count;
     }
 
-found_end : (bytes : List ℕ) (start len value : ℕ) → FrontRead bytes start len value → start + len ≡ front_end bytes
+pub found_end : (bytes : List ℕ) (start len value : ℕ) → FrontRead bytes start len value → start + len ≡ front_end bytes
 found_end bytes start len value f = omega (arith, f.start_is, f.len_is)
 
 -- ---- without a point
 
-no_point_ends : (bytes : List ℕ) → slice_index bytes (front_end bytes) ≢ 46 → (point_end bytes ≡ front_end bytes) × (behind_end bytes ≡ front_end bytes)
+pub no_point_ends : (bytes : List ℕ) → slice_index bytes (front_end bytes) ≢ 46 → (point_end bytes ≡ front_end bytes) × (behind_end bytes ≡ front_end bytes)
 no_point_ends bytes other = (cond-false (slice_index bytes (front_end bytes) == 46) _ _ (differs (slice_index bytes (front_end bytes)) 46 other), cond-false (slice_index bytes (front_end bytes) == 46) _ _ (differs (slice_index bytes (front_end bytes)) 46 other))
 
 pub short_whole : (bytes : List ℕ) (start len value next minus : ℕ) (n : Num) → FrontRead bytes start len value → (len ≡ 0 → ⊥) → len ≤ 19 → next ≡ slice_index bytes (start + len) → (next ≡ 46 → ⊥) → ¬ FollowsDigits next → minus ≡ slice_index bytes 0 →
@@ -155,7 +155,7 @@ whole_within bytes start len value f = omega (arith, found_end bytes start len v
 
 -- ---- with a point
 
-point_ends : (bytes : List ℕ) → slice_index bytes (front_end bytes) ≡ 46 → (point_end bytes ≡ front_end bytes + 1) × (behind_end bytes ≡ digits_from bytes (front_end bytes + 1))
+pub point_ends : (bytes : List ℕ) → slice_index bytes (front_end bytes) ≡ 46 → (point_end bytes ≡ front_end bytes + 1) × (behind_end bytes ≡ digits_from bytes (front_end bytes + 1))
 point_ends bytes point =
     let tested : (slice_index bytes (front_end bytes) == 46) ≡ true = grind (arith, nat_tests) in
     (cond-true (slice_index bytes (front_end bytes) == 46) _ _ tested, cond-true (slice_index bytes (front_end bytes) == 46) _ _ tested)

@@ -89,17 +89,17 @@ all_digits (b ∷ bs) =
 abbrev pub IsWholeAt : List ℕ → ℕ → Type 0
 IsWholeAt bs start = (0 < digits_length (drop start bs)) × ((slice_index bs start ≢ 48) ⊎ (digits_length (drop start bs) ≤ 1))
 
-missing_at : (bs : List ℕ) (start : ℕ) → digits_length (drop start bs) ≡ 0 → whole_from bs start ≡ Err start
+pub missing_at : (bs : List ℕ) (start : ℕ) → digits_length (drop start bs) ≡ 0 → whole_from bs start ≡ Err start
 unfolding whole_from
 missing_at bs start none = rw (is_zero (digits_length (drop start bs)) none) refl
 
-needless_at : (bs : List ℕ) (start : ℕ) → 1 < digits_length (drop start bs) → slice_index bs start ≡ 48 → whole_from bs start ≡ Err (start + 2)
+pub needless_at : (bs : List ℕ) (start : ℕ) → 1 < digits_length (drop start bs) → slice_index bs start ≡ 48 → whole_from bs start ≡ Err (start + 2)
 unfolding whole_from
 needless_at bs start more zero_byte =
     let many : nat_lt 1 (digits_length (drop start bs)) ≡ true = grind (arith, nat_tests) in
     rw (is_some (digits_length (drop start bs)) (omega (arith, more)), zero_byte, many) refl
 
-found_at : (bs : List ℕ) (start : ℕ) → IsWholeAt bs start → whole_from bs start ≡ Ok (digits_from bs start)
+pub found_at : (bs : List ℕ) (start : ℕ) → IsWholeAt bs start → whole_from bs start ≡ Ok (digits_from bs start)
 unfolding whole_from
 found_at bs start (some, inl other) = rw (is_some (digits_length (drop start bs)) some, differs (slice_index bs start) 48 other) refl
 found_at bs start (some, inr single) =

@@ -26,12 +26,12 @@ use Rattle.text_scan.proofs.Strings.Ends.{quote_end-step, further-zero, further-
 
 -- ---- bytes without a backslash
 
-meaning-raws : (bytes : List ℕ) → meaning (map raw bytes) ≡ bytes
+pub meaning-raws : (bytes : List ℕ) → meaning (map raw bytes) ≡ bytes
 unfolding meaning
 meaning-raws [] = refl
 meaning-raws (byte ∷ bytes) = ap (λ rest. byte ∷ rest) (meaning-raws bytes)
 
-mark_of-raws : (bytes : List ℕ) → mark_of (map raw bytes) ≡ plain
+pub mark_of-raws : (bytes : List ℕ) → mark_of (map raw bytes) ≡ plain
 mark_of-raws [] = refl
 mark_of-raws (byte ∷ bytes) = mark_of-raws bytes
 

@@ -13,33 +13,39 @@ within byte some [] k e = absurd (omega (arith, some, e))
 within byte some (b ∷ bytes) zero e = omega arith
 within byte some (b ∷ bytes) (suc k) e = let below = within byte some bytes k e in omega (arith, below)
 
-set_reports : (b byte : ℕ) (t : Bool) → eqb b byte ≡ t → (cond {A = ℕ} t 1 0 ≡ 1) ↔ (b ≡ byte)
-set_reports b byte true e = (λ h. eqb-true b byte e, λ h. refl)
-set_reports b byte false e = (λ h. absurd (omega (arith, h)), λ h. absurd (true≢false (sym (eq-eqb b byte h) ∙ e)))
-
--- what a bit of the mask of a row of bytes says
-pub reported : (byte at size : ℕ) (bytes : List ℕ) (m : ℕ) → at + size ≤ length bytes → m ≡ mask_l (map (λ b. eqb b byte) (chunk at size bytes)) → (k : ℕ) → (bit_at m k ≡ 1) ↔ ((k < size) × (get_or bytes (at + k) 0 ≡ byte))
-reported byte at size bytes m long is k = ⊎_elim inside past (cases_lt k size)
+-- what a bit of the mask of a row of bytes says, where it tells which of them pass a test
+pub told : (t : ℕ → Bool) (at size : ℕ) (bytes : List ℕ) (m : ℕ) → at + size ≤ length bytes → m ≡ mask_l (map t (chunk at size bytes)) → (k : ℕ) → (bit_at m k ≡ 1) ↔ ((k < size) × (t (get_or bytes (at + k) 0) ≡ true))
+told t at size bytes m long is k = ⊎_elim inside past (cases_lt k size)
   where
     bits : List Bool
-    bits = map (λ b. eqb b byte) (chunk at size bytes)
+    bits = map t (chunk at size bytes)
 
     bit : bit_at m k ≡ cond (get_or bits k false) 1 0
     bit = ap (λ n. bit_at n k) is ∙ bit_mask_l bits k
 
-    inside : k < size → (bit_at m k ≡ 1) ↔ ((k < size) × (get_or bytes (at + k) 0 ≡ byte))
-    inside low =
-        let here : get_or bits k false ≡ eqb (get_or bytes (at + k) 0) byte =
-        get_or-map (λ b. eqb b byte) (chunk at size bytes) k 0 false (omega (arith, low, length-chunk at size bytes long)) ∙ ap (λ b. eqb b byte) (get_or-chunk at size bytes k 0 low) in
-        let set = bit ∙ ap (λ (t : Bool). cond {A = ℕ} t 1 0) here in
-        let reports = set_reports (get_or bytes (at + k) 0) byte _ refl in
-        (λ h. (low, reports.0 (sym set ∙ h)), λ both. set ∙ reports.1 both.1)
+    set_tells : (b : Bool) → (cond {A = ℕ} b 1 0 ≡ 1) ↔ (b ≡ true)
+    set_tells true = (λ h. refl, λ h. refl)
+    set_tells false = (λ h. absurd (omega (arith, h)), λ h. absurd (true≢false (sym h)))
 
-    past : size ≤ k → (bit_at m k ≡ 1) ↔ ((k < size) × (get_or bytes (at + k) 0 ≡ byte))
+    inside : k < size → (bit_at m k ≡ 1) ↔ ((k < size) × (t (get_or bytes (at + k) 0) ≡ true))
+    inside low =
+        let here : get_or bits k false ≡ t (get_or bytes (at + k) 0) =
+        get_or-map t (chunk at size bytes) k 0 false (omega (arith, low, length-chunk at size bytes long)) ∙ ap t (get_or-chunk at size bytes k 0 low) in
+        let set = bit ∙ ap (λ (b : Bool). cond {A = ℕ} b 1 0) here in
+        let tells = set_tells (t (get_or bytes (at + k) 0)) in
+        (λ h. (low, tells.0 (sym set ∙ h)), λ both. set ∙ tells.1 both.1)
+
+    past : size ≤ k → (bit_at m k ≡ 1) ↔ ((k < size) × (t (get_or bytes (at + k) 0) ≡ true))
     past high =
-        let none : get_or bits k false ≡ false = get_or_past bits k false (omega (arith, high, length-map (chunk at size bytes) (λ b. eqb b byte), length-chunk at size bytes long)) in
-        let zero = bit ∙ ap (λ (t : Bool). cond {A = ℕ} t 1 0) none in
+        let none : get_or bits k false ≡ false = get_or_past bits k false (omega (arith, high, length-map (chunk at size bytes) t, length-chunk at size bytes long)) in
+        let zero = bit ∙ ap (λ (b : Bool). cond {A = ℕ} b 1 0) none in
         (λ h. absurd (omega (arith, h, zero)), λ both. absurd (omega (arith, high, both.0)))
+
+-- the same where they are this byte
+pub reported : (byte at size : ℕ) (bytes : List ℕ) (m : ℕ) → at + size ≤ length bytes → m ≡ mask_l (map (λ b. eqb b byte) (chunk at size bytes)) → (k : ℕ) → (bit_at m k ≡ 1) ↔ ((k < size) × (get_or bytes (at + k) 0 ≡ byte))
+reported byte at size bytes m long is k =
+    let tells = told (λ b. eqb b byte) at size bytes m long is k in
+    (λ h. let t = tells.0 h in (t.0, eqb-true (get_or bytes (at + k) 0) byte t.1), λ both. tells.1 (both.0, eq-eqb (get_or bytes (at + k) 0) byte both.1))
 
 -- bits of which only the first 16 may be set are not all that a number has
 pub not_all : (m : ℕ) → m < 2 ^ 64 → ((k : ℕ) → bit_at m k ≡ 1 → k < 16) → m + 1 < 2 ^ 64

@@ -49,11 +49,11 @@ digits_from_none (b ∷ bytes) e =
 -- ---- what follows `\u`, of four bytes or more
 
 -- where a brace opens
-abbrev braced_unit : List ℕ → Body Item
+abbrev pub braced_unit : List ℕ → Body Item
 braced_unit bytes = cond (eqb (get_or bytes 5 0) 125) (unit_of true (take 4 (drop 1 bytes))) (Err (unexpected_end_of_hex_escape, 2))
 
 -- with a brace or without
-abbrev long_unit : Mode → List ℕ → Body Item
+abbrev pub long_unit : Mode → List ℕ → Body Item
 long_unit mode bytes = cond (goes_beyond_json mode && eqb (get_or bytes 0 0) 123) (braced_unit bytes) (unit_of false (take 4 bytes))
 
 long-braced : (mode : Mode) (bytes : List ℕ) → GoesBeyondJson mode → get_or bytes 0 0 ≡ 123 → long_unit mode bytes ≡ braced_unit bytes
@@ -61,7 +61,7 @@ long-braced mode bytes beyond first =
     cond-true (goes_beyond_json mode && eqb (get_or bytes 0 0) 123) (braced_unit bytes) (unit_of false (take 4 bytes))
     (ap (λ (t : Bool). t && eqb (get_or bytes 0 0) 123) (beyond-true mode beyond) ∙ eq-eqb (get_or bytes 0 0) 123 first)
 
-long-bare : (mode : Mode) (bytes : List ℕ) → (GoesBeyondJson mode → get_or bytes 0 0 ≢ 123) → long_unit mode bytes ≡ unit_of false (take 4 bytes)
+pub long-bare : (mode : Mode) (bytes : List ℕ) → (GoesBeyondJson mode → get_or bytes 0 0 ≢ 123) → long_unit mode bytes ≡ unit_of false (take 4 bytes)
 long-bare mode bytes other = cond-false (goes_beyond_json mode && eqb (get_or bytes 0 0) 123) (braced_unit bytes) (unit_of false (take 4 bytes)) (none (goes_beyond_json mode) refl)
   where
     none : (t : Bool) → goes_beyond_json mode ≡ t → (t && eqb (get_or bytes 0 0) 123) ≡ false
@@ -191,15 +191,15 @@ unit-either mode false bytes digits rest may split four other = unit-bare mode b
 bare_digits : (braces : Bool) (digits : List ℕ) → length digits ≡ 4 → All IsHexDigit digits → braces ≡ false → get_or digits 0 0 ≢ 123
 bare_digits braces digits four each e = λ first. first_no_brace digits [] four each (ap (λ xs. get_or xs 0 0) (append-nil digits) ∙ first)
 
-escape-letter : (mode : Mode) (letter : ℕ) (bytes : List ℕ) → letter ≢ 117 → escape_at mode (letter ∷ bytes) ≡ known_escape letter (escaped_byte (strictness mode) letter)
+pub escape-letter : (mode : Mode) (letter : ℕ) (bytes : List ℕ) → letter ≢ 117 → escape_at mode (letter ∷ bytes) ≡ known_escape letter (escaped_byte (strictness mode) letter)
 unfolding escape_at
 escape-letter mode letter bytes other = cond-false (eqb letter 117) (unit_at mode bytes) (known_escape letter (escaped_byte (strictness mode) letter)) (ne_eqb letter 117 other)
 
-escape-u : (mode : Mode) (bytes : List ℕ) → escape_at mode (117 ∷ bytes) ≡ unit_at mode bytes
+pub escape-u : (mode : Mode) (bytes : List ℕ) → escape_at mode (117 ∷ bytes) ≡ unit_at mode bytes
 unfolding escape_at
 escape-u mode bytes = refl
 
-item-backslash : (mode : Mode) (bytes : List ℕ) → item_at mode 92 bytes ≡ escape_at mode bytes
+pub item-backslash : (mode : Mode) (bytes : List ℕ) → item_at mode 92 bytes ≡ escape_at mode bytes
 unfolding item_at
 item-backslash mode bytes = refl
 
@@ -207,7 +207,7 @@ item-other : (mode : Mode) (byte : ℕ) (bytes : List ℕ) → byte ≢ 92 → i
 unfolding item_at
 item-other mode byte bytes other = cond-false (eqb byte 92) (escape_at mode bytes) (raw_at mode byte) (ne_eqb byte 92 other)
 
-item-raw : (mode : Mode) (byte : ℕ) (bytes : List ℕ) → byte ≢ 92 → MayBeRaw mode byte → item_at mode byte bytes ≡ Ok (raw byte)
+pub item-raw : (mode : Mode) (byte : ℕ) (bytes : List ℕ) → byte ≢ 92 → MayBeRaw mode byte → item_at mode byte bytes ≡ Ok (raw byte)
 item-raw mode byte bytes other may =
     item-other mode byte bytes other ∙ cond-true (may_be_raw mode byte) (Ok (raw byte)) (Err (control_character_while_parsing_string, 1)) (raw-true mode byte may)
 
@@ -269,6 +269,14 @@ item-bad mode bytes code read (bad_unit rest steps is bad is_read) =
 item-bad mode bytes code read (control_character byte rest is forbids is_code is_read) =
     ap (first_item mode) is ∙ item-control mode byte rest forbids ∙ ap (λ (c : Code). Err (c, 1)) (sym is_code) ∙ ap (λ (n : ℕ). Err (code, n)) (sym is_read)
 
+pub item_parsed : (mode : Mode) (x : Item) (byte : ℕ) (bytes more : List ℕ) → byte ∷ bytes ≡ encoding x ++ more → IsItem mode x → item_at mode byte bytes ≡ Ok x
+unfolding first_item
+item_parsed mode x byte bytes more split is = ap (first_item mode) split ∙ item_complete mode x more is
+
+pub item_faulty : (mode : Mode) (byte : ℕ) (bytes : List ℕ) (code : Code) (read : ℕ) → BadItem mode (byte ∷ bytes) code read → item_at mode byte bytes ≡ Err (code, read)
+unfolding first_item
+item_faulty mode byte bytes code read bad = item-bad mode (byte ∷ bytes) code read bad
+
 -- ---- all items
 
 ok_or_else : {X : Type 0} → X → Body X → X
@@ -292,7 +300,7 @@ length-encoding (raw byte) = omega arith
 length-encoding (escape letter byte) = omega arith
 length-encoding (unit braces digits) = omega arith
 
-items-step : (n : ℕ) (mode : Mode) (x : Item) (more : List ℕ) → IsItem mode x → items_within (suc n) mode (encoding x ++ more) ≡ onto x (items_within n mode more)
+pub items-step : (n : ℕ) (mode : Mode) (x : Item) (more : List ℕ) → IsItem mode x → items_within (suc n) mode (encoding x ++ more) ≡ onto x (items_within n mode more)
 items-step n mode x more is =
     items-first n mode (encoding x ++ more) (encoding_not_empty x more)
     ∙ ap (λ (r : Body Item). then_items r (λ item. items_within n mode (drop (length (encoding item)) (encoding x ++ more)))) (item_complete mode x more is)

@@ -1,5 +1,5 @@
 -- Numbers at their exact value. Their texts end where those of the two modes do.
-use Rattle.std.specs.Prelude.{ℕ, ◌+◌, ◌^◌, ◌==◌, ◌&&◌, List, drop, nat_lt, nat_le, slice_index, slice_range, if◌then◌else◌, unsigned_abs, Option, Some, None, Ok, Err}
+use Rattle.std.specs.Prelude.{ℕ, ◌+◌, ◌^◌, ◌==◌, ◌&&◌, List, nat_lt, nat_le, slice_index, slice_range, if◌then◌else◌, unsigned_abs, Option, Some, None, Ok, Err}
 use Rattle.std.specs.Str.Parse.{digits_value, starts_with_minus}
 use Rattle.jsonb_spec.specs.Ascii as ascii
 use Rattle.jsonb_spec.specs.Code.{invalid_number_value}
@@ -7,7 +7,7 @@ use Rattle.jsonb_spec.specs.Grammar.ExactNumber.{moved_number}
 use Rattle.jsonb_spec.specs.Tree.{Num}
 use Rattle.text_scan.specs.Parsing.{Parse}
 use Rattle.text_scan.specs.Parsing.Number.{End, sign_end, standard_end}
-use Rattle.text_scan.specs.Parsing.ExtendedNumber.{Scanned, scanned_to, core_start, core_byte, scale_at, behind_end, all_digits, decimal_end, is_word_start, is_hexadecimal_start, word_scan, hexadecimal_scan}
+use Rattle.text_scan.specs.Parsing.ExtendedNumber.{Scanned, scanned_to, scale_at, behind_end, all_digits, decimal_end, scan_by_kind}
 
 -- the value of the digits of an exponent between these indices
 abbrev pub exponent_value : List ℕ → ℕ → ℕ → ℕ
@@ -49,12 +49,7 @@ json_number_at size bytes = scanned_to size bytes (exact_to bytes (standard_end 
 
 -- the longest number text of extended JSON that the bytes begin with
 unfoldable pub extended_json_scan : List ℕ → Scanned
-extended_json_scan bytes =
-    if is_word_start (core_byte bytes)
-    then word_scan (core_start bytes) (starts_with_minus bytes) (drop (core_start bytes) bytes)
-    else (if is_hexadecimal_start bytes
-    then hexadecimal_scan (core_start bytes + 2) (starts_with_minus bytes) (drop (core_start bytes + 2) bytes)
-    else exact_to bytes (decimal_end bytes))
+extended_json_scan bytes = scan_by_kind bytes (exact_to bytes (decimal_end bytes))
 
 -- the number of the longest number text of extended JSON that the bytes begin with
 unfoldable pub extended_json_number_at : ℕ → List ℕ → Parse Num

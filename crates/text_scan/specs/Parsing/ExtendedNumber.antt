@@ -181,14 +181,18 @@ hexadecimal_starts bytes start = (slice_index bytes start == ascii.digit_zero)
 abbrev pub is_hexadecimal_start : List ℕ → Bool
 is_hexadecimal_start bytes = hexadecimal_starts bytes (core_start bytes)
 
--- the longest extended number text that the bytes begin with
-unfoldable pub extended_scan : List ℕ → Scanned
-extended_scan bytes =
+-- a word or a hexadecimal, and else what is scanned as a decimal
+abbrev pub scan_by_kind : List ℕ → Scanned → Scanned
+scan_by_kind bytes decimal =
     if is_word_start (core_byte bytes)
     then word_scan (core_start bytes) (starts_with_minus bytes) (drop (core_start bytes) bytes)
     else (if is_hexadecimal_start bytes
     then hexadecimal_scan (core_start bytes + 2) (starts_with_minus bytes) (drop (core_start bytes + 2) bytes)
-    else decimal_scan bytes)
+    else decimal)
+
+-- the longest extended number text that the bytes begin with
+unfoldable pub extended_scan : List ℕ → Scanned
+extended_scan bytes = scan_by_kind bytes (decimal_scan bytes)
 
 -- the number of the longest extended number text that the bytes begin with
 unfoldable pub extended_number_at : ℕ → List ℕ → Parse Num

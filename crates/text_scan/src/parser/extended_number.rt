@@ -1,13 +1,13 @@
 //! The numbers of extended texts: decimals, hexadecimals, `nan` and `infinity`.
-ghost use Rattle.std.specs.Prelude.{◌≡◌, ◌+◌, ◌-◌, ◌*◌, ◌≤◌, ◌<◌, ◌^◌, length, Err, None, IfOk, IfErr};
+ghost use Rattle.std.specs.Prelude.{◌≡◌, ◌+◌, ◌-◌, ◌*◌, ◌≤◌, ◌<◌, ◌^◌, length, Err, None, MatchOption, IfSome, IfOk, IfErr};
 ghost use Rattle.text_scan.specs.Parsing.Number.{sign_end};
-ghost use Rattle.text_scan.specs.Parsing.ExtendedNumber.{encoded_from, word_scan, is_word_start, extended_scan, invalid};
+ghost use Rattle.text_scan.specs.Parsing.ExtendedNumber.{Scanned, encoded_from, word_scan, is_word_start, scan_by_kind, extended_scan, invalid};
 ghost use Rattle.text_scan.specs.ScannedNumber.{scanned_view, letters_view};
 
-mod decimal;
-mod form;
+pub(super) mod decimal;
+pub(super) mod form;
 mod hexadecimal;
-mod short;
+pub(super) mod short;
 
 use super::number::{byte_at, sign_end};
 use decimal::scan_decimal;
@@ -33,8 +33,11 @@ pub struct NumberFault {
 // The most digits of a number that is representable.
 const MOST_DIGITS: usize = 38;
 
+// What is above every number of 38 digits.
+pub(super) const PAST_38_DIGITS: u128 = 100_000_000_000_000_000_000_000_000_000_000_000_000;
+
 // The fault inside of a number text, at this offset.
-fn invalid(offset: usize) -> std::result::Result<NumberText, NumberFault>
+pub(super) fn invalid(offset: usize) -> std::result::Result<NumberText, NumberFault>
     ensures scan { scanned_view result ≡ invalid offset }
     ensures near { IfErr result (λ fault. fault.offset ≡ offset) }
     ensures no_text { IfOk result (λ text. text.end ≡ offset) }
@@ -103,6 +106,26 @@ fn begins_word(byte: u8) -> bool
     matches!(byte.to_ascii_lowercase(), b'n' | b'i')
 }
 
+// The word or the hexadecimal that the bytes begin with; `None` where they begin with neither, so that a decimal is
+// due.
+#[inline(always)]
+pub(super) fn scan_other(bytes: &[u8]) -> Option<std::result::Result<NumberText, NumberFault>>
+    ensures scan { MatchOption result ((decimal : Scanned) → scan_by_kind bytes.now decimal ≡ decimal)
+        (λ scanned. (decimal : Scanned) → scan_by_kind bytes.now decimal ≡ scanned_view scanned) }
+    ensures within { IfSome result (λ scanned. IfOk scanned (λ text. text.end ≤ length bytes.now)) }
+    ensures near { IfSome result (λ scanned. IfErr scanned (λ fault. fault.offset ≤ length bytes.now)) }
+{
+    let start = sign_end(bytes, 0);
+    let negative = byte_at(bytes, 0) == b'-';
+    if begins_word(byte_at(bytes, start)) {
+        return Some(scan_word(&bytes[start..], start, negative));
+    }
+    if begins_hexadecimal(bytes, start) {
+        return Some(scan_hexadecimal(&bytes[start + 2..], start + 2, negative));
+    }
+    None
+}
+
 /// The longest number text that the bytes begin with.
 #[inline(never)]
 pub fn scan_number(bytes: &[u8]) -> std::result::Result<NumberText, NumberFault>
@@ -110,13 +133,8 @@ pub fn scan_number(bytes: &[u8]) -> std::result::Result<NumberText, NumberFault>
     ensures within { IfOk result (λ text. text.end ≤ length bytes.now) }
     ensures near { IfErr result (λ fault. fault.offset ≤ length bytes.now) }
 {
-    let start = sign_end(bytes, 0);
-    let negative = byte_at(bytes, 0) == b'-';
-    if begins_word(byte_at(bytes, start)) {
-        return scan_word(&bytes[start..], start, negative);
-    }
-    if begins_hexadecimal(bytes, start) {
-        return scan_hexadecimal(&bytes[start + 2..], start + 2, negative);
+    if let Some(other) = scan_other(bytes) {
+        return other;
     }
     scan_decimal(bytes)
 }

@@ -1,6 +1,7 @@
 //! Where a byte is among 16 or 32, as bits.
 ghost use Rattle.std.specs.Prelude.{◌≡◌, ◌≢◌, ◌↔◌, ℕ, ◌+◌, ◌<◌, ◌≤◌, length, slice_index};
 ghost use Rattle.std.specs.Int.{bit_at};
+ghost use Rattle.jsonb_spec.specs.Ascii as ascii;
 
 use std::simd::prelude::*;
 
@@ -23,6 +24,17 @@ pub(crate) fn near_bits(bytes: &[u8], byte: u8) -> u64
 {
     u8x16::from_slice(bytes)
         .simd_eq(u8x16::splat(byte))
+        .to_bitmask()
+}
+
+// Bit k is set where byte k is a control character, among the first 16.
+#[inline(always)]
+pub(crate) fn low_bits(bytes: &[u8]) -> u64
+    requires { 16 ≤ length bytes.now }
+    ensures { (k : ℕ) → (bit_at result k ≡ 1) ↔ ((k < 16) × (slice_index bytes.now k < ascii.space)) }
+{
+    u8x16::from_slice(bytes)
+        .simd_lt(u8x16::splat(b' '))
         .to_bitmask()
 }
 

@@ -1,12 +1,12 @@
 //! Whitespace between the parts of a text.
 ghost use Rattle.std.specs.Prelude.{◌≡◌, ◌↔◌, ℕ, ◌+◌, ◌<◌, ◌≤◌, ◌^◌, length, slice_index, drop};
 ghost use Rattle.std.specs.Int.{bit_at};
-ghost use Rattle.text_scan.specs.Answer.{mode_of};
+ghost use Rattle.text_scan.specs.Answer.{grammar_of};
 ghost use Rattle.text_scan.specs.Parsing.Whitespace.{block_length, line_length, comment_length, piece_length};
 ghost use Rattle.jsonb_spec.specs.Ascii as ascii;
 
-use super::Mode;
 use super::vector::{equal_bits, lowest, near_bits};
+use super::{Grammar, Mode};
 use memchr::memchr2;
 
 // Bit k is set where a star and a slash are from byte `at + k` on, among the next 32 bytes.
@@ -78,15 +78,17 @@ fn comment_len(bytes: &[u8]) -> usize
 }
 
 /// How many bytes the piece of whitespace takes that the bytes begin with, or 0 where they begin with none.
-pub fn piece_len(bytes: &[u8], mode: Mode) -> usize
-    ensures value { result ≡ piece_length (mode_of mode) bytes.now }
+pub fn piece_len(bytes: &[u8], grammar: Grammar) -> usize
+    ensures value { result ≡ piece_length (grammar_of grammar) bytes.now }
     ensures within { result ≤ length bytes.now }
 {
     match bytes {
-        [b' ' | b'\t' | b'\n' | b'\x0C' | b'\r', ..] => 1,
+        [b' ' | b'\t' | b'\n' | b'\r', ..] => 1,
+        _ if grammar == Grammar::Json => 0,
+        [b'\x0C', ..] => 1,
         [b'\\', b'n' | b'r' | b't', ..] => 2,
         [b'\\', b'x', b'0', b'C', ..] => 4,
-        [b'/', ..] => match mode {
+        [b'/', ..] => match grammar.mode() {
             Mode::Standard => 0,
             Mode::Extended => comment_len(bytes),
         },

@@ -12,6 +12,7 @@ ghost use Rattle.text_scan.specs.QuotedString.{decoded_text};
 mod check;
 mod run;
 mod space;
+mod strict;
 mod unit;
 
 use crate::parser::Mode;
@@ -21,6 +22,7 @@ use run::copy_run;
 pub use run::{near_backslash, write_sixteen};
 use space::{give_back, write_byte};
 use std::alloc::Global;
+pub use strict::check_strict;
 pub(crate) use unit::digit;
 use unit::units;
 

@@ -44,12 +44,15 @@ impl<'a> Handler<'a> for JsonAst<'a> {
 
     ghost preserves = { false };
 
+    ghost reports_plain = { true };
+
     #[inline(always)]
     fn wants() -> Wants
-        ensures { result.verbatim ≡ false }
+        ensures verbatim { result.verbatim ≡ false }
+        ensures plain { result.plain ≡ true }
     {
         Wants {
-            plain: false,
+            plain: true,
             verbatim: false,
         }
     }

@@ -14,11 +14,11 @@ use text_parse::{Failed, Handler, OpenObject, Scalar, Text, Wants};
 use text_scan::util::check_contents;
 use text_write::check::CheckSink;
 
-// A value of the text.
+// A value of the text. Strings that are written without an escape are distinguished, or not.
 #[derive(Drop)]
-pub(in crate::parser) struct CheckedPart;
+pub(in crate::parser) struct CheckedPart<const PLAIN: bool>;
 
-impl<'a> Handler<'a> for CheckedPart {
+impl<'a, const PLAIN: bool> Handler<'a> for CheckedPart<PLAIN> {
     type Sink = CheckSink<'a>;
 
     // Nothing is held of an array.
@@ -47,12 +47,15 @@ impl<'a> Handler<'a> for CheckedPart {
 
     ghost preserves = { true };
 
+    ghost reports_plain = { PLAIN };
+
     #[inline(always)]
     fn wants() -> Wants
-        ensures { result.verbatim ≡ true }
+        ensures verbatim { result.verbatim ≡ true }
+        ensures plain { result.plain ≡ PLAIN }
     {
         Wants {
-            plain: false,
+            plain: PLAIN,
             verbatim: true,
         }
     }

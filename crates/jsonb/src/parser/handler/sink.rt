@@ -82,9 +82,12 @@ impl<'a, S: Sink<'a>> Handler<'a> for SinkPart<'a, S> {
 
     ghost preserves = { true };
 
+    ghost reports_plain = { true };
+
     #[inline(always)]
     fn wants() -> Wants
-        ensures { result.verbatim ≡ true }
+        ensures verbatim { result.verbatim ≡ true }
+        ensures plain { result.plain ≡ true }
     {
         Wants {
             plain: true,

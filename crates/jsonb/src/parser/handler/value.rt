@@ -18,13 +18,13 @@ use std::mem;
 use text_parse::{Failed, Handler, OpenObject, Scalar, Text, Wants};
 use text_scan::parser::string::decode_contents;
 
-// A value that is made.
+// A value that is made. Strings that are written without an escape are distinguished, or not.
 #[derive(Drop)]
-pub(in crate::parser) struct ValuePart<'a> {
+pub(in crate::parser) struct ValuePart<'a, const PLAIN: bool> {
     pub(in crate::parser) value: Value<'a>,
 }
 
-impl<'a> Handler<'a> for ValuePart<'a> {
+impl<'a, const PLAIN: bool> Handler<'a> for ValuePart<'a, PLAIN> {
     type Sink = ();
 
     type Items = Vec<Value<'a>>;
@@ -52,12 +52,15 @@ impl<'a> Handler<'a> for ValuePart<'a> {
 
     ghost preserves = { false };
 
+    ghost reports_plain = { PLAIN };
+
     #[inline(always)]
     fn wants() -> Wants
-        ensures { result.verbatim ≡ false }
+        ensures verbatim { result.verbatim ≡ false }
+        ensures plain { result.plain ≡ PLAIN }
     {
         Wants {
-            plain: false,
+            plain: PLAIN,
             verbatim: false,
         }
     }

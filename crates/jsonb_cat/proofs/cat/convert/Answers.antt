@@ -59,18 +59,21 @@ pub returns-in_err-append_text-clause-memory : goal.returns-in_err-append_text-c
 returns-in_err-append_text-clause-memory c = λ is.
     let residual = err_from_is_err_and c.from_residual.result c.from_residual.ensures.1 in
     let reported : c.append_text.result ≡ Err OutOfMemory = (let returned = residual.1 in let same = residual.2 in let was = c.in_err-append_text.was in cc) in
-    text_lacks (mode_of c.args.mode) c.args.input.now (vec_capacity c.args.out.now) (vec_len c.args.out.now) (c.append_text.ensures.appends.memory reported)
+    text_lacks (mode_of c.args.mode) c.args.input.now (vec_capacity c.args.out.now) (vec_len c.args.out.now)
+    (subst (λ mode. MayAllocate c.args.input.now ⊎ LacksCapacityForText mode c.args.input.now (vec_capacity c.args.out.now) (vec_len c.args.out.now)) c.from.ensures (c.append_text.ensures.appends.memory reported))
 
 pub returns-then-is_err-clause-memory : goal.returns-then-is_err-clause-memory
 returns-then-is_err-clause-memory c = λ is.
     let appended = c.in_ok-append_text.ensures.appends.ok in
+    let document = subst (λ mode. IsDocument mode c.args.input.now appended.tree) c.from.ensures appended.parsed.document in
     let full : vec_capacity c.append_text.new.buf ≤ vec_len c.append_text.new.buf = grown_failed c.push.result c.push.ensures.full (sym c.if-is_err.ensures.value) in
     let within : vec_capacity c.append_text.new.buf ≤ length c.append_text.new.buf.items = omega (arith, full, c.append_text.new.buf.ok.0) in
     subst (λ len. MayAllocate c.args.input.now ⊎ LacksCapacity (mode_of c.args.mode) c.args.input.now (vec_capacity c.args.out.now) len) (sym c.args.out.now.ok.0)
-    (feed_lacks (mode_of c.args.mode) c.args.input.now appended.tree c.args.out.now.items c.append_text.new.buf.items (vec_capacity c.args.out.now) (vec_capacity c.append_text.new.buf) appended.parsed.document appended.appended within c.append_text.ensures.appends.capacity)
+    (feed_lacks (mode_of c.args.mode) c.args.input.now appended.tree c.args.out.now.items c.append_text.new.buf.items (vec_capacity c.args.out.now) (vec_capacity c.append_text.new.buf) document appended.appended within c.append_text.ensures.appends.capacity)
 
 pub returns-clause-again : goal.returns-clause-again
 returns-clause-again c = λ text ended line.
     let appended = c.in_ok-append_text.ensures.appends.ok in
-    again (mode_of c.args.mode) appended.tree c.args.input.now c.args.out.now.items _ c.push.new.self.items appended.parsed.document appended.appended
+    let document = subst (λ mode. IsDocument mode c.args.input.now appended.tree) c.from.ensures appended.parsed.document in
+    again (mode_of c.args.mode) appended.tree c.args.input.now c.args.out.now.items _ c.push.new.self.items document appended.appended
     (done c.push.result _ _ _ (sym c.is_err.ensures.value ∙ c.if-is_err.false) c.push.ensures.items) text ended line

@@ -15,12 +15,12 @@ use jsonb_value::number::Number;
 // Where the parts of a decimal end: its zeros, all digits before the point, the point, and the
 // digits behind it.
 #[derive(Clone, Copy)]
-struct DecimalEnds {
-    start: usize,
-    zeros_end: usize,
-    front_end: usize,
-    point_end: usize,
-    behind_end: usize,
+pub(crate) struct DecimalEnds {
+    pub(crate) start: usize,
+    pub(crate) zeros_end: usize,
+    pub(crate) front_end: usize,
+    pub(crate) point_end: usize,
+    pub(crate) behind_end: usize,
 }
 
 // The number of digits that are parsed before a second point no longer is a fault.
@@ -40,7 +40,7 @@ fn zeros_end(bytes: &[u8], start: usize) -> usize
 }
 
 // Where the parts of the decimal end that the bytes begin with.
-fn decimal_ends(bytes: &[u8]) -> DecimalEnds
+pub(crate) fn decimal_ends(bytes: &[u8]) -> DecimalEnds
     ensures { AreEnds bytes.now result }
 {
     let start = sign_end(bytes, 0);
@@ -65,7 +65,7 @@ fn decimal_ends(bytes: &[u8]) -> DecimalEnds
 }
 
 // The index after the decimal text; else the offset of the fault.
-fn decimal_end(bytes: &[u8], ends: DecimalEnds) -> std::result::Result<usize, usize>
+pub(crate) fn decimal_end(bytes: &[u8], ends: DecimalEnds) -> std::result::Result<usize, usize>
     requires { AreEnds bytes.now ends }
     ensures end { result ≡ decimal_end bytes.now }
     ensures within { IfOk result (λ end. end ≤ length bytes.now) }

@@ -1,5 +1,6 @@
 //! The number of a sign, digits and a scale, in the first form that carries it.
 ghost use Rattle.std.specs.Prelude.{◌≡◌, ℕ, ◌-◌, ◌≤◌, ◌<◌, ◌^◌, Err};
+ghost use Rattle.jsonb_spec.specs.Grammar.ExactNumber.{exact_number};
 ghost use Rattle.jsonb_spec.specs.Grammar.ExtendedNumber.{decimal_number};
 ghost use Rattle.jsonb_spec.specs.Number.Signed.{signed_by};
 ghost use Rattle.jsonb_value.specs.View.{number_view};
@@ -8,6 +9,9 @@ use jsonb_value::number::{Decimal64, Decimal128, Number};
 
 // The most digits of a number that 64 bits carry with a scale.
 pub(super) const DECIMAL64_DIGITS: usize = 18;
+
+// What is above every number of 18 digits.
+const PAST_DECIMAL64: u128 = 1_000_000_000_000_000_000;
 
 // A magnitude with its sign.
 pub(super) fn with_sign(negative: bool, magnitude: u128) -> i128
@@ -73,6 +77,23 @@ pub(super) fn decimal(scale: usize, precision: usize, negative: bool, magnitude:
         return integer(negative, magnitude);
     }
     if precision <= DECIMAL64_DIGITS {
+        return short_decimal(scale, negative, magnitude as u64);
+    }
+    Number::Decimal128(Decimal128 {
+        scale: scale as u8,
+        value: with_sign(negative, magnitude),
+    })
+}
+
+// A number of at most 38 digits, at its exact value.
+pub(crate) fn exact(scale: usize, negative: bool, magnitude: u128) -> Number
+    requires { scale ≤ 38 × magnitude < 10 ^ 38 }
+    ensures { number_view result ≡ exact_number scale (signed_by negative magnitude) }
+{
+    if scale == 0 {
+        return integer(negative, magnitude);
+    }
+    if scale <= DECIMAL64_DIGITS && magnitude < PAST_DECIMAL64 {
         return short_decimal(scale, negative, magnitude as u64);
     }
     Number::Decimal128(Decimal128 {

@@ -8,13 +8,10 @@ ghost use Rattle.text_scan.specs.Parsing.ExtendedNumber.{hexadecimal_length, fra
 ghost use Rattle.text_scan.specs.ScannedNumber.{number_views, scanned_view};
 
 use super::form::with_sign;
-use super::{MOST_DIGITS, NumberFault, NumberText, invalid};
+use super::{NumberFault, NumberText, PAST_38_DIGITS, invalid};
 use crate::parser::number::{byte_at, number_after};
 use crate::util::digit;
 use jsonb_value::number::{Decimal128, Number};
-
-// What is above every number of 38 digits.
-const PAST_38_DIGITS: u128 = 100_000_000_000_000_000_000_000_000_000_000_000_000;
 
 // The number of hexadecimal digits that the bytes begin with.
 fn hexadecimal_length(bytes: &[u8]) -> usize

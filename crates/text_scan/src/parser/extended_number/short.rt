@@ -19,14 +19,14 @@ pub struct ReadNumber {
 
 // Digits that 64 bits hold: how many, and the number that they write.
 #[derive(Clone, Copy)]
-struct FewDigits {
-    len: usize,
-    value: u64,
+pub(crate) struct FewDigits {
+    pub(crate) len: usize,
+    pub(crate) value: u64,
 }
 
 // The digits that the bytes begin with, behind those that were parsed before, unless they are too many.
 #[inline(always)]
-fn digits_behind(bytes: &[u8], before: FewDigits) -> Option<FewDigits>
+pub(crate) fn digits_behind(bytes: &[u8], before: FewDigits) -> Option<FewDigits>
     requires { before.len ≤ 19 × before.value < 10 ^ before.len }
     ensures len { IfSome result (λ all. all.len ≡ before.len + digits_length bytes.now) }
     ensures few { IfSome result (λ all. all.len ≤ 19) }

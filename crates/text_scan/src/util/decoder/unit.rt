@@ -16,10 +16,10 @@ use jsonb_value::error::ParseErrorCode;
 
 // The four digits of a unit, their value, and what follows the unit.
 #[derive(Clone, Copy)]
-struct HexUnit<'a> {
+pub(super) struct HexUnit<'a> {
     digits: &'a [u8],
     value: u32,
-    rest: &'a [u8],
+    pub(super) rest: &'a [u8],
 }
 
 // What each byte is as a digit or a letter: 0 to 9, 10 to 35, and 36 for any other.
@@ -98,7 +98,7 @@ fn split_unit(bytes: &[u8]) -> Option<(&[u8], &[u8])>
 
 // The unit whose `\u` is before the bytes.
 #[inline(always)]
-fn read_unit(bytes: &[u8]) -> std::result::Result<HexUnit<'_>, DecodingFault>
+pub(super) fn read_unit(bytes: &[u8]) -> std::result::Result<HexUnit<'_>, DecodingFault>
     ensures ok { IfOk result (λ unit. ParsesUnit bytes.now unit.digits.now unit.rest.now unit.value) }
     ensures long { IfOk result (λ unit. length unit.rest.now + 4 ≤ length bytes.now) }
     ensures err { IfErr result (λ fault. (mode : GrammarMode) → GoesBeyondJson mode → StopsInUnit mode

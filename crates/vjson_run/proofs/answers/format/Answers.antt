@@ -1,5 +1,5 @@
 use Rattle.std.proofs.Common.{subst}
-use Rattle.vjson_text.specs.Json.{AppendsTextOf}
+use Rattle.vjson_text.specs.Texts.{AppendsTextOf}
 use Rattle.vjson_run.proofs.Parts.{prints_text}
 use Rattle.vjson_text.specs.declared.fault.Fault.TheVariants.{NoMemory}
 use Rattle.std.proofs.Common.{◌≡◌, rules, Err}

@@ -1,7 +1,7 @@
 use Rattle.std.proofs.Common.{◌∙◌, ◌++◌, [], true, drop, get_or, inl, ap, map, rules, string_bytes, subst}
 use Rattle.std.specs.Option.{option_map, unwrap_or}
 use Rattle.jsonb_spec.specs.Text.{tree_text}
-use Rattle.text_scan.specs.Answer.{MayAllocate, mode_of}
+use Rattle.text_scan.specs.Answer.{MayAllocate, grammar_of}
 use Rattle.text_scan.specs.Parsing.Document.{source_of}
 use Rattle.jsonb_spec.specs.Source.{tree_of_source}
 use Rattle.jsonb_spec.specs.PartAt.{part_at}
@@ -15,7 +15,7 @@ use Rattle.jsonb.proofs.parser.part.append_part.Goals as goal
 
 pub returns-in-Ok-clause-ok : goal.returns-in-Ok-clause-ok
 returns-in-Ok-clause-ok c =
-    let mode = mode_of c.args.mode in
+    let mode = grammar_of c.args.grammar in
     let text = c.args.text.now in
     let sink = c.parse_text.new.sink in
     let read = c.in-Ok.ensures.parses c.new-sink.ensures.holds in
@@ -31,7 +31,7 @@ pub returns-in-Some-clause-memory : goal.returns-in-Some-clause-memory
 returns-in-Some-clause-memory c = let may : MayAllocate c.args.text.now = search rules in λ _. inl may
 
 pub returns-in-Some-clause-rejects : goal.returns-in-Some-clause-rejects
-returns-in-Some-clause-rejects c = fault_rejects (mode_of c.args.mode) c.args.text.now c.in-Some.error (subst (λ reported. Misses true reported (source_of (mode_of c.args.mode) c.args.text.now)) c.in-Some.is (c.in-Err.ensures.parses c.new-sink.ensures.holds))
+returns-in-Some-clause-rejects c = fault_rejects (grammar_of c.args.grammar) c.args.text.now c.in-Some.error (subst (λ reported. Misses true reported (source_of (grammar_of c.args.grammar) c.args.text.now)) c.in-Some.is (c.in-Err.ensures.parses c.new-sink.ensures.holds))
 
 pub returns-in-Some-clause-follows : goal.returns-in-Some-clause-follows
-returns-in-Some-clause-follows c = fault_fails (mode_of c.args.mode) c.args.text.now c.in-Some.error (subst (λ reported. Misses true reported (source_of (mode_of c.args.mode) c.args.text.now)) c.in-Some.is (c.in-Err.ensures.parses c.new-sink.ensures.holds))
+returns-in-Some-clause-follows c = fault_fails (grammar_of c.args.grammar) c.args.text.now c.in-Some.error (subst (λ reported. Misses true reported (source_of (grammar_of c.args.grammar) c.args.text.now)) c.in-Some.is (c.in-Err.ensures.parses c.new-sink.ensures.holds))

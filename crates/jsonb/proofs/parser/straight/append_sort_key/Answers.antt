@@ -1,5 +1,5 @@
 use Rattle.std.proofs.Common.{rules, true, ◌++◌, inl, ap, subst, sym, ◌∙◌}
-use Rattle.text_scan.specs.Answer.{Fails, MayAllocate, mode_of}
+use Rattle.text_scan.specs.Answer.{Fails, MayAllocate, grammar_of}
 use Rattle.text_scan.specs.Parsing.Document.{source_of}
 use Rattle.jsonb_spec.specs.Source.{tree_of_source}
 use Rattle.text_write.specs.Members.{source_key}
@@ -10,7 +10,7 @@ use Rattle.jsonb.proofs.parser.straight.append_sort_key.Goals as goal
 
 pub returns-in-Ok-clause-appends : goal.returns-in-Ok-clause-appends
 returns-in-Ok-clause-appends c =
-    let mode = mode_of c.args.mode in
+    let mode = grammar_of c.args.grammar in
     let text = c.args.text.now in
     let read = c.in-Ok.ensures.parses c.new-sink.ensures.holds in
     let parsed = source_parsed mode text read.0 read.2 in
@@ -25,11 +25,11 @@ returns-in-Ok-clause-appends c =
       capacity = inl may;
     }
 
-fault_reported : (c : goal.In-Some) → Fails c.in-Some.error (source_of (mode_of c.args.mode) c.args.text.now)
-fault_reported c = subst (λ reported. Misses true reported (source_of (mode_of c.args.mode) c.args.text.now)) c.in-Some.is (c.in-Err.ensures.parses c.new-sink.ensures.holds)
+fault_reported : (c : goal.In-Some) → Fails c.in-Some.error (source_of (grammar_of c.args.grammar) c.args.text.now)
+fault_reported c = subst (λ reported. Misses true reported (source_of (grammar_of c.args.grammar) c.args.text.now)) c.in-Some.is (c.in-Err.ensures.parses c.new-sink.ensures.holds)
 
 pub returns-in-Some-clause-rejects : goal.returns-in-Some-clause-rejects
-returns-in-Some-clause-rejects c = fault_rejects (mode_of c.args.mode) c.args.text.now c.in-Some.error (fault_reported c)
+returns-in-Some-clause-rejects c = fault_rejects (grammar_of c.args.grammar) c.args.text.now c.in-Some.error (fault_reported c)
 
 pub returns-in-Some-clause-appends : goal.returns-in-Some-clause-appends
 returns-in-Some-clause-appends c = let may : MayAllocate c.args.text.now = search rules in record { ok = tt; err = search rules; memory = λ _. inl may; capacity = inl may }
@@ -45,4 +45,4 @@ pub returns-then-not-may_allocate : goal.returns-then-not-may_allocate
 returns-then-not-may_allocate c = c.append_sort_key_of_value.ensures
 
 pub returns-in-Some-clause-follows : goal.returns-in-Some-clause-follows
-returns-in-Some-clause-follows c = fault_fails (mode_of c.args.mode) c.args.text.now c.in-Some.error (fault_reported c)
+returns-in-Some-clause-follows c = fault_fails (grammar_of c.args.grammar) c.args.text.now c.in-Some.error (fault_reported c)

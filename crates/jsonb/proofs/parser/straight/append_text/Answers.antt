@@ -1,5 +1,5 @@
 use Rattle.std.proofs.Common.{rules, ◌≡◌, inl, ap, subst, sym, ◌∙◌, OnErr, OnOk}
-use Rattle.text_scan.specs.Answer.{MayAllocate, mode_of}
+use Rattle.text_scan.specs.Answer.{MayAllocate, grammar_of}
 use Rattle.text_write.specs.TextSink.{base_of}
 use Rattle.jsonb.specs.Appends.{AppendsTextOf}
 use Rattle.jsonb.proofs.parser.straight.append_text.Goals as goal
@@ -14,8 +14,8 @@ returns-clause-appends c =
     -- what goes past the test of the text may take memory
     let may : MayAllocate text = search rules in
     record {
-      ok = subst (λ old. OnOk result (AppendsTextOf (mode_of c.args.mode) text old out)) before
-          (subst (λ new. OnOk result (AppendsTextOf (mode_of c.args.mode) text (base_of sink) new)) (sym (ap (λ v. v.items) c.into_buffer.ensures)) c.write_form-written.ensures.appends);
+      ok = subst (λ old. OnOk result (AppendsTextOf (grammar_of c.args.grammar) text old out)) before
+          (subst (λ new. OnOk result (AppendsTextOf (grammar_of c.args.grammar) text (base_of sink) new)) (sym (ap (λ v. v.items) c.into_buffer.ensures)) c.write_form-written.ensures.appends);
       err = subst (λ old. OnErr result (out ≡ old)) before (subst (λ new. OnErr result (new ≡ base_of sink)) (sym (ap (λ v. v.items) c.into_buffer.ensures)) c.write_form-written.ensures.preserves);
       memory = λ _. inl may;
       capacity = inl may;

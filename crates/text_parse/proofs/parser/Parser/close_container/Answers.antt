@@ -2,7 +2,7 @@ use Rattle.std.proofs.Common.{◌≡◌, [], ◌∷◌, ◌++◌, ◌+◌, ◌-�
 use Rattle.std.specs.Vec.{vec_len}
 use Rattle.std.proofs.lemmas.Result.{err_from_is_err_and}
 use Rattle.jsonb_spec.specs.Code.Code.{expected_array_comma_or_end, expected_object_comma_or_end}
-use Rattle.text_scan.specs.Answer.{mode_of}
+use Rattle.text_scan.specs.Answer.{grammar_of}
 use Rattle.text_parse.specs.Parser.{Advances, rest_of, size_of}
 use Rattle.text_parse.specs.declared.parser.frame.Frame.TheVariants as variants
 use Rattle.text_parse.proofs.Containers.Frames.{array-joins, end_misses, ended, innermost_first, joined, last-is, last-set, object-joins, put_new}
@@ -56,10 +56,10 @@ returns-in-Ok g c =
           let e = last-is gs n c.in-Some-last_mut.outer.now last c.in-Some-last_mut.ensures.value ∙ ap (λ f. take n gs ++ f ∷ []) c.in-Array.is in
           let turned = ap reverse e ∙ innermost_first (take n gs) (variants.Array v) in
           let a = c.end_part.ensures.advances in
-          let on : Advances p q = record { buf = a.buf; mode = a.mode; onward = a.onward } in
+          let on : Advances p q = record { buf = a.buf; mode = a.mode; grammar = a.grammar; onward = a.onward } in
           joined before after p q gs _ (take n gs) (variants.Array v) (variants.Array w) inner whole s expected_array_comma_or_end 93 on e (last-set gs n (variants.Array w) last)
           h.silent q.reported c.end_part.result x done.2
-          (λ o cs fits same. array-joins before after (λ fs ds. h.filled text c.finish.new.sink value s fs ds) (size_of p) (mode_of p.mode) v w s below cs (λ ss full. c.in-Ok.ensures.put text s ss below cs full) o fits
+          (λ o cs fits same. array-joins before after (λ fs ds. h.filled text c.finish.new.sink value s fs ds) (size_of p) (grammar_of p.grammar) v w s below cs (λ ss full. c.in-Ok.ensures.put text s ss below cs full) o fits
           (subst (λ ds. h.filled text c.finish.new.sink value s (variants.Array v ∷ below) ds) same (subst (λ fs. h.filled text c.finish.new.sink value s fs x.others) turned filled)))
           (builds_always h.silent q.reported (λ b d. b ≡ d) c.end_part.result _ (rest_of q) c.end_part.ensures.parses);
       onward = search rules;
@@ -95,14 +95,14 @@ returns-in_ok-put_result-in-Object g c =
           let turned = ap reverse e ∙ innermost_first (take n gs) (variants.Object v) in
           let ok = c.in_ok-put_result-in-Object.ensures.ok in
           let a = goes_on _ _ q c.put_result.ensures.advances c.end_part-in-Object.ensures.advances in
-          let on : Advances p q = record { buf = a.buf; mode = a.mode; onward = a.onward } in
+          let on : Advances p q = record { buf = a.buf; mode = a.mode; grammar = a.grammar; onward = a.onward } in
           let put = put_new (h.silent ≡ true) c.insert_inner-inserted.result ok.0 c.insert_inner-inserted.ensures.put in
           joined before after p q gs _ (take n gs) (variants.Object v) (variants.Object w) inner whole s expected_object_comma_or_end 125 on e (last-set gs n (variants.Object w) last)
           h.silent q.reported c.end_part-in-Object.result x done.2
-          (λ o cs fits same. object-joins before after (λ fs ds. h.filled text c.finish.new.sink value s fs ds) (size_of p) (mode_of p.mode) v w s below cs (λ front k offset full. put text s front k offset below cs full) o fits
+          (λ o cs fits same. object-joins before after (λ fs ds. h.filled text c.finish.new.sink value s fs ds) (size_of p) (grammar_of p.grammar) v w s below cs (λ front k offset full. put text s front k offset below cs full) o fits
           (subst (λ ds. h.filled text c.finish.new.sink value s (variants.Object v ∷ below) ds) same (subst (λ fs. h.filled text c.finish.new.sink value s fs x.others) turned filled)))
           (builds_always h.silent q.reported (λ b d. b ≡ d) c.end_part-in-Object.result _ (rest_of q)
-          (subst (λ m. Builds false q.reported (λ b d. b ≡ d) c.end_part-in-Object.result (part_end (size_of m) expected_object_comma_or_end 125 (skip_whitespace (mode_of m.mode) (rest_of m))) (rest_of q)) ok.1 c.end_part-in-Object.ensures.parses));
+          (subst (λ m. Builds false q.reported (λ b d. b ≡ d) c.end_part-in-Object.result (part_end (size_of m) expected_object_comma_or_end 125 (skip_whitespace (grammar_of m.grammar) (rest_of m))) (rest_of q)) ok.1 c.end_part-in-Object.ensures.parses));
       onward = search rules;
       depth = search rules;
       some = search rules;

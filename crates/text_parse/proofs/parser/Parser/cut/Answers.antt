@@ -48,3 +48,6 @@ returns-clause-cuts c =
       offset = omega arith;
       rest = ap (λ (n : ℕ). drop n p.buf.now) (sym after) ∙ sym (drop-drop (len + 1) p.offset p.buf.now);
     }
+
+pub returns-clause-some : goal.returns-clause-some
+returns-clause-some c = omega (arith, c.requires.quote.opened.0, c.if-after-text.false)

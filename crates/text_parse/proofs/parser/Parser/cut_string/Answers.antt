@@ -4,7 +4,7 @@ use Rattle.jsonb_spec.specs.Text.StringText.{ArePlain}
 use Rattle.jsonb_value.proofs.Strings.PlainTexts.{no_marks}
 use Rattle.text_parse.specs.Parser.{rest_of}
 use Rattle.text_scan.specs.QuotedString.{IsClear}
-use Rattle.text_parse.proofs.Scalars.Contents.{cut_encoded, cut_parsed}
+use Rattle.text_parse.proofs.Scalars.Contents.{cut_encoded, cut_plain}
 use Rattle.text_parse.proofs.parser.Parser.cut_string.Goals as goal
 
 pub returns-clause-cuts : goal.returns-clause-cuts
@@ -19,7 +19,7 @@ returns-clause-cuts c =
     let closed = ap (λ u. get_or u end 0) (sym is) ∙ c.if-rest-end-ne34.false in
     let within : end < length (rest_of p) = omega (arith, mark.within, ap length is) in
     record {
-      parses = cut_parsed p _ 34 end _ within closed c.in_ok-body-2.ensures.cuts (subst (λ u. IsClear 34 u 0 end) is before);
+      parses = cut_plain p _ 34 end _ within closed c.in_ok-body-2.ensures.cuts (subst (λ u. ArePlain (take end u)) is mark.plain) (subst (λ u. IsClear 34 u 0 end) is before);
       encoded = cut_encoded p _ 34 end _ within closed c.in_ok-body-2.ensures.cuts;
       stays = search rules;
       advances = search rules;

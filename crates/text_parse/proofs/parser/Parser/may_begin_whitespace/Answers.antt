@@ -2,7 +2,7 @@ use Rattle.std.proofs.Common.{◌≡◌, ℕ, ◌<◌, Bool, true, false, not, M
 use Rattle.std.proofs.lemmas.Bool.{eqb-true}
 use Rattle.jsonb_spec.specs.Mode.{Mode}
 use Rattle.text_scan.specs.Parsing.Whitespace.{skip_closed_whitespace, skip_whitespace}
-use Rattle.text_scan.specs.Answer.{mode_of}
+use Rattle.text_scan.specs.Answer.{grammar_of}
 use Rattle.text_parse.specs.Parser.{rest_of}
 use Rattle.text_scan.proofs.Text.Whitespace.{pass-by_slash, pass-nil, skip-by_slash, skip-nil}
 use Rattle.text_parse.proofs.parser.Parser.may_begin_whitespace.Goals as goal
@@ -22,7 +22,7 @@ pass-quote mode b bytes rest whole false e = tt
 
 pub returns-in_default : goal.returns-in_default
 returns-in_default c =
-    let mode = mode_of c.args.self.now.mode in
+    let mode = grammar_of c.args.self.now.grammar in
     record {
       skips = ap (skip_whitespace mode) c.in_default.ensures.next ∙ skip-nil mode ∙ sym c.in_default.ensures.next;
       passes = ap (skip_closed_whitespace mode) c.in_default.ensures.next ∙ pass-nil mode ∙ sym c.in_default.ensures.next;
@@ -32,8 +32,8 @@ pub returns-then-byte-le34 : goal.returns-then-byte-le34
 returns-then-byte-le34 c =
     let byte = c.in-Some.byte in
     record {
-      skips = skip-quote (mode_of c.args.self.now.mode) byte _ (rest_of c.args.self.now) c.in-Some.ensures.next (nat_eq byte 34) refl;
-      passes = pass-quote (mode_of c.args.self.now.mode) byte _ (rest_of c.args.self.now) c.in-Some.ensures.next (nat_eq byte 34) refl;
+      skips = skip-quote (grammar_of c.args.self.now.grammar) byte _ (rest_of c.args.self.now) c.in-Some.ensures.next (nat_eq byte 34) refl;
+      passes = pass-quote (grammar_of c.args.self.now.grammar) byte _ (rest_of c.args.self.now) c.in-Some.ensures.next (nat_eq byte 34) refl;
     }
 
 pub returns-else-byte-eq92 : goal.returns-else-byte-eq92
@@ -42,6 +42,6 @@ returns-else-byte-eq92 c =
     let above : 32 < byte = omega (arith, c.if-byte-le34.false) in
     let slash = ap (λ t. t || nat_eq byte 47) (ne_eqb byte 92 c.if-byte-eq92.false) in
     record {
-      skips = skip-by_slash (mode_of c.args.self.now.mode) byte _ (rest_of c.args.self.now) c.in-Some.ensures.next above (nat_eq byte 47) slash;
-      passes = pass-by_slash (mode_of c.args.self.now.mode) byte _ (rest_of c.args.self.now) c.in-Some.ensures.next above (nat_eq byte 47) slash;
+      skips = skip-by_slash (grammar_of c.args.self.now.grammar) byte _ (rest_of c.args.self.now) c.in-Some.ensures.next above (nat_eq byte 47) slash;
+      passes = pass-by_slash (grammar_of c.args.self.now.grammar) byte _ (rest_of c.args.self.now) c.in-Some.ensures.next above (nat_eq byte 47) slash;
     }

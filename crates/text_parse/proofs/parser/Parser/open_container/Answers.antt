@@ -55,12 +55,12 @@ returns g c =
           let unmoved : n ≡ p = c.if-take_byte.ensures.rest in
           let brace = after_brace p c.requires.opens (sym c.if-take_byte.ensures.found) ∙ ap (λ r. 123 ∷ drop (r.offset + 1) r.buf.now) (sym unmoved) in
           let o : Parser = record n { offset = n.offset + 1; inside = omega (arith, ap length brace, length-drop p.offset p.buf.now, ap (λ r. r.offset) unmoved, ap (λ r. size_of r) unmoved) } in
-          let past : Advances n o = record { buf = refl; mode = refl; onward = omega arith } in
+          let past : Advances n o = record { buf = refl; mode = refl; grammar = refl; onward = omega arith } in
           let more = goes_on _ s q c.skip_whitespace-2.ensures.advances c.take_byte-2.ensures.advances in
           let a = goes_on p n o c.take_byte.ensures.advances past in
           let h = g.V.Handler in
           let fs = c.args.stack.now.items in
-          object_opened (h.holds p.buf.now c.args.sink.now) (h.holds p.buf.now c.members.new.sink) p o s q fs c.push-2.new.self.items c.in-Ok-members.object (plain, []) 0 c.take_byte-2.result whole a (goes_on p o q a (record { buf = more.buf; mode = more.mode; onward = more.onward }))
+          object_opened (h.holds p.buf.now c.args.sink.now) (h.holds p.buf.now c.members.new.sink) p o s q fs c.push-2.new.self.items c.in-Ok-members.object (plain, []) 0 c.take_byte-2.result whole a (goes_on p o q a (record { buf = more.buf; mode = more.mode; grammar = more.grammar; onward = more.onward }))
           brace c.skip_whitespace-2.ensures.rest c.take_byte-2.ensures.found c.take_byte-2.ensures.rest (λ cs. c.in-Ok-members.ensures.opened p.buf.now (reverse fs) cs) c.in-Ok-push-2.ensures.items (omega arith) due;
       onward = search rules;
       depth = search rules;

@@ -102,4 +102,4 @@ returns-in-Err c =
 pub invariant_of-self : goal.invariant_of-self
 invariant_of-self c =
     let p = c.args.self.now in
-    record { inside = omega (arith, key_within c.rest-rest.result.now c.in-At.end c.in-At.ensures, ap length c.rest-rest.ensures, length-drop p.offset p.buf.now, p.inside) }
+    record { inside = omega (arith, key_within c.rest-rest.result.now c.in-At.end c.in-At.ensures, ap length c.rest-rest.ensures, length-drop p.offset p.buf.now, p.inside); agree = c.args.self.now.agree }

@@ -1,7 +1,7 @@
 use Rattle.std.proofs.Common.{ap, sym, ◌∙◌, rules}
 use Rattle.jsonb_spec.specs.Code.Code.{expected_some_ident}
 use Rattle.jsonb_spec.specs.Mode.{strictness}
-use Rattle.text_scan.specs.Answer.{mode_of}
+use Rattle.text_scan.specs.Answer.{mode_of, grammar_of}
 use Rattle.text_parse.specs.Parser.{rest_of, size_of}
 use Rattle.text_scan.specs.Parsing.{fault_at}
 use Rattle.text_scan.specs.Parsing.Scalar.{key_at, unquoted_at}
@@ -35,8 +35,8 @@ returns-in-Standard c =
           let p = c.args.self.now in
           let q = c.take_byte.new.self in
           let r = c.take_single_quote.new.self in
-          fails c.fault_at_next.result (fault_at (size_of r) expected_some_ident 1 (rest_of r)) (key_at (size_of p) (mode_of p.mode) (rest_of p)) c.fault_at_next.ensures
-          (key_bare p q r c.if-take_byte.ensures.rest (sym c.if-take_byte.ensures.found) c.if-take_single_quote.ensures.rest (sym c.if-take_single_quote.ensures.found) ∙ ap (λ m. unquoted_at (size_of r) (strictness (mode_of m)) (rest_of r)) c.in-Standard.is);
+          fails c.fault_at_next.result (fault_at (size_of r) expected_some_ident 1 (rest_of r)) (key_at (size_of p) (grammar_of p.grammar) (rest_of p)) c.fault_at_next.ensures
+          (key_bare p q r c.if-take_byte.ensures.rest (sym c.if-take_byte.ensures.found) c.if-take_single_quote.ensures.rest (sym c.if-take_single_quote.ensures.found) ∙ ap (λ s. unquoted_at (size_of r) s (rest_of r)) (sym r.agree ∙ ap (λ m. strictness (mode_of m)) c.in-Standard.is));
       memory = search rules;
       advances = search rules;
     }
@@ -48,7 +48,7 @@ returns-in-Extended c =
           let p = c.args.self.now in
           let q = c.take_byte.new.self in
           let r = c.take_single_quote.new.self in
-          rw (key_bare p q r c.if-take_byte.ensures.rest (sym c.if-take_byte.ensures.found) c.if-take_single_quote.ensures.rest (sym c.if-take_single_quote.ensures.found) ∙ ap (λ m. unquoted_at (size_of r) (strictness (mode_of m)) (rest_of r)) c.in-Extended.is)
+          rw (key_bare p q r c.if-take_byte.ensures.rest (sym c.if-take_byte.ensures.found) c.if-take_single_quote.ensures.rest (sym c.if-take_single_quote.ensures.found) ∙ ap (λ s. unquoted_at (size_of r) s (rest_of r)) (sym r.agree ∙ ap (λ m. strictness (mode_of m)) c.in-Extended.is))
           c.parse_bare_key.ensures.parses;
       memory = search rules;
       advances = search rules;

@@ -1,6 +1,6 @@
 use Rattle.jsonb_spec.specs.Tree.{Mark}
 use Rattle.std.proofs.Common.{ℕ, List, ◌∷◌, Ok, ap, subst, sym, ◌∙◌, rules}
-use Rattle.text_scan.specs.Answer.{mode_of}
+use Rattle.text_scan.specs.Answer.{grammar_of}
 use Rattle.text_scan.specs.Parsing.String.{string_at}
 use Rattle.text_parse.specs.Handler.{AsKey, Begins, Builds}
 use Rattle.text_parse.specs.Parser.{Advances, rest_of, size_of}
@@ -39,6 +39,6 @@ returns g c =
           let on = subst (Advances p) stays c.take_after_whitespace.ensures.advances in
           let names : List ℕ → g.row.V-Key.Denot → Mark × List ℕ → ℕ → Type 0 = λ text. Begins (g.V.Handler.holds text) c.args.sink.now c.args.object.now c.escaped_key.new.sink c.escaped_key.new.object in
           key_same g.V.Handler.silent c.escaped_key.new.self.reported (names p.buf.now) c.escaped_key.result (size_of q) (size_of p) _ _ (rest_of c.escaped_key.new.self) (sym (same_size p q on)) (key_quoted p q on (c.if-not-take_after_whitespace.ensures.rest ∙ ap (λ s. 34 ∷ rest_of s) stays))
-          (subst (λ b. Builds g.V.Handler.silent c.escaped_key.new.self.reported (AsKey (names b.now) (size_of q) (rest_of c.escaped_key.new.self)) c.escaped_key.result (string_at (size_of q) (mode_of q.mode) 34 (rest_of q)) (rest_of c.escaped_key.new.self)) on.buf c.escaped_key.ensures.parses);
+          (subst (λ b. Builds g.V.Handler.silent c.escaped_key.new.self.reported (AsKey (names b.now) (size_of q) (rest_of c.escaped_key.new.self)) c.escaped_key.result (string_at (size_of q) (grammar_of q.grammar) 34 (rest_of q)) (rest_of c.escaped_key.new.self)) on.buf c.escaped_key.ensures.parses);
       advances = search rules;
     }

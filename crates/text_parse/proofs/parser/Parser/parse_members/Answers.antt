@@ -8,7 +8,7 @@ use Rattle.text_parse.specs.declared.parser.frame.Frame.TheVariants as variants
 use Rattle.jsonb_spec.specs.Tree.{Mark}
 use Rattle.jsonb_spec.specs.Tree.Mark.{plain}
 use Rattle.jsonb_spec.specs.Code.Code.{expected_object_comma_or_end}
-use Rattle.text_scan.specs.Answer.{mode_of}
+use Rattle.text_scan.specs.Answer.{grammar_of}
 use Rattle.text_scan.specs.Parsing.{◌>>=◌}
 use Rattle.text_scan.specs.Parsing.Whitespace.{skip_whitespace}
 use Rattle.text_scan.specs.Parsing.Scalar.{scalar_at}
@@ -33,7 +33,7 @@ returns-in_err-key g c =
           let silent = g.V.Handler.silent in
           let t = c.begin_member.new.self.reported in
           let residual = err_from_is_err_and c.from_residual.result c.from_residual.ensures.1 in
-          rw (residual.1) (misses_same silent t (parse_at member_start l >>= waits p depth so_far.0) (next_part_at (size_of p) (mode_of p.mode) depth o (rest_of p))
+          rw (residual.1) (misses_same silent t (parse_at member_start l >>= waits p depth so_far.0) (next_part_at (size_of p) (grammar_of p.grammar) depth o (rest_of p))
           (so_far.4 ∙ member_due p l depth so_far.0 i.advances)
           (misses_through silent t (parse_at member_start l) (waits p depth so_far.0) c.in_err-key.ensures.parses));
       onward = search rules;
@@ -58,7 +58,7 @@ returns-then-branch g c =
             so_far = here;
             fits = tt;
             held = subst (λ f. h.holds text c.put_member.new.sink true (f ∷ fs) (here ∷ cs)) (sym stop.same_frame) (subst (λ r. h.holds text r true (variants.Object (record { members = c.begin_member.new.object.members; key = c.in_ok-key.key }) ∷ fs) (here ∷ cs)) (sym stop.same_sink) (begun so_far.0 so_far.1 so_far.2 fs cs so_far.3));
-            parses = so_far.4 ∙ member_due p c.members.self depth so_far.0 i.advances ∙ ap (λ x. x >>= waits p depth so_far.0) key.2 ∙ ap (λ q. resume_value (size_of p) (mode_of p.mode) depth false here (rest_of q)) (sym stop.stays);
+            parses = so_far.4 ∙ member_due p c.members.self depth so_far.0 i.advances ∙ ap (λ x. x >>= waits p depth so_far.0) key.2 ∙ ap (λ q. resume_value (size_of p) (grammar_of p.grammar) depth false here (rest_of q)) (sym stop.stays);
           };
       onward = search rules;
       opens = subst (λ q. OpensContainer (rest_of q)) (sym stop.stays) stop.opens;
@@ -80,7 +80,7 @@ returns-in_err-put_member g c =
           let t = c.put_member.new.self.reported in
           let on = goes_on p l s i.advances c.begin_member.ensures.advances.parser in
           let residual = err_from_is_err_and c.from_residual-in_err-put_member.result c.from_residual-in_err-put_member.ensures.1 in
-          rw (residual.1) (misses_same silent t (parse_at scalar_at s >>= after_member p depth so_far.0 key.0.0 key.0.1) (next_part_at (size_of p) (mode_of p.mode) depth o (rest_of p))
+          rw (residual.1) (misses_same silent t (parse_at scalar_at s >>= after_member p depth so_far.0 key.0.0 key.0.1) (next_part_at (size_of p) (grammar_of p.grammar) depth o (rest_of p))
           (so_far.4 ∙ member_due p l depth so_far.0 i.advances ∙ ap (λ x. x >>= waits p depth so_far.0) key.2
           ∙ member_turn p s depth so_far.0 key.0.0 key.0.1 on n.fails.0.0 n.fails.0.1)
           (misses_through silent t (parse_at scalar_at s) (after_member p depth so_far.0 key.0.0 key.0.1) n.fails.1));
@@ -105,14 +105,14 @@ returns-in_err-end_part g c =
           let t = c.end_part.new.self.reported in
           let on = goes_on p l s i.advances c.begin_member.ensures.advances.parser in
           let more = members_so_far (so_far.0 ++ found_member key.0.0 (source_alone put.tree) key.0.1 ∷ []) (plain, []) 0 in
-          let ends = part_end (size_of q) expected_object_comma_or_end 125 (skip_whitespace (mode_of q.mode) (rest_of q)) in
+          let ends = part_end (size_of q) expected_object_comma_or_end 125 (skip_whitespace (grammar_of q.grammar) (rest_of q)) in
           let residual = err_from_is_err_and c.from_residual-in_err-end_part.result c.from_residual-in_err-end_part.ensures.1 in
-          rw (residual.1) (misses_same silent t (ends >>= λ y. resume_part (size_of p) (mode_of p.mode) depth y.0 more y.1) (next_part_at (size_of p) (mode_of p.mode) depth o (rest_of p))
+          rw (residual.1) (misses_same silent t (ends >>= λ y. resume_part (size_of p) (grammar_of p.grammar) depth y.0 more y.1) (next_part_at (size_of p) (grammar_of p.grammar) depth o (rest_of p))
           (so_far.4 ∙ member_due p l depth so_far.0 i.advances ∙ ap (λ x. x >>= waits p depth so_far.0) key.2
           ∙ member_turn p s depth so_far.0 key.0.0 key.0.1 on put.none_opens.0 put.none_opens.1
           ∙ ap (λ x. x >>= after_member p depth so_far.0 key.0.0 key.0.1) put.parses
-          ∙ ap (λ x. x >>= λ y. resume_part (size_of p) (mode_of p.mode) depth y.0 more y.1) (sym (same_end p q expected_object_comma_or_end 125 (goes_on p s q on c.put_member.ensures.advances.parser))))
-          (misses_through silent t ends (λ y. resume_part (size_of p) (mode_of p.mode) depth y.0 more y.1) (reports_always silent t ends c.in_err-end_part.ensures.parses)));
+          ∙ ap (λ x. x >>= λ y. resume_part (size_of p) (grammar_of p.grammar) depth y.0 more y.1) (sym (same_end p q expected_object_comma_or_end 125 (goes_on p s q on c.put_member.ensures.advances.parser))))
+          (misses_through silent t ends (λ y. resume_part (size_of p) (grammar_of p.grammar) depth y.0 more y.1) (reports_always silent t ends c.in_err-end_part.ensures.parses)));
       onward = search rules;
       opens = search rules;
       advances = search rules;
@@ -147,8 +147,8 @@ returns-then-branch-2 g c =
                 so_far.4 ∙ member_due p l depth so_far.0 i.advances ∙ ap (λ x. x >>= waits p depth so_far.0) key.2
                 ∙ member_turn p s depth so_far.0 key.0.0 key.0.1 on put.none_opens.0 put.none_opens.1
                 ∙ ap (λ x. x >>= after_member p depth so_far.0 key.0.0 key.0.1) put.parses
-                ∙ ap (λ x. x >>= λ y. resume_part (size_of p) (mode_of p.mode) depth y.0 more y.1) (sym (same_end p q expected_object_comma_or_end 125 (goes_on p s q on c.put_member.ensures.advances.parser)) ∙ ended.2)
-                ∙ ap (λ closed. resume_part (size_of p) (mode_of p.mode) depth closed more (rest_of r)) (sym ended.1 ∙ c.if-branch-2.true);
+                ∙ ap (λ x. x >>= λ y. resume_part (size_of p) (grammar_of p.grammar) depth y.0 more y.1) (sym (same_end p q expected_object_comma_or_end 125 (goes_on p s q on c.put_member.ensures.advances.parser)) ∙ ended.2)
+                ∙ ap (λ closed. resume_part (size_of p) (grammar_of p.grammar) depth closed more (rest_of r)) (sym ended.1 ∙ c.if-branch-2.true);
           };
       onward = search rules;
       opens = search rules;
@@ -164,7 +164,7 @@ members-init g c =
       parses = begun;
     }
   where
-    begun : (depth : ℕ) (o : Open) (fs : List (Frame g.row.V-Items.Denot g.row.V-Members.Denot g.row.V-Key.Denot)) (cs : List Open) → IsObject o → g.V.Handler.holds c.args.self.now.buf.now c.args.sink.now false (variants.Object c.args.object.now ∷ fs) (o ∷ cs) → (ms : List Found) × (k : Mark × List ℕ) × (offset : ℕ) × g.V.Handler.holds c.args.self.now.buf.now c.args.sink.now false (variants.Object c.args.object.now ∷ fs) (members_so_far ms k offset ∷ cs) × (next_part_at (size_of c.args.self.now) (mode_of c.args.self.now.mode) depth o (rest_of c.args.self.now) ≡ object_members_from (size_of c.args.self.now) (mode_of c.args.self.now.mode) depth ms (rest_of c.args.self.now))
+    begun : (depth : ℕ) (o : Open) (fs : List (Frame g.row.V-Items.Denot g.row.V-Members.Denot g.row.V-Key.Denot)) (cs : List Open) → IsObject o → g.V.Handler.holds c.args.self.now.buf.now c.args.sink.now false (variants.Object c.args.object.now ∷ fs) (o ∷ cs) → (ms : List Found) × (k : Mark × List ℕ) × (offset : ℕ) × g.V.Handler.holds c.args.self.now.buf.now c.args.sink.now false (variants.Object c.args.object.now ∷ fs) (members_so_far ms k offset ∷ cs) × (next_part_at (size_of c.args.self.now) (grammar_of c.args.self.now.grammar) depth o (rest_of c.args.self.now) ≡ object_members_from (size_of c.args.self.now) (grammar_of c.args.self.now.grammar) depth ms (rest_of c.args.self.now))
     begun depth (elements_so_far ss) fs cs fits held = absurd fits
     begun depth (members_so_far ms k offset) fs cs fits held = (ms, k, offset, held, refl)
 
@@ -198,7 +198,7 @@ members-preserved g c =
             so_far.4 ∙ member_due p l depth so_far.0 i.advances ∙ ap (λ x. x >>= waits p depth so_far.0) key.2
                 ∙ member_turn p s depth so_far.0 key.0.0 key.0.1 on put.none_opens.0 put.none_opens.1
                 ∙ ap (λ x. x >>= after_member p depth so_far.0 key.0.0 key.0.1) put.parses
-                ∙ ap (λ x. x >>= λ y. resume_part (size_of p) (mode_of p.mode) depth y.0 more y.1) (sym (same_end p q expected_object_comma_or_end 125 (goes_on p s q on c.put_member.ensures.advances.parser)) ∙ ended.2)
-                ∙ ap (λ closed. resume_part (size_of p) (mode_of p.mode) depth closed more (rest_of r)) (sym ended.1 ∙ c.if-branch-2.false),
+                ∙ ap (λ x. x >>= λ y. resume_part (size_of p) (grammar_of p.grammar) depth y.0 more y.1) (sym (same_end p q expected_object_comma_or_end 125 (goes_on p s q on c.put_member.ensures.advances.parser)) ∙ ended.2)
+                ∙ ap (λ closed. resume_part (size_of p) (grammar_of p.grammar) depth closed more (rest_of r)) (sym ended.1 ∙ c.if-branch-2.false),
           );
     }

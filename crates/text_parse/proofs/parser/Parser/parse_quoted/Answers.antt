@@ -7,9 +7,11 @@ use Rattle.jsonb_value.specs.View.{mark_view}
 use Rattle.jsonb_value.specs.declared.error.Error.{Error}
 use Rattle.jsonb_value.specs.declared.error.Error.TheVariants.{OutOfMemory}
 use Rattle.text_scan.specs.Decoding.{ReportsBackslash}
-use Rattle.text_scan.specs.Answer.{mode_of}
+use Rattle.text_scan.specs.Answer.{grammar_of}
 use Rattle.text_parse.specs.Parser.{rest_of, size_of}
 use Rattle.text_scan.specs.QuotedString.{DecodesContents}
+use Rattle.text_scan.specs.StrictString.{RejectsContents}
+use Rattle.text_scan.proofs.Strings.Rows.{rejects_decoded}
 use Rattle.text_scan.specs.Parsing.{fault}
 use Rattle.text_scan.specs.Parsing.String.{body_of, quote_end}
 use Rattle.text_scan.proofs.Strings.Ends.{quote_within}
@@ -19,10 +21,32 @@ use Rattle.text_parse.proofs.parser.Parser.parse_quoted.Goals as goal
 same_error : {A : Type 0} (r : Result A Error) (x y : Error) → r ≡ Err x → r ≡ Err OutOfMemory → x ≡ y → y ≡ OutOfMemory
 same_error r x y was is same = cc
 
-pub slice_bounds-decode_contents-end : goal.slice_bounds-decode_contents-end
-slice_bounds-decode_contents-end c =
+pub slice_bounds-body-end : goal.slice_bounds-body-end
+slice_bounds-body-end c =
     let within = quote_within c.args.quote c.rest-rest.result.now c.in-Closed.end c.in-Closed.ensures.0 in
     sym (length-take-le c.in-Closed.end c.rest-rest.result.now (omega (arith, within)))
+
+pub returns-in_err-check_grammar-in-Closed : goal.returns-in_err-check_grammar-in-Closed
+returns-in_err-check_grammar-in-Closed c =
+    record {
+      parses =
+          let p = c.args.self.now in
+          let rest-is = c.rest-rest.ensures in
+          let end = c.in-Closed.end in
+          let e = c.in_err-check_grammar-in-Closed.field-0.0 in
+          let r = err_from_is_err_and c.from_residual.result c.from_residual.ensures.1 in
+          let mode = grammar_of p.grammar in
+          let found = ap (quote_end c.args.quote) (sym rest-is) ∙ c.in-Closed.ensures.0 in
+          let body = subst (λ (u : List ℕ). DecodesContents (p.offset + 1) (Err e) (body_of mode (take end u))) rest-is (rejects_decoded (p.offset + 1) e _ c.in_err-check_grammar-in-Closed.ensures.rejected) in
+          rw (r.1, r.2) (body_fails (size_of p) mode c.args.quote (rest_of p) end p.offset e found (omega (arith, length-drop p.offset p.buf.now, c.args.self.now.inside)) body);
+      memory = λ is.
+          let r = err_from_is_err_and c.from_residual.result c.from_residual.ensures.1 in
+          let p = c.args.self.now in
+          let read = body_of (grammar_of p.grammar) (take c.in-Closed.end c.rest-rest.result.now) in
+          let none : RejectsContents (p.offset + 1) OutOfMemory read = subst (λ x. RejectsContents (p.offset + 1) x read) (same_error _ _ _ r.1 is r.2) c.in_err-check_grammar-in-Closed.ensures.rejected in
+          absurd none;
+      advances = search rules;
+    }
 
 pub returns-in_err-text-in-Closed : goal.returns-in_err-text-in-Closed
 returns-in_err-text-in-Closed c =
@@ -32,15 +56,15 @@ returns-in_err-text-in-Closed c =
           let rest-is = c.rest-rest.ensures in
           let end = c.in-Closed.end in
           let e = c.in_err-text-in-Closed.field-0.0 in
-          let r = err_from_is_err_and c.from_residual.result c.from_residual.ensures.1 in
-          let mode = mode_of p.mode in
+          let r = err_from_is_err_and c.from_residual-in_err-text-in-Closed.result c.from_residual-in_err-text-in-Closed.ensures.1 in
+          let mode = grammar_of p.grammar in
           let found = ap (quote_end c.args.quote) (sym rest-is) ∙ c.in-Closed.ensures.0 in
-          let body = subst (λ (u : List ℕ). DecodesContents (p.offset + 1) (Err e) (body_of mode (take end u))) rest-is c.in_err-text-in-Closed.ensures.parses in
+          let body = subst (λ (u : List ℕ). DecodesContents (p.offset + 1) (Err e) (body_of mode (take end u))) rest-is (subst (DecodesContents (p.offset + 1) (Err e)) (sym c.in_ok-check_grammar-in-Closed.ensures.passed) c.in_err-text-in-Closed.ensures.parses) in
           rw (r.1, r.2) (body_fails (size_of p) mode c.args.quote (rest_of p) end p.offset e found (omega (arith, length-drop p.offset p.buf.now, c.args.self.now.inside)) body);
       memory = λ is.
           let p = c.args.self.now in
           let rest-is = c.rest-rest.ensures in
-          let r = err_from_is_err_and c.from_residual.result c.from_residual.ensures.1 in
+          let r = err_from_is_err_and c.from_residual-in_err-text-in-Closed.result c.from_residual-in_err-text-in-Closed.ensures.1 in
           let end = c.in-Closed.end in
           let sees : c.in-Closed.escaped ≡ true = c.in_err-text-in-Closed.ensures.memory (ap Err (same_error _ _ _ r.1 is r.2)) in
           let found = ap (quote_end c.args.quote) (sym rest-is) ∙ c.in-Closed.ensures.0 in
@@ -56,8 +80,8 @@ overflow_add-self-in-Closed c =
     let p = c.args.self.now in
     omega (arith, within, ap length c.rest-rest.ensures, length-drop p.offset p.buf.now)
 
-pub overflow_add-self-in-Closed-2 : goal.overflow_add-self-in-Closed-2
-overflow_add-self-in-Closed-2 c =
+pub overflow_add-self : goal.overflow_add-self
+overflow_add-self c =
     let within = quote_within c.args.quote c.rest-rest.result.now c.in-Closed.end c.in-Closed.ensures.0 in
     let p = c.args.self.now in
     omega (arith, within, ap length c.rest-rest.ensures, length-drop p.offset p.buf.now)
@@ -69,7 +93,7 @@ returns-in-Unclosed c =
           let p = c.args.self.now in
           let none = ap (quote_end c.args.quote) (sym c.rest-rest.ensures) ∙ c.in-Unclosed.ensures.0 in
           let offset : size_of p - length (rest_of p) + c.in-Unclosed.at ≡ p.offset + c.in-Unclosed.at = omega (arith, length-drop p.offset p.buf.now, c.args.self.now.inside) in
-          string-unclosed (size_of p) (mode_of p.mode) c.args.quote (rest_of p) c.in-Unclosed.at none ∙ ap (λ (k : ℕ). fault invalid_eof k) offset;
+          string-unclosed (size_of p) (grammar_of p.grammar) c.args.quote (rest_of p) c.in-Unclosed.at none ∙ ap (λ (k : ℕ). fault invalid_eof k) offset;
       memory = search rules;
       advances = search rules;
     }
@@ -81,9 +105,9 @@ returns-in_ok-text-in-Closed c =
           let p = c.args.self.now in
           let rest-is = c.rest-rest.ensures in
           let end = c.in-Closed.end in
-          let mode = mode_of p.mode in
+          let mode = grammar_of p.grammar in
           let found = ap (quote_end c.args.quote) (sym rest-is) ∙ c.in-Closed.ensures.0 in
-          let body = ap (λ (u : List ℕ). body_of mode (take end u)) (sym rest-is) ∙ c.in_ok-text-in-Closed.ensures.parses in
+          let body = ap (λ (u : List ℕ). body_of mode (take end u)) (sym rest-is) ∙ c.in_ok-check_grammar-in-Closed.ensures.passed ∙ c.in_ok-text-in-Closed.ensures.parses in
           string-closed (size_of p) mode c.args.quote (rest_of p) end _ found body ∙ ap (λ (u : List ℕ). Ok ((mark_view c.in_ok-text-in-Closed.text, cow_str_bytes c.in_ok-text-in-Closed.text), u)) (drop-drop (end + 1) p.offset p.buf.now);
       memory = search rules;
       advances = search rules;
@@ -98,4 +122,4 @@ pub invariant_of-self : goal.invariant_of-self
 invariant_of-self c =
     let within = quote_within c.args.quote c.rest-rest.result.now c.in-Closed.end c.in-Closed.ensures.0 in
     let p = c.args.self.now in
-    record { inside = omega (arith, within, ap length c.rest-rest.ensures, length-drop p.offset p.buf.now, p.inside) }
+    record { inside = omega (arith, within, ap length c.rest-rest.ensures, length-drop p.offset p.buf.now, p.inside); agree = p.agree }

@@ -1,5 +1,5 @@
 use Rattle.std.proofs.Common.{◌≡◌, drop}
-use Rattle.text_scan.specs.Answer.{mode_of}
+use Rattle.text_scan.specs.Answer.{grammar_of}
 use Rattle.text_parse.specs.Parser.{Advances, rest_of, size_of}
 use Rattle.text_scan.specs.Parsing.Scalar.{letters_at}
 use Rattle.text_parse.proofs.parser.Parser.parse_word.Given as goal
@@ -7,5 +7,5 @@ use Rattle.jsonb_spec.specs.Mode.{strictness}
 
 abbrev pub invariant-letters : goal.invariant-letters
 invariant-letters l =
-    (letters_at (size_of l.initial.self) (strictness (mode_of l.initial.self.mode)) l.word (rest_of l.initial.self) ≡ letters_at (size_of l.initial.self) (strictness (mode_of l.initial.self.mode)) (drop l.letter-index l.word) (rest_of l.self))
+    (letters_at (size_of l.initial.self) (strictness (grammar_of l.initial.self.grammar)) l.word (rest_of l.initial.self) ≡ letters_at (size_of l.initial.self) (strictness (grammar_of l.initial.self.grammar)) (drop l.letter-index l.word) (rest_of l.self))
     × Advances l.initial.self l.self

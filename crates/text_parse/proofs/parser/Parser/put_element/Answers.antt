@@ -1,7 +1,7 @@
 use Rattle.std.proofs.Common.{Ok, inl, sym, rules}
 use Rattle.std.proofs.lemmas.Bool.{cond-true}
 use Rattle.jsonb_spec.specs.Tree.{null}
-use Rattle.text_scan.specs.Answer.{mode_of}
+use Rattle.text_scan.specs.Answer.{grammar_of}
 use Rattle.text_scan.specs.Parsing.Container.{is_left_out}
 use Rattle.text_scan.specs.Parsing.Scalar.{scalar_at}
 use Rattle.jsonb_spec.specs.Source.{null_source}
@@ -17,7 +17,7 @@ returns g c =
       parses =
           let p = c.args.self.now in
           let h = g.V.Handler in
-          let mode = mode_of p.mode in
+          let mode = grammar_of p.grammar in
           put_so h.silent h.holds _ p.buf.now p c.put.new.self c.args.sink.now c.put.new.sink c.put.result (variants.Array c.args.items.now) null _ (variants.Array c.put.new.container) c.put.ensures.put c.put.ensures.same c.put.ensures.reported (inl (c.scalar-null.ensures, not_encoded p.buf.now p.offset null_source))
           (cond-true (is_left_out (strictness mode) (rest_of p)) (Ok (null, rest_of p)) (scalar_at (size_of p) mode (rest_of p)) (sym c.if-not-is_left_out.ensures));
       advances = search rules;

@@ -11,6 +11,6 @@ returns-in-Some g c =
           let q = c.short_string.new.self in
           let h = g.V.Handler in
           let passed = c.in-Some.ensures.passes in
-          put_so h.silent h.holds _ p.buf.now q c.put.new.self c.args.sink.now c.put.new.sink c.put.result (g.S.Slot.before c.args.container.now c.args.slot) (string passed.mark passed.text) _ (g.S.Slot.after c.put.new.container) c.put.ensures.put c.put.ensures.same c.put.ensures.reported (inr (record { verbatim = c.in-Some.verbatim; is = c.scalar.ensures (sym c.wants.ensures ∙ c.in-Some.ensures.asked); holds = passed.holds })) passed.parses;
+          put_so h.silent h.holds _ p.buf.now q c.put.new.self c.args.sink.now c.put.new.sink c.put.result (g.S.Slot.before c.args.container.now c.args.slot) (string passed.mark passed.text) _ (g.S.Slot.after c.put.new.container) c.put.ensures.put c.put.ensures.same c.put.ensures.reported (inr (record { verbatim = c.in-Some.verbatim; is = c.scalar.ensures (sym c.wants.ensures.verbatim ∙ c.in-Some.ensures.asked); holds = passed.holds })) passed.parses;
       advances = search rules;
     }

@@ -1,7 +1,7 @@
 use Rattle.std.proofs.Common.{inl, rules}
 use Rattle.jsonb_spec.specs.Tree.{string}
 use Rattle.jsonb_spec.specs.Tree.Mark.{plain}
-use Rattle.text_scan.specs.Answer.{mode_of}
+use Rattle.text_scan.specs.Answer.{grammar_of}
 use Rattle.text_parse.specs.Parser.{rest_of, size_of}
 use Rattle.text_parse.specs.Scalars.{text_view}
 use Rattle.text_parse.proofs.Scalars.Built.{cut_seen, key_holds, put_so, string_read}
@@ -19,6 +19,6 @@ returns-in-Some g c =
           let body = (text_view cut.cut).1 in
           put_so h.silent h.holds _ p.buf.now q c.put.new.self c.args.sink.now c.put.new.sink c.put.result (g.S.Slot.before c.args.container.now c.args.slot) (string plain body) _ (g.S.Slot.after c.put.new.container) c.put.ensures.put c.put.ensures.same c.put.ensures.reported
           (inl (cut_seen h.sees h.is_verbatim h.preserves c.scalar-string.result cut.cut cut.ensures.cut c.scalar-string.ensures, λ some. key_holds p p q body c.requires.opened.0 (stays p) c.cut_string.ensures.cuts.advances c.requires.opened cut.ensures.cuts.encoded))
-          (string_read (size_of p) (mode_of p.mode) 34 (rest_of p) (plain, body) _ cut.ensures.cuts.parses);
+          (string_read (size_of p) (grammar_of p.grammar) 34 (rest_of p) (plain, body) _ cut.ensures.cuts.parses);
       advances = search rules;
     }

@@ -20,7 +20,7 @@ returns-in-Standard g c =
     record {
       parses =
           let h = g.V.Handler in
-          puts_same h.silent c.put_standard_value.new.self.reported h.holds c.put_standard_value.result _ _ (sym (ap (λ o. o.buf.now) c.if-take_byte.ensures.rest)) _ _ _ _ _ _ _ (scalar_still c.args.self.now c.take_byte.new.self c.if-take_byte.ensures.rest) c.put_standard_value.ensures.parses;
+          puts_same h.silent c.put_strict_value.new.self.reported h.holds c.put_strict_value.result _ _ (sym (ap (λ o. o.buf.now) c.if-take_byte.ensures.rest)) _ _ _ _ _ _ _ (scalar_still c.args.self.now c.take_byte.new.self c.if-take_byte.ensures.rest) c.put_strict_value.ensures.parses;
       advances = search rules;
     }
 

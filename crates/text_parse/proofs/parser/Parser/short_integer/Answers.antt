@@ -1,6 +1,6 @@
 use Rattle.std.proofs.Common.{◌≡◌, true, Ok, drop, ap, subst, ◌∙◌, drop-drop, rules}
 use Rattle.std.specs.Prelude.{slice_index}
-use Rattle.text_scan.specs.Answer.{mode_of}
+use Rattle.text_scan.specs.Answer.{grammar_of}
 use Rattle.text_scan.specs.Parsing.Number.{is_number_start, standard_number_at}
 use Rattle.text_scan.specs.Parsing.Scalar.{number_at}
 use Rattle.text_scan.specs.ShortInteger.{short_view}
@@ -17,8 +17,8 @@ returns-clause-finds c =
           let read = c.in_ok-read.read in
           let n = short_view read in
           let same = c.rest.ensures in
-          number_at_once (size_of p) (mode_of p.mode) (rest_of p) n _ (subst (λ bs. is_number_start (slice_index bs 0) ≡ true) same c.in_ok-read.ensures.first)
-          (ap (λ m. number_at (size_of p) m (rest_of p)) c.requires.mode ∙ subst (λ bs. standard_number_at (size_of p) bs ≡ Ok (n, drop read.end bs)) same (c.in_ok-read.ensures.found (size_of p)) ∙ ap (λ r. Ok (n, r)) (drop-drop read.end p.offset p.buf.now));
+          number_at_once (size_of p) (grammar_of p.grammar) (rest_of p) n _ (subst (λ bs. is_number_start (slice_index bs 0) ≡ true) same c.in_ok-read.ensures.first)
+          (ap (λ m. number_at (size_of p) m (rest_of p)) c.requires.standard ∙ subst (λ bs. standard_number_at (size_of p) bs ≡ Ok (n, drop read.end bs)) same (c.in_ok-read.ensures.found (size_of p)) ∙ ap (λ r. Ok (n, r)) (drop-drop read.end p.offset p.buf.now));
       stays = search rules;
       advances = search rules;
     }

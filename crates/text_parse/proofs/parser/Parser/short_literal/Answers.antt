@@ -1,7 +1,7 @@
 use Rattle.std.proofs.Common.{◌≡◌, ◌≤◌, ◌∷◌, ℕ, List, length, get_or, arith, Ok, true, false, drop, ap, sym, ◌∙◌, drop-drop, rules}
 use Rattle.std.proofs.lemmas.List.{drop_more}
 use Rattle.jsonb_spec.specs.Tree.{null, boolean}
-use Rattle.text_scan.specs.Answer.{mode_of}
+use Rattle.text_scan.specs.Answer.{grammar_of}
 use Rattle.text_scan.specs.Parsing.Scalar.{scalar_at}
 use Rattle.text_parse.specs.Parser.{size_of}
 use Rattle.text_parse.proofs.Scalars.Built.{null_at_once, true_at_once, false_at_once}
@@ -13,7 +13,7 @@ returns-then-begins_with-clause-finds c =
       parses =
           let p = c.args.self.now in
           let rest = c.rest-rest.result.now in
-          ap (scalar_at (size_of p) (mode_of p.mode)) (sym c.rest-rest.ensures ∙ c.if-begins_with.ensures) ∙ null_at_once (size_of p) (mode_of p.mode) (drop 4 rest)
+          ap (scalar_at (size_of p) (grammar_of p.grammar)) (sym c.rest-rest.ensures ∙ c.if-begins_with.ensures) ∙ null_at_once (size_of p) (grammar_of p.grammar) (drop 4 rest)
           ∙ ap (λ r. Ok (null, r)) (ap (drop 4) c.rest-rest.ensures ∙ drop-drop 4 p.offset p.buf.now);
       stays = search rules;
       advances = search rules;
@@ -25,7 +25,7 @@ returns-then-begins_with-2-clause-finds c =
       parses =
           let p = c.args.self.now in
           let rest = c.rest-rest.result.now in
-          ap (scalar_at (size_of p) (mode_of p.mode)) (sym c.rest-rest.ensures ∙ c.if-begins_with-2.ensures) ∙ true_at_once (size_of p) (mode_of p.mode) (drop 4 rest)
+          ap (scalar_at (size_of p) (grammar_of p.grammar)) (sym c.rest-rest.ensures ∙ c.if-begins_with-2.ensures) ∙ true_at_once (size_of p) (grammar_of p.grammar) (drop 4 rest)
           ∙ ap (λ r. Ok (boolean true, r)) (ap (drop 4) c.rest-rest.ensures ∙ drop-drop 4 p.offset p.buf.now);
       stays = search rules;
       advances = search rules;
@@ -41,7 +41,7 @@ returns-then-rest-eq101-clause-finds c =
       parses =
           let p = c.args.self.now in
           let rest = c.rest-rest.result.now in
-          ap (scalar_at (size_of p) (mode_of p.mode)) (sym c.rest-rest.ensures ∙ with_last rest (omega arith) c.if-begins_with-3.ensures c.if-rest-eq101.true) ∙ false_at_once (size_of p) (mode_of p.mode) (drop 5 rest)
+          ap (scalar_at (size_of p) (grammar_of p.grammar)) (sym c.rest-rest.ensures ∙ with_last rest (omega arith) c.if-begins_with-3.ensures c.if-rest-eq101.true) ∙ false_at_once (size_of p) (grammar_of p.grammar) (drop 5 rest)
           ∙ ap (λ r. Ok (boolean false, r)) (ap (drop 5) c.rest-rest.ensures ∙ drop-drop 5 p.offset p.buf.now);
       stays = search rules;
       advances = search rules;

@@ -1,7 +1,7 @@
 use Rattle.std.proofs.Common.{◌≡◌, Bool, true, false, ◌∷◌, MatchBool, ap, sym, ◌∙◌, rules}
 use Rattle.jsonb_spec.specs.Grammar.Whitespace.IsWhitespacePiece.{space}
 use Rattle.jsonb_spec.specs.Mode.{Mode}
-use Rattle.text_scan.specs.Answer.{mode_of}
+use Rattle.text_scan.specs.Answer.{grammar_of}
 use Rattle.text_scan.specs.Parsing.Whitespace.{skip_whitespace}
 use Rattle.text_parse.specs.Parser.{rest_of}
 use Rattle.text_parse.specs.declared.parser.Parser.{Parser}
@@ -17,6 +17,6 @@ pub returns : goal.returns
 returns c =
     record {
       rest =
-          passed (mode_of c.args.self.now.mode) c.take_byte-found.result c.args.self.now c.take_byte-found.new.self c.take_byte-found.ensures.rest;
+          passed (grammar_of c.args.self.now.grammar) c.take_byte-found.result c.args.self.now c.take_byte-found.new.self c.take_byte-found.ensures.rest;
       advances = search rules;
     }

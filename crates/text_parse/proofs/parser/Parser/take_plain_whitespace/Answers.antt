@@ -1,7 +1,7 @@
 use Rattle.std.proofs.Common.{◌≡◌, ℕ, [], ◌∷◌, refl, sym, ap, ◌∙◌, rules}
 use Rattle.jsonb_spec.specs.Grammar.Whitespace.{IsWhitespacePiece}
 use Rattle.jsonb_spec.specs.Grammar.Whitespace.IsWhitespacePiece.{space, tab, line_feed, carriage_return}
-use Rattle.text_scan.specs.Answer.{mode_of}
+use Rattle.text_scan.specs.Answer.{grammar_of}
 use Rattle.text_parse.specs.Parser.{rest_of}
 use Rattle.text_scan.specs.Parsing.Whitespace.{skip_closed_whitespace}
 use Rattle.text_parse.specs.declared.parser.Parser.{Parser}
@@ -9,8 +9,8 @@ use Rattle.text_scan.proofs.Text.Whitespace.{pass-piece}
 use Rattle.text_parse.proofs.parser.Parser.take_plain_whitespace.Goals as goal
 
 -- one byte that is whitespace was passed
-passed : (p q r : Parser) (byte : ℕ) → q ≡ p → rest_of q ≡ byte ∷ rest_of r → IsWhitespacePiece (mode_of p.mode) (byte ∷ []) → skip_closed_whitespace (mode_of p.mode) (rest_of r) ≡ skip_closed_whitespace (mode_of p.mode) (rest_of p)
-passed p q r byte same rest piece = sym (ap (λ s. skip_closed_whitespace (mode_of p.mode) (rest_of s)) (sym same) ∙ ap (skip_closed_whitespace (mode_of p.mode)) rest ∙ pass-piece piece (rest_of r))
+passed : (p q r : Parser) (byte : ℕ) → q ≡ p → rest_of q ≡ byte ∷ rest_of r → IsWhitespacePiece (grammar_of p.grammar) (byte ∷ []) → skip_closed_whitespace (grammar_of p.grammar) (rest_of r) ≡ skip_closed_whitespace (grammar_of p.grammar) (rest_of p)
+passed p q r byte same rest piece = sym (ap (λ s. skip_closed_whitespace (grammar_of p.grammar) (rest_of s)) (sym same) ∙ ap (skip_closed_whitespace (grammar_of p.grammar)) rest ∙ pass-piece piece (rest_of r))
 
 pub returns-then-take_byte-clause-skips : goal.returns-then-take_byte-clause-skips
 returns-then-take_byte-clause-skips c =

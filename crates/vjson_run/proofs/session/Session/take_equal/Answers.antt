@@ -1,6 +1,7 @@
 use Rattle.std.proofs.Common.{true, false, [], Some, ap, refl, sym, subst}
 use Rattle.std.proofs.lemmas.List.Elements.{same_from_all_zip}
-use Rattle.vjson_text.specs.Json.{AppendsKeyOf}
+use Rattle.std.proofs.lemmas.Result.{err_from_is_err_and}
+use Rattle.vjson_text.specs.Texts.{AppendsKeyOf, Rejects}
 use Rattle.vjson_run.specs.Runs.{Differs}
 use Rattle.vjson_text.specs.declared.fault.Fault.TheVariants.{NoMemory}
 use Rattle.std.proofs.Common.{◌≡◌, inr, rules, Err}
@@ -37,6 +38,11 @@ pub returns-in_err-make_whole_key-clause-memory : goal.returns-in_err-make_whole
 returns-in_err-make_whole_key-clause-memory g c = λ is.
     let lack : c.make_whole_key.result ≡ Err NoMemory = search rules in
     c.make_whole_key.ensures.memory lack
+
+pub returns-in_err-key-clause-rejected : goal.returns-in_err-key-clause-rejected
+returns-in_err-key-clause-rejected g c =
+    let p = err_from_is_err_and c.from_residual-in_err-key.result c.from_residual-in_err-key.ensures.1 in
+    subst (Rejects c.args.self.now.options.now.grammar c.args.text.now) (sym p.1) (λ other. absurd (other p.2))
 
 pub returns-in_err-key-clause-memory : goal.returns-in_err-key-clause-memory
 returns-in_err-key-clause-memory g c = λ is. inr (c.in_ok-make_whole_key.ensures.ok.tree, c.in_ok-make_whole_key.ensures.ok.is_text)

@@ -4,4 +4,4 @@ use Rattle.text_write.proofs.Checks.{value_ended}
 use Rattle.jsonb.proofs.parser.handler.check.CheckedPartHandler.insert.Goals as goal
 
 pub returns-clause-put : goal.returns-clause-put
-returns-clause-put c = λ text s front k offset fs cs held is. value_ended s (plain, []) 0 held
+returns-clause-put g c = λ text s front k offset fs cs held is. value_ended s (plain, []) 0 held

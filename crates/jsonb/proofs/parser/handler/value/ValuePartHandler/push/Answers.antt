@@ -7,7 +7,7 @@ use Rattle.jsonb.proofs.Containers.Built.{on_ok, seen-snoc}
 use Rattle.jsonb.proofs.parser.handler.value.ValuePartHandler.push.Goals as goal
 
 pub returns-clause-put : goal.returns-clause-put
-returns-clause-put c = on_ok c.push_scalar.result
+returns-clause-put g c = on_ok c.push_scalar.result
     (λ put text s ss fs cs held is. (
       subst (λ vs. AreSeen (λ v s. view v ≡ tree_of_source s) vs (ss ++ s ∷ [])) (sym put) (seen-snoc (λ v s. view v ≡ tree_of_source s) c.args.items.now.items ss c.args.value.value s held.0 (all_made is).0),
       held.1,

@@ -1,4 +1,0 @@
-pub mod Exponents
-pub mod PassedWords
-pub mod Strings
-pub mod Tokens
