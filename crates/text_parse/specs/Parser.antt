@@ -8,7 +8,7 @@ use Rattle.jsonb_spec.specs.Tree.Mark.{plain}
 use Rattle.jsonb_spec.specs.Source.{Source, number_source}
 use Rattle.text_common.specs.VerbatimScalar.{IsVerbatimAt}
 use Rattle.text_common.specs.declared.verbatim.Verbatim.{Verbatim}
-use Rattle.text_common.specs.declared.verbatim.Verbatim.TheVariants.{Integer}
+use Rattle.text_common.specs.declared.verbatim.Verbatim.TheVariants.{Integer, Decimal}
 use Rattle.jsonb_value.specs.declared.error.Error.{Error}
 use Rattle.jsonb_value.specs.declared.error.Error.TheVariants.{OutOfMemory}
 use Rattle.text_parse.specs.declared.parser.Parser.{Parser}
@@ -19,6 +19,9 @@ use Rattle.text_scan.specs.Parsing.Scalar.{scalar_at}
 use Rattle.text_scan.specs.Parsing.Document.{source_from}
 use Rattle.text_scan.specs.Parsing.Whitespace.{skip_closed_whitespace}
 use Rattle.text_scan.specs.Answer.{grammar_of, Gives}
+use Rattle.text_scan.specs.VerbatimNumber.{IsBeforePoint}
+use Rattle.text_scan.specs.declared.parser.integer.StrictFront.{StrictFront}
+use Rattle.text_scan.specs.declared.parser.integer.StrictFront.TheVariants as front
 
 -- the bytes from the index on
 abbrev pub rest_of : Parser → List ℕ
@@ -179,11 +182,26 @@ pub record PassesNumber (verbatim : Verbatim) (old new : Parser) : Type 0 where
   pub parses : parse_at scalar_at old ≡ Ok (number value, rest_of new)
   pub holds : IsVerbatimAt verbatim old.buf.now old.offset new.offset (number_source value)
 
--- An integer is passed that is written by the same bytes again, where that is asked and one is found; else the parser
+-- An integer was passed that is written by the same bytes again, or the parser stays before so many digits and a point.
+abbrev pub PassesFront : Parser → Parser → StrictFront → Type 0
+PassesFront old new (front.Integer end) = PassesNumber Integer old new
+PassesFront old new (front.Point len) = (new ≡ old) × IsBeforePoint (rest_of old) len
+
+-- An integer is passed that is written by the same bytes again, or the digits before a point are counted, where that is
+-- asked and one of them is found; else the parser stays.
+pub record PreservesFront (is_asked : Bool) (result : Option StrictFront) (old new : Parser) : Type 0 where
+  -- what was found, or the parser stays
+  pub passes : MatchOption result (new ≡ old) (λ found. PassesFront old new found)
+  -- it was asked for
+  pub asked : IfSome result (λ found. is_asked ≡ true)
+  -- the parser has gone on in its input
+  pub advances : Advances old new
+
+-- A decimal is passed that is written by the same bytes again, where that is asked and one is found; else the parser
 -- stays.
-pub record PreservesInteger (is_asked result : Bool) (old new : Parser) : Type 0 where
-  -- an integer was passed, or the parser stays
-  pub passes : MatchBool result (PassesNumber Integer old new) (new ≡ old)
+pub record PreservesDecimal (is_asked result : Bool) (old new : Parser) : Type 0 where
+  -- a decimal was passed, or the parser stays
+  pub passes : MatchBool result (PassesNumber Decimal old new) (new ≡ old)
   -- it was asked for
   pub asked : MatchBool result (is_asked ≡ true) (Unit {0})
   -- the parser has gone on in its input

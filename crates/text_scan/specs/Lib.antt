@@ -7,6 +7,7 @@ pub mod ScannedNumber
 pub mod ExactRead
 pub mod ShortInteger
 pub mod Encoded
+pub mod StrictFront
 pub mod StrictString
 pub mod StringError
 pub mod VerbatimNumber

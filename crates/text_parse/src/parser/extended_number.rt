@@ -3,15 +3,16 @@ ghost use Rattle.std.specs.Prelude.{◌≡◌, ◌+◌, ◌-◌, ◌<◌, true, 
 ghost use Rattle.jsonb_value.specs.View.{number_view};
 ghost use Rattle.text_scan.specs.Answer.{grammar_of};
 ghost use Rattle.text_parse.specs.Grammars.{takes_decimals};
-ghost use Rattle.text_parse.specs.Parser.{PreservesNumber, ParsesAtOffset, rest_of};
+ghost use Rattle.text_parse.specs.Parser.{PreservesDecimal, PreservesNumber, ParsesAtOffset, rest_of};
 ghost use Rattle.text_scan.specs.Parsing.ExtendedNumber.{extended_number_at};
+ghost use Rattle.text_scan.specs.VerbatimNumber.{IsBeforePoint};
 
 use super::Parser;
 use jsonb_value::error::{Error, ParseErrorCode, Result};
 use jsonb_value::number::Number;
 use text_common::verbatim::Verbatim;
 use text_scan::parser::extended_number::{scan_number, short_number};
-use text_scan::parser::verbatim::verbatim_number;
+use text_scan::parser::verbatim::{verbatim_decimal, verbatim_number};
 
 impl Parser<'_> {
     // Passes a number that is written by the same bytes again, where the grammar has decimals, if that is asked and one
@@ -30,6 +31,28 @@ impl Parser<'_> {
             return Some(Verbatim::Decimal);
         }
         Some(Verbatim::Integer)
+    }
+
+    // Passes a decimal that is written by the same bytes again, where the grammar has decimals, if that is asked and
+    // one comes next, with a separator behind it. So many digits are before its point.
+    #[inline(always)]
+    pub(super) fn verbatim_decimal(&mut self, is_asked: bool, front: usize) -> bool
+        requires point { IsBeforePoint (rest_of self.old) front }
+        ensures { PreservesDecimal is_asked result self.old self.new }
+    {
+        if !is_asked {
+            return false;
+        }
+        if !self.takes_decimals() {
+            return false;
+        }
+        match verbatim_decimal(self.rest(), front) {
+            Some(end) => {
+                self.offset += end;
+                true
+            }
+            None => false,
+        }
     }
 
     // Parses the longest number text, and gives its number.

@@ -7,7 +7,7 @@ ghost use Rattle.text_scan.specs.Answer.{Fails, grammar_of};
 ghost use Rattle.jsonb_spec.specs.Mode.{standard, strict, strictness};
 ghost use Rattle.jsonb_spec.specs.Grammar.StandardNumber.{IsStandardNumber};
 ghost use Rattle.jsonb_spec.specs.Tree.{number};
-ghost use Rattle.text_parse.specs.Parser.{Finds, PreservesInteger, ParsesAtOffset, rest_of, size_of};
+ghost use Rattle.text_parse.specs.Parser.{Finds, PreservesFront, ParsesAtOffset, rest_of, size_of};
 ghost use Rattle.text_scan.specs.Parsing.Scalar.{scalar_at};
 ghost use Rattle.text_scan.specs.ShortInteger.{short_view};
 ghost use Rattle.text_scan.specs.Parsing.Number.{ContinuesAfterInteger, digits_from, exponent_from, fraction_from, whole_start, then_from, number_to, standard_number_at};
@@ -15,7 +15,7 @@ ghost use Rattle.text_scan.specs.Parsing.Number.{ContinuesAfterInteger, digits_f
 use super::Parser;
 use jsonb_value::error::{Error, ParseErrorCode, Result};
 use jsonb_value::number::Number;
-use text_scan::parser::integer::verbatim_integer;
+use text_scan::parser::integer::{StrictFront, strict_front};
 use text_scan::parser::number::{
     ShortInteger, after_minus, byte_at, continues_after_integer, integer, leading_digits,
     number_end, short_integer,
@@ -23,21 +23,22 @@ use text_scan::parser::number::{
 
 impl Parser<'_> {
     // Passes an integer of a strict text that is written by the same bytes again, if that is asked and one comes
-    // next.
+    // next. Digits before a point are counted, and not passed.
     #[inline(always)]
-    pub(super) fn verbatim_integer(&mut self, is_asked: bool) -> bool
+    pub(super) fn strict_front(&mut self, is_asked: bool) -> Option<StrictFront>
         requires strict { strictness (grammar_of self.old.grammar) ≡ strict }
-        ensures { PreservesInteger is_asked result self.old self.new }
+        ensures { PreservesFront is_asked result self.old self.new }
     {
         if !is_asked {
-            return false;
+            return None;
         }
-        match verbatim_integer(self.rest()) {
-            Some(end) => {
+        match strict_front(self.rest()) {
+            Some(StrictFront::Integer(end)) => {
                 self.offset += end;
-                true
+                Some(StrictFront::Integer(end))
             }
-            None => false,
+            Some(StrictFront::Point(front)) => Some(StrictFront::Point(front)),
+            None => None,
         }
     }
 

@@ -11,6 +11,7 @@ ghost use Rattle.text_parse.specs.Grammars.{may_cut, takes_decimals};
 ghost use Rattle.text_parse.specs.Parser.{Advances, Finds, IsAfterQuote, IsBehind, IsTextOf, ParsesAtOffset, TakesByte, rest_of, size_of};
 ghost use Rattle.text_scan.specs.Parsing.{begins};
 ghost use Rattle.text_scan.specs.Parsing.Scalar.{number_value_at, begins_letter, begins_single_quote, fold_letter, letters_at, null_at, number_at, quoted_at, scalar_at, word_at};
+ghost use Rattle.text_scan.specs.VerbatimNumber.{IsBeforePoint};
 ghost use Rattle.text_parse.specs.Steps.{MakesScalar, Puts, PutsIn};
 
 use super::handler::{Failed, Handler};
@@ -21,6 +22,7 @@ use super::{Grammar, Mode, Parser};
 use jsonb_value::error::{Error, ParseErrorCode};
 use jsonb_value::number::Number;
 use text_common::verbatim::Verbatim;
+use text_scan::parser::integer::StrictFront;
 
 // A letter as words have it: in extended mode in lower case.
 #[inline(always)]
@@ -78,7 +80,7 @@ impl<'a> Parser<'a> {
 
     // Whether the grammar has decimals.
     #[inline(always)]
-    fn takes_decimals(&self) -> bool
+    pub(super) fn takes_decimals(&self) -> bool
         ensures { result ≡ takes_decimals (grammar_of self.now.grammar) }
     {
         !matches!(self.grammar, Grammar::Standard)
@@ -153,8 +155,7 @@ impl<'a> Parser<'a> {
         }
     }
 
-    // Puts in a scalar of a strict text that is no string. Most numbers are integers of few digits, and many are
-    // written by the same bytes again.
+    // Puts in a scalar of a strict text that is no string. Many numbers are written by the same bytes again.
     #[inline(always)]
     fn put_strict_value<V: Handler<'a>, S: Slot<'a, V>>(
         &mut self,
@@ -169,15 +170,56 @@ impl<'a> Parser<'a> {
             (S.after container.new) }
     {
         let from = self.offset;
-        if self.verbatim_integer(V::wants().verbatim) {
-            return self.put::<V, S>(
-                sink,
-                container,
-                slot,
-                V::scalar(Scalar::Verbatim(Verbatim::Integer)),
-                from,
-            );
+        match self.strict_front(V::wants().verbatim) {
+            Some(StrictFront::Integer(_)) => {
+                let integer = V::scalar(Scalar::Verbatim(Verbatim::Integer));
+                self.put::<V, S>(sink, container, slot, integer, from)
+            }
+            Some(StrictFront::Point(front)) => {
+                self.put_decimal_value::<V, S>(sink, container, slot, text, front)
+            }
+            None => self.put_short_value::<V, S>(sink, container, slot, text),
         }
+    }
+
+    // Puts in a number that has a point behind so many digits. It is apart, since integers take longer beside it.
+    #[inline(never)]
+    fn put_decimal_value<V: Handler<'a>, S: Slot<'a, V>>(
+        &mut self,
+        sink: &mut V::Sink,
+        container: &mut S::Container,
+        slot: S,
+        text: &'a str,
+        front: usize,
+    ) -> Result<(), Failed>
+        requires point { IsBeforePoint (rest_of self.old) front }
+        requires same { IsTextOf text.now self.old }
+        ensures { Puts V.Handler scalar_at result self.old self.new sink.old sink.new (S.before container.old slot)
+            (S.after container.new) }
+    {
+        let from = self.offset;
+        if self.verbatim_decimal(V::wants().verbatim, front) {
+            let decimal = V::scalar(Scalar::Verbatim(Verbatim::Decimal));
+            return self.put::<V, S>(sink, container, slot, decimal, from);
+        }
+        self.put_other_scalar::<V, S>(sink, container, slot, text)
+    }
+
+    // Puts in a scalar of a strict text that is no string, and isn't put in from where it is. Most numbers are integers
+    // of few digits.
+    #[inline(always)]
+    fn put_short_value<V: Handler<'a>, S: Slot<'a, V>>(
+        &mut self,
+        sink: &mut V::Sink,
+        container: &mut S::Container,
+        slot: S,
+        text: &'a str,
+    ) -> Result<(), Failed>
+        requires same { IsTextOf text.now self.old }
+        ensures { Puts V.Handler scalar_at result self.old self.new sink.old sink.new (S.before container.old slot)
+            (S.after container.new) }
+    {
+        let from = self.offset;
         if !matches!(self.peek(), Some(b'a'..=b'z')) {
             if self.takes_decimals() {
                 return self.put_extended_value::<V, S>(sink, container, slot, text);

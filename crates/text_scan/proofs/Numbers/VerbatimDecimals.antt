@@ -18,9 +18,9 @@ use Rattle.jsonb_value.proofs.Numbers.InRange.{decimals, digits-append}
 use Rattle.jsonb_value.proofs.Numbers.Nearest.{unsigned_abs-signed}
 use Rattle.jsonb_value.proofs.Numbers.Pointed.{is_negative-pos, pointed_inside, pointed_before}
 use Rattle.text_scan.specs.Parsing.Number.{digits_length, has_minus, whole_start}
-use Rattle.text_scan.specs.VerbatimNumber.{IsDecimalBody, IsVerbatimDecimal}
+use Rattle.text_scan.specs.VerbatimNumber.{IsBeforePoint, IsDecimalBody, IsVerbatimDecimal}
 use Rattle.text_scan.proofs.Numbers.Forms.{below_power}
-use Rattle.text_scan.proofs.Numbers.Steps.{all_digits, digits_within, is_some}
+use Rattle.text_scan.proofs.Numbers.Steps.{all_digits, digits_stop, digits_within, is_some}
 use Rattle.text_scan.proofs.Numbers.Verbatim.{above_zero}
 
 -- ---- digits behind a point
@@ -118,10 +118,22 @@ pub counted_digits : (bytes : List ℕ) (len more : ℕ) → digits_length bytes
 counted_digits bytes len more counted =
     (subst (AllDigits 10) (take-take len (digits_length bytes) bytes (omega (arith, counted))) (digits-take len (take (digits_length bytes) bytes) (all_digits bytes)), length-take-le len bytes (omega (arith, counted, digits_within bytes)))
 
-pub decimal_body : (negative : Bool) (bytes behind : List ℕ) (front back : ℕ) → slice_index bytes front ≡ 46 → 0 < front → digits_length bytes ≡ front + digits_length (drop front bytes) → digits_length (drop (front + 1) bytes) ≡ back + digits_length (drop back (drop (front + 1) bytes))
+-- digits that were counted up to a point are all before it
+pub counted_before : (ds : List ℕ) (len next : ℕ) → digits_length ds ≡ len + digits_length (drop len ds) → next ≡ slice_index ds len → next ≡ 46 → digits_length ds ≡ len
+counted_before ds len next more is point = omega (arith, more, digits_stop ds len (λ digit. absurd (omega (arith, is, point, digit.0))))
+
+pub before_point : (bytes ds : List ℕ) (len next : ℕ) → ds ≡ drop (whole_start bytes) bytes → (len ≡ 0 → ⊥) → digits_length ds ≡ len + digits_length (drop len ds) → next ≡ slice_index ds len → next ≡ 46 → IsBeforePoint bytes len
+before_point bytes ds len next after some more is point =
+    record {
+      some = omega (arith, some);
+      digits = sym (ap digits_length after) ∙ counted_before ds len next more is point;
+      point = sym (ap (λ xs. slice_index xs len) after) ∙ sym is ∙ point;
+    }
+
+pub decimal_body : (negative : Bool) (bytes behind : List ℕ) (front back : ℕ) → slice_index bytes front ≡ 46 → 0 < front → digits_length bytes ≡ front → digits_length (drop (front + 1) bytes) ≡ back + digits_length (drop back (drop (front + 1) bytes))
     → 0 < back → front + back ≤ 18 → ((slice_index bytes 0 ≡ 48 → ⊥) ⊎ (front ≤ 1)) → behind ≡ take back (drop (front + 1) bytes) → (negative ≡ true → (slice_index bytes 0 ≢ 48) ⊎ (0 < digits_value 10 behind)) → IsDecimalBody negative (take (front + 1 + back) bytes)
 decimal_body negative bytes behind front back point some whole more any few needless is sign =
-    let ahead = counted_digits bytes front (digits_length (drop front bytes)) whole in
+    let ahead = counted_digits bytes front 0 (omega (arith, whole)) in
     let behind_it = counted_digits (drop (front + 1) bytes) back (digits_length (drop back (drop (front + 1) bytes))) more in
     let inside : front < length bytes = omega (arith, any, more, digits_within (drop (front + 1) bytes), length-drop (front + 1) bytes) in
     let first : get_or (take front bytes) 0 0 ≡ slice_index bytes 0 = get_or-take front bytes 0 0 some in

@@ -1,10 +1,10 @@
-//! Integers of standard texts that are serialized as they are.
+//! Integers of strict texts that are serialized as they are.
 ghost use Rattle.std.specs.Prelude.{◌≡◌, ◌⊎◌, MatchBool, ◌+◌, ◌≤◌, ◌<◌, ℕ, IfSome, drop, if◌then◌else◌, ◌==◌, length, slice_index, take, true};
 ghost use Rattle.std.specs.Char.{is_ascii_digit};
 ghost use Rattle.std.specs.Int.{w64, trailing_zeros};
 ghost use Rattle.std.specs.Str.Parse.{digits_value};
 ghost use Rattle.text_scan.specs.Parsing.Number.{digits_length, is_number_start};
-ghost use Rattle.text_scan.specs.ShortInteger.{IsVerbatimInteger};
+ghost use Rattle.text_scan.specs.StrictFront.{IsFrontOf, front_len};
 ghost use Rattle.jsonb_spec.specs.Ascii as ascii;
 
 use super::number::{after_minus, byte_at, continues_number, digits_within, short_digits};
@@ -67,25 +67,37 @@ pub(super) fn may_begin(digit: u8, len: usize) -> bool
     len <= 1
 }
 
-/// The length of the integer that the bytes of a standard text begin with, where it has at most 19 bytes, and is
-/// written by the same bytes again: no 0 with a minus is.
+/// What a number of a strict text begins with.
+#[derive(Clone, Copy)]
+pub enum StrictFront {
+    /// An integer of at most 19 bytes that is written by the same bytes again: the index after it.
+    Integer(usize),
+    /// Digits before a point: how many, without a minus before them.
+    Point(usize),
+}
+
+/// The integer that the bytes of a strict text begin with, where it has at most 19 bytes, and is written by the same
+/// bytes again: no 0 with a minus is. Where a point is behind the digits, it is how many they are.
 #[inline(always)]
-pub fn verbatim_integer(bytes: &[u8]) -> Option<usize>
-    ensures found { IfSome result (IsVerbatimInteger bytes.now) }
+pub fn strict_front(bytes: &[u8]) -> Option<StrictFront>
+    ensures found { IfSome result (IsFrontOf bytes.now) }
     ensures first { IfSome result (λ _. is_number_start (slice_index bytes.now 0) ≡ true) }
-    ensures within { IfSome result (λ end. end ≤ length bytes.now) }
+    ensures within { IfSome result (λ front. front_len front ≤ length bytes.now) }
 {
     let digits = after_minus(bytes);
     let (len, next) = digits_and_next(digits);
     if len == 0 {
         return None;
     }
-    let start = bytes.len() - digits.len();
-    if start + len > 19 || !may_begin(digits[0], start + len) {
-        return None;
-    }
     if continues_number(next) {
+        if next == b'.' {
+            return Some(StrictFront::Point(len));
+        }
         return None;
     }
-    Some(start + len)
+    let end = bytes.len() - digits.len() + len;
+    if end > 19 || !may_begin(digits[0], end) {
+        return None;
+    }
+    Some(StrictFront::Integer(end))
 }

@@ -1,10 +1,10 @@
-//! Numbers of extended texts that are serialized as they are.
+//! Numbers of texts with decimals that are serialized as they are.
 ghost use Rattle.std.specs.Prelude.{◌≡◌, ◌≢◌, ◌⊎◌, ◌+◌, ◌≤◌, ◌<◌, ℕ, IfSome, MatchBool, true, false, drop, length, slice_index, take};
 ghost use Rattle.std.specs.Str.Parse.{digits_value};
 ghost use Rattle.text_scan.specs.Parsing.Number.{ContinuesNumber, digits_length, is_number_start};
 ghost use Rattle.text_scan.specs.Parsing.Whitespace.{is_break};
 ghost use Rattle.text_scan.specs.ShortInteger.{IsVerbatimInteger};
-ghost use Rattle.text_scan.specs.VerbatimNumber.{IsDecimalBody, IsVerbatimDecimal};
+ghost use Rattle.text_scan.specs.VerbatimNumber.{IsBeforePoint, IsDecimalBody, IsVerbatimDecimal};
 ghost use Rattle.jsonb_spec.specs.Ascii as ascii;
 
 use super::integer::{digits_and_next, digits_by_bytes, may_begin};
@@ -51,7 +51,7 @@ fn may_have_sign(negative: bool, first: u8, behind: &[u8]) -> bool
 fn decimal_len(bytes: &[u8], front: usize, negative: bool) -> Option<usize>
     requires point { slice_index bytes.now front ≡ ascii.point }
     requires some { 0 < front }
-    requires digits { digits_length bytes.now ≡ front + digits_length (drop front bytes.now) }
+    requires digits { digits_length bytes.now ≡ front }
     ensures found { IfSome result (λ len. IsDecimalBody negative (take len bytes.now)) }
     ensures within { IfSome result (λ len. len ≤ length bytes.now) }
     ensures ends { IfSome result (λ len. is_break (slice_index bytes.now len) ≡ true) }
@@ -70,8 +70,24 @@ fn decimal_len(bytes: &[u8], front: usize, negative: bool) -> Option<usize>
     Some(len)
 }
 
-/// The number that the bytes of an extended text begin with, where a separator is behind it and it is written by the
-/// same bytes again: an integer of at most 19 bytes, or a decimal of at most 18 digits. No 0 with a minus is.
+/// The index after the decimal of at most 18 digits that the bytes of a text with decimals begin with, where a
+/// separator is behind it and it is written by the same bytes again: no 0 with a minus is. So many digits are before
+/// its point, as `strict_front` counts them.
+#[inline(always)]
+pub fn verbatim_decimal(bytes: &[u8], front: usize) -> Option<usize>
+    requires point { IsBeforePoint bytes.now front }
+    ensures decimal { IfSome result (IsVerbatimDecimal bytes.now) }
+    ensures ends { IfSome result (λ end. is_break (slice_index bytes.now end) ≡ true) }
+    ensures first { IfSome result (λ _. is_number_start (slice_index bytes.now 0) ≡ true) }
+    ensures within { IfSome result (λ end. end ≤ length bytes.now) }
+{
+    let negative = byte_at(bytes, 0) == b'-';
+    let len = decimal_len(after_minus(bytes), front, negative)?;
+    Some(usize::from(negative) + len)
+}
+
+/// The number that the bytes of a text with decimals begin with, where a separator is behind it and it is written by
+/// the same bytes again: an integer of at most 19 bytes, or a decimal of at most 18 digits. No 0 with a minus is.
 #[inline(always)]
 pub fn verbatim_number(bytes: &[u8]) -> Option<VerbatimNumber>
     ensures integer { IfSome result (λ read. read.has_point ≡ false → IsVerbatimInteger bytes.now read.end) }

@@ -1,89 +1,41 @@
-use Rattle.std.proofs.Common.{◌≡◌, ℕ, Bool, cond, ap, inl, inr, subst, sym, ◌∙◌, rules}
-use Rattle.text_scan.specs.Encoded.{IsEncodedAt}
-use Rattle.text_scan.specs.ShortInteger.{short_view}
-use Rattle.jsonb_spec.specs.Source.{number_source}
-use Rattle.jsonb_value.specs.View.{number_view}
+use Rattle.std.proofs.Common.{ap, inr, subst, sym, ◌∙◌, rules}
 use Rattle.jsonb_spec.specs.Tree.{number}
 use Rattle.text_common.specs.declared.verbatim.Verbatim.TheVariants.{Integer}
-use Rattle.text_parse.proofs.Scalars.Built.{integer_holds, negative_of, positive_of, put_so, scalar_still}
+use Rattle.text_parse.specs.Parser.{PassesFront}
+use Rattle.text_parse.proofs.Scalars.Built.{put_so, scalar_still}
 use Rattle.text_parse.proofs.Steps.Failures.{puts_same}
-use Rattle.text_parse.proofs.Grammars.{integers_alone}
-use Rattle.text_scan.specs.Answer.{grammar_of}
 use Rattle.text_parse.proofs.parser.Parser.put_strict_value.Goals as goal
-use Rattle.text_parse.proofs.parser.Parser.put_strict_value.Goals.{then-not-matches+else-takes_decimals+in_default-short_integer, else-not-matches}
 
-pub returns-then-verbatim_integer : goal.returns-then-verbatim_integer
-returns-then-verbatim_integer g c =
+pub returns-in-Some-Integer : goal.returns-in-Some-Integer
+returns-in-Some-Integer g c =
     record {
       parses =
           let p = c.args.self.now in
-          let q = c.verbatim_integer.new.self in
+          let q = c.strict_front.new.self in
           let h = g.V.Handler in
-          let passed = c.if-verbatim_integer.ensures.passes in
-          put_so h.silent h.holds _ p.buf.now q c.put.new.self c.args.sink.now c.put.new.sink c.put.result (g.S.Slot.before c.args.container.now c.args.slot) (number passed.value) _ (g.S.Slot.after c.put.new.container) c.put.ensures.put c.put.ensures.same c.put.ensures.reported (inr (record { verbatim = Integer; is = c.scalar.ensures (sym c.wants.ensures.verbatim ∙ c.if-verbatim_integer.ensures.asked); holds = passed.holds })) passed.parses;
+          let passed = subst (λ found. PassesFront p q found) c.in-Some-Integer.field-0-is c.in-Some-Integer.ensures.passes in
+          put_so h.silent h.holds _ p.buf.now q c.put.new.self c.args.sink.now c.put.new.sink c.put.result (g.S.Slot.before c.args.container.now c.args.slot) (number passed.value) _ (g.S.Slot.after c.put.new.container) c.put.ensures.put c.put.ensures.same c.put.ensures.reported (inr (record { verbatim = Integer; is = c.scalar-integer.ensures (sym c.wants.ensures.verbatim ∙ c.in-Some-Integer.ensures.asked); holds = passed.holds })) passed.parses;
       advances = search rules;
     }
 
-pub returns : goal.returns
-returns g c =
+pub returns-in-Some-Point : goal.returns-in-Some-Point
+returns-in-Some-Point g c =
     record {
       parses =
           let h = g.V.Handler in
-          let p = c.if-not-matches.self in
-          let stays : p ≡ c.args.self.now = elim c.if-not-matches.branch [
-            | then-not-matches+else-takes_decimals+in_default-short_integer w ↦ w.self-is ∙ w.in_default-short_integer.ensures.finds.stays ∙ c.if-verbatim_integer.ensures.passes
-            | else-not-matches w ↦ w.self-is ∙ c.if-verbatim_integer.ensures.passes
-          ] in
-          puts_same h.silent c.put_word.new.self.reported h.holds c.put_word.result _ _ (sym (ap (λ o. o.buf.now) stays)) _ _ _ _ _ _ _ (scalar_still c.args.self.now p stays) c.put_word.ensures.parses;
+          let p = c.strict_front.new.self in
+          let stays = (subst (λ found. PassesFront c.args.self.now p found) c.in-Some-Point.field-0-is c.in-Some-Point.ensures.passes).0 in
+          puts_same h.silent c.put_decimal_value.new.self.reported h.holds c.put_decimal_value.result _ _ (sym (ap (λ o. o.buf.now) stays)) _ _ _ _ _ _ _ (scalar_still c.args.self.now p stays) c.put_decimal_value.ensures.parses;
       advances = search rules;
     }
 
-pub returns-then-read : goal.returns-then-read
-returns-then-read g c =
-    record {
-      parses =
-          let p = c.verbatim_integer.new.self in
-          let stays = c.if-verbatim_integer.ensures.passes in
-          let q = c.short_integer.new.self in
-          let h = g.V.Handler in
-          let read = c.in-Some.read in
-          let n = short_view read in
-          let same : n ≡ number_view c.negative_number.result = ap (λ (b : Bool). cond b (negative_of read) (positive_of read)) c.if-read.true ∙ sym c.negative_number.ensures in
-          let held = subst (λ (i : ℕ). IsEncodedAt p.buf.now i q.offset (number_source n)) (ap (λ o. o.offset) stays) (integer_holds p q n c.short_integer.ensures.finds.advances c.in-Some.ensures.encoded) in
-          puts_same h.silent c.put-then-read.new.self.reported h.holds c.put-then-read.result _ _ (sym (ap (λ o. o.buf.now) stays)) _ _ _ _ _ _ _ (scalar_still c.args.self.now p stays)
-          (put_so h.silent h.holds _ p.buf.now q c.put-then-read.new.self c.args.sink.now c.put-then-read.new.sink c.put-then-read.result (g.S.Slot.before c.args.container.now c.args.slot) (number n) _ (g.S.Slot.after c.put-then-read.new.container) c.put-then-read.ensures.put c.put-then-read.ensures.same c.put-then-read.ensures.reported
-          (inl (subst (λ m. h.sees c.scalar-then-read.result (number_source m)) (sym same) c.scalar-then-read.ensures, held)) c.in-Some.ensures.finds.parses);
-      advances = search rules;
-    }
-
-pub returns-in-Some : goal.returns-in-Some
-returns-in-Some g c =
-    record {
-      parses =
-          let p = c.verbatim_integer.new.self in
-          let stays = c.if-verbatim_integer.ensures.passes in
-          let q = c.short_integer.new.self in
-          let h = g.V.Handler in
-          let read = c.in-Some.read in
-          let n = short_view read in
-          let same : n ≡ positive_of read = ap (λ (b : Bool). cond b (negative_of read) (positive_of read)) c.if-read.false in
-          let held = subst (λ (i : ℕ). IsEncodedAt p.buf.now i q.offset (number_source n)) (ap (λ o. o.offset) stays) (integer_holds p q n c.short_integer.ensures.finds.advances c.in-Some.ensures.encoded) in
-          puts_same h.silent c.put-in-Some.new.self.reported h.holds c.put-in-Some.result _ _ (sym (ap (λ o. o.buf.now) stays)) _ _ _ _ _ _ _ (scalar_still c.args.self.now p stays)
-          (put_so h.silent h.holds _ p.buf.now q c.put-in-Some.new.self c.args.sink.now c.put-in-Some.new.sink c.put-in-Some.result (g.S.Slot.before c.args.container.now c.args.slot) (number n) _ (g.S.Slot.after c.put-in-Some.new.container) c.put-in-Some.ensures.put c.put-in-Some.ensures.same c.put-in-Some.ensures.reported
-          (inl (subst (λ m. h.sees c.scalar-in-Some.result (number_source m)) (sym same) c.scalar-in-Some.ensures, held)) c.in-Some.ensures.finds.parses);
-      advances = search rules;
-    }
-
-pub returns-then-takes_decimals : goal.returns-then-takes_decimals
-returns-then-takes_decimals g c =
+pub returns-in-None : goal.returns-in-None
+returns-in-None g c =
     record {
       parses =
           let h = g.V.Handler in
-          let p = c.verbatim_integer.new.self in
-          let stays = c.if-verbatim_integer.ensures.passes in
-          puts_same h.silent c.put_extended_value.new.self.reported h.holds c.put_extended_value.result _ _ (sym (ap (λ o. o.buf.now) stays)) _ _ _ _ _ _ _ (scalar_still c.args.self.now p stays) c.put_extended_value.ensures.parses;
+          let p = c.strict_front.new.self in
+          let stays = c.in-None.ensures.passes in
+          puts_same h.silent c.put_short_value.new.self.reported h.holds c.put_short_value.result _ _ (sym (ap (λ o. o.buf.now) stays)) _ _ _ _ _ _ _ (scalar_still c.args.self.now p stays) c.put_short_value.ensures.parses;
       advances = search rules;
     }
-
-pub short_integer-requires : goal.short_integer-requires
-short_integer-requires g c = record { standard = integers_alone (grammar_of c.verbatim_integer.new.self.grammar) (sym c.takes_decimals.ensures ∙ c.if-takes_decimals.false) }

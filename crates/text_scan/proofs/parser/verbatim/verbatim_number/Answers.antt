@@ -1,7 +1,7 @@
 use Rattle.std.proofs.Common.{◌==◌, sym, subst, ap, arith}
 use Rattle.text_scan.specs.Parsing.Number.{ContinuesNumber, digits_length}
 use Rattle.text_scan.proofs.Numbers.Verbatim.{verbatim_read}
-use Rattle.text_scan.proofs.Numbers.VerbatimDecimals.{signed_decimal}
+use Rattle.text_scan.proofs.Numbers.VerbatimDecimals.{counted_before, signed_decimal}
 use Rattle.text_scan.proofs.Numbers.Steps.{starts_here}
 use Rattle.text_scan.proofs.parser.verbatim.verbatim_number.Goals as goal
 
@@ -23,3 +23,7 @@ returns-clause-decimal c = λ e.
 pub returns-clause-first : goal.returns-clause-first
 returns-clause-first c =
     starts_here c.args.bytes.now (omega (arith, c.if-len-eq0.false, ap digits_length c.after_minus-digits.ensures, c.digits_and_next-len.ensures.digits))
+
+pub decimal_len-requires-clause-digits : goal.decimal_len-requires-clause-digits
+decimal_len-requires-clause-digits c =
+    counted_before c.after_minus-digits.result.now c.digits_and_next-len.result.0 c.digits_and_next-len.result.1 c.digits_and_next-len.ensures.digits c.digits_and_next-len.ensures.next c.if-next-ne46.false
