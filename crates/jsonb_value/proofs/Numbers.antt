@@ -9,5 +9,6 @@ pub mod Narrowed
 pub mod Nearest
 pub mod Pointed
 pub mod Quotients
+pub mod Rows
 pub mod Scaling
 pub mod Texts

@@ -3,6 +3,7 @@ mod arithmetic;
 mod cast;
 mod laws;
 mod order;
+mod powers;
 mod sort_key;
 pub(crate) mod text;
 
@@ -10,6 +11,7 @@ pub use laws::{
     decimal_texts_read_back, exact_casts_are_nearest, integer_texts_read_back,
     number_clones_are_the_same,
 };
+pub use powers::power_of_ten;
 
 /// The number `value / 10^scale`, for every scale and value.
 #[derive(Clone, Debug, Drop)]

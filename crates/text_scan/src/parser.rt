@@ -10,7 +10,7 @@ pub mod integer;
 pub mod key;
 pub mod number;
 pub mod string;
-pub(crate) mod vector;
+pub mod vector;
 pub mod verbatim;
 pub mod whitespace;
 

@@ -164,7 +164,7 @@ impl<'a> TextSink<'a> {
         if self.is_range(from, to) && is_verbatim(number) {
             return self.preserve(from, to);
         }
-        self.written.append_number(number)
+        self.written.append_number(number, to)
     }
 
     // Writes a string that is there in the text, between double quotes and without escapes.

@@ -120,15 +120,18 @@ impl<'a> Written<'a> {
         self.out.extend_from_slice(bytes)
     }
 
-    /// Writes a number.
+    /// Writes a number. This is the index after it in the text, so that what follows it may be written with it; the
+    /// bytes don't depend on it.
     #[inline(never)]
-    pub fn append_number(&mut self, number: &Number) -> Result<(), AllocError>
+    pub fn append_number(&mut self, number: &Number, after: usize) -> Result<(), AllocError>
         ensures bytes { OnOk result (bytes_of self.new ≡ bytes_of self.old ++ number_text (number_view number.now)) }
         ensures text { self.new.text ≡ self.old.text }
         ensures retained { Extends self.old.out.items self.new.out.items }
     {
         self.flush()?;
-        append_number(number, &mut self.out)
+        append_number(number, &mut self.out)?;
+        self.go_on(after);
+        Ok(())
     }
 
     /// Writes a string, in double quotes and with the escapes that it needs.

@@ -1,9 +1,8 @@
 -- Quotients by powers of ten.
-use Rattle.std.proofs.Common.{◌≡◌, ◌↔◌, ℕ, ◌+◌, ◌-◌, ◌*◌, ◌/◌, ◌%◌, ◌^◌, ◌<◌, ◌≤◌, Option, Some, None, ap, arith, ⊎_elim}
+use Rattle.std.proofs.Common.{◌≡◌, ◌↔◌, ℕ, ◌+◌, ◌-◌, ◌*◌, ◌/◌, ◌%◌, ◌^◌, ◌<◌, ◌≤◌, Some, ap, arith, ⊎_elim}
 use Rattle.std.proofs.lemmas.Bool.{cases_lt}
 use Rattle.std.proofs.lemmas.Nat.{div-add-mod', mod_below}
 use Rattle.std.proofs.Math.Nat.{one-le-pow, pow-le-pow_right, mul-div_cancel}
-use Rattle.std.specs.Option.{SomeIff, IfSome, IfNone}
 use Rattle.std.specs.Int.{from_bool}
 use Rattle.std.specs.Prelude.{nat_le}
 use Rattle.std.proofs.lemmas.Bool.Decides.{nat_tests}
@@ -13,19 +12,8 @@ pub ten_positive : (scale : ℕ) → 0 < 10 ^ scale
 ten_positive scale = omega (arith, one-le-pow scale 10 (omega arith))
 
 -- a power of ten past 128 bits is at least the 39th
-pub ten_past_128_bits : (scale : ℕ) → ((10 ^ scale < 2 ^ 128) → ⊥) → 10 ^ 39 ≤ 10 ^ scale
-ten_past_128_bits scale past =
-    ⊎_elim (λ small. absurd (past (omega (arith, pow-le-pow_right {n = 10} (omega arith) {i = scale} {j = 38} (omega arith)))))
-    (λ large. pow-le-pow_right {n = 10} (omega arith) {i = 39} {j = scale} large) (cases_lt scale 39)
-
--- the same of `checked_pow`'s answer
-pub ten_none : (r : Option ℕ) (scale : ℕ) → SomeIff r (10 ^ scale < 2 ^ 128) (10 ^ scale) → IfNone r (10 ^ 39 ≤ 10 ^ scale)
-ten_none (Some p) scale h = tt
-ten_none None scale h = ten_past_128_bits scale h
-
-pub ten_some : (r : Option ℕ) (scale : ℕ) → SomeIff r (10 ^ scale < 2 ^ 128) (10 ^ scale) → IfSome r (λ p. (p ≡ 10 ^ scale) × (0 < p))
-ten_some (Some p) scale h = (h.1, rw h.1 (ten_positive scale))
-ten_some None scale h = tt
+pub ten_past_128_bits : (scale : ℕ) → 39 ≤ scale → 10 ^ 39 ≤ 10 ^ scale
+ten_past_128_bits scale large = pow-le-pow_right {n = 10} (omega arith) {i = 39} {j = scale} large
 
 pub some_quotient : (m p scale : ℕ) → p ≡ 10 ^ scale → m % p ≡ 0 → (k : ℕ) → (Some (m / p) ≡ Some k) ↔ (m ≡ k * 10 ^ scale)
 some_quotient m p scale e whole k =

@@ -5,21 +5,25 @@ ghost use Rattle.jsonb_spec.specs.Number.Cast.{HasValue, HasNearest, IsRounded};
 ghost use Rattle.jsonb_spec.specs.Number.Signed.{signed_by};
 ghost use Rattle.jsonb_value.specs.View.{number_view};
 
+use super::powers::power_of_ten;
 use crate::number::Number;
 
 // 10^scale, where a u128 holds it.
-fn power_of_ten(scale: u8) -> Option<u128>
+fn power_of(scale: u8) -> Option<u128>
     ensures some { IfSome result (λ p. (p ≡ 10 ^ scale) × (0 < p)) }
     ensures none { IfNone result (10 ^ 39 ≤ 10 ^ scale) }
 {
-    10u128.checked_pow(u32::from(scale))
+    if scale > 38 {
+        return None;
+    }
+    Some(power_of_ten(usize::from(scale)))
 }
 
 // magnitude / 10^scale, where that is an integer.
 fn exact_quotient(magnitude: u128, scale: u8) -> Option<u128>
     ensures { (k : ℕ) → (result ≡ Some k) ↔ (magnitude ≡ k * 10 ^ scale) }
 {
-    match power_of_ten(scale) {
+    match power_of(scale) {
         Some(power) if magnitude % power == 0 => Some(magnitude / power),
         Some(_) => None,
         None if magnitude == 0 => Some(0),
@@ -32,7 +36,7 @@ fn rounded_quotient(magnitude: u128, scale: u8) -> u128
     requires { magnitude ≤ 2 ^ 127 }
     ensures { IsRounded scale magnitude result }
 {
-    match power_of_ten(scale) {
+    match power_of(scale) {
         Some(power) => {
             let rest = magnitude % power;
             let half_or_more = rest >= power - rest;

@@ -5,7 +5,7 @@ ghost use Rattle.jsonb_spec.specs.SortKey.{digit_count, exponent_key, digits_key
 ghost use Rattle.jsonb_spec.specs.Text.Appending.{Appends};
 ghost use Rattle.jsonb_value.specs.View.{number_view};
 
-use super::Number;
+use super::{Number, power_of_ten};
 use crate::sort_key::kind;
 use std::alloc::AllocError;
 
@@ -246,8 +246,9 @@ fn split_pair(magnitude: u128, left: u32) -> (u8, u128)
     ensures small { result.0 < 100 }
     ensures below { result.1 < 10 ^ left }
 {
-    let power = 10u128.pow(left);
-    ((magnitude / power) as u8, magnitude % power)
+    let power = power_of_ten(left as usize);
+    let pair = magnitude / power;
+    (pair as u8, magnitude - pair * power)
 }
 
 // Appends the digits, two at a time until the rest fits 64 bits.

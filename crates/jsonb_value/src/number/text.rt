@@ -1,7 +1,7 @@
 //! The text of a number.
-ghost use Rattle.std.specs.Prelude.{◌≡◌, ◌+◌, ◌≤◌, ◌<◌, ◌++◌, ◌^◌, length, replicate, pos, Some, IsAscii, IsOk, vec_len};
+ghost use Rattle.std.specs.Prelude.{◌≡◌, ◌+◌, ◌-◌, ◌≤◌, ◌<◌, ◌++◌, ◌^◌, drop, length, replicate, pos, Some, IsAscii, IsOk, vec_len};
 ghost use Rattle.std.specs.Vec.{vec_capacity};
-ghost use Rattle.std.specs.Fmt.{sign_text, WritesOnOk};
+ghost use Rattle.std.specs.Fmt.{decimal, sign_text, WritesOnOk};
 ghost use Rattle.jsonb_spec.specs.Ascii as ascii;
 ghost use Rattle.jsonb_spec.specs.Text.Appending.{AppendsAllOrNothing};
 ghost use Rattle.jsonb_spec.specs.Text.NumberText.{number_text, text_of_parts, with_point, zero_padded};
@@ -10,7 +10,7 @@ ghost use Rattle.jsonb_value.specs.TextParts.{bytes_of_parts};
 ghost use Rattle.jsonb_value.specs.View.{number_view};
 
 use crate::number::Number;
-use itoa::Buffer;
+use itoa::{Buffer, write_digits};
 use std::alloc::AllocError;
 use std::fmt;
 
@@ -118,6 +118,79 @@ fn decimal_parts(scale: u8, negative: bool, digits: &str) -> TextParts<'_>
     }
 }
 
+// Writes the digits to the end of a row of zeros, and returns where they begin with a digit before the point.
+#[inline(always)]
+fn write_padded(scale: usize, magnitude: u64, row: &mut [u8; 64]) -> usize
+    requires zeros { row.old ≡ replicate 64 ascii.digit_zero }
+    requires few { scale ≤ 38 }
+    ensures digits { drop result row.new ≡ zero_padded (scale + 1) (decimal magnitude) }
+    ensures space { 2 ≤ result }
+    ensures before { result + scale < 64 }
+{
+    let start = write_digits(magnitude, row, 64);
+    if start + scale < 64 {
+        return start;
+    }
+    63 - scale
+}
+
+// Puts a point into the digits from an index on, and moves those before it by one. Returns where the first is.
+#[inline(always)]
+fn put_point(scale: usize, start: usize, row: &mut [u8; 64]) -> usize
+    requires some { 0 < scale }
+    requires space { 2 ≤ start }
+    requires before { start + scale < 64 }
+    ensures text { drop result row.new ≡ with_point scale (drop start row.old) }
+    ensures space { (1 ≤ result) × (result ≤ 64) }
+{
+    let point = 64 - scale;
+    row.copy_within(start..point, start - 1);
+    row[point - 1] = b'.';
+    start - 1
+}
+
+// Puts a minus before an index where the number is negative, and returns where the text begins.
+#[inline(always)]
+fn put_sign(negative: bool, start: usize, row: &mut [u8; 64]) -> usize
+    requires space { (1 ≤ start) × (start ≤ 64) }
+    ensures text { drop result row.new ≡ sign_text negative ++ drop start row.old }
+    ensures within { result ≤ 64 }
+{
+    if !negative {
+        return start;
+    }
+    row[start - 1] = b'-';
+    start - 1
+}
+
+// Appends what is in a row from an index on.
+#[inline(always)]
+fn append_row(row: &[u8; 64], start: usize, buf: &mut Vec<u8>) -> Result<(), AllocError>
+    requires { start ≤ 64 }
+    ensures appends { AppendsAllOrNothing result buf.old buf.new (drop start row.now) }
+{
+    buf.extend_from_slice(&row[start..])
+}
+
+// Appends the text of a decimal of few digits, which is made in a row.
+#[inline(always)]
+fn append_short(
+    negative: bool,
+    scale: usize,
+    magnitude: u64,
+    buf: &mut Vec<u8>,
+) -> Result<(), AllocError>
+    requires { (0 < scale) × (scale ≤ 38) }
+    ensures appends { AppendsAllOrNothing result buf.old buf.new
+        (sign_text negative ++ with_point scale (zero_padded (scale + 1) (decimal magnitude))) }
+{
+    let mut row = [b'0'; 64];
+    let digits = write_padded(scale, magnitude, &mut row);
+    let pointed = put_point(scale, digits, &mut row);
+    let start = put_sign(negative, pointed, &mut row);
+    append_row(&row, start, buf)
+}
+
 impl Number {
     fn text_parts<'a>(&self, buffer: &'a mut Buffer) -> TextParts<'a>
         ensures text { bytes_of_parts result ≡ number_text (number_view self.now) }
@@ -148,8 +221,22 @@ impl Number {
                 let mut buffer = Buffer::new();
                 buf.extend_from_slice(unsigned_text(*n, &mut buffer).as_bytes())
             }
-            Number::Decimal64(_) | Number::Decimal128(_) => self.append_pieces(buf),
+            Number::Decimal64(_) | Number::Decimal128(_) => self.append_decimal(buf),
         }
+    }
+
+    // Appends the text of a number. One that has a point and few digits is made in a row.
+    #[inline(never)]
+    fn append_decimal(&self, buf: &mut Vec<u8>) -> Result<(), AllocError>
+        ensures appends { AppendsAllOrNothing result buf.old buf.new (number_text (number_view self.now)) }
+        ensures proper { IsProperNumber (number_view self.now) }
+    {
+        let (negative, magnitude) = self.sign_and_magnitude();
+        let scale = self.scale();
+        if scale == 0 || scale > 38 || magnitude > 0xFFFF_FFFF_FFFF_FFFF {
+            return self.append_pieces(buf);
+        }
+        append_short(negative, scale as usize, magnitude as u64, buf)
     }
 
     // Appends the text of any number, piece by piece.

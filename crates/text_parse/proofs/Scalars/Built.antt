@@ -36,11 +36,13 @@ use Rattle.text_parse.specs.Parser.{Advances, IsBehind, rest_of, size_of}
 use Rattle.jsonb_spec.specs.Text.{in_quotes}
 use Rattle.jsonb_spec.specs.Text.NumberText.{number_text}
 use Rattle.std.proofs.lemmas.List.{drop_more}
+use Rattle.text_scan.specs.VerbatimNumber.{IsBeforePoint}
 use Rattle.text_common.specs.VerbatimScalar.{IsIntegerAt}
 use Rattle.text_common.specs.declared.verbatim.Verbatim.{Verbatim}
 use Rattle.text_parse.proofs.Scalars.Encodings.{null_or_word}
 use Rattle.text_parse.proofs.Scalars.FirstBytes.{number_here, scalar_as, scalar_is}
 use Rattle.text_scan.proofs.Containers.JoinedParts.{on_byte-none}
+use Rattle.text_scan.proofs.Numbers.Steps.{starts_here}
 use Rattle.text_parse.proofs.Steps.Failures.{memory_misses, unreported_misses}
 use Rattle.text_parse.proofs.Steps.Outcomes.{same_size}
 
@@ -196,17 +198,36 @@ starts_number (b ∷ bytes) e = (no_quote, e)
       | inr other ↦ cond-false (eqb b 34) true false other
     ]
 
+-- what is parsed where a number begins as integers do
+pub number_scalar_at : (size : ℕ) (mode : Mode) (bytes : List ℕ) → is_number_start (slice_index bytes 0) ≡ true → scalar_at size mode bytes ≡ number_value_at size mode bytes
+unfolding scalar_at
+number_scalar_at size mode bytes first =
+    let begun = starts_number bytes first in
+    on_byte-none 34 bytes (quoted_at size mode 34) (other_scalar_at size mode bytes) begun.0 ∙ number_here size mode bytes begun.1
+
 -- a number that begins as integers do
 pub number_at_once : (size : ℕ) (mode : Mode) (bytes : List ℕ) (n : Num) (rest : List ℕ) → is_number_start (slice_index bytes 0) ≡ true → number_at size mode bytes ≡ Ok (n, rest) → scalar_at size mode bytes ≡ Ok (number n, rest)
-unfolding scalar_at
 number_at_once size mode bytes n rest first read =
-    let begun = starts_number bytes first in
-    on_byte-none 34 bytes (quoted_at size mode 34) (other_scalar_at size mode bytes) begun.0
-    ∙ number_here size mode bytes begun.1 ∙ ap (λ (r : Parse Num). r >>= λ x. Ok (number x.0, x.1)) read
+    number_scalar_at size mode bytes first ∙ ap (λ (r : Parse Num). r >>= λ x. Ok (number x.0, x.1)) read
 
 -- what the parser parses where it paused
 pub scalar_still : (p q : Parser) → q ≡ p → scalar_at (size_of p) (grammar_of p.grammar) (rest_of p) ≡ scalar_at (size_of q) (grammar_of q.grammar) (rest_of q)
 scalar_still p q same = sym (ap (λ o. scalar_at (size_of o) (grammar_of o.grammar) (rest_of o)) same)
+
+-- a digit or a minus comes first
+number_first : (bytes : List ℕ) → begins_number strict bytes ≡ true → is_number_start (slice_index bytes 0) ≡ true
+number_first [] begins = absurd (true≢false (sym begins))
+number_first (b ∷ bytes) begins = begins
+
+-- what the parser parses, where a digit or a minus comes next
+pub number_next : (p : Parser) → begins_number strict (rest_of p) ≡ true → scalar_at (size_of p) (grammar_of p.grammar) (rest_of p) ≡ number_value_at (size_of p) (grammar_of p.grammar) (rest_of p)
+number_next p begins = number_scalar_at (size_of p) (grammar_of p.grammar) (rest_of p) (number_first (rest_of p) begins)
+
+-- what it parses where it paused, where digits with a point behind them come next
+pub number_before_point : (p q : Parser) (front : ℕ) → q ≡ p → IsBeforePoint (rest_of p) front → scalar_at (size_of p) (grammar_of p.grammar) (rest_of p) ≡ number_value_at (size_of q) (grammar_of q.grammar) (rest_of q)
+number_before_point p q front same point =
+    number_scalar_at (size_of p) (grammar_of p.grammar) (rest_of p) (starts_here (rest_of p) (subst (λ (n : ℕ). 0 < n) (sym point.digits) point.some))
+    ∙ sym (ap (λ o. number_value_at (size_of o) (grammar_of o.grammar) (rest_of o)) same)
 
 -- a literal as it is encoded
 pub literal_encoded : (l : Literal) (bytes : List ℕ) → bytes ≡ literal_text l → IsEncoded bytes (source_alone (literal_tree l))

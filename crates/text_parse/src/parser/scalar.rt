@@ -10,7 +10,8 @@ ghost use Rattle.jsonb_spec.specs.Tree.{boolean, int64};
 ghost use Rattle.text_parse.specs.Grammars.{may_cut, takes_decimals};
 ghost use Rattle.text_parse.specs.Parser.{Advances, Finds, IsAfterQuote, IsBehind, IsTextOf, ParsesAtOffset, TakesByte, rest_of, size_of};
 ghost use Rattle.text_scan.specs.Parsing.{begins};
-ghost use Rattle.text_scan.specs.Parsing.Scalar.{number_value_at, begins_letter, begins_single_quote, fold_letter, letters_at, null_at, number_at, quoted_at, scalar_at, word_at};
+ghost use Rattle.text_scan.specs.Parsing.Number.{is_number_start};
+ghost use Rattle.text_scan.specs.Parsing.Scalar.{number_value_at, begins_letter, begins_number, begins_single_quote, fold_letter, letters_at, null_at, number_at, quoted_at, scalar_at, word_at};
 ghost use Rattle.text_scan.specs.VerbatimNumber.{IsBeforePoint};
 ghost use Rattle.text_parse.specs.Steps.{MakesScalar, Puts, PutsIn};
 
@@ -49,6 +50,14 @@ fn begins_with(bytes: &[u8], first: u8, second: u8, third: u8, fourth: u8) -> bo
     ensures { MatchBool result (bytes.now ≡ first ∷ second ∷ third ∷ fourth ∷ drop 4 bytes.now) (Unit {0}) }
 {
     bytes[0] == first && bytes[1] == second && bytes[2] == third && bytes[3] == fourth
+}
+
+// Whether a byte is a digit or a minus.
+#[inline(always)]
+fn begins_number(byte: u8) -> bool
+    ensures { result ≡ is_number_start byte }
+{
+    byte.is_ascii_digit() || byte == b'-'
 }
 
 // The number below 0, or a 0 with a minus, of these digits.
@@ -202,7 +211,22 @@ impl<'a> Parser<'a> {
             let decimal = V::scalar(Scalar::Verbatim(Verbatim::Decimal));
             return self.put::<V, S>(sink, container, slot, decimal, from);
         }
-        self.put_other_scalar::<V, S>(sink, container, slot, text)
+        self.put_number::<V, S>(sink, container, slot)
+    }
+
+    // Puts in a number that isn't put in from where it is, or says its fault.
+    #[inline(never)]
+    fn put_number<V: Handler<'a>, S: Slot<'a, V>>(
+        &mut self,
+        sink: &mut V::Sink,
+        container: &mut S::Container,
+        slot: S,
+    ) -> Result<(), Failed>
+        ensures { Puts V.Handler number_value_at result self.old self.new sink.old sink.new (S.before container.old slot)
+            (S.after container.new) }
+    {
+        let value = self.parse_number_value::<V>()?;
+        self.put::<V, S>(sink, container, slot, value, self.offset)
     }
 
     // Puts in a scalar of a strict text that is no string, and isn't put in from where it is. Most numbers are integers
@@ -331,6 +355,9 @@ impl<'a> Parser<'a> {
         ensures { Puts V.Handler scalar_at result self.old self.new sink.old sink.new (S.before container.old slot)
             (S.after container.new) }
     {
+        if self.next_begins_number() {
+            return self.put_number::<V, S>(sink, container, slot);
+        }
         let value = self.parse_scalar::<V>(text)?;
         self.put::<V, S>(sink, container, slot, value, self.offset)
     }
@@ -504,6 +531,14 @@ impl<'a> Parser<'a> {
             self.offset += 1;
         }
         Ok(())
+    }
+
+    // Whether a digit or a minus comes next.
+    #[inline(always)]
+    fn next_begins_number(&self) -> bool
+        ensures { result ≡ begins_number strict (rest_of self.now) }
+    {
+        matches!(self.peek(), Some(next) if begins_number(next))
     }
 
     // Whether this letter comes next.

@@ -17,7 +17,7 @@ use super::extended_number::{
     NumberFault, NumberText, PAST_38_DIGITS, ReadNumber, invalid, scan_other,
 };
 use super::number::{byte_at, digits_end, number_after, number_end, sign_end};
-use jsonb_value::number::Number;
+use jsonb_value::number::{Number, power_of_ten};
 
 // The most digits of a number that is representable, before and behind its point.
 const MOST_DIGITS: u64 = 38;
@@ -53,7 +53,7 @@ fn scaled(magnitude: u128, zeros: u64) -> Option<u128>
     if zeros > MOST_DIGITS {
         return None;
     }
-    magnitude.checked_mul(10u128.pow(zeros as u32))
+    magnitude.checked_mul(power_of_ten(zeros as usize))
 }
 
 // The number of digits with this value, so many of them behind the point, once the point is moved.

@@ -16,9 +16,9 @@ pub(super) fn equal_bits(bytes: &[u8], at: usize, byte: u8) -> u64
         .to_bitmask()
 }
 
-// Bit k is set where byte k is this one, among the first 16.
+/// Bit k is set where byte k is this one, among the first 16.
 #[inline(always)]
-pub(crate) fn near_bits(bytes: &[u8], byte: u8) -> u64
+pub fn near_bits(bytes: &[u8], byte: u8) -> u64
     requires { 16 ≤ length bytes.now }
     ensures { (k : ℕ) → (bit_at result k ≡ 1) ↔ ((k < 16) × (slice_index bytes.now k ≡ byte)) }
 {
@@ -38,8 +38,9 @@ pub(crate) fn low_bits(bytes: &[u8]) -> u64
         .to_bitmask()
 }
 
+/// The index of the lowest bit that is set.
 #[inline(always)]
-pub(crate) fn lowest(bits: u64) -> usize
+pub fn lowest(bits: u64) -> usize
     requires { bits ≢ 0 }
     ensures bound { result < 64 }
     ensures set { bit_at bits result ≡ 1 }

@@ -1,7 +1,7 @@
 use Rattle.std.proofs.Common.{ap, inr, sym, ◌∙◌, rules}
 use Rattle.jsonb_spec.specs.Tree.{number}
 use Rattle.text_common.specs.declared.verbatim.Verbatim.TheVariants.{Decimal}
-use Rattle.text_parse.proofs.Scalars.Built.{put_so, scalar_still}
+use Rattle.text_parse.proofs.Scalars.Built.{number_before_point, put_so}
 use Rattle.text_parse.proofs.Steps.Failures.{puts_same}
 use Rattle.text_parse.proofs.parser.Parser.put_decimal_value.Goals as goal
 
@@ -24,6 +24,6 @@ returns g c =
           let h = g.V.Handler in
           let p = c.verbatim_decimal.new.self in
           let stays = c.if-verbatim_decimal.ensures.passes in
-          puts_same h.silent c.put_other_scalar.new.self.reported h.holds c.put_other_scalar.result _ _ (sym (ap (λ o. o.buf.now) stays)) _ _ _ _ _ _ _ (scalar_still c.args.self.now p stays) c.put_other_scalar.ensures.parses;
+          puts_same h.silent c.put_number.new.self.reported h.holds c.put_number.result _ _ (sym (ap (λ o. o.buf.now) stays)) _ _ _ _ _ _ _ (number_before_point c.args.self.now p c.args.front stays c.requires.point) c.put_number.ensures.parses;
       advances = search rules;
     }

@@ -1,10 +1,5 @@
-use Rattle.std.proofs.Common.{arith}
-use Rattle.jsonb_value.proofs.SortKeys.Counts.{power_le}
 use Rattle.text_scan.proofs.Numbers.Moving.{is_great}
 use Rattle.text_scan.proofs.parser.exact.scaled.Goals as goal
 
 pub returns-then-zeros-gt-MOST_DIGITS-clause-value : goal.returns-then-zeros-gt-MOST_DIGITS-clause-value
 returns-then-zeros-gt-MOST_DIGITS-clause-value c = is_great c.args.magnitude c.args.zeros c.if-magnitude-eq0.false c.if-zeros-gt-MOST_DIGITS.true
-
-pub pow-requires : goal.pow-requires
-pow-requires c = omega (arith, power_le c.args.zeros 38 c.if-zeros-gt-MOST_DIGITS.false)
