@@ -1,6 +1,7 @@
 pub mod Children
 pub mod Containers
 pub mod Documents
+pub mod EndZeros
 pub mod Errors
 pub mod Given
 pub mod Lines

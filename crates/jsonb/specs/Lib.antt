@@ -1,4 +1,5 @@
 pub mod Appends
+pub mod EndZeros
 pub mod Lines
 pub mod AstView
 pub mod FrameContents
@@ -8,4 +9,3 @@ pub mod Parses
 pub mod Explained
 pub mod Source
 pub mod SourceLaws
-pub mod JsonText

@@ -18,7 +18,8 @@ pub use laws::{
 };
 pub use parser::{
     Grammar, JsonAst, Mode, RejectedLine, append_part, append_sort_key, append_text,
-    append_text_lines, check, may_allocate, parse_value, parse_value_in, parse_value_standard_mode,
+    append_text_lines, check, may_allocate, may_end_in_zeros, parse_value, parse_value_in,
+    parse_value_standard_mode,
 };
 pub use part::part_at;
 pub use text_scan::line;

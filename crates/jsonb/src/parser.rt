@@ -20,6 +20,7 @@ mod lines;
 mod members;
 mod part;
 mod straight;
+mod zeros;
 
 pub use ast::JsonAst;
 use handler::ValuePart;
@@ -31,6 +32,7 @@ use std::alloc::Global;
 pub use straight::{append_sort_key, append_text, check, may_allocate};
 use text_parse::parse_text;
 pub use text_scan::parser::{Grammar, Mode, grammars_compare, modes_compare};
+pub use zeros::may_end_in_zeros;
 
 /// Parses a whole text.
 ///

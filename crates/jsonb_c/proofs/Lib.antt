@@ -11,4 +11,5 @@ pub mod Texts
 pub mod Scalars
 pub mod Documents
 pub mod DocumentCursor
+pub mod DocumentKeys
 pub mod Integers

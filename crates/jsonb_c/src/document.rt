@@ -21,8 +21,9 @@ ghost use Rattle.key_table.specs.Table.{has_table, table_of};
 
 use crate::{
     ACCEPTED, Failure, NO_DOCUMENT, NO_PART, NO_PATH, NOTHING, OUT_OF_MEMORY, Rejection, TOO_DEEP,
-    TOO_SHORT, names_of, put, report, sign, text_of,
+    TOO_SHORT, names_of, put, report, sign, sort_key_of, text_of,
 };
+use jsonb::may_end_in_zeros;
 use key_document::{
     DocumentError, append_document_of_text, append_part, append_range, append_text_of_document,
     compare_documents, is_document, split_document,
@@ -63,11 +64,14 @@ pub extern "C" fn vizhoniku_document(
     }
 }
 
-// The document of the value of a text.
+// The document of the value of a text. Where no number ends in zeros, it is the sort key.
 fn document_of_text(alloc: Global, mode: u32, text: &[u8]) -> Result<Vec<u8>, Failure>
     ensures document { IfOk result (λ bytes. IsDocumentOfText mode text.now bytes.items) }
     ensures fails { FailsFor mode (IsRejected mode text.now 1) (FormMayAllocate mode text.now) result }
 {
+    if !may_end_in_zeros(text) {
+        return sort_key_of(alloc, mode, text, 1);
+    }
     let serialized = text_of(alloc, mode, text)?;
     let mut bytes = Vec::new(alloc);
     match append_document_of_text(&mut bytes, &serialized) {

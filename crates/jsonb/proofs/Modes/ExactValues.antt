@@ -36,8 +36,15 @@ whole_is : (bytes : List ℕ) (n : Num) (d : IsExactDecimal bytes n)
     → n.whole ≡ signed_by (starts_with_minus d.sign) (digits_value 10 (d.whole ++ unwrap_or d.fraction []) * 10 ^ (d.right - length (unwrap_or d.fraction [])))
 whole_is bytes n d = ap (λ (x : Num). x.whole) d.value ∙ moved_whole (starts_with_minus d.sign) (digits_value 10 (d.whole ++ unwrap_or d.fraction [])) (length (unwrap_or d.fraction [])) d.right d.left
 
+-- the scale and the size of it
+pub exact_scale : (bytes : List ℕ) (n : Num) (d : IsExactDecimal bytes n) → n.scale ≡ (length (unwrap_or d.fraction []) + d.left) - d.right
+exact_scale bytes n d = ap (λ (x : Num). x.scale) d.value ∙ moved_scale (starts_with_minus d.sign) (digits_value 10 (d.whole ++ unwrap_or d.fraction [])) (length (unwrap_or d.fraction [])) d.right d.left
+
 size_of : (negative : Bool) (n : Num) (m : ℕ) → n.whole ≡ signed_by negative m → unsigned_abs n.whole ≡ m
 size_of negative n m is = ap unsigned_abs is ∙ size_is negative m
+
+pub exact_size : (bytes : List ℕ) (n : Num) (d : IsExactDecimal bytes n) → unsigned_abs n.whole ≡ digits_value 10 (d.whole ++ unwrap_or d.fraction []) * 10 ^ (d.right - length (unwrap_or d.fraction []))
+exact_size bytes n d = size_of (starts_with_minus d.sign) n _ (whole_is bytes n d)
 
 pub exact_sign : (bytes : List ℕ) (n : Num) (d : IsExactDecimal bytes n) → n.whole ≡ signed_by (starts_with_minus d.sign) (unsigned_abs n.whole)
 exact_sign bytes n d =
@@ -49,7 +56,4 @@ pub exact_value : (bytes : List ℕ) (n : Num) (d : IsExactDecimal bytes n)
 exact_value bytes n d =
     let behind = length (unwrap_or d.fraction []) in
     let m = digits_value 10 (d.whole ++ unwrap_or d.fraction []) in
-    let negative = starts_with_minus d.sign in
-    let scale : n.scale ≡ (behind + d.left) - d.right = ap (λ (x : Num). x.scale) d.value ∙ moved_scale negative m behind d.right d.left in
-    ap (λ (k : ℕ). k * 10 ^ (behind + d.left)) (size_of negative n (m * 10 ^ (d.right - behind)) (whole_is bytes n d))
-    ∙ moves m behind d.right d.left (one_way d.exponent d.right d.left d.moves) ∙ ap (λ (k : ℕ). m * 10 ^ (k + d.right)) (sym scale)
+    ap (λ (k : ℕ). k * 10 ^ (behind + d.left)) (exact_size bytes n d) ∙ moves m behind d.right d.left (one_way d.exponent d.right d.left d.moves) ∙ ap (λ (k : ℕ). m * 10 ^ (k + d.right)) (sym (exact_scale bytes n d))

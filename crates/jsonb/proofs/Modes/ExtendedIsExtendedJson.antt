@@ -91,7 +91,7 @@ moved_nowhere negative m behind =
     let value : m * 10 ^ (0 - behind) ≡ m = ap (λ (k : ℕ). m * 10 ^ k) none ∙ ap (λ (k : ℕ). m * k) (pow-zero 10) ∙ omega arith in
     λ i. exact_number (scale i) (signed_by negative (value i))
 
-exact_decimal : (bytes : List ℕ) (n : Num) → IsDecimalNumber bytes n → IsExactDecimal bytes n
+pub exact_decimal : (bytes : List ℕ) (n : Num) → IsDecimalNumber bytes n → IsExactDecimal bytes n
 exact_decimal bytes n (sign, zeros, whole, fraction, parts, (few, is)) =
     let behind = unwrap_or fraction [] in
     let negative = starts_with_minus sign in

@@ -9,7 +9,7 @@ use Rattle.jsonb_spec.specs.Grammar.Scalar.{IsLiteral, null_word, true_word, fal
 use Rattle.jsonb_spec.specs.Grammar.StringBody.{Item, raw, escape, unit, encoding, IsItem}
 use Rattle.jsonb_spec.specs.Mode.{json, strict, lenient}
 use Rattle.jsonb_spec.specs.Tree.{Mark, Tree, null, boolean, Member}
-use Rattle.jsonb.specs.JsonText.{AreSpaces, IsSpaced, spaced, IsCharacter, IsString, IsLiteralName, null_name, true_name, false_name, IsPlainValue, a_literal, a_string, a_number, IsName, IsPair, name_and_value, IsOneValue, plain_value, no_items, some_items, no_pairs, some_pairs, IsNested, IsJsonText}
+use Rattle.jsonb_spec.specs.JsonText.{AreSpaces, IsSpaced, spaced, IsCharacter, IsString, IsLiteralName, null_name, true_name, false_name, IsPlainValue, a_literal, a_string, a_number, IsName, IsPair, name_and_value, IsOneValue, plain_value, no_items, some_items, no_pairs, some_pairs, IsNested, IsJsonText}
 use Rattle.jsonb.proofs.Modes.LeafByLeaf.{value_starts, no_whitespace_elements, same_joined}
 
 -- JSON is strict

@@ -1,7 +1,16 @@
 use Rattle.std.proofs.Common.{◌++◌, ap, ◌∙◌}
 use Rattle.key_document.specs.Document.{document_of}
+use Rattle.jsonb_c.proofs.DocumentKeys.{key_is_document, returned_so}
 use Rattle.jsonb_c.proofs.Documents.{text_of_tree}
+use Rattle.jsonb_c.specs.Document.{IsDocumentOfText}
+use Rattle.jsonb_c.specs.Interface.{IsKeyOf}
 use Rattle.jsonb_c.proofs.document.document_of_text.Goals as goal
+
+-- no number has zeros at its end
+pub returns-then-not-may_end_in_zeros-clause-document : goal.returns-then-not-may_end_in_zeros-clause-document
+returns-then-not-may_end_in_zeros-clause-document c =
+    returned_so (λ bytes. IsKeyOf c.args.mode c.args.text.now bytes.items) (λ bytes. IsDocumentOfText c.args.mode c.args.text.now bytes.items)
+    (λ bytes key. key_is_document c.args.mode c.args.text.now bytes.items (c.may_end_in_zeros.ensures c.if-not-may_end_in_zeros.true) key) c.sort_key_of.result c.sort_key_of.ensures.key
 
 pub returns-in-Ok-clause-document : goal.returns-in-Ok-clause-document
 returns-in-Ok-clause-document c =
