@@ -138,7 +138,8 @@ TIMED = {
     "vjson_populate_record(anyelement,vjson)": ["vjson_populate_record(NULL::grown_row, o)"],
     "vjson_populate_recordset(anyelement,vjson)": [rows("vjson_populate_recordset", "NULL::grown_row, r")],
     "vjson_error(text,boolean)": ["(vjson_error(t)).near IS NULL", "(vjson_error(f)).near", "(vjson_error(u)).near",
-                                  "(vjson_error(e || 'x')).near", "(vjson_error(u, true)).near IS NULL"],
+                                  "(vjson_error(e || 'x')).near", "(vjson_error(u, true)).near IS NULL",
+                                  "(vjson_error(u || 'x', true)).near"],
     "vjson_error(jsonb,boolean)": ["(vjson_error(b)).near IS NULL"],
     "vjson_rounded(text)": ["vjson_rounded(u)", "vjson_rounded(e)"],
     "vjson_subscript_handler(internal)": [

@@ -1,5 +1,5 @@
-//! The calls on a text. A line of the input is a letter, `s` for standard or `e` for extended mode, a space, and the
-//! text in hexadecimal. Each call has a line of its own: its name, a space, and the text of its answer or what is
+//! The calls on a text. A line of the input is a letter for the mode (`s` standard, `e` extended, `j` JSON, `x` extended
+//! JSON), a space, and the text in hexadecimal. Each call has a line of its own: its name, a space, and the text of its answer or what is
 //! printed of the error.
 
 use crate::{documents, numbers};
@@ -35,6 +35,8 @@ pub fn report<W: Write>(alloc: Global, line: &str, out: &mut W) -> io::Result<()
     let (mode, text) = match line.split_once(' ') {
         Some(("s", text)) => (Grammar::Standard, text),
         Some(("e", text)) => (Grammar::Extended, text),
+        Some(("j", text)) => (Grammar::Json, text),
+        Some(("x", text)) => (Grammar::ExtendedJson, text),
         _ => return Err(io::Error::from(io::ErrorKind::InvalidInput)),
     };
     let Ok(text) = hex::decode(alloc, text) else {
