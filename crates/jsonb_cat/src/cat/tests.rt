@@ -21,25 +21,6 @@ impl Read for Failing<'_> {
     }
 }
 
-// Gives these bytes one by one, and then their end.
-#[derive(Drop)]
-struct Slow<'a> {
-    bytes: &'a [u8],
-}
-
-impl Read for Slow<'_> {
-    fn read(&mut self, buf: &mut [u8]) -> io::Result<usize> {
-        match self.bytes.split_first() {
-            Some((byte, rest)) if !buf.is_empty() => {
-                buf[0] = *byte;
-                self.bytes = rest;
-                Ok(1)
-            }
-            _ => Ok(0),
-        }
-    }
-}
-
 // Gives one space at each read, with no end, and notes how often it is read and into how few bytes.
 #[derive(Drop)]
 struct Endless {
@@ -144,22 +125,6 @@ fn expect_run<R: Read>(
 }
 
 #[test]
-fn wrong_words_give_the_usage_line_before_reading(
-    rt: HostRuntime,
-) -> std::result::Result<(), Fail> {
-    let usage = "usage: jsonb_cat [--standard]\n";
-    for words in ["--x", "--Standard", "--standard --standard"] {
-        let mut input = Endless {
-            reads: 0,
-            least_capacity: usize::MAX,
-        };
-        expect_run(&rt, words, &mut input, 2, "", usage)?;
-        assert_eq!(rt; input.reads, 0);
-    }
-    Ok(())
-}
-
-#[test]
 fn a_reader_that_fails_is_an_error(rt: HostRuntime) -> std::result::Result<(), Fail> {
     for bytes in ["", "[", "[1", "[1]"] {
         for words in ["", "--standard"] {
@@ -168,17 +133,6 @@ fn a_reader_that_fails_is_an_error(rt: HostRuntime) -> std::result::Result<(), F
             };
             expect_run(&rt, words, &mut input, 1, "", "InvalidUtf8\n")?;
         }
-    }
-    Ok(())
-}
-
-#[test]
-fn a_reader_may_give_a_byte_at_each_read(rt: HostRuntime) -> std::result::Result<(), Fail> {
-    for words in ["", "--standard"] {
-        let mut input = Slow {
-            bytes: b"[1,{\"a\":\"\\n\"}]",
-        };
-        expect_run(&rt, words, &mut input, 0, "[1,{\"a\":\"\\n\"}]\n", "")?;
     }
     Ok(())
 }
@@ -231,109 +185,6 @@ fn a_fault_in_telling_an_error_changes_no_status(rt: HostRuntime) -> std::result
             assert!(rt; out.is_empty());
         }
     }
-    Ok(())
-}
-
-#[test]
-fn documents_are_written_as_lines(rt: HostRuntime) -> std::result::Result<(), Fail> {
-    for (input, status, out, err) in [
-        (" \"abc\" ", 0, "\"abc\"\n", ""),
-        ("-5", 0, "-5\n", ""),
-        ("-0", 0, "0\n", ""),
-        (" null\n", 0, "null\n", ""),
-        ("\"a\\u0001\\n\"", 0, "\"a\\u0001\\n\"\n", ""),
-        ("", 1, "", "EOF while parsing a value, pos 0\n"),
-        ("1 2", 1, "", "trailing characters, pos 3\n"),
-        ("1.5", 1, "", "number not carried, pos 3\n"),
-        ("\"\\'\"", 1, "", "invalid escaped '27', pos 4\n"),
-    ] {
-        expect_run(&rt, "--standard", &mut input.as_bytes(), status, out, err)?;
-    }
-    Ok(())
-}
-
-#[test]
-fn no_words_choose_extended_mode(rt: HostRuntime) -> std::result::Result<(), Fail> {
-    for (input, status, out, err) in [
-        ("", 0, "null\n", ""),
-        ("[,'a']", 0, "[null,\"a\"]\n", ""),
-        ("{a:1 /* b */}", 0, "{\"a\":1}\n", ""),
-        ("1 /*", 1, "", "EOF while parsing a value, pos 4\n"),
-    ] {
-        expect_run(&rt, "", &mut input.as_bytes(), status, out, err)?;
-    }
-    Ok(())
-}
-
-#[test]
-fn the_mode_of_the_words_reads(rt: HostRuntime) -> std::result::Result<(), Fail> {
-    let input = b"[1,]";
-    expect_run(&rt, "", &mut input.as_slice(), 0, "[1,null]\n", "")?;
-    let error = "expected value, pos 4\n";
-    expect_run(&rt, "--standard", &mut input.as_slice(), 1, "", error)?;
-    let usage = "usage: jsonb_cat [--standard]\n";
-    expect_run(&rt, "--x", &mut input.as_slice(), 2, "", usage)?;
-    Ok(())
-}
-
-#[test]
-fn texts_that_are_cut_off_are_rejected(rt: HostRuntime) -> std::result::Result<(), Fail> {
-    for (input, error) in [
-        (r#""\"#, "EOF while parsing a value, pos 2\n"),
-        (r#""\u"#, "EOF while parsing a value, pos 3\n"),
-        (r#""\u{"#, "EOF while parsing a value, pos 9\n"),
-        (r#""\u1"#, "EOF while parsing a value, pos 7\n"),
-        (r#""\u1""#, "EOF while parsing a value, pos 7\n"),
-    ] {
-        for words in ["", "--standard"] {
-            expect_run(&rt, words, &mut input.as_bytes(), 1, "", error)?;
-        }
-    }
-    for (input, error) in [
-        (&b"{\xE4"[..], "EOF while parsing a value, pos 4\n"),
-        (&b"{\xF0"[..], "EOF while parsing a value, pos 5\n"),
-        (&br"{'a\u"[..], "EOF while parsing a value, pos 5\n"),
-    ] {
-        let mut bytes = input;
-        expect_run(&rt, "", &mut bytes, 1, "", error)?;
-    }
-    Ok(())
-}
-
-#[test]
-fn texts_that_are_too_deep_are_rejected(rt: HostRuntime) -> std::result::Result<(), Fail> {
-    for (words, part, times, error) in [
-        ("", "[", 100_000, "depth limit exceeded, pos 513\n"),
-        (
-            "--standard",
-            "[",
-            100_000,
-            "depth limit exceeded, pos 513\n",
-        ),
-        ("", "{a:", 513, "depth limit exceeded, pos 1537\n"),
-        (
-            "--standard",
-            r#"{"a":"#,
-            513,
-            "depth limit exceeded, pos 2561\n",
-        ),
-    ] {
-        let mut input = Vec::new(rt.alloc());
-        for _ in 0..times {
-            input.extend_from_slice(part.as_bytes())?;
-        }
-        expect_run(&rt, words, &mut input.as_slice(), 1, "", error)?;
-    }
-    Ok(())
-}
-
-#[test]
-fn what_is_in_the_output_stays(rt: HostRuntime) -> std::result::Result<(), Fail> {
-    let mut out = Vec::from_slice(rt.alloc(), b"x")?;
-    assert!(rt; convert(rt.alloc(), Mode::Standard, b"nul", &mut out).is_err());
-    assert_eq!(rt; out.as_slice(), b"x".as_slice());
-    convert(rt.alloc(), Mode::Standard, b"true", &mut out)?;
-    assert_eq!(rt; out.as_slice(), b"xtrue\n".as_slice());
     Ok(())
 }
 
