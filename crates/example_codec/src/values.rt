@@ -160,6 +160,3 @@ fn write_line(value: &Value, text: &mut Vec<u8>) -> jsonb::Result<()>
     text.push(b'\n')?;
     Ok(())
 }
-
-#[cfg(test)]
-mod tests;

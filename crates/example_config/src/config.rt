@@ -15,9 +15,6 @@ use std::alloc::Global;
 use std::borrow::CowStr;
 use std::fmt;
 
-#[cfg(test)]
-mod tests;
-
 /// The settings of a server. Keys that aren't settings are ignored.
 #[derive(Debug, Drop)]
 pub struct Config {
