@@ -1,5 +1,6 @@
-"""Changes of the reference's trees: parts set and removed, members and items added, two values merged, names and nulls
-left out; and documents, which are sort keys with the zeros that end decimals behind them (docs/SORT_KEYS.md)."""
+"""Changes of the reference's trees: parts set and removed, members and items added, two values merged, names, nulls and
+the zeros that end decimals left out; and what is stored: documents, which are sort keys with these zeros behind them, and
+tables of members (docs/SORT_KEYS.md)."""
 
 from reference import EXTENDED, number_text, read, sort_key, text_key
 
@@ -7,6 +8,10 @@ REMOVE = object()
 
 # A member that is to be inserted is there already.
 PRESENT = object()
+
+# How many members an object with a table has, and how many bytes its key; and the byte in which a table ends.
+LEAST_MEMBERS, LEAST_KEY, MOST_KEY = 4, 256, 65535
+MARK = b"\xfe"
 
 # What values are made of.
 NUMBERS = ["0", "0.0", "1", "1.0", "1.50", "2.25", "-3.000", "100", "1200.00", "0.010", "-0.5", "12345.67890", "7"]
@@ -135,6 +140,21 @@ def without_nulls(tree, in_arrays):
     return tree
 
 
+def fewest(tree):
+    """The tree whose decimals don't end in zeros."""
+    kind = tree[0]
+    if kind == "number":
+        scale, whole = tree[2:]
+        while scale and whole % 10 == 0:
+            scale, whole = scale - 1, whole // 10
+        return ("number", tree[1], scale, whole)
+    if kind == "array":
+        return ("array", [fewest(item) for item in tree[1]])
+    if kind == "object":
+        return ("object", [(*member[:3], fewest(member[3])) for member in tree[1]])
+    return tree
+
+
 def depth(tree):
     """How many arrays and objects are in one another."""
     deepest, left = 0, [(tree, 0)]
@@ -226,6 +246,25 @@ def document_of(tree):
             zeros += sevens(plain) + bytes([count])
         plain = 0 if count else plain + 1
     return sort_key(tree) + zeros + (sevens(len(zeros))[::-1] + b"\xff" if zeros else b"")
+
+
+def has_table(tree, key):
+    return tree[0] == "object" and len(tree[1]) >= LEAST_MEMBERS and LEAST_KEY <= len(key) <= MOST_KEY
+
+
+def ranges_of(tree):
+    """Of each member of an object its name, and where in the key its name begins, its value, and what is behind it."""
+    at = 1
+    for _, name, _, item in tree[1]:
+        inner = at + len(text_key(name))
+        end = inner + len(sort_key(item))
+        yield name, at, inner, end
+        at = end
+
+
+def table_of(tree):
+    begins = [at for _, at, _, _ in ranges_of(tree)]
+    return b"".join(number.to_bytes(2, "big") for number in [*begins, len(begins)]) + MARK
 
 
 def value_text(chance, depth):

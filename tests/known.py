@@ -1,7 +1,7 @@
 """Texts with answers that were worked out by hand from the rules. Run alone, it shows that the reference gives them.
 
-Each row is the modes (`s`, `e` or both), the text, and the answer: a tree in one word, or a code with its position and,
-where it has one, its argument; or, in PRINTED, what is printed.
+Each row is the modes (`s`, `e` or both, or `j` for JSON), the text, and the answer: a tree in one word, or a code with
+its position and, where it has one, its argument; or, in PRINTED, what is printed.
 """
 
 import itertools
@@ -9,7 +9,7 @@ import sys
 
 import reference
 
-MODES = {"s": reference.STANDARD, "e": reference.EXTENDED}
+MODES = {"s": reference.STANDARD, "e": reference.EXTENDED, "j": reference.JSON}
 
 
 def plain(text):
@@ -213,11 +213,20 @@ PRINTED = [
     ("s", b"0,", b"trailing characters, pos 2"), ("s", b"-9223372036854775808]", b"trailing characters, pos 21"),
     ("e", b"-5,", b"trailing characters, pos 3"), ("e", b"-7.]", b"trailing characters, pos 4"),
     ("e", b"00x1", b"trailing characters, pos 3"),
+    ("se", b"5", b"5"), ("e", b"1.0", b"1.0"), ("e", b"1.00", b"1.00"), ("s", b"1.00", b"number not carried, pos 4"),
+    ("e", b"922337203685477580.7", b"922337203685477580.7"),
+    ("s", b"922337203685477580.7", b"number not carried, pos 20"),
+    ("se", b"0.000000000000000000000000000000000000001", b"number not carried, pos 41"),
+    ("se", b"100000000000000000000000000000000000000", b"number not carried, pos 39"),
     # Strings.
     ("se", b'{"\xff":1}', b"invalid string, pos 4"), ("se", b'"a\\n"', b'"a\\n"'), ("se", b'"it\'s"', b'"it\'s"'),
     ("e", b"'a", b"EOF while parsing a value, pos 2"), ("e", b'\'a"', b"EOF while parsing a value, pos 3"),
     ("e", b"'a\\'", b"EOF while parsing a value, pos 4"),
     ("se", b'"\\uD834\\u{DD1E}\\n\\\\"', b'"\xf0\x9d\x84\x9e\\n\\\\"'),
+    ("se", b'"\t"', b'"\\t"'), ("se", b'"\\uD800\\u0041"', b'"\\\\uD800\\\\u0041"'), ("se", b'"00AF"', b'"00AF"'),
+    ("se", b'"\\\n"', b"invalid escaped 'A', pos 4"), ("s", b'"\\\'"', b"invalid escaped '27', pos 4"),
+    ("se", b'"\\u"a"b"', b"invalid hex '22', pos 8"), ("se", b'"\\u000\0"', b"invalid hex '0', pos 8"),
+    ("j", b'"\t"', b"control character (\\u0000-\\u001F) found while parsing a string, pos 3"),
     # Arrays and objects, elements that are left out, and keys.
     ("se", b'{"name":"Fred","phones":[{"type":"home","number":3720453},{"type":"work","number":5062051}]}',
      b'{"name":"Fred","phones":[{"number":3720453,"type":"home"},{"number":5062051,"type":"work"}]}'),
@@ -241,6 +250,10 @@ PRINTED = [
     ("se", b'{"a":{},"b":{"a":{}},"a":[]}', b'duplicate object attribute "a", pos 24'),
     ("e", b'{a:{\'b\':1,"b":2}}', b'duplicate object attribute "b", pos 13'),
     ("e", b'{a:{"\\u0062":1,b:[]}}', b'duplicate object attribute "b", pos 16'),
+    ("se", b"[]", b"[]"), ("se", b"{}", b"{}"), ("se", b'{"q\\"":"\\u0001\\n"}', b'{"q\\"":"\\u0001\\n"}'),
+    ("se", b'[[1,null],{"b":2,"a":1},[]]', b'[[1,null],{"a":1,"b":2},[]]'),
+    ("se", b'{"b":[1,{"d":-0,"c":"\\u0041"}],"\\u0061":null}', b'{"a":null,"b":[1,{"c":"A","d":0}]}'),
+    ("se", b"[" * 513 + b"]" * 513, b"depth limit exceeded, pos 513"),
     # Comments, some of which are no text, and whitespace alone.
     ("s", b"/", b"expected value, pos 1"), ("s", b"[/", b"expected value, pos 2"),
     ("s", b"1/", b"trailing characters, pos 2"), ("s", b"1 /x", b"trailing characters, pos 3"),
@@ -327,6 +340,9 @@ CASTS = [
 # Numbers with their texts.
 NUMBER_TEXTS = [
     (f"Int64({-2 ** 63})", "-9223372036854775808"), (f"UInt64({2 ** 64 - 1})", "18446744073709551615"),
+    ("Decimal64(0,5)", "5"), ("Decimal128(2,100)", "1.00"),
+    ("Decimal64(39,1)", "0.000000000000000000000000000000000000001"),
+    (f"Decimal128(0,{10 ** 38})", "100000000000000000000000000000000000000"),
     ("Int64(0)", "0"), ("Decimal64(2,0)", "0.00"), ("Decimal64(2,-5)", "-0.05"), ("Decimal64(0,-5)", "-5"),
     (f"Decimal64(1,{2 ** 63 - 1})", "922337203685477580.7"),
     (f"Decimal64(255,{-2 ** 63})", "-0." + "0" * 236 + "9223372036854775808"),
@@ -392,7 +408,8 @@ NUMBER_KEYS = [
 KEYS_OF_TEXTS = [
     (b"''", "d00001"), (b"'a'", "d0610001"), (b"[1,null]", "d2a114d300"), (b"'\\u0000'", "d000ff0001"),
     (b"{b:2,a:1.0}", "d1610001a114620001a1280000"), (b"true", "16"), (b"false", "15"), (b"[]", "d200"),
-    (b"{}", "d10000"),
+    (b"{}", "d10000"), (b"null", "d3"), (b"'a\\u0000b'", "d06100ff620001"),
+    (b"{b:.5,a:0x1F}", "d1610001a23e620001a0640000"),
 ]
 
 

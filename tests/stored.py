@@ -34,6 +34,26 @@ NUMBERS = [
     b"1" * 38 + b"e0", b"1" * 39 + b"e-1", b"0." + b"0" * 43 + b"1e44", b"[1e2, -2.5e1]", b'{"a": 1e2, "b": 1e400}',
 ]
 
+# Objects out of order, whose keys are alike or have escapes, with values of all kinds.
+OUT_OF_ORDER = [
+    b'{"c":{"z":1,"y":{"b":[],"a":{}}},"b":[{"q":0,"p":[{"2":0,"1":0}]}],"a":null}',
+    b'{"b\\u0000":1,"a\\n":2,"\\u0061":3,"":4}', b'{"abcdefghz":1,"abcdefgha":2,"abcdefgh":3,"abcdefghij":4}',
+    b'{"abcdefghb":1,"abcdefgh\\u0061":2}', b'{"abcdefgh\\u0062":1,"abcdefgha":2}', b'{"b":1,"\\u0061":2,"\\u0063":3}',
+    b' { "b" : [ ] , "a" : { } } ', b'{b:1,\'a\':2,"\\u0061b":3}', b"{b/* b */:/* 1 */1,// a\na:[,,]}",
+    b"{$c:{z_:1,y:.25},_b:[1,],'a':nUll}", b"{'abcdefgh\\u0062':1,abcdefgha:2}",
+    b"[-0,0,-1,18446744073709551615,-9223372036854775808,9223372036854775807,1000000]",
+    b'["\\ud83d\\ude00","\\"\\\\\\/\\b\\f\\n\\r\\t","\\u0000a","\xc3\xa9"]', b'[[[[]]],{},[{}],true,false,null,""]',
+    b" // nothing", b"['\\'','\\u{0041}','\\u0000']", b"[-0.0,.5,1.50,+1,0x1F,-0.10,12345678901234567890.12345]",
+    b"[99999999999999999999999999999999999999,-18446744073709551616]",
+]
+
+# Such objects that repeat keys, and texts with faults behind and inside of them.
+WITH_FAULTS = [
+    b'{"b":1,"a":2,"b":3}', b'{"b":{"c":1,"\\u0063":2},"b":3}', b'{"z":1,"y":2,"z":3,"y":4}',
+    b'{"a":[1,2],"\\u0061":{}}', b'[{"b":1,"a":2},1..2]', b'{"b":1,"a":2', b'["a\\z"]', b'["\xff"]', b"[1] 2",
+    b"[" * 513,
+]
+
 # Strings and keys of each length up to two vectors and more, closed and cut off.
 AROUND = [
     (b'["', b'"]'), (b'["\\n', b'"]'), (b'["\xc3\xa9', b'"]'), (b'["', b'\\n"]'), (b"['", b'"\']'), (b'{"k":"', b'"}'),
@@ -64,6 +84,7 @@ def deep():
     yield nested(b"", b'{"a":', 513, b"}", b"")
     yield nested(b"[", b'{"a":[', 256, b"]}", b"]")
     yield nested(b'{"a":', b'[{"a":', 256, b"}]", b"}")
+    yield b'{"b":0,"a":' * 511 + b"{}" + b"}" * 511
 
 
 def long_strings():
@@ -95,7 +116,7 @@ def of_each_length():
 
 def texts():
     """The texts that are read in each mode."""
-    yield from NUMBERS
+    yield from itertools.chain(NUMBERS, OUT_OF_ORDER, WITH_FAULTS)
     yield from (text for _, text, _ in known.ROWS + known.PRINTED if len(text) <= vectors.MAX_KNOWN_BYTES)
     yield from (text for text, _ in known.WRITTEN)
     yield from itertools.chain(beginnings(), texts_beside(), members(), of_each_length())

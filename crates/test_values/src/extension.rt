@@ -1,8 +1,10 @@
-use crate::same::{expect_clone, is_unexpected, prints};
+// Values beyond JSON: their texts and their sort keys.
+use crate::bytes::has_no_value;
+use jsonb_value::error::{Error, Result as Answer};
 use jsonb_value::extension::{Date, ExtensionValue, Interval, Timestamp, TimestampTz};
+use jsonb_value::value::Value;
 use std::alloc::Global;
-use std::cmp::Ordering;
-use std::process::Abort;
+use std::test::Fail;
 
 fn interval(months: i32, days: i32, micros: i64) -> Interval {
     Interval {
@@ -12,30 +14,18 @@ fn interval(months: i32, days: i32, micros: i64) -> Interval {
     }
 }
 
-fn zoned(offset: i32, value: i64) -> TimestampTz {
-    TimestampTz { offset, value }
-}
-
-fn expect_text(rt: &(impl AllocGlobal + Abort), value: Interval, text: &str) {
-    assert_eq!(rt; prints(rt.alloc(), &value, text), Ok(true), "{text}");
+// Whether this is written.
+fn is_written(alloc: Global, value: &Value, text: &str) -> bool {
+    let mut buf = Vec::new(alloc);
+    value.write_text(&mut buf).is_ok() && buf.as_slice() == text.as_bytes()
 }
 
 #[test]
-fn interval_texts(rt: HostRuntime) {
-    expect_text(
-        &rt,
-        interval(14, -1, 3661000001),
-        "1 year 2 months -1 day 01:01:01.000001",
-    );
-    expect_text(
-        &rt,
-        interval(i32::MIN, i32::MIN, i64::MIN),
-        "-178956970 years -8 months -2147483648 days -2562047788:00:54.775808",
-    );
-    expect_text(&rt, interval(0, 0, 0), "00:00:00");
-    expect_text(&rt, interval(1, 1, 0), "1 month 1 day");
-    expect_text(&rt, interval(0, 0, -1), "-00:00:00.000001");
-    expect_text(&rt, interval(24, 0, 360000000000), "2 years 100:00:00");
+fn values_beyond_json_are_written_in_quotes(rt: HostRuntime) {
+    let binary = Value::Binary(b"\x00\xaf");
+    assert!(rt; is_written(rt.alloc(), &binary, r#""00AF""#));
+    let none = Value::Interval(interval(0, 0, 0));
+    assert!(rt; is_written(rt.alloc(), &none, r#""00:00:00""#));
 }
 
 // Appends the value's text, and says whether the buffer holds this then.
@@ -52,67 +42,57 @@ fn texts_are_appended(rt: HostRuntime) {
     assert!(rt; is_appended(&mut buf, days, b"00AF2 days"));
 }
 
-// Whether the value has no text, and the bytes that were there stay.
-fn is_refused(alloc: Global, value: &ExtensionValue) -> bool {
-    match Vec::from_slice(alloc, b"x") {
-        Ok(mut buf) => is_unexpected(value.write_text(&mut buf))
-            && buf.as_slice() == b"x".as_slice(),
-        Err(_) => false,
+fn has_sort_key(alloc: Global, value: &Value, wanted: &[u8]) -> bool {
+    let mut key = Vec::new(alloc);
+    value.write_sort_key(&mut key).is_ok() && key.as_slice() == wanted
+}
+
+// Values with their sort keys, of which no value is made.
+#[test]
+fn keys_beyond_json(rt: HostRuntime) {
+    for (name, value, key) in [
+        (
+            "binary data",
+            Value::Binary(b"\x00\xff"),
+            b"\x10\x00\xff\xff\x00\x01" as &[u8],
+        ),
+        (
+            "a date",
+            Value::Date(Date { value: -1 }),
+            b"\x11\x7f\xff\xff\xff",
+        ),
+        (
+            "a time",
+            Value::Timestamp(Timestamp { value: 1 }),
+            b"\x12\x80\x00\x00\x00\x00\x00\x00\x01",
+        ),
+        (
+            "a time with a zone",
+            Value::TimestampTz(TimestampTz {
+                offset: -1,
+                value: 1,
+            }),
+            b"\x13\x7f\xff\xff\xff\x80\x00\x00\x00\x00\x00\x00\x01",
+        ),
+        (
+            "an interval",
+            Value::Interval(interval(1, -1, 0)),
+            b"\x14\x80\x00\x00\x01\x7f\xff\xff\xff\x80\x00\x00\x00\x00\x00\x00\x00",
+        ),
+    ] {
+        assert!(rt; has_sort_key(rt.alloc(), &value, key), "{name}");
+        assert!(rt; has_no_value(rt.alloc(), key), "{name}");
     }
 }
 
-fn expect_refused(rt: &(impl AllocGlobal + Abort), value: ExtensionValue) {
-    assert!(rt; is_refused(rt.alloc(), &value), "{value:?}");
+// Whether the call fails since a value of this type has no such answer.
+fn is_unexpected(answer: Answer<Value>) -> bool {
+    matches!(answer, Err(Error::UnexpectedType))
 }
 
 #[test]
-fn dates_and_times_have_no_text(rt: HostRuntime) {
-    expect_refused(&rt, ExtensionValue::Date(Date { value: 1 }));
-    expect_refused(&rt, ExtensionValue::Timestamp(Timestamp { value: 1 }));
-    expect_refused(&rt, ExtensionValue::TimestampTz(zoned(0, 1)));
-}
-
-fn expect_order(rt: &impl Abort, order: Option<Ordering>, wanted: Ordering) {
-    assert_eq!(rt; order, Some(wanted));
-}
-
-#[test]
-fn extensions_compare_by_kind_and_fields(rt: HostRuntime) {
-    let zones = zoned(0, 5).cmp(&zoned(1, 0));
-    assert_eq!(rt; zones, Ordering::Less);
-    let spans = interval(0, 40, 0).cmp(&interval(1, 0, 0));
-    assert_eq!(rt; spans, Ordering::Less);
-    let empty = ExtensionValue::Binary(b"");
-    let day = ExtensionValue::Date(Date { value: i32::MIN });
-    assert_eq!(rt; empty.partial_cmp(&day), Some(Ordering::Less));
-    assert!(rt; empty != day);
-}
-
-#[test]
-fn fields_compare_in_order(rt: HostRuntime) {
-    let earlier = Timestamp { value: -1 };
-    let later = Timestamp { value: 0 };
-    expect_order(&rt, Some(earlier.cmp(&later)), Ordering::Less);
-    expect_order(&rt, later.partial_cmp(&earlier), Ordering::Greater);
-    let day = Date { value: 1 };
-    expect_order(&rt, Some(day.cmp(&Date { value: 1 })), Ordering::Equal);
-    expect_order(&rt, day.partial_cmp(&Date { value: 2 }), Ordering::Less);
-    let span = interval(1, 2, 0);
-    expect_order(&rt, span.partial_cmp(&interval(1, 1, 5)), Ordering::Greater);
-}
-
-#[test]
-fn intervals_are_equal_in_all_fields(rt: HostRuntime) {
-    assert!(rt; interval(1, 2, 3) == interval(1, 2, 3));
-    assert!(rt; interval(1, 2, 3) != interval(1, 2, 4));
-}
-
-#[test]
-fn clones_are_equal(rt: HostRuntime) {
-    expect_clone(&rt, zoned(1, 2));
-    expect_clone(&rt, ExtensionValue::Binary(b"a"));
-    expect_clone(&rt, ExtensionValue::Date(Date { value: 1 }));
-    expect_clone(&rt, ExtensionValue::Timestamp(Timestamp { value: 1 }));
-    expect_clone(&rt, ExtensionValue::TimestampTz(zoned(1, 2)));
-    expect_clone(&rt, ExtensionValue::Interval(interval(1, 2, 3)));
+fn binary_data_is_not_owned(rt: HostRuntime) -> Result<(), Fail> {
+    let items = Value::Array(vec![in rt.alloc(); Value::Null, Value::Binary(b"a")]?);
+    assert!(rt; is_unexpected(items.to_owned_value(rt.alloc())));
+    Ok(())
 }
