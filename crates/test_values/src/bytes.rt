@@ -8,10 +8,7 @@ use std::test::Fail;
 
 /// Whether the bytes are the sort key of no value.
 pub(crate) fn has_no_value(alloc: Global, key: &[u8]) -> bool {
-    matches!(
-        &value_of_sort_key(alloc, key),
-        Err(KeyError::Invalid)
-    )
+    matches!(&value_of_sort_key(alloc, key), Err(KeyError::Invalid))
 }
 
 #[test]
@@ -36,10 +33,7 @@ fn what_is_no_key_has_no_value(rt: HostRuntime) {
             "names that don't ascend",
             b"\xd1b\x00\x01\x16a\x00\x01\x15\x00\x00",
         ),
-        (
-            "a name twice",
-            b"\xd1a\x00\x01\x16a\x00\x01\x15\x00\x00",
-        ),
+        ("a name twice", b"\xd1a\x00\x01\x16a\x00\x01\x15\x00\x00"),
         ("a number without digits", b"\xa1"),
         ("a number with a pair of zeros behind it", b"\xa1\x15\x00"),
         ("a pair past 99", b"\xa1\xc8"),
@@ -64,12 +58,7 @@ fn more_than_512_levels_have_no_value(rt: HostRuntime) -> Result<(), Fail> {
 #[test]
 fn the_offset_reaches_the_greatest(rt: HostRuntime) -> Result<(), Fail> {
     let mut idx = usize::MAX - 18;
-    let text = parse_string(
-        rt.alloc(),
-        b"\\u0041\\u0042\\u0043",
-        usize::MAX,
-        &mut idx,
-    )?;
+    let text = parse_string(rt.alloc(), b"\\u0041\\u0042\\u0043", usize::MAX, &mut idx)?;
     assert_eq!(rt; text.as_str(), "ABC");
     assert_eq!(rt; idx, usize::MAX);
     Ok(())
