@@ -122,7 +122,7 @@ def of_value(calls, text, mode):
 
 
 def of_vjson(text, mode):
-    """The same, but that vjson has messages of its own, which tests/vjson compares: a line may be any of these."""
+    """The same, but that vjson has messages of its own, which tests/vjson compares. Of these None stands for any."""
     try:
         read(text, GRAMMARS[mode])
     except Rejection:
@@ -175,6 +175,10 @@ def lines_wanted(text, mode):
             *messages()]
 
 
+def is_message(told):
+    return b", pos " in told
+
+
 def differences(text, mode, printed):
     """The lines that are printed otherwise than the reference has them."""
     found, wanted = printed.split(b"\n")[:-1], lines_wanted(text, mode)
@@ -183,7 +187,8 @@ def differences(text, mode, printed):
     differ = []
     for line, (name, allowed) in zip(found, wanted):
         front, _, told = line.partition(b" ")
-        if front != name.encode() or allowed is not None and told not in allowed:
+        is_right = is_message(told) if allowed is None else told in allowed
+        if front != name.encode() or not is_right:
             differ.append(f"{line[:300]!r}, not {name} {[each[:300] for each in allowed or []]}")
     return differ
 

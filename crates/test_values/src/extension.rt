@@ -6,7 +6,7 @@ use jsonb_value::value::Value;
 use std::alloc::Global;
 use std::test::Fail;
 
-fn interval(months: i32, days: i32, micros: i64) -> Interval {
+pub(crate) fn interval(months: i32, days: i32, micros: i64) -> Interval {
     Interval {
         months,
         days,

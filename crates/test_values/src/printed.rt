@@ -1,6 +1,6 @@
 // What is printed of errors that no text has, and of intervals.
+use crate::extension::interval;
 use jsonb_value::error::{Error, ParseErrorCode};
-use jsonb_value::extension::Interval;
 use std::alloc::{AllocError, Global};
 use std::fmt::Display;
 
@@ -50,14 +50,6 @@ fn codes_print_in_words(rt: HostRuntime) {
     ] {
         let error = Error::Syntax(code, 16);
         assert!(rt; prints(rt.alloc(), &error, text) == Ok(true), "{text}");
-    }
-}
-
-fn interval(months: i32, days: i32, micros: i64) -> Interval {
-    Interval {
-        months,
-        days,
-        micros,
     }
 }
 
