@@ -217,17 +217,29 @@ def part_at(tree, path):
 
 def counts_of(tree):
     """For each byte of the key the zeros that end the number that begins there."""
+    counts = []
+    add_counts(tree, counts)
+    return counts
+
+
+def add_counts(tree, counts):
+    """Adds those of the tree's key."""
     kind = tree[0]
-    if kind == "number":
-        text = number_text(tree[2], tree[3])
-        zeros = len(text) - len(text.rstrip(b"0")) if b"." in text else 0
-        return [zeros] + [0] * (len(sort_key(tree)) - 1)
     if kind == "array":
-        return [0] + [count for item in tree[1] for count in counts_of(item)] + [0]
-    if kind == "object":
-        members = [[0] * len(text_key(name)) + counts_of(item) for _, name, _, item in tree[1]]
-        return [0] + [count for member in members for count in member] + [0, 0]
-    return [0] * len(sort_key(tree))
+        counts.append(0)
+        for item in tree[1]:
+            add_counts(item, counts)
+        counts.append(0)
+    elif kind == "object":
+        counts.append(0)
+        for _, name, _, item in tree[1]:
+            counts += [0] * len(text_key(name))
+            add_counts(item, counts)
+        counts += [0, 0]
+    else:
+        text = number_text(tree[2], tree[3]) if kind == "number" else b""
+        zeros = len(text) - len(text.rstrip(b"0")) if b"." in text else 0
+        counts += [zeros] + [0] * (len(sort_key(tree)) - 1)
 
 
 def sevens(number):
