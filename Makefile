@@ -83,7 +83,7 @@ NAMED = sed -e $(call quoted,s|@PREFIX@|$(PREFIX)|) -e $(call quoted,s|@INCLUDED
 
 install: all
 	$(INSTALL) -d $(HEADER_TO) $(LIBRARY_TO)/pkgconfig $(LIBRARY_TO)/cmake/vizhoniku
-	$(INSTALL) -m 644 include/vizhoniku.h $(HEADER_TO)
+	$(INSTALL) -m 644 include/vizhoniku.h include/vizhoniku.hpp $(HEADER_TO)
 	$(INSTALL) -m 644 build/libvizhoniku.a $(LIBRARY_TO)
 	$(INSTALL) -m 755 build/$(SONAME) $(LIBRARY_TO)
 	ln -sf $(SONAME) $(LIBRARY_TO)/libvizhoniku.so
@@ -95,8 +95,8 @@ install: all
 	done
 
 uninstall:
-	rm -f $(HEADER_TO)/vizhoniku.h $(LIBRARY_TO)/libvizhoniku.a $(LIBRARY_TO)/$(SONAME) $(LIBRARY_TO)/libvizhoniku.so \
-	    $(LIBRARY_TO)/pkgconfig/vizhoniku.pc
+	rm -f $(HEADER_TO)/vizhoniku.h $(HEADER_TO)/vizhoniku.hpp $(LIBRARY_TO)/libvizhoniku.a $(LIBRARY_TO)/$(SONAME) \
+	    $(LIBRARY_TO)/libvizhoniku.so $(LIBRARY_TO)/pkgconfig/vizhoniku.pc
 	rm -rf $(LIBRARY_TO)/cmake/vizhoniku
 
 clean:
