@@ -6,6 +6,7 @@ definitions that its text names. `tests/pages` compares the page with what `made
 --tables` writes that.
 """
 
+import functools
 import pathlib
 import re
 
@@ -45,15 +46,21 @@ def files(crate):
     return sorted((CRATES / crate / "src").rglob("*.rt"))
 
 
+@functools.cache
 def sources(crate):
     return "\n".join(file.read_text(encoding="utf-8") for file in files(crate))
+
+
+@functools.cache
+def fields_of_records():
+    return {name: re.findall(r"^  pub (\w+) :", fields, re.M) for file in RECORDS for name, fields in re.findall(
+        r"^pub record (\w+)(.*?)^$", read(file), re.M | re.S)}
 
 
 def contracts(source):
     """Each public function with its clauses in order, and the text of each. A clause that is one of the records gives
     one for each field."""
-    records = {name: re.findall(r"^  pub (\w+) :", fields, re.M) for file in RECORDS for name, fields in re.findall(
-        r"^pub record (\w+)(.*?)^$", read(file), re.M | re.S)}
+    records = fields_of_records()
     functions = re.split(r"^ *((?:pub(?:\([^)]*\))? )?(?:extern \"C\" )?)fn (\w+)", source, flags=re.M)
     for words, name, rest in zip(functions[1::3], functions[2::3], functions[3::3]):
         if words.startswith("pub "):
@@ -65,6 +72,7 @@ def contracts(source):
             yield name, clauses
 
 
+@functools.cache
 def code_of(crate):
     """The words of a crate's code, without comments, clauses and imports of definitions."""
     clauses = r"^ *(?:requires|ensures|ghost)\b(?:[^\n]*\n)*?[^\n]*[};]$"
