@@ -1,7 +1,7 @@
 /* Calls a function of the library over the sort key, or the document, of the text on standard input: growth FUNCTION
  * [PATH], where growth document_without leaves out all members by their names; or over the text: growth check as JSON,
- * growth text as extended JSON, which may reject it, growth lines, and growth error_path for a text that extended JSON
- * rejects; growth document_next over all parts of the text's document, growth document_text for the text of it, and
+ * growth text, growth sort_key and growth document as extended JSON, which may reject it, growth lines, and growth
+ * error_path for a text that extended JSON rejects; growth document_next over all parts of the text's document, growth document_text for the text of it, and
  * growth text_with_zeros with one zero for each number before a comma. The status is the one that the call returns, and
  * 0 where the parts have ended. tests/growth counts the instructions of the call. */
 #include <stdio.h>
@@ -27,6 +27,10 @@ int main(int count, char **words) {
     return vizhoniku_check(VIZHONIKU_JSON, text, text_size, &error) == VIZHONIKU_OUT_OF_MEMORY;
   if (!strcmp(words[1], "text"))
     return vizhoniku_text(VIZHONIKU_EXTENDED_JSON, text, text_size, buffer, ROOM, &size, &error) > VIZHONIKU_REJECTED;
+  if (!strcmp(words[1], "sort_key"))
+    return vizhoniku_sort_key(VIZHONIKU_EXTENDED_JSON, text, text_size, key, ROOM, &size, &error) > VIZHONIKU_REJECTED;
+  if (!strcmp(words[1], "document"))
+    return vizhoniku_document(VIZHONIKU_EXTENDED_JSON, text, text_size, key, ROOM, &size, &error) > VIZHONIKU_REJECTED;
   if (!strcmp(words[1], "lines")) {
     size_t start;
     return (int)vizhoniku_lines(VIZHONIKU_STANDARD, text, text_size, buffer, ROOM, &size, &start, &error);

@@ -47,23 +47,32 @@ class Mutant:
                 yield path, old, line[4:].removeprefix(" ")
 
     def place(self):
-        """The function that it changes: the module's path and the name, or its own where it names one."""
+        """The one function whose body it changes, without its type; None where it changes something else."""
         if self.function:
-            return self.function.rpartition("::")
-        path, old, _ = next(self.edits())
-        text = source(self.crate, path)
-        names = re.findall(r"\bfn (\w+)", text[:text.find(old) + len(old)])
-        module = re.sub(r"^src/|\.rt$", "", path).replace("/", "::")
-        return "" if module in ("lib", "main") else module, "::", names[-1] if names else ""
-
-    def is_of(self, function):
-        """Whether this function is the one that it changes."""
-        module, _, name = self.place()
-        return function.startswith(module) and function.rpartition("::")[2] == name
+            return without_type(self.function)
+        places = {place_of(self.crate, path, old) for path, old, _ in self.edits()}
+        return places.pop() if len(places) == 1 else None
 
 
 def source(crate, path):
     return (TOP / "crates" / crate / path).read_text(encoding="utf-8")
+
+
+def without_type(function):
+    """The path of a function, with its modules and without the name of its type."""
+    *modules, name = function.split("::")
+    return "::".join([*(module for module in modules if not module[0].isupper()), name])
+
+
+def place_of(crate, path, old):
+    """The function in whose body the text stands; None where it stands elsewhere."""
+    text = source(crate, path)
+    at = text.find(old)
+    begun = [found for found in re.finditer(r"^( *)(?:pub\S* )?(?:extern \S+ )?fn (\w+)", text[:at + len(old)], re.M)]
+    if not begun or not path.startswith("src/") or re.search(rf"^{begun[-1][1]}}}$", text[begun[-1].end():at], re.M):
+        return None
+    module = re.sub(r"^src/|\.rt$", "", path).replace("/", "::")
+    return begun[-1][2] if module in ("lib", "main") else f"{module}::{begun[-1][2]}"
 
 
 def of_crate(crate):
@@ -181,8 +190,8 @@ def verdict(ran, mutant, texts):
 # ---- many mutants
 
 def of_different_functions(mutants, crate):
-    """As many of the mutants as change different functions, and can be made together."""
-    chosen, places = [], set()
+    """As many of the mutants as change the bodies of different functions, and can be made together."""
+    chosen, places = [], {None}
     for mutant in mutants:
         if mutant.place() in places:
             continue
@@ -210,7 +219,8 @@ def tried(crate, mutants, check):
         ran = check(texts, [mutant.function for mutant in chosen])
         found = {} if unreadable(ran, texts) or ran.returncode != 1 else unproved(ran, crate)
         for mutant in chosen:
-            whys = [f"{function}: {why[:120]}" for function, why in found.items() if mutant.is_of(function)]
+            whys = [f"{function}: {why[:120]}" for function, why in found.items()
+                    if without_type(function) == mutant.place()]
             if whys:
                 yield mutant, True, f"refused, as it must be: {whys[0]}"
             else:

@@ -234,6 +234,23 @@ static uint32_t write_one(struct given *given, unsigned char *buffer, size_t cap
   return given->call->function.one(given->bytes->at, given->bytes->size, buffer, capacity, size);
 }
 
+static uint32_t write_two(struct given *given, unsigned char *buffer, size_t capacity, size_t *size) {
+  const struct bytes *one = given->bytes, *two = one + 1;
+  return given->call->function.two(one->at, one->size, two->at, two->size, buffer, capacity, size);
+}
+
+static uint32_t write_three(struct given *given, unsigned char *buffer, size_t capacity, size_t *size) {
+  const struct bytes *one = given->bytes, *two = one + 1, *three = two + 1;
+  return given->call->function.three(one->at, one->size, two->at, two->size, three->at, three->size, buffer, capacity,
+                                     size);
+}
+
+static uint32_t write_set(struct given *given, unsigned char *buffer, size_t capacity, size_t *size) {
+  const struct bytes *key = given->bytes, *path = key + 1, *part = path + 1;
+  return given->call->function.set(key->at, key->size, path->at, path->size, part->at, part->size, given->flag, buffer,
+                                   capacity, size);
+}
+
 static uint32_t write_reason(struct given *given, unsigned char *buffer, size_t capacity, size_t *size) {
   uint32_t status = vizhoniku_reason(given->mode, given->bytes->at, given->bytes->size, buffer, capacity, size);
   return status == VIZHONIKU_REJECTED ? VIZHONIKU_ACCEPTED : status;
@@ -293,13 +310,18 @@ static napi_value string_of_one(napi_env env, napi_callback_info info) {
   return string_or_failure(env, &given, status, write_one, status ? 0 : given.bytes->size + MORE);
 }
 
-/* sortKey(mode, text, to, offset) and document */
-static napi_value bytes_of_text(napi_env env, napi_callback_info info) {
+/* Writes to the bytes that are given, at the offset. */
+static napi_value bytes_of(napi_env env, napi_callback_info info, const char *letters, writer *write) {
   struct given given;
   size_t size = 0;
-  uint32_t status = read_given(env, info, "mbwo", &given);
-  if (status == VIZHONIKU_ACCEPTED) status = write_text(&given, given.to, given.space, &size);
+  uint32_t status = read_given(env, info, letters, &given);
+  if (status == VIZHONIKU_ACCEPTED) status = write(&given, given.to, given.space, &size);
   return end(env, &given, status, (double)size);
+}
+
+/* sortKey(mode, text, to, offset) and document */
+static napi_value bytes_of_text(napi_env env, napi_callback_info info) {
+  return bytes_of(env, info, "mbwo", write_text);
 }
 
 /* check(mode, text) */
@@ -470,40 +492,17 @@ static napi_value next(napi_env env, napi_callback_info info) {
 
 /* keyRemove(key, path, to, offset) and its kin */
 static napi_value bytes_of_two(napi_env env, napi_callback_info info) {
-  struct given given;
-  size_t size = 0;
-  uint32_t status = read_given(env, info, "bbwo", &given);
-  if (status == VIZHONIKU_ACCEPTED) {
-    const struct bytes *one = given.bytes, *two = one + 1;
-    status = given.call->function.two(one->at, one->size, two->at, two->size, given.to, given.space, &size);
-  }
-  return end(env, &given, status, (double)size);
+  return bytes_of(env, info, "bbwo", write_two);
 }
 
 /* keyPut(key, name, value, to, offset) and documentPut */
 static napi_value bytes_of_three(napi_env env, napi_callback_info info) {
-  struct given given;
-  size_t size = 0;
-  uint32_t status = read_given(env, info, "bbbwo", &given);
-  if (status == VIZHONIKU_ACCEPTED) {
-    const struct bytes *one = given.bytes, *two = one + 1, *three = two + 1;
-    status = given.call->function.three(one->at, one->size, two->at, two->size, three->at, three->size, given.to,
-                                        given.space, &size);
-  }
-  return end(env, &given, status, (double)size);
+  return bytes_of(env, info, "bbbwo", write_three);
 }
 
 /* keySet(key, path, part, create, to, offset) and documentSet */
 static napi_value bytes_of_set(napi_env env, napi_callback_info info) {
-  struct given given;
-  size_t size = 0;
-  uint32_t status = read_given(env, info, "bbbfwo", &given);
-  if (status == VIZHONIKU_ACCEPTED) {
-    const struct bytes *key = given.bytes, *path = key + 1, *part = path + 1;
-    status = given.call->function.set(key->at, key->size, path->at, path->size, part->at, part->size, given.flag,
-                                      given.to, given.space, &size);
-  }
-  return end(env, &given, status, (double)size);
+  return bytes_of(env, info, "bbbfwo", write_set);
 }
 
 static const struct call calls[] = {

@@ -1,6 +1,6 @@
-//! The calls on a text. A line of the input is a letter for the mode (`s` standard, `e` extended, `j` JSON, `x` extended
-//! JSON), a space, and the text in hexadecimal. Each call has a line of its own: its name, a space, and the text of its answer or what is
-//! printed of the error.
+//! The calls on a text. A line of the input is a letter for the mode (`s` standard, `e` extended, `j` JSON, `x`
+//! extended JSON), a space, and the text in hexadecimal. Each call has a line of its own: its name, a space, and the
+//! text of its answer or what is printed of the error.
 
 use crate::{documents, numbers};
 use jsonb::{Error, Grammar, JsonAst, Result, Value, append_part};
