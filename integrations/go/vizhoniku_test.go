@@ -280,6 +280,29 @@ func TestJSON(t *testing.T) {
 	equal(t, []any{string(written), err}, []any{`{"Key":null,"Document":null}`, nil})
 }
 
+// A map of keys goes through encoding/json and comes back.
+func TestByText(t *testing.T) {
+	counts := ByText[int]{keyOf(t, `{"b": 1.50, "a": "\u00e9"}`): 1, keyOf(t, `"\u0000"`): 2, keyOf(t, "[-7]"): 3}
+	written, err := json.Marshal(counts)
+	equal(t, []any{string(written), err}, []any{`{"\"\\u0000\"":2,"[-7]":3,"{\"a\":\"é\",\"b\":1.5}":1}`, nil})
+	var read ByText[int]
+	equal(t, []any{json.Unmarshal(written, &read), read}, []any{nil, counts})
+	equal(t, []any{json.Unmarshal([]byte(`{"[-7.0]": 4, "1e1": 5}`), &read), len(read)}, []any{nil, 4})
+	equal(t, []int{read[keyOf(t, "[-7]")], read[keyOf(t, "10")]}, []int{4, 5})
+	for text, message := range map[string]string{
+		`{"[1": 1}`:           "the name \"[1\": line 1, column 3: EOF while parsing a value",
+		`{"1": 1, "1.0": 2}`:  "two names have the key of 1",
+		`{"1": "no integer"}`: "json: cannot unmarshal string into Go value of type int",
+	} {
+		equal(t, json.Unmarshal([]byte(text), &read).Error(), message)
+	}
+	var none ByText[int]
+	written, err = json.Marshal(none)
+	equal(t, []any{string(written), err, json.Unmarshal(written, &none), none == nil}, []any{"null", nil, nil, true})
+	_, err = json.Marshal(ByText[int]{"": 1})
+	equal(t, errors.Is(err, ErrKey), true)
+}
+
 func documentOf(t *testing.T, text string) Document {
 	t.Helper()
 	document, err := DocumentOf([]byte(text), ExtendedJSON)
