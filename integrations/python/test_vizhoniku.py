@@ -84,6 +84,11 @@ IN_ORDER = [
 ]
 
 
+def page() -> str:
+    with open(os.path.join(HERE, "README.md"), encoding="utf-8") as file:
+        return file.read()
+
+
 def sign(order: int) -> int:
     return (order > 0) - (order < 0)
 
@@ -99,7 +104,8 @@ class Calls(unittest.TestCase):
 
     def test_modes(self) -> None:
         taken: List[Tuple[str, List[v.Mode]]] = [
-            ("[1,2]", [v.STANDARD, v.EXTENDED, v.JSON, v.EXTENDED_JSON]), ("1.5", [v.EXTENDED, v.JSON, v.EXTENDED_JSON]),
+            ("[1,2]", [v.STANDARD, v.EXTENDED, v.JSON, v.EXTENDED_JSON]),
+            ("1.5", [v.EXTENDED, v.JSON, v.EXTENDED_JSON]),
             ("1e5", [v.JSON, v.EXTENDED_JSON]), ("+1e5", [v.EXTENDED_JSON]), (".5e3", [v.EXTENDED_JSON]),
             ("1\f", [v.STANDARD, v.EXTENDED, v.EXTENDED_JSON]), ('"\t"', [v.STANDARD, v.EXTENDED, v.EXTENDED_JSON]),
             ('"\\u{0041}"', [v.STANDARD, v.EXTENDED, v.EXTENDED_JSON])]
@@ -409,9 +415,133 @@ class Keys(unittest.TestCase):
             with self.assertRaises(v.PathError) as raised:
                 key.get(malformed)
             self.assertIn("RFC 6901", str(raised.exception))
+            self.assertRaises(v.PathError, key.get, malformed, key)
         wrongs: List[Any] = [None, 0, ["a"]]
         for wrong in wrongs:
             self.assertRaises(TypeError, key.get, wrong)
+
+    def test_get_with_a_default(self) -> None:
+        none, text = object(), '{"a": [0, null, 1.50]}'
+        rows: List[Tuple[Any, Any]] = [(v.Key(text), v.Key("1.5")), (v.Document(text), v.Document("1.50"))]
+        for whole, part in rows:
+            for absent in ("/b", "/a/3", "/a/-", "/a/0/0"):
+                self.assertIs(whole.get(absent, none), none)
+                self.assertIs(whole.get(path=absent, default=none), none)
+                self.assertIsNone(whole.get(absent, None))
+            self.assertEqual((whole.get("/a/2", none), whole.get("/a/2", default=none)), (part, part))
+            self.assertEqual(whole.get("/a/1", none), type(whole)("null"))
+            for call in (whole.get, lambda: whole.get("/a", 1, 2), lambda: whole.get("/a", 1, default=2),
+                         lambda: whole.get("/a", other=1)):
+                self.assertRaises(TypeError, call)
+
+    def test_pointer(self) -> None:
+        """The examples of RFC 6901, section 5."""
+        whole = {"foo": ["bar", "baz"], "": 0, "a/b": 1, "c%d": 2, "e^f": 3, "g|h": 4, "i\\j": 5, 'k"l': 6, " ": 7,
+                 "m~n": 8}
+        paths = {"foo": "/foo", "": "/", "a/b": "/a~1b", "c%d": "/c%d", "e^f": "/e^f", "g|h": "/g|h", "i\\j": "/i\\j",
+                 'k"l': '/k"l', " ": "/ ", "m~n": "/m~0n"}
+        kinds: List[Any] = [v.Key, v.Document]
+        for kind in kinds:
+            stored = kind.of(whole)
+            for name, value in whole.items():
+                self.assertEqual((v.pointer(name), stored.get(v.pointer(name))), (paths[name], kind.of(value)))
+            self.assertEqual((v.pointer(), stored.get(v.pointer())), ("", stored))
+            self.assertEqual((v.pointer("foo", 0), stored.get(v.pointer("foo", 0))), ("/foo/0", kind.of("bar")))
+        self.assertEqual(v.pointer("~1", "/", -1), "/~01/~1/-1")
+
+        class Name(str):
+            def __str__(self) -> str:
+                return "wrong"
+
+        class Number(enum.IntEnum):
+            ONE = 1
+
+        self.assertEqual(v.pointer(Name("a/"), Number.ONE), "/a~1/1")
+        wrongs: List[Any] = [None, 1.5, b"a", ("a",)]
+        for wrong in wrongs:
+            with self.assertRaises(TypeError) as raised:
+                v.pointer("a", wrong)
+            self.assertEqual(str(raised.exception), "a name is a str and an index an int, and not "
+                                                    + type(wrong).__name__)
+
+    def test_numbers(self) -> None:
+        """float and int of keys and documents are those of Python's decimals."""
+        texts = ["0", "-1", "1.50", "0.1", "2.00", "-0.5", "1e37", "1e-38", "9007199254740993", "9" * 38,
+                 "-" + "9" * 38, "0." + "9" * 38, "123456789012345678.90123456789", "4.35", "5e-20"]
+        both: List[Any] = [v.Key, v.Document]
+        for text in texts:
+            exact = Decimal(text)
+            for stored in (kind(text) for kind in both):
+                self.assertEqual((float(stored), type(float(stored))), (float(exact), float))
+                if exact == exact.to_integral_value():
+                    self.assertEqual((int(stored), type(int(stored))), (int(exact), int))
+                else:
+                    with self.assertRaises(ValueError) as raised:
+                        int(stored)
+                    self.assertEqual(str(raised.exception), f"{exact:f}".rstrip("0") + " is no whole number")
+        self.assertEqual(complex(v.Key("1.5")), 1.5 + 0j)
+        kinds = {"null": "null", "true": "boolean", '"1"': "string", "[1]": "array", '{"a":1}': "object"}
+        calls: List[Callable[[Any], Any]] = [float, int]
+        for text, name in kinds.items():
+            for stored in (kind(text) for kind in both):
+                for call in calls:
+                    with self.assertRaises(TypeError) as wrong:
+                        call(stored)
+                    self.assertEqual(str(wrong.exception), f"{name} is no number")
+        self.assertRaises(TypeError, operator.index, v.Key("1"))
+
+    def test_slices(self) -> None:
+        """Slices of arrays are those of lists."""
+        class Index:
+            def __init__(self, index: int) -> None:
+                self.index = index
+
+            def __index__(self) -> int:
+                return self.index
+
+        draw = random.Random(12)
+        bounds = [None, *range(-7, 8), 2**70, -2**70]
+        steps = [None, 1, 2, 3, 7, -1, -2, -3, -7, 2**63 - 1, -2**63, 2**70, -2**70]
+        arrays: List[List[Any]] = [[], ["x"], [1, "x", [2], None, {"a": 1.5}], [*range(30)]]
+        for values in arrays:
+            key, keys = v.Key.of(values), [v.Key.of(value) for value in values]
+            for _ in range(1000):
+                which = slice(draw.choice(bounds), draw.choice(bounds), draw.choice(steps))
+                self.assertEqual(key[which], keys[which], which)
+        self.assertEqual(v.Key("[1, 'x', 2]")[1:], [v.Key('"x"'), v.Key("2")])
+        self.assertEqual(type(v.Key("[1]")[:]), list)
+        array: Any = v.Key("[1]")
+        self.assertEqual(array[slice(Index(0), Index(1))], [v.Key("1")])
+        wrongs: List[Tuple[Callable[[], Any], Any, str]] = [
+            (lambda: array[::0], ValueError, "slice step cannot be zero"),
+            (lambda: array[slice("a", None)], TypeError,
+             "slice indices must be integers or None or have an __index__ method"),
+            (lambda: v.Key("{}")[:1], TypeError, "object is no array"),
+            (lambda: v.Key("''")[:1], TypeError, "string is no array")]
+        for call, error, words in wrongs:
+            with self.assertRaises(error) as raised:
+                call()
+            self.assertEqual(str(raised.exception), words)
+
+    def test_copies(self) -> None:
+        """What pickle and copy make is equal and of the same type, also in other values."""
+        texts = ["null", "[]", '{"a":[1.5,"é𝄞\\u0000"]}', "1.50", '["%s",2.00]' % ("x" * 300)]
+        kinds: List[Any] = [v.Key, v.Document]
+        for text in texts:
+            for stored in (kind(text) for kind in kinds):
+                values = {"a": [stored, (stored,)]}
+                for protocol in range(2, pickle.HIGHEST_PROTOCOL + 1):
+                    again = pickle.loads(pickle.dumps(stored, protocol))
+                    self.assertEqual((again, type(again), bytes(again)), (stored, type(stored), bytes(stored)))
+                    self.assertEqual(pickle.loads(pickle.dumps(values, protocol)), values)
+                self.assertEqual(stored.__reduce__(), (type(stored).from_bytes, (bytes(stored),)))
+                self.assertIs(copy.copy(stored), stored)
+                self.assertIs(copy.deepcopy(stored), stored)
+                deep = copy.deepcopy(values)
+                self.assertEqual((deep, deep["a"] is values["a"]), (values, False))
+        with self.assertRaises(ValueError) as raised:
+            pickle.loads(pickle.dumps(v.Document.from_trusted_bytes(b"")))
+        self.assertEqual(str(raised.exception), "the bytes aren't a document")
 
     def test_items_and_members(self) -> None:
         array, whole = v.Key("[1, 'x', [2]]"), v.Key('{"b": 1, "a": [2], "": null, "b\\u0000": 3}')
@@ -1162,35 +1292,62 @@ class Both(unittest.TestCase):
         values = [inspect.Parameter.empty] * (len(names) - len(defaults)) + defaults
         return [pair for pair in zip(names, values) if pair[0] != "cls"]
 
+    def calls_in(self, name: str) -> Dict[Tuple[str, str], ast.FunctionDef]:
+        """The calls that a file defines, each by its class ("" of a function) and its name, the first of overloads."""
+        calls: Dict[Tuple[str, str], ast.FunctionDef] = {}
+        for entry in self.parsed(name).body:
+            inside = entry.name if isinstance(entry, ast.ClassDef) else ""
+            for kind in ("Key", "Document") if inside == "_Stored" else (inside,):
+                for call in entry.body if isinstance(entry, ast.ClassDef) else [entry]:
+                    if isinstance(call, ast.FunctionDef):
+                        calls.setdefault((kind, call.name), call)
+        return calls
+
+    def found(self, kind: str, name: str) -> Any:
+        """The call of the package."""
+        inside = getattr(v, kind) if kind else v
+        return inside if name == "__new__" else getattr(inside, name)
+
     def test_the_stub_is_of_both(self) -> None:
         """Each call of the stub is there, with its parameters and their defaults, as help() tells them."""
         compared = 0
-        for entry in self.parsed("_native.pyi").body:
-            calls: Any = getattr(v, entry.name) if isinstance(entry, ast.ClassDef) else v
-            for call in entry.body if isinstance(entry, ast.ClassDef) else [entry]:
-                if not isinstance(call, ast.FunctionDef):
-                    continue
-                found = calls if call.name == "__new__" else getattr(calls, call.name)
-                if call.decorator_list and isinstance(call.decorator_list[0], ast.Name) and \
-                        call.decorator_list[0].id == "property":
-                    self.assertFalse(callable(found))
-                elif call.name.startswith("__") and call.name != "__new__":
-                    self.assertTrue(callable(found))
-                else:
-                    outcome = [(name, one.default) for name, one in inspect.signature(found).parameters.items()]
-                    self.assertEqual(outcome, self.parameters_of(call), call.name)
-                    compared += 1
+        for (kind, name), call in self.calls_in("_native.pyi").items():
+            found = self.found(kind, name)
+            if any(isinstance(one, ast.Name) and one.id == "property" for one in call.decorator_list):
+                self.assertFalse(callable(found))
+            elif name.startswith("__") and name != "__new__":
+                self.assertTrue(callable(found))
+            else:
+                outcome = [(name, one.default) for name, one in inspect.signature(found).parameters.items()]
+                self.assertEqual(outcome, self.parameters_of(call), name)
+                compared += 1
         self.assertEqual(compared, 33)
 
     def test_words_of_help(self) -> None:
-        """What help() tells is the same by ctypes and by the module in C."""
-        for entry in self.parsed("_by_ctypes.py").body:
-            calls: Any = getattr(v, entry.name, None) if isinstance(entry, ast.ClassDef) else v
-            for call in entry.body if isinstance(entry, ast.ClassDef) else [entry]:
-                if isinstance(call, ast.FunctionDef) and calls and not call.name.startswith("_"):
-                    words = ast.get_docstring(call) or ""
-                    outcome = getattr(calls, call.name).__doc__
-                    self.assertEqual(" ".join(outcome.split()), " ".join(words.split()), call.name)
+        """What help() tells is the same by ctypes and by the module in C, and an editor shows it by the stub.
+
+        Of what begins with two underscores C has words of its own.
+        """
+        told = self.calls_in("_by_ctypes.py")
+        compared = 0
+        for (kind, name), call in self.calls_in("_native.pyi").items():
+            words = ast.get_docstring(told[kind, name])
+            self.assertEqual(ast.get_docstring(call), words, name)
+            outcome = inspect.getdoc(self.found(kind, name))
+            self.assertTrue(outcome, name)
+            if not name.startswith("_"):
+                assert words and outcome
+                self.assertEqual(outcome.split(), words.split(), name)
+                compared += 1
+        self.assertEqual(compared, 33)
+        for entry in self.parsed("_native.pyi").body:
+            if isinstance(entry, ast.ClassDef):
+                words = ast.get_docstring(entry)
+                assert words
+                self.assertEqual(getattr(v, entry.name).__doc__.split(), words.split())
+        for name in v.__all__:
+            if inspect.isclass(getattr(v, name)) or inspect.isroutine(getattr(v, name)):
+                self.assertTrue(inspect.getdoc(getattr(v, name)), name)
 
     def test_version(self) -> None:
         with open(os.path.join(TOP, "include", "vizhoniku.h"), encoding="utf-8") as file:
@@ -1247,7 +1404,11 @@ class Both(unittest.TestCase):
             lambda: document.put("\ud800", key), lambda: document.put("a", wrongs), lambda: document.push(1),
             lambda: v.Document.from_bytes("x"), lambda: v.Document.of(wrongs), lambda: none.push(1),  # type: ignore
             lambda: v.Document.of([none]), lambda: v.Document("[x"), lambda: v.Document("[1e5, x]"),
-            lambda: key.merge(wrongs), lambda: key.contains(wrongs), lambda: key.set("/a", 1, 1, 1)]  # type: ignore
+            lambda: key.merge(wrongs), lambda: key.contains(wrongs), lambda: key.set("/a", 1, 1, 1),  # type: ignore
+            lambda: key.get("a", path), lambda: key.get(number, path), lambda: document.get("a", path),
+            lambda: key[path:], lambda: key["a"][path:], lambda: key["a"][::0], lambda: float(key),  # type: ignore
+            lambda: int(document), lambda: int(v.Key("1.5")), lambda: float(none),
+            lambda: v.pointer(path, key)]  # type: ignore[arg-type]
 
         def calls() -> None:
             v.text(text), v.sort_key(text, v.STANDARD), v.get(text, path), v.compare(text, text), v.text_and_key(text)
@@ -1266,6 +1427,9 @@ class Both(unittest.TestCase):
             document.set("/c/d", path), document.remove("/a"), document.remove("/c"), document.put("n", key)
             v.Document("[1.0]").push(document), document.merge(document), document.merge({"b": path})
             pickle.loads(pickle.dumps(document))
+            key.get("/c", path), key.get("/a", path), document.get("/c", path), document.get("/a", default=path)
+            key["a"][:], key["a"][::-1], float(key["a"][0]), int(key["a"][1]), int(v.Document("2.0"))
+            copy.copy(key), copy.deepcopy(document), v.pointer(path, 1)
             for wrong in wrongs:
                 try:
                     wrong()
@@ -1294,7 +1458,7 @@ class Both(unittest.TestCase):
             v.compare(copied, text), key.text(), v.Key.from_bytes(bytearray(bytes(key))), repr(key)
             list(v.Key('{"%s":1}' % ("x" * 4000)).items())
             v.Key.of(key.value()), key.set("/1", key), key.remove("/1"), key.push(key), key.merge(key)
-            key.contains(key)
+            key.contains(key), key[::-2], key.get("/4000", text), pickle.loads(pickle.dumps(key))
             v.Key("{}").put("x" * 4000, key).contains({})
             v.Document(copied), document.text(), repr(document), document.get("/1"), document.get(""), document.key
             v.Document.from_bytes(bytearray(bytes(document))), v.Document.of(document.value())
@@ -1322,9 +1486,11 @@ class Growth(unittest.TestCase):
 
     # Calls that look at no document, or at its first byte alone, and operators that are made as one that is timed is.
     LEFT_OUT = {"Mode", "PathError", "RejectedText", "Text", "EXTENDED", "EXTENDED_JSON", "JSON", "STANDARD", "NATIVE",
-                "Key.kind", "Key.__bool__", "Key.__setattr__", "Key.__new__", "Key.__le__", "Key.__gt__", "Key.__ge__",
-                "Key.__ne__", "Document.__setattr__", "Document.__new__", "Document.__le__", "Document.__gt__",
-                "Document.__ge__", "Document.__ne__"}
+                "INTERFACE", "pointer", "Key.kind", "Key.__bool__", "Key.__float__", "Key.__int__", "Key.__copy__",
+                "Key.__deepcopy__", "Key.__setattr__", "Key.__new__", "Key.__le__", "Key.__gt__", "Key.__ge__",
+                "Key.__ne__", "Document.__float__", "Document.__int__", "Document.__copy__", "Document.__deepcopy__",
+                "Document.__setattr__", "Document.__new__", "Document.__le__", "Document.__gt__", "Document.__ge__",
+                "Document.__ne__"}
 
     def calls(self, size: int, end: str) -> List[Tuple[str, str, Callable[[], Any]]]:
         """Calls over documents of so many parts, with decimals that end so: what is called, of what, and the call."""
@@ -1353,6 +1519,7 @@ class Growth(unittest.TestCase):
             add("Key.__repr__", what, repr, key)
             add("Key.get", what, key.get, last)
             add("Key.get", what + ", a name", key.get, f"/{name}/0")
+            add("Key.get", what + ", a default", key.get, "/none", key)
             add("Key.__len__", what, len, key)
             add("Key.__iter__", what, list, key)
             add("Key.__reversed__", what, lambda one: list(reversed(one)), key)
@@ -1376,6 +1543,8 @@ class Growth(unittest.TestCase):
                 add("Key.push", what, key.push, part)
                 add("Key.__getitem__", what, operator.getitem, key, -1)
                 add("Key.__getitem__", what + ", from the front", operator.getitem, key, size - 1)
+                for which in (slice(None), slice(None, None, -1), slice(size // 2, None, 3), slice(-3, None)):
+                    add("Key.__getitem__", f"{what}, {which}", operator.getitem, key, which)
                 add("Key.__contains__", what, operator.contains, key, none)
             document = v.Document(text)
             data, kept, part_of = bytes(document), v.Document.from_bytes(bytes(document)), v.Document("[1.50]")
@@ -1388,6 +1557,7 @@ class Growth(unittest.TestCase):
             add("Document.key", what, lambda one: one.key, document)
             add("Document.get", what, document.get, path)
             add("Document.get", what + ", the whole", document.get, "")
+            add("Document.get", what + ", a default", document.get, "/none", document)
             add("Document.__eq__", what, operator.eq, document, kept)
             add("Document.__lt__", what, operator.lt, document, kept)
             add("Document.__hash__", what, lambda one: hash(v.Document.from_bytes(one)), data)
@@ -1431,10 +1601,28 @@ class Growth(unittest.TestCase):
 
 
 class InAnInterpreter(unittest.TestCase):
-    def run_with(self, code: str, **environment: str) -> str:
-        ran = subprocess.run([sys.executable, "-c", code], cwd=PACKAGES, env={**os.environ, **environment},
+    def run_python(self, *arguments: str, **environment: str) -> str:
+        ran = subprocess.run([sys.executable, *arguments], cwd=PACKAGES, env={**os.environ, **environment},
                              stdout=subprocess.PIPE, stderr=subprocess.STDOUT, check=False)
         return ran.stdout.decode().strip()
+
+    def run_with(self, code: str, **environment: str) -> str:
+        return self.run_python("-c", code, **environment)
+
+
+class Versions(InAnInterpreter):
+    def test_what_is_printed(self) -> None:
+        """The versions are those of the header, and the file is one that is loaded here too."""
+        with open(os.path.join(TOP, "include", "vizhoniku.h"), encoding="utf-8") as file:
+            text, number = re.findall(r'^#define VIZHONIKU_VERSION(?:_STRING)? "?(.*?)"?$', file.read(), re.M)
+        *versions, calls = self.run_python("-m", "vizhoniku").splitlines()
+        self.assertEqual(versions, [f"vizhoniku {text}", f"interface version {number} of the library"])
+        self.assertEqual(v.INTERFACE, int(number))
+        module, path = calls.split(": ", 1)
+        self.assertEqual(module, "calls by the module in C" if v.NATIVE else "calls by ctypes")
+        with open("/proc/self/maps", encoding="utf-8", errors="surrogateescape") as maps:
+            self.assertIn(os.path.realpath(path), maps.read())
+        self.assertEqual(self.run_python("-m", "vizhoniku", "x"), "usage: python3 -m vizhoniku")
 
 
 class Memory(InAnInterpreter):
@@ -1654,6 +1842,11 @@ class StandIn(InAnInterpreter):
         for version, wanted in ((VERSION, "0"), (VERSION + 1, "0")):
             self.assertEqual(self.run_with("import vizhoniku; print(vizhoniku.compare('', ''))",
                                            VIZHONIKU=self.library_of(version)), wanted)
+        for version in (VERSION, VERSION + 1):
+            path, folder = self.library_of(version), self.folder_of(version)
+            for environment in ({"VIZHONIKU": path}, {"VIZHONIKU": "", "LD_LIBRARY_PATH": folder}):
+                told = self.run_python("-m", "vizhoniku", **environment).splitlines()
+                self.assertEqual(told[1:], [f"interface version {version} of the library", f"calls by ctypes: {path}"])
         outcome = self.run_with("import vizhoniku", VIZHONIKU=self.library_of(VERSION - 1))
         self.assertEqual(outcome.splitlines()[-1], f"ImportError: libvizhoniku has interface version {VERSION - 1}, "
                                                 f"and {VERSION} is needed")
@@ -1726,6 +1919,16 @@ class InLmdb(unittest.TestCase):
         for line in lines:
             self.assertEqual([self.documents.put(text) for text in line], [True] + [False] * (len(line) - 1))
         self.assertEqual(list(self.documents), [v.text(line[0]) for line in IN_ORDER])
+
+    def test_past_the_default_of_lmdb(self) -> None:
+        """An environment that is opened as on the page takes more than 10 MB, which LMDB takes by default."""
+        call = re.search(r"Documents\((lmdb\.open\(.*\))\)$", page(), re.M)
+        assert call
+        folder = tempfile.TemporaryDirectory()
+        self.addCleanup(folder.cleanup)
+        environment = eval(call[1], {"lmdb": lmdb, "folder": folder})
+        self.addCleanup(environment.close)
+        self.assertEqual(Documents(environment).put_all('["%s",%d]' % ("x" * 2**20, i) for i in range(12)), 12)
 
     def test_put_all(self) -> None:
         texts = [text for line in IN_ORDER for text in line]
@@ -1916,7 +2119,21 @@ class Page(unittest.TestCase):
     def test_the_examples_of_the_page(self) -> None:
         outcome = doctest.testfile(os.path.join(HERE, "README.md"), module_relative=False, encoding="utf-8")
         self.assertEqual(outcome.failed, 0)
-        self.assertGreater(outcome.attempted, 10)
+        self.assertEqual(outcome.attempted, len(re.findall("^>>> ", page(), re.M)))
+
+    def test_each_block_is_run(self) -> None:
+        """Those with a prompt are run above, those for PostgreSQL by test_postgresql.py, and of those for a shell one
+        by Versions, while the other runs this."""
+        blocks = re.findall(r"^```(\w*)\n(.*?)^```$", page(), re.M | re.S)
+        of_postgresql = page().split("\n## In PostgreSQL\n")[1].split("\n## ")[0]
+        for kind, block in blocks:
+            if kind == "python":
+                self.assertIn(block, of_postgresql)
+            elif kind == "sh":
+                self.assertRegex(block, r"\A(python3 -m vizhoniku|PKG_CONFIG_PATH=\S+ integrations/python/test)\n\Z")
+            else:
+                self.assertEqual((kind, block[:4]), ("pycon", ">>> "))
+        self.assertGreater(len(blocks), 10)
 
 
 if __name__ == "__main__":

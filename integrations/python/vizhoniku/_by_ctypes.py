@@ -12,7 +12,7 @@ from typing import Any, Callable, Iterator, List, Optional, Tuple, TypeVar, Unio
 
 from ._common import (BAD_PATH, EXTENDED_JSON, NO_DOCUMENT, NO_KEY, NO_NAME, TOO_DEEP, Mode, PathError, RejectedText,
                       Text, rejection)
-from ._values import text_of, value_of
+from ._values import float_of, int_of, items_of, text_of, value_of
 
 _SONAME = "libvizhoniku.so.0"
 _VERSION = 10  # the version of the interface, VIZHONIKU_VERSION of the header; a later one only adds to it
@@ -36,6 +36,13 @@ class _Cursor(ctypes.Structure):
 
 class _Entry(ctypes.Structure):
     _fields_ = [(name, ctypes.c_size_t) for name in ("name_offset", "name_size", "offset", "size")]
+
+
+class _Symbol(ctypes.Structure):
+    """Dl_info of dlfcn.h."""
+
+    _fields_ = [("file", ctypes.c_char_p), ("base", ctypes.c_void_p), ("name", ctypes.c_char_p),
+                ("address", ctypes.c_void_p)]
 
 
 def _open() -> ctypes.CDLL:
@@ -119,6 +126,14 @@ def _load() -> ctypes.CDLL:
 
 
 _library = _load()
+INTERFACE: int = _library.vizhoniku_version()
+
+
+def library_file() -> str:
+    """The path of the library that was loaded."""
+    symbol = _Symbol()
+    ctypes.CDLL(None).dladdr(_library.vizhoniku_version, ctypes.byref(symbol))
+    return os.fsdecode(symbol.file or b"")
 
 
 def _bytes(text: Text) -> bytes:
@@ -181,13 +196,13 @@ def _raise(status: int, mode: int, error: _Error, texts: List[Tuple[Text, bytes]
 
 
 def check(text: Text, mode: int = EXTENDED_JSON) -> None:
-    """Raises RejectedText where the text is no document."""
+    """Raises RejectedText where the text is no document of the mode."""
     mode, data, error = _mode(mode), _bytes(text), _Error()
     _raise(_library.vizhoniku_check(mode, data, len(data), error), mode, error, [(text, data)])
 
 
 def is_valid(text: Text, mode: int = EXTENDED_JSON) -> bool:
-    """Whether the text is a document."""
+    """Whether the text is a document of the mode."""
     mode, data, error = _mode(mode), _bytes(text), _Error()
     status = _library.vizhoniku_check(mode, data, len(data), error)
     if status != _REJECTED:
@@ -196,7 +211,10 @@ def is_valid(text: Text, mode: int = EXTENDED_JSON) -> bool:
 
 
 def text(text: Text, mode: int = EXTENDED_JSON) -> str:
-    """The text of the document's value: no whitespace, and members in the order of their keys' bytes."""
+    """The text of the document's value: no whitespace, and members in the order of their keys' bytes.
+
+    Raises RejectedText where the text is no document of the mode.
+    """
     mode, data, error, size = _mode(mode), _bytes(text), _Error(), ctypes.c_size_t()
     capacity = len(data) + 16
     while True:
@@ -210,7 +228,10 @@ def text(text: Text, mode: int = EXTENDED_JSON) -> str:
 
 
 def sort_key(text: Text, mode: int = EXTENDED_JSON) -> bytes:
-    """Bytes that compare as the values of documents do: equal for equal values, and none the beginning of others."""
+    """Bytes that compare as the values of documents do: equal for equal values, and none the beginning of others.
+
+    Raises RejectedText where the text is no document of the mode.
+    """
     return _made(_library.vizhoniku_sort_key, text, mode)
 
 
@@ -234,7 +255,7 @@ def _made(call: Callable[..., int], text: Text, mode: int) -> bytes:
 
 
 def text_and_key(text: Text, mode: int = EXTENDED_JSON) -> Tuple[str, bytes]:
-    """What text and sort_key return, of one reading."""
+    """What text and sort_key return, of one reading. Raises RejectedText as they do."""
     mode, data, error = _mode(mode), _bytes(text), _Error()
     size, key_size = ctypes.c_size_t(), ctypes.c_size_t()
     capacity, key_capacity = len(data) + 16, len(data) + 64
@@ -253,7 +274,7 @@ def get(text: Text, path: Text, mode: int = EXTENDED_JSON) -> Optional[str]:
     """The text of the part at the path, a JSON Pointer (RFC 6901), or None where there is none.
 
     The path "" is the whole document, and "/a/0" the first item of the member "a". PathError is raised where the path
-    is no JSON Pointer.
+    is no JSON Pointer, and RejectedText where the text is no document of the mode.
     """
     mode, data, path_data, error = _mode(mode), _bytes(text), _bytes(path), _Error()
     size, capacity = ctypes.c_size_t(), 256
@@ -273,7 +294,10 @@ def get(text: Text, path: Text, mode: int = EXTENDED_JSON) -> Optional[str]:
 
 
 def compare(left: Text, right: Text, mode: int = EXTENDED_JSON) -> int:
-    """-1, 0 or 1: the first document's value is below the second's, equal to it, or above it."""
+    """-1, 0 or 1: the first document's value is below the second's, equal to it, or above it.
+
+    Raises RejectedText where one is no document of the mode: its which is 2 for the second.
+    """
     mode, read = _mode(mode), [_bytes(left), _bytes(right)]
     error, order = _Error(), ctypes.c_int32()
     status = _library.vizhoniku_compare(mode, read[0], len(read[0]), read[1], len(read[1]), order, error)
@@ -301,7 +325,26 @@ class _Stored:
         raise AttributeError(f"a {self._noun}'s attribute {name!r} can't be set")
 
     def __bytes__(self) -> bytes:
+        """The bytes that from_bytes takes."""
         return self._data
+
+    def __copy__(self: _S) -> _S:
+        """The same, since it doesn't change."""
+        return self
+
+    def __deepcopy__(self: _S, memo: Any) -> _S:
+        """The same, since it doesn't change."""
+        return self
+
+    def __float__(self) -> float:
+        """The float nearest to a number. Raises TypeError of another kind."""
+        self._needs("number")
+        return float_of(self)
+
+    def __int__(self) -> int:
+        """The int that a number is. Raises ValueError where it has a fraction, and TypeError of another kind."""
+        self._needs("number")
+        return int_of(self)
 
     def _written(self, call: Callable[..., int], capacity: int) -> Optional[bytes]:
         """What the call writes, with space for so many bytes at first; None where it finds no part."""
@@ -370,7 +413,8 @@ class Key(_Stored):
     """A document as its sort key: bytes that compare as the values do. Its parts are found in them.
 
     Keys are compared and hashed by their bytes, so by value. An array is iterated over its items, which are keys, and
-    an object over the names of its members, which are str; len counts either. A key is always true.
+    an object over the names of its members, which are str; len counts either. A key is always true. RejectedText is
+    raised where the text is no document of the mode.
     """
 
     __module__ = "vizhoniku"  # for pickles, which either way to call the library takes
@@ -424,11 +468,16 @@ class Key(_Stored):
         """The text of the value, with the fewest digits in each number."""
         return self._text(_library.vizhoniku_key_text)
 
-    def get(self, path: Text) -> "Optional[Key]":
-        """The part at the path, a JSON Pointer (RFC 6901), or None. Raises PathError where the path is none."""
+    def get(self, path: Text, default: Any = None) -> Any:
+        """The part at the path, a JSON Pointer (RFC 6901), or the default where there is none.
+
+        A name alone is no path: its path is "/name", or pointer(name) where the name may have a / or a ~. Raises
+        PathError where the path is none.
+        """
         offset, size, path_data = ctypes.c_size_t(), ctypes.c_size_t(), _bytes(path)
         status = _library.vizhoniku_key_part(self._data, len(self._data), path_data, len(path_data), offset, size)
-        return self._found(status, offset, size)
+        part = self._found(status, offset, size)
+        return default if part is None else part
 
     def contains(self, other: Any) -> bool:
         """Whether the value contains another one, as @> of PostgreSQL's jsonb: a key or what Key.of takes."""
@@ -443,7 +492,8 @@ class Key(_Stored):
         """The key with the part at the path set to the value, which is a key or what Key.of takes.
 
         Where only the last step leads nowhere, a member or an item is added, unless create is false. In an array -1 is
-        the last item, and an index past either end adds one there. The key itself where nothing changes.
+        the last item, and an index past either end adds one there. The key itself where nothing changes. Raises
+        PathError where the path is none, and ValueError where the key would nest too deep.
         """
         path_data, data = _bytes(path), Key.of(value)._data
         return self._changed(functools.partial(
@@ -451,13 +501,19 @@ class Key(_Stored):
             bool(create)), len(path_data) + len(data))
 
     def remove(self, path: Text) -> "Key":
-        """The key without the part at the path, or the key itself where there is none."""
+        """The key without the part at the path, or the key itself where there is none.
+
+        In an array -1 is the last item. Raises PathError where the path is none.
+        """
         data = _bytes(path)
         return self._changed(functools.partial(
             _library.vizhoniku_key_remove, self._data, len(self._data), data, len(data)), 0)
 
     def put(self, name: str, value: Any) -> "Key":
-        """The key of an object with a member of this name and value, which is a key or what Key.of takes."""
+        """The key of an object with a member of this name and value, which is a key or what Key.of takes.
+
+        Raises TypeError of another kind, and ValueError where the key would nest too deep.
+        """
         if not isinstance(name, str):
             raise TypeError(f"a name is a str, and not {type(name).__name__}")
         self._needs("object")
@@ -470,7 +526,10 @@ class Key(_Stored):
             raise ValueError(NO_NAME) from None
 
     def push(self, item: Any) -> "Key":
-        """The key of an array with an item more at its end, which is a key or what Key.of takes."""
+        """The key of an array with an item more at its end, which is a key or what Key.of takes.
+
+        Raises TypeError of another kind, and ValueError where the key would nest too deep.
+        """
         self._needs("array")
         data = Key.of(item)._data
         return self._changed(functools.partial(
@@ -503,7 +562,14 @@ class Key(_Stored):
         offset, size = ctypes.c_size_t(), ctypes.c_size_t()
         return self._found(_library.vizhoniku_key_item(self._data, len(self._data), index, offset, size), offset, size)
 
-    def __getitem__(self, which: Union[str, int]) -> "Key":
+    def __getitem__(self, which: Union[str, int, slice]) -> Any:
+        """The member of a name, the item of an index, or a list of the items of a slice.
+
+        Raises KeyError or IndexError where there is none, and TypeError of another kind.
+        """
+        if isinstance(which, slice):
+            self._needs("array")
+            return items_of(self, which)
         if isinstance(which, str):
             self._needs("object")
             part = self._member(which)
@@ -530,25 +596,32 @@ class Key(_Stored):
             _raise_of_key(status)
 
     def __iter__(self) -> "Iterator[Any]":
+        """The items of an array, which are keys, or the names of an object. Raises TypeError of another kind."""
         if self._needs("array", "object") == "object":
             return (_name(name) for name, _ in self._parts())
         return (part for _, part in self._parts())
 
     def __reversed__(self) -> "Iterator[Any]":
+        """The same as iter, from the last one on."""
         return reversed(list(self))
 
     def items(self) -> "Iterator[Tuple[str, Key]]":
-        """The members of an object, in the order of their names' bytes."""
+        """The members of an object, in the order of their names' bytes: pairs of a name, a str, and a key.
+
+        Raises TypeError of another kind.
+        """
         self._needs("object")
         return ((_name(name), part) for name, part in self._parts())
 
     def __len__(self) -> int:
+        """How many items an array has, or how many members an object. Raises TypeError of another kind."""
         self._needs("array", "object")
         count = ctypes.c_size_t()
         _raise_of_key(_library.vizhoniku_key_count(self._data, len(self._data), count))
         return count.value
 
     def __bool__(self) -> bool:
+        """True, of each key, so that a part that get finds is told from None."""
         return True
 
     def __contains__(self, part: object) -> bool:
@@ -570,7 +643,7 @@ class Document(_Stored):
 
     Documents are compared and hashed by their bytes: they are in the order of their values, and those of equal values
     in that of these zeros. Two are equal where their texts are. A key's bytes are the document of a value without such
-    zeros.
+    zeros. RejectedText is raised where the text is no document of the mode.
     """
 
     __module__ = "vizhoniku"
@@ -634,12 +707,15 @@ class Document(_Stored):
         """The text of the value, with all digits of each number."""
         return self._text(_library.vizhoniku_document_text)
 
-    def get(self, path: Text) -> "Optional[Document]":
-        """The part at the path, a JSON Pointer (RFC 6901), or None. Raises PathError where the path is none."""
+    def get(self, path: Text, default: Any = None) -> Any:
+        """The part at the path, a JSON Pointer (RFC 6901), or the default where there is none.
+
+        Raises PathError where the path is none.
+        """
         path_data = _bytes(path)
         data = self._written(functools.partial(
             _library.vizhoniku_document_part, self._data, len(self._data), path_data, len(path_data)), 256)
-        return None if data is None else Document._of(data)
+        return default if data is None else Document._of(data)
 
     def contains(self, other: Any) -> bool:
         """Whether the value contains another one, as @> of PostgreSQL's jsonb: zeros at the end don't count."""
@@ -648,7 +724,7 @@ class Document(_Stored):
     def set(self, path: Text, value: Any, create: bool = True) -> "Document":
         """The document with the part at the path set to the value, a document or what Document.of takes.
 
-        It is as Key.set, with all digits. The document itself where nothing changes.
+        It is as Key.set, with all digits. The document itself where nothing changes. Raises what Key.set raises.
         """
         path_data, data = _bytes(path), Document.of(value)._data
         return self._changed(functools.partial(
@@ -656,13 +732,19 @@ class Document(_Stored):
             bool(create)), len(path_data) + len(data))
 
     def remove(self, path: Text) -> "Document":
-        """The document without the part at the path, or the document itself where there is none."""
+        """The document without the part at the path, or the document itself where there is none.
+
+        In an array -1 is the last item. Raises PathError where the path is none.
+        """
         data = _bytes(path)
         return self._changed(functools.partial(
             _library.vizhoniku_document_remove, self._data, len(self._data), data, len(data)), 0)
 
     def put(self, name: str, value: Any) -> "Document":
-        """The document of an object with a member of this name and value, a document or what Document.of takes."""
+        """The document of an object with a member of this name and value, a document or what Document.of takes.
+
+        Raises TypeError of another kind, and ValueError where the document would nest too deep.
+        """
         if not isinstance(name, str):
             raise TypeError(f"a name is a str, and not {type(name).__name__}")
         self._needs("object")
@@ -675,7 +757,10 @@ class Document(_Stored):
             raise ValueError(NO_NAME) from None
 
     def push(self, item: Any) -> "Document":
-        """The document of an array with an item more at its end, a document or what Document.of takes."""
+        """The document of an array with an item more at its end, a document or what Document.of takes.
+
+        Raises TypeError of another kind, and ValueError where the document would nest too deep.
+        """
         self._needs("array")
         data = Document.of(item)._data
         return self._changed(functools.partial(

@@ -1,4 +1,4 @@
-"""What both ways to call the library share: modes, texts and errors."""
+"""What both ways to call the library share: modes, texts, paths and errors."""
 
 import enum
 from typing import Optional, Union
@@ -25,6 +25,22 @@ STANDARD = Mode.STANDARD
 EXTENDED = Mode.EXTENDED
 JSON = Mode.JSON
 EXTENDED_JSON = Mode.EXTENDED_JSON
+
+
+def pointer(*steps: Union[str, int]) -> str:
+    """The path that names and indices lead along, a JSON Pointer (RFC 6901): pointer("a/b", 0) is "/a~1b/0".
+
+    Without a step it is "", the path of the whole. A step of another type raises TypeError.
+    """
+    return "".join("/" + _step(step) for step in steps)
+
+
+def _step(step: Union[str, int]) -> str:
+    if isinstance(step, str):
+        return str.__str__(step).replace("~", "~0").replace("/", "~1")
+    if isinstance(step, int):
+        return int.__repr__(step)
+    raise TypeError(f"a name is a str and an index an int, and not {type(step).__name__}")
 
 
 class RejectedText(ValueError):

@@ -31,6 +31,9 @@ struct state {
   PyObject *rejected;  /* the class RejectedText */
   PyObject *text_of;   /* the text of what Key.of and Document.of take */
   PyObject *value_of;  /* the value of a key or a document */
+  PyObject *float_of;  /* the float and the int of one that is a number */
+  PyObject *int_of;
+  PyObject *items_of;  /* the items of an array in a slice */
   PyObject *decimal;   /* the class Decimal */
   PyObject *bad_path;  /* words */
   PyObject *no_key;
@@ -623,6 +626,13 @@ static PyObject *key_reduce(PyObject *self, PyObject *none) {
   return from_bytes ? Py_BuildValue("N(O)", from_bytes, ((struct key *)self)->data) : NULL;
 }
 
+/* A key or a document doesn't change, so that it is its own copy. */
+static PyObject *key_copy(PyObject *self, PyObject *unused) {
+  (void)unused;
+  Py_INCREF(self);
+  return self;
+}
+
 static uint32_t kind_of(PyObject *self) {
   struct text key = key_text(((struct key *)self)->data);
   return vizhoniku_key_kind(key.at, key.size);
@@ -674,31 +684,44 @@ static PyObject *key_py_text(PyObject *self, PyObject *none) {
   return result;
 }
 
-/* The part that a call found, or None. */
-static PyObject *found(const struct state *state, struct text key, uint32_t status, size_t offset, size_t size) {
+/* The part that a call found, or `absent`. */
+static PyObject *found(const struct state *state, struct text key, uint32_t status, size_t offset, size_t size,
+                       PyObject *absent) {
   if (status == VIZHONIKU_ACCEPTED) return make_key_of(state, key.at + offset, size);
-  if (status == VIZHONIKU_NO_PART) Py_RETURN_NONE;
-  raise_status(state, status);
-  return NULL;
+  if (status != VIZHONIKU_NO_PART) {
+    raise_status(state, status);
+    return NULL;
+  }
+  Py_INCREF(absent);
+  return absent;
+}
+
+/* Reads the path that get is passed, and its default. Returns 0 where an exception is raised. */
+static int read_path(PyObject *const *given, Py_ssize_t count, PyObject *keywords, struct text *path,
+                     PyObject **absent) {
+  static const char *const names[] = {"path", "default", NULL};
+  PyObject *arguments[MOST];
+  if (!sort_arguments("get", names, 1, given, count, keywords, arguments)) return 0;
+  *absent = arguments[1] ? arguments[1] : Py_None;
+  return read_text(arguments[0], A_TEXT, path);
 }
 
 static PyObject *key_get(PyObject *self, PyObject *const *given, Py_ssize_t count, PyObject *keywords) {
   struct text key = key_text(((struct key *)self)->data), path;
   size_t offset = 0, size = 0;
-  PyObject *object = read_one("get", "path", given, count, keywords);
-  if (!object || !read_text(object, A_TEXT, &path)) return NULL;
+  PyObject *absent;
+  if (!read_path(given, count, keywords, &path, &absent)) return NULL;
   uint32_t status = vizhoniku_key_part(key.at, key.size, path.at, path.size, &offset, &size);
   free_text(&path);
-  return found(state_of(self), key, status, offset, size);
+  return found(state_of(self), key, status, offset, size, absent);
 }
 
 static PyObject *document_get(PyObject *self, PyObject *const *given, Py_ssize_t count, PyObject *keywords) {
   struct text document = key_text(((struct key *)self)->data), path;
   struct written part;
-  PyObject *result = NULL;
+  PyObject *absent, *result = NULL;
   uint32_t status;
-  PyObject *object = read_one("get", "path", given, count, keywords);
-  if (!object || !read_text(object, A_TEXT, &path)) return NULL;
+  if (!read_path(given, count, keywords, &path, &absent)) return NULL;
   begin_written(&part);
   do {
     if (document.size >= RELEASED) {
@@ -714,7 +737,7 @@ static PyObject *document_get(PyObject *self, PyObject *const *given, Py_ssize_t
   if (status == VIZHONIKU_ACCEPTED) {
     result = make_stored(Py_TYPE(self), bytes_of(&part));
   } else if (status == VIZHONIKU_NO_PART) {
-    result = Py_None;
+    result = absent;
     Py_INCREF(result);
   } else if (status != VIZHONIKU_TOO_SHORT) {
     raise_status(state_of(self), status);
@@ -746,7 +769,7 @@ static PyObject *member_of(PyObject *self, PyObject *object) {
   if (!read_text(object, A_TEXT, &name)) return NULL;
   uint32_t status = vizhoniku_key_member(key.at, key.size, name.at, name.size, &offset, &size);
   free_text(&name);
-  return found(state_of(self), key, status, offset, size);
+  return found(state_of(self), key, status, offset, size, Py_None);
 }
 
 /* The item of an index, or None. */
@@ -760,18 +783,19 @@ static PyObject *item_of(PyObject *self, PyObject *object) {
     Py_RETURN_NONE;
   }
   uint32_t status = vizhoniku_key_item(key.at, key.size, index, &offset, &size);
-  return found(state_of(self), key, status, offset, size);
+  return found(state_of(self), key, status, offset, size, Py_None);
 }
 
 static PyObject *key_subscript(PyObject *self, PyObject *which) {
   PyObject *part;
-  int is_name = PyUnicode_Check(which);
+  int is_name = PyUnicode_Check(which), is_slice = PySlice_Check(which);
   uint32_t wanted = is_name ? VIZHONIKU_OBJECT : VIZHONIKU_ARRAY;
-  if (!is_name && !PyLong_Check(which)) {
+  if (!is_name && !is_slice && !PyLong_Check(which)) {
     raise_type("a name is a str and an index an int, and not %U", which);
     return NULL;
   }
   if (!need_kind(self, wanted, wanted)) return NULL;
+  if (is_slice) return PyObject_CallFunctionObjArgs(state_of(self)->items_of, self, which, NULL);
   part = is_name ? member_of(self, which) : item_of(self, which);
   if (part != Py_None) return part;
   Py_DECREF(part);
@@ -790,6 +814,16 @@ static Py_ssize_t key_length(PyObject *self) {
   if (status == VIZHONIKU_ACCEPTED) return (Py_ssize_t)count;
   raise_status(state_of(self), status);
   return -1;
+}
+
+static PyObject *key_float(PyObject *self) {
+  if (!need_kind(self, VIZHONIKU_NUMBER, VIZHONIKU_NUMBER)) return NULL;
+  return PyObject_CallFunctionObjArgs(state_of(self)->float_of, self, NULL);
+}
+
+static PyObject *key_int(PyObject *self) {
+  if (!need_kind(self, VIZHONIKU_NUMBER, VIZHONIKU_NUMBER)) return NULL;
+  return PyObject_CallFunctionObjArgs(state_of(self)->int_of, self, NULL);
 }
 
 static int key_truth(PyObject *self) {
@@ -1289,6 +1323,13 @@ static PyObject *key_merge(PyObject *self, PyObject *const *given, Py_ssize_t co
 /* What help() says of a call: its parameters, as inspect.signature reads them, and words. */
 #define HELP(signature, words) signature "\n--\n\n" words
 
+/* What keys and documents have in common. */
+#define STORED_METHODS \
+  {"__bytes__", key_bytes, METH_NOARGS, HELP("__bytes__($self)", "The bytes that from_bytes takes.")}, \
+  {"__reduce__", key_reduce, METH_NOARGS, HELP("__reduce__($self)", "For pickle.")}, \
+  {"__copy__", key_copy, METH_NOARGS, HELP("__copy__($self)", "The same, since it doesn't change.")}, \
+  {"__deepcopy__", key_copy, METH_O, HELP("__deepcopy__($self, memo, /)", "The same, since it doesn't change.")}
+
 static PyMethodDef key_methods[] = {
     {"from_bytes", CALL(key_from_bytes) | METH_CLASS,
      HELP("from_bytes($type, data)",
@@ -1296,45 +1337,52 @@ static PyMethodDef key_methods[] = {
     {"of", CALL(key_of) | METH_CLASS,
      HELP("of($type, value)",
           "The key of a value: a dict, list, tuple, str, int, float, Decimal, bool, None, a key or a document.\n\n"
-          "The names of a dict are str. A float is the decimal that repr shows, and a Decimal is exact. TypeError is\n"
-          "raised for another type, and ValueError for a number of more than 38 digits, NaN, infinity, half of a\n"
-          "surrogate pair and more than 512 nested arrays and objects.")},
+          "The names of a dict are str. A float is the decimal that repr shows, and a Decimal is exact. TypeError\n"
+          "is raised for another type, and ValueError for a number of more than 38 digits, NaN, infinity, half of\n"
+          "a surrogate pair and more than 512 nested arrays and objects.")},
     {"value", key_value, METH_NOARGS,
      HELP("value($self)",
           "The value: a dict, list, str, int, Decimal, bool or None. A number without a fraction is an int.")},
-    {"__bytes__", key_bytes, METH_NOARGS, HELP("__bytes__($self)", "The bytes that from_bytes takes.")},
-    {"__reduce__", key_reduce, METH_NOARGS, HELP("__reduce__($self)", "For pickle.")},
+    STORED_METHODS,
     {"text", key_py_text, METH_NOARGS,
      HELP("text($self)", "The text of the value, with the fewest digits in each number.")},
     {"get", CALL(key_get),
-     HELP("get($self, path)",
-          "The part at the path, a JSON Pointer (RFC 6901), or None. Raises PathError where the path is none.")},
+     HELP("get($self, path, default=None)",
+          "The part at the path, a JSON Pointer (RFC 6901), or the default where there is none.\n\n"
+          "A name alone is no path: its path is \"/name\", or pointer(name) where the name may have a / or a ~.\n"
+          "Raises PathError where the path is none.")},
     {"contains", CALL(key_py_contains),
      HELP("contains($self, other)",
           "Whether the value contains another one, as @> of PostgreSQL's jsonb: a key or what Key.of takes.")},
     {"set", CALL(key_set),
      HELP("set($self, path, value, create=True)",
           "The key with the part at the path set to the value, which is a key or what Key.of takes.\n\n"
-          "Where only the last step leads nowhere, a member or an item is added, unless create is false. In an array\n"
-          "-1 is the last item, and an index past either end adds one there. The key itself where nothing changes.")},
+          "Where only the last step leads nowhere, a member or an item is added, unless create is false. In an\n"
+          "array -1 is the last item, and an index past either end adds one there. The key itself where nothing\n"
+          "changes. Raises PathError where the path is none, and ValueError where the key would nest too deep.")},
     {"remove", CALL(key_remove),
      HELP("remove($self, path)",
-          "The key without the part at the path, or the key itself where there is none.")},
+          "The key without the part at the path, or the key itself where there is none.\n\n"
+          "In an array -1 is the last item. Raises PathError where the path is none.")},
     {"put", CALL(key_put),
      HELP("put($self, name, value)",
-          "The key of an object with a member of this name and value, which is a key or what Key.of takes.")},
+          "The key of an object with a member of this name and value, which is a key or what Key.of takes.\n\n"
+          "Raises TypeError of another kind, and ValueError where the key would nest too deep.")},
     {"push", CALL(key_push),
      HELP("push($self, item)",
-          "The key of an array with an item more at its end, which is a key or what Key.of takes.")},
+          "The key of an array with an item more at its end, which is a key or what Key.of takes.\n\n"
+          "Raises TypeError of another kind, and ValueError where the key would nest too deep.")},
     {"merge", CALL(key_merge),
      HELP("merge($self, other)",
           "The key merged with another value, as || of PostgreSQL's jsonb does: a key or what Key.of takes.\n\n"
-          "Two objects become one with the members of both, where those of the other win. Else two arrays become one,\n"
-          "for which a value that is no array is an array of itself.")},
+          "Two objects become one with the members of both, where those of the other win. Else two arrays become\n"
+          "one, for which a value that is no array is an array of itself.")},
     {"__reversed__", key_reversed, METH_NOARGS,
      HELP("__reversed__($self)", "The same as iter, from the last one on.")},
     {"items", key_items, METH_NOARGS,
-     HELP("items($self)", "The members of an object, in the order of their names' bytes.")},
+     HELP("items($self)",
+          "The members of an object, in the order of their names' bytes: pairs of a name, a str, and a key.\n\n"
+          "Raises TypeError of another kind.")},
     {NULL, NULL, 0, NULL},
 };
 
@@ -1348,7 +1396,7 @@ static PyType_Slot key_slots[] = {
                 "A document as its sort key: bytes that compare as the values do. Its parts are found in them.\n\n"
                 "Keys are compared and hashed by their bytes, so by value. An array is iterated over its items, which\n"
                 "are keys, and an object over the names of its members, which are str; len counts either. A key is\n"
-                "always true."},
+                "always true. RejectedText is raised where the text is no document of the mode."},
     {Py_tp_new, SLOT(key_new)},
     {Py_tp_dealloc, SLOT(key_free)},
     {Py_tp_methods, key_methods},
@@ -1361,6 +1409,8 @@ static PyType_Slot key_slots[] = {
     {Py_mp_length, SLOT(key_length)},
     {Py_sq_contains, SLOT(key_contains)},
     {Py_nb_bool, SLOT(key_truth)},
+    {Py_nb_float, SLOT(key_float)},
+    {Py_nb_int, SLOT(key_int)},
     {0, NULL},
 };
 
@@ -1385,29 +1435,33 @@ static PyMethodDef document_methods[] = {
     {"value", key_value, METH_NOARGS,
      HELP("value($self)",
           "The value: a dict, list, str, int, Decimal, bool or None. A Decimal has all digits of the number.")},
-    {"__bytes__", key_bytes, METH_NOARGS, HELP("__bytes__($self)", "The bytes that from_bytes takes.")},
-    {"__reduce__", key_reduce, METH_NOARGS, HELP("__reduce__($self)", "For pickle.")},
+    STORED_METHODS,
     {"text", key_py_text, METH_NOARGS,
      HELP("text($self)", "The text of the value, with all digits of each number.")},
     {"get", CALL(document_get),
-     HELP("get($self, path)",
-          "The part at the path, a JSON Pointer (RFC 6901), or None. Raises PathError where the path is none.")},
+     HELP("get($self, path, default=None)",
+          "The part at the path, a JSON Pointer (RFC 6901), or the default where there is none.\n\n"
+          "Raises PathError where the path is none.")},
     {"contains", CALL(key_py_contains),
      HELP("contains($self, other)",
           "Whether the value contains another one, as @> of PostgreSQL's jsonb: zeros at the end don't count.")},
     {"set", CALL(key_set),
      HELP("set($self, path, value, create=True)",
           "The document with the part at the path set to the value, a document or what Document.of takes.\n\n"
-          "It is as Key.set, with all digits. The document itself where nothing changes.")},
+          "It is as Key.set, with all digits. The document itself where nothing changes. Raises what Key.set\n"
+          "raises.")},
     {"remove", CALL(key_remove),
      HELP("remove($self, path)",
-          "The document without the part at the path, or the document itself where there is none.")},
+          "The document without the part at the path, or the document itself where there is none.\n\n"
+          "In an array -1 is the last item. Raises PathError where the path is none.")},
     {"put", CALL(key_put),
      HELP("put($self, name, value)",
-          "The document of an object with a member of this name and value, a document or what Document.of takes.")},
+          "The document of an object with a member of this name and value, a document or what Document.of takes.\n\n"
+          "Raises TypeError of another kind, and ValueError where the document would nest too deep.")},
     {"push", CALL(key_push),
      HELP("push($self, item)",
-          "The document of an array with an item more at its end, a document or what Document.of takes.")},
+          "The document of an array with an item more at its end, a document or what Document.of takes.\n\n"
+          "Raises TypeError of another kind, and ValueError where the document would nest too deep.")},
     {"merge", CALL(key_merge),
      HELP("merge($self, other)",
           "The document merged with another value, as Key.merge has it: a document or what Document.of takes.")},
@@ -1425,7 +1479,8 @@ static PyType_Slot document_slots[] = {
                 "stays 1.50.\n\n"
                 "Documents are compared and hashed by their bytes: they are in the order of their values, and those\n"
                 "of equal values in that of these zeros. Two are equal where their texts are. A key's bytes are the\n"
-                "document of a value without such zeros."},
+                "document of a value without such zeros. RejectedText is raised where the text is no document of the\n"
+                "mode."},
     {Py_tp_new, SLOT(key_new)},
     {Py_tp_dealloc, SLOT(key_free)},
     {Py_tp_methods, document_methods},
@@ -1433,6 +1488,8 @@ static PyType_Slot document_slots[] = {
     {Py_tp_richcompare, SLOT(key_compare)},
     {Py_tp_hash, SLOT(key_hash)},
     {Py_tp_repr, SLOT(key_repr)},
+    {Py_nb_float, SLOT(key_float)},
+    {Py_nb_int, SLOT(key_int)},
     {0, NULL},
 };
 
@@ -1452,26 +1509,31 @@ static PyType_Spec parts_spec = {"vizhoniku._native.Parts", sizeof(struct parts)
 
 static PyMethodDef functions[] = {
     {"check", CALL(py_check),
-     HELP("check($module, text, mode=EXTENDED_JSON)", "Raises RejectedText where the text is no document.")},
+     HELP("check($module, text, mode=EXTENDED_JSON)",
+          "Raises RejectedText where the text is no document of the mode.")},
     {"is_valid", CALL(py_is_valid),
-     HELP("is_valid($module, text, mode=EXTENDED_JSON)", "Whether the text is a document.")},
+     HELP("is_valid($module, text, mode=EXTENDED_JSON)", "Whether the text is a document of the mode.")},
     {"text", CALL(py_text),
      HELP("text($module, text, mode=EXTENDED_JSON)",
-          "The text of the document's value: no whitespace, and members in the order of their keys' bytes.")},
+          "The text of the document's value: no whitespace, and members in the order of their keys' bytes.\n\n"
+          "Raises RejectedText where the text is no document of the mode.")},
     {"sort_key", CALL(py_sort_key),
      HELP("sort_key($module, text, mode=EXTENDED_JSON)",
           "Bytes that compare as the values of documents do: equal for equal values, and none the beginning of\n"
-          "others.")},
+          "others.\n\n"
+          "Raises RejectedText where the text is no document of the mode.")},
     {"text_and_key", CALL(py_text_and_key),
-     HELP("text_and_key($module, text, mode=EXTENDED_JSON)", "What text and sort_key return, of one reading.")},
+     HELP("text_and_key($module, text, mode=EXTENDED_JSON)",
+          "What text and sort_key return, of one reading. Raises RejectedText as they do.")},
     {"get", CALL(py_get),
      HELP("get($module, text, path, mode=EXTENDED_JSON)",
           "The text of the part at the path, a JSON Pointer (RFC 6901), or None where there is none.\n\n"
-          "The path \"\" is the whole document, and \"/a/0\" the first item of the member \"a\". PathError is raised\n"
-          "where the path is no JSON Pointer.")},
+          "The path \"\" is the whole document, and \"/a/0\" the first item of the member \"a\". PathError is\n"
+          "raised where the path is no JSON Pointer, and RejectedText where the text is no document of the mode.")},
     {"compare", CALL(py_compare),
      HELP("compare($module, left, right, mode=EXTENDED_JSON)",
-          "-1, 0 or 1: the first document's value is below the second's, equal to it, or above it.")},
+          "-1, 0 or 1: the first document's value is below the second's, equal to it, or above it.\n\n"
+          "Raises RejectedText where one is no document of the mode: its which is 2 for the second.")},
     {NULL, NULL, 0, NULL},
 };
 
@@ -1495,6 +1557,9 @@ static int fill_state(PyObject *module, struct state *state) {
   if (!values) return -1;
   state->text_of = PyObject_GetAttrString(values, "text_of");
   state->value_of = PyObject_GetAttrString(values, "value_of");
+  state->float_of = PyObject_GetAttrString(values, "float_of");
+  state->int_of = PyObject_GetAttrString(values, "int_of");
+  state->items_of = PyObject_GetAttrString(values, "items_of");
   state->decimal = PyObject_GetAttrString(values, "Decimal");
   Py_DECREF(values);
   for (size_t i = 0; i < sizeof kinds / sizeof *kinds; i++) {
@@ -1508,6 +1573,7 @@ static int fill_state(PyObject *module, struct state *state) {
   if (!(state->stored = PyTuple_Pack(2, state->key_type, state->document_type))) return -1;
   /* The default of a parameter is looked up by its name. */
   if (PyModule_AddObjectRef(module, mode_names[DEFAULT_MODE], state->modes[DEFAULT_MODE]) < 0) return -1;
+  if (PyModule_AddIntConstant(module, "INTERFACE", (long)vizhoniku_version()) < 0) return -1;
   if (PyModule_AddObjectRef(module, "Key", state->key_type) < 0) return -1;
   return PyModule_AddObjectRef(module, "Document", state->document_type);
 }
@@ -1530,6 +1596,9 @@ static int traverse(PyObject *module, visitproc visit, void *arg) {
   Py_VISIT(state->rejected);
   Py_VISIT(state->text_of);
   Py_VISIT(state->value_of);
+  Py_VISIT(state->float_of);
+  Py_VISIT(state->int_of);
+  Py_VISIT(state->items_of);
   Py_VISIT(state->decimal);
   Py_VISIT(state->key_type);
   Py_VISIT(state->document_type);
@@ -1547,6 +1616,9 @@ static int clear(PyObject *module) {
   Py_CLEAR(state->rejected);
   Py_CLEAR(state->text_of);
   Py_CLEAR(state->value_of);
+  Py_CLEAR(state->float_of);
+  Py_CLEAR(state->int_of);
+  Py_CLEAR(state->items_of);
   Py_CLEAR(state->decimal);
   Py_CLEAR(state->bad_path);
   Py_CLEAR(state->no_key);

@@ -1,15 +1,17 @@
-"""Values of Python and documents: what Key.value and Document.value return, and the text of what Key.of and Document.of
-take.
+"""Values of Python and documents: what Key.value and Document.value return, the text of what Key.of and Document.of
+take, and what float, int and slices make of keys.
 
 Neither calls itself, so that a document of 512 levels takes no more of the stack than a flat one.
 """
 
+import itertools
 import json
 import re
+import sys
 from decimal import Decimal
 from typing import Any, Iterable, Iterator, List, NoReturn, Optional, Set, Tuple, Type, Union
 
-from ._common import TOO_DEEP
+from ._common import TOO_DEEP, pointer
 
 _LEVELS = 512  # arrays and objects in one another
 _DIGITS = 38  # of a number, before and behind the point together
@@ -51,6 +53,29 @@ def _value_by_parts(key: Any, text: str) -> Any:
         else:
             open_ones.pop()
     return whole[0]
+
+
+def float_of(stored: Any) -> float:
+    """The float nearest to the number of a key or a document."""
+    return float(stored.text())
+
+
+def int_of(stored: Any) -> int:
+    """The int that the number of a key or a document is. ValueError where it has a fraction."""
+    text: str = getattr(stored, "key", stored).text()  # of a key, where 2.00 is 2
+    if "." in text:
+        raise ValueError(f"{text} is no whole number")
+    return int(text)
+
+
+def items_of(array: Any, which: slice) -> List[Any]:
+    """The items that a list would have in the slice. The array is walked through once, up to the last of them."""
+    wanted = range(*which.indices(len(array)))
+    if not wanted:
+        return []
+    rising = wanted if wanted.step > 0 else wanted[::-1]
+    items = list(itertools.islice(array, rising[0], rising[-1] + 1, min(rising.step, sys.maxsize)))
+    return items if wanted.step > 0 else items[::-1]
 
 
 def text_of(value: object, stored: Tuple[type, ...], keeps_zeros: bool) -> str:
@@ -115,7 +140,7 @@ class _Writer:
         return "".join(self._out)
 
     def _fail(self, error: Type[Exception], words: str) -> NoReturn:
-        path = "".join("/" + str(level.step).replace("~", "~0").replace("/", "~1") for level in self._levels)
+        path = pointer(*(level.step for level in self._levels if level.step is not None))
         raise error(f"{words} at {path}" if path else words)
 
     def _value(self, value: object) -> None:
