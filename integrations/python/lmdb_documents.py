@@ -24,7 +24,11 @@ _ABOVE_TEXTS = 0x80  # the first byte of a long document, which is no number, is
 
 
 class Documents:
-    """The documents of one LMDB environment. Every document is read in the given mode."""
+    """The documents of one LMDB environment. Every text is read in the given mode.
+
+    lmdb.open takes how many bytes an environment may have as map_size, and 10 MB without it. Past that put and put_all
+    raise lmdb.MapFullError.
+    """
 
     def __init__(self, environment: lmdb.Environment, mode: int = vizhoniku.EXTENDED_JSON) -> None:
         self._environment = environment

@@ -523,6 +523,31 @@ class Keys(unittest.TestCase):
                 call()
             self.assertEqual(str(raised.exception), words)
 
+    def test_what_a_dict_has(self) -> None:
+        """What the page has for what dicts and lists do."""
+        values: Dict[str, Any] = {"a": [1, "x"], "b/c~": {}, "": False, "n": 2.5}
+        key, none = v.Key.of(values), object()
+        for name in (*values, "zz", "/a"):
+            wanted = v.Key.of(values[name]) if name in values else none
+            self.assertEqual(key.get(v.pointer(name), none), wanted)
+        self.assertEqual(dict(key.items()), {name: v.Key.of(value) for name, value in values.items()})
+        self.assertEqual(list(key), sorted(values))
+        self.assertEqual([part for _, part in key.items()], [v.Key.of(values[name]) for name in sorted(values)])
+        self.assertEqual(key.put("a", 1), v.Key.of({**values, "a": 1}))
+        self.assertEqual(key.remove("/n").value(), {name: value for name, value in values.items() if name != "n"})
+        self.assertEqual(key["a"].push(None), v.Key.of([*values["a"], None]))
+        self.assertEqual(key.merge({"n": 1}), v.Key.of({**values, "n": 1}))
+        self.assertEqual(key["a"].merge([2]), v.Key.of(values["a"] + [2]))
+        self.assertEqual([v.Key.of(item) in key["a"] for item in (1, "x", 2)], [True, True, False])
+        self.assertEqual((key == v.Key.of(values), key == values), (True, False))
+        self.assertEqual([bool(part) for _, part in key.items()], [True] * 4)
+        self.assertEqual([bool(part.value()) for _, part in key.items()], [False, True, False, True])
+        self.assertEqual((int(key["n"].value()), float(key["n"]) + 1), (int(2.5), 2.5 + 1))
+        untyped: Any = v.Key('{"id":1,"ok":2}')
+        self.assertEqual(dict(untyped), {"i": "d", "o": "k"})
+        self.assertRaises(ValueError, dict, key)
+        self.assertRaises(TypeError, lambda: dict(**untyped))
+
     def test_copies(self) -> None:
         """What pickle and copy make is equal and of the same type, also in other values."""
         texts = ["null", "[]", '{"a":[1.5,"é𝄞\\u0000"]}', "1.50", '["%s",2.00]' % ("x" * 300)]
@@ -1250,7 +1275,8 @@ class Digits(unittest.TestCase):
                              lambda: document.remove("/a/1"), lambda: document.set("/a/0", document),
                              lambda: document.put("c", 1.0), lambda: document.merge([1.0]),
                              lambda: v.Document("[1.0]").push(document),
-                             lambda: document.contains([1]), lambda: repr(document), lambda: hash(document.key)):
+                             lambda: document.contains([1]), lambda: repr(document), lambda: hash(document.key),
+                             lambda: float(document), lambda: int(document), lambda: document.get("/none", 1)):
                     try:
                         call()
                         passed += 1
@@ -1258,6 +1284,23 @@ class Digits(unittest.TestCase):
                         pass
         self.assertGreater(passed, 1000)
         self.assertGreater(rejected, 100)
+
+
+# Types that each call has, also where another argument makes another one.
+USE = """
+from typing import List, Optional, Tuple, Union
+from vizhoniku import Document, Key, pointer
+
+key, document = Key("[1]"), Document("[1.50]")
+found: Optional[Key] = key.get("/0")
+none: Optional[Key] = key.get("/0", None)
+or_a_key: Key = key.get("/0", key)
+or_a_number: Union[Key, int] = key.get(pointer(0), default=0)
+kept: Union[Document, str] = document.get("/0", "")
+item: Key = key[0]
+items: List[Key] = key[:1]
+numbers: Tuple[float, int, float, int] = float(item), int(item), float(document), int(document)
+"""
 
 
 class Both(unittest.TestCase):
@@ -1355,13 +1398,14 @@ class Both(unittest.TestCase):
         self.assertEqual(v.__version__, found and found[1])
 
     def test_types(self) -> None:
-        """Where mypy is installed it finds nothing wrong."""
+        """Where mypy is installed it finds nothing wrong in the package, nor in what uses it."""
         if importlib.util.find_spec("mypy") is None or v.NATIVE:
             return
         with tempfile.TemporaryDirectory() as folder:
-            ran = subprocess.run([sys.executable, "-m", "mypy", "--strict", "--cache-dir", folder, "-p", "vizhoniku"],
-                                 cwd=PACKAGES, stdout=subprocess.PIPE, stderr=subprocess.STDOUT, check=False)
-        self.assertIn(b"Success: no issues found", ran.stdout, ran.stdout.decode())
+            for what in (["-p", "vizhoniku"], ["-c", USE]):
+                ran = subprocess.run([sys.executable, "-m", "mypy", "--strict", "--cache-dir", folder, *what],
+                                     cwd=PACKAGES, stdout=subprocess.PIPE, stderr=subprocess.STDOUT, check=False)
+                self.assertIn(b"Success: no issues found", ran.stdout, ran.stdout.decode())
 
     def test_other_threads_go_on_in_a_long_text(self) -> None:
         text = json.dumps([{"name": str(i), "n": i} for i in range(400_000)])
