@@ -413,8 +413,9 @@ class Key(_Stored):
     """A document as its sort key: bytes that compare as the values do. Its parts are found in them.
 
     Keys are compared and hashed by their bytes, so by value. An array is iterated over its items, which are keys, and
-    an object over the names of its members, which are str; len counts either. A key is always true. RejectedText is
-    raised where the text is no document of the mode.
+    an object over the names of its members, which are str; len counts either. key[name] is the key of a member,
+    key[index] that of an item, and key[1:3] a list of those of items. float takes a number, and int one without a
+    fraction. A key is always true. RejectedText is raised where the text is no document of the mode.
     """
 
     __module__ = "vizhoniku"  # for pickles, which either way to call the library takes

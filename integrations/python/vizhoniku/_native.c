@@ -1395,8 +1395,10 @@ static PyType_Slot key_slots[] = {
     {Py_tp_doc, "Key(text, mode=EXTENDED_JSON)\n--\n\n"
                 "A document as its sort key: bytes that compare as the values do. Its parts are found in them.\n\n"
                 "Keys are compared and hashed by their bytes, so by value. An array is iterated over its items, which\n"
-                "are keys, and an object over the names of its members, which are str; len counts either. A key is\n"
-                "always true. RejectedText is raised where the text is no document of the mode."},
+                "are keys, and an object over the names of its members, which are str; len counts either. key[name]\n"
+                "is the key of a member, key[index] that of an item, and key[1:3] a list of those of items. float\n"
+                "takes a number, and int one without a fraction. A key is always true. RejectedText is raised where\n"
+                "the text is no document of the mode."},
     {Py_tp_new, SLOT(key_new)},
     {Py_tp_dealloc, SLOT(key_free)},
     {Py_tp_methods, key_methods},
