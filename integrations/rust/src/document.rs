@@ -34,6 +34,15 @@ impl Document {
     /// # Errors
     ///
     /// [`Error::NoDocument`] where they aren't a document.
+    ///
+    /// ```
+    /// use vizhoniku::{document, Document, Mode};
+    ///
+    /// let stored = document("[1.50]", Mode::Json)?.into_bytes();
+    /// assert_eq!(Document::from_bytes(stored)?.to_string(), "[1.50]");
+    /// assert!(Document::from_bytes(b"[1.50]".to_vec()).is_err());
+    /// # Ok::<(), vizhoniku::Error>(())
+    /// ```
     pub fn from_bytes(bytes: Vec<u8>) -> Result<Document, Error> {
         // SAFETY: the bytes have their size.
         match unsafe { ffi::vizhoniku_document_check(bytes.as_ptr(), bytes.len()) } {
@@ -44,21 +53,48 @@ impl Document {
 
     /// The document whose bytes these are, which aren't checked: for bytes that a store gives back as they were put. Of
     /// other bytes the calls find nothing, or something in them; no call reads or writes past its memory.
+    ///
+    /// ```
+    /// use vizhoniku::{document, Document, Mode};
+    ///
+    /// let stored = document("[1.50]", Mode::Json)?.into_bytes();
+    /// assert_eq!(Document::from_trusted_bytes(stored).to_string(), "[1.50]");
+    /// # Ok::<(), vizhoniku::Error>(())
+    /// ```
     pub fn from_trusted_bytes(bytes: Vec<u8>) -> Document {
         Document::of(bytes)
     }
 
     /// The bytes, to be stored.
+    ///
+    /// ```
+    /// let array = vizhoniku::document("[1.50]", vizhoniku::Mode::Json)?;
+    /// assert_eq!(array.clone().into_bytes(), array.as_bytes());
+    /// # Ok::<(), vizhoniku::Error>(())
+    /// ```
     pub fn into_bytes(self) -> Vec<u8> {
         self.0.into_vec()
     }
 
     /// The bytes.
+    ///
+    /// ```
+    /// let array = vizhoniku::document("[1.50]", vizhoniku::Mode::Json)?;
+    /// assert!(array.as_bytes().starts_with(array.key().as_bytes()));
+    /// # Ok::<(), vizhoniku::Error>(())
+    /// ```
     pub fn as_bytes(&self) -> &[u8] {
         &self.0
     }
 
     /// The sort key of the value, which the document begins with.
+    ///
+    /// ```
+    /// let document = vizhoniku::document(r#"{"net": 1.50, "tax": [0.10]}"#, vizhoniku::Mode::Json)?;
+    /// assert_eq!(document.key().to_string(), r#"{"net":1.5,"tax":[0.1]}"#);
+    /// assert_eq!(document.key().get("net").and_then(|net| net.as_f64()), Some(1.5));
+    /// # Ok::<(), vizhoniku::Error>(())
+    /// ```
     pub fn key(&self) -> &KeyRef {
         // SAFETY: the document has its size.
         let size = unsafe { ffi::vizhoniku_document_key(self.0.as_ptr(), self.0.len()) };
@@ -70,6 +106,12 @@ impl Document {
     /// # Errors
     ///
     /// [`Error::OutOfMemory`], and [`Error::NoDocument`] for trusted bytes that are none.
+    ///
+    /// ```
+    /// let document = vizhoniku::document(r#"{"net": 1.50, "tax": [0.10]}"#, vizhoniku::Mode::Json)?;
+    /// assert_eq!(document.to_text()?, r#"{"net":1.50,"tax":[0.10]}"#);
+    /// # Ok::<(), vizhoniku::Error>(())
+    /// ```
     pub fn to_text(&self) -> Result<String, Error> {
         let capacity = self.0.len().saturating_add(64);
         let written = self.written(capacity, |document, document_size, buffer, capacity, size| {
@@ -85,6 +127,13 @@ impl Document {
     /// # Errors
     ///
     /// [`Error::NoPath`] and [`Error::OutOfMemory`].
+    ///
+    /// ```
+    /// let document = vizhoniku::document(r#"{"net": 1.50, "tax": [0.10]}"#, vizhoniku::Mode::Json)?;
+    /// assert_eq!(document.pointer("/tax/0")?.map(|tax| tax.to_string()).as_deref(), Some("0.10"));
+    /// assert_eq!(document.pointer("/tax/1")?, None);
+    /// # Ok::<(), vizhoniku::Error>(())
+    /// ```
     pub fn pointer(&self, path: &str) -> Result<Option<Document>, Error> {
         self.made(0, |document, document_size, buffer, capacity, size| {
             // SAFETY: as in `to_text`, and the path has its size.
@@ -95,12 +144,22 @@ impl Document {
         })
     }
 
-    /// The document with this part at the path, or `None` where nothing changes. A part that is there is replaced. Where
-    /// only the last step leads nowhere, and with `create`, a member is added to an object, and to an array an item.
+    /// The document with this part at the path, or `None` where nothing changes. A part that is there is replaced.
+    /// Where only the last step leads nowhere, and with `create`, a member is added to an object, and to an array an
+    /// item.
     ///
     /// # Errors
     ///
     /// [`Error::NoPath`], [`Error::TooDeep`] and [`Error::OutOfMemory`].
+    ///
+    /// ```
+    /// let document = vizhoniku::document(r#"{"net": 1.50, "tax": [0.10]}"#, vizhoniku::Mode::Json)?;
+    /// let part = vizhoniku::document("2.00", vizhoniku::Mode::Json)?;
+    /// assert_eq!(document.set("/net", &part, false)?.unwrap().to_string(), r#"{"net":2.00,"tax":[0.10]}"#);
+    /// assert_eq!(document.set("/sum", &part, true)?.unwrap().to_string(), r#"{"net":1.50,"sum":2.00,"tax":[0.10]}"#);
+    /// assert_eq!(document.set("/sum", &part, false)?, None);
+    /// # Ok::<(), vizhoniku::Error>(())
+    /// ```
     pub fn set(&self, path: &str, part: &Document, create: bool) -> Result<Option<Document>, Error> {
         self.made(path.len() + part.0.len(), |document, document_size, buffer, capacity, size| {
             // SAFETY: as in `to_text`, and the path and the part have their sizes.
@@ -126,6 +185,13 @@ impl Document {
     /// # Errors
     ///
     /// [`Error::NoPath`] and [`Error::OutOfMemory`].
+    ///
+    /// ```
+    /// let document = vizhoniku::document(r#"{"net": 1.50, "tax": [0.10]}"#, vizhoniku::Mode::Json)?;
+    /// assert_eq!(document.remove("/tax/0")?.unwrap().to_string(), r#"{"net":1.50,"tax":[]}"#);
+    /// assert_eq!(document.remove("/sum")?, None);
+    /// # Ok::<(), vizhoniku::Error>(())
+    /// ```
     pub fn remove(&self, path: &str) -> Result<Option<Document>, Error> {
         self.made(0, |document, document_size, buffer, capacity, size| {
             // SAFETY: as in `to_text`, and the path has its size.
@@ -149,6 +215,14 @@ impl Document {
     /// # Errors
     ///
     /// [`Error::TooDeep`] and [`Error::OutOfMemory`].
+    ///
+    /// ```
+    /// let document = vizhoniku::document(r#"{"net": 1.50, "tax": [0.10]}"#, vizhoniku::Mode::Json)?;
+    /// let part = vizhoniku::document("2.00", vizhoniku::Mode::Json)?;
+    /// assert_eq!(document.put("net", &part)?.unwrap().to_string(), r#"{"net":2.00,"tax":[0.10]}"#);
+    /// assert_eq!(part.put("net", &part)?, None);
+    /// # Ok::<(), vizhoniku::Error>(())
+    /// ```
     pub fn put(&self, name: &str, value: &Document) -> Result<Option<Document>, Error> {
         self.made(name.len() + value.0.len(), |document, document_size, buffer, capacity, size| {
             // SAFETY: as in `to_text`, and the name and the value have their sizes.
@@ -173,6 +247,14 @@ impl Document {
     /// # Errors
     ///
     /// [`Error::TooDeep`] and [`Error::OutOfMemory`].
+    ///
+    /// ```
+    /// let array = vizhoniku::document("[1.50]", vizhoniku::Mode::Json)?;
+    /// let part = vizhoniku::document("2.00", vizhoniku::Mode::Json)?;
+    /// assert_eq!(array.push(&part)?.unwrap().to_string(), "[1.50,2.00]");
+    /// assert_eq!(part.push(&part)?, None);
+    /// # Ok::<(), vizhoniku::Error>(())
+    /// ```
     pub fn push(&self, item: &Document) -> Result<Option<Document>, Error> {
         self.made(item.0.len(), |document, document_size, buffer, capacity, size| {
             // SAFETY: as in `to_text`, and the item has its size.
@@ -189,6 +271,13 @@ impl Document {
     /// # Errors
     ///
     /// [`Error::TooDeep`] and [`Error::OutOfMemory`].
+    ///
+    /// ```
+    /// let array = vizhoniku::document("[1.50]", vizhoniku::Mode::Json)?;
+    /// let part = vizhoniku::document("2.00", vizhoniku::Mode::Json)?;
+    /// assert_eq!(array.merge(&part)?.to_string(), "[1.50,2.00]");
+    /// # Ok::<(), vizhoniku::Error>(())
+    /// ```
     pub fn merge(&self, other: &Document) -> Result<Document, Error> {
         let merged = self.made(other.0.len(), |document, document_size, buffer, capacity, size| {
             // SAFETY: as in `to_text`, and the other document has its size.

@@ -7,6 +7,13 @@ use std::fmt;
 use std::ops::Deref;
 
 /// The kind of a value.
+///
+/// ```
+/// use vizhoniku::{sort_key, Kind, Mode};
+///
+/// assert_eq!(sort_key("[1.5]", Mode::Json)?.item(0).map(|item| item.kind()), Some(Kind::Number));
+/// # Ok::<(), vizhoniku::Error>(())
+/// ```
 #[derive(Clone, Copy, Debug, PartialEq, Eq, Hash)]
 pub enum Kind {
     /// `null`
@@ -23,10 +30,28 @@ pub enum Kind {
     Object,
 }
 
+/// The kind as a word, such as `boolean`.
+///
+/// ```
+/// assert_eq!(vizhoniku::Kind::Boolean.to_string(), "boolean");
+/// ```
+impl fmt::Display for Kind {
+    fn fmt(&self, out: &mut fmt::Formatter<'_>) -> fmt::Result {
+        out.write_str(match self {
+            Kind::Null => "null",
+            Kind::Boolean => "boolean",
+            Kind::Number => "number",
+            Kind::String => "string",
+            Kind::Array => "array",
+            Kind::Object => "object",
+        })
+    }
+}
+
 /// A sort key that is owned: a document whose bytes compare as the values do.
 ///
-/// Keys are compared and hashed by their bytes, which is by value. It is to [`KeyRef`] what `String` is to `str`, so that
-/// a map with such keys is asked by a [`KeyRef`]:
+/// Keys are compared and hashed by their bytes, which is by value. It is to [`KeyRef`] what `String` is to `str`, so
+/// that a map with such keys is asked by a [`KeyRef`]:
 ///
 /// ```
 /// use std::collections::BTreeMap;
@@ -43,6 +68,18 @@ pub enum Kind {
 pub struct Key(Box<[u8]>);
 
 /// A sort key that is borrowed, such as a part of another one, where it is.
+///
+/// ```
+/// use vizhoniku::{sort_key, KeyRef, Mode};
+///
+/// fn first(key: &KeyRef) -> Option<&KeyRef> {
+///     key.item(0)
+/// }
+///
+/// let key = sort_key("[[1.50], 2]", Mode::Json)?;
+/// assert_eq!(first(&key).and_then(first).map(|part| part.to_string()).as_deref(), Some("1.5"));
+/// # Ok::<(), vizhoniku::Error>(())
+/// ```
 #[derive(PartialEq, Eq, PartialOrd, Ord, Hash)]
 #[repr(transparent)]
 pub struct KeyRef([u8]);
@@ -73,6 +110,12 @@ impl Key {
     }
 
     /// The bytes, to be stored.
+    ///
+    /// ```
+    /// let key = vizhoniku::sort_key("[1, 2.50]", vizhoniku::Mode::Json)?;
+    /// assert_eq!(key.clone().into_bytes(), key.as_bytes());
+    /// # Ok::<(), vizhoniku::Error>(())
+    /// ```
     pub fn into_bytes(self) -> Vec<u8> {
         self.0.into_vec()
     }
@@ -170,6 +213,15 @@ impl KeyRef {
     /// # Errors
     ///
     /// [`Error::NoKey`] where they aren't a sort key.
+    ///
+    /// ```
+    /// use vizhoniku::{sort_key, KeyRef, Mode};
+    ///
+    /// let stored = sort_key("[1, null]", Mode::Json)?.into_bytes();
+    /// assert_eq!(KeyRef::from_bytes(&stored)?.count(), Some(2));
+    /// assert!(KeyRef::from_bytes(b"[1,null]").is_err());
+    /// # Ok::<(), vizhoniku::Error>(())
+    /// ```
     pub fn from_bytes(bytes: &[u8]) -> Result<&KeyRef, Error> {
         // SAFETY: the bytes have their size.
         match unsafe { ffi::vizhoniku_key_check(bytes.as_ptr(), bytes.len()) } {
@@ -178,13 +230,29 @@ impl KeyRef {
         }
     }
 
-    /// The key whose bytes these are, which aren't checked: for bytes that a store gives back as they were put. Of other
-    /// bytes the calls find nothing, or something in them; no call reads or writes past its memory.
+    /// The key whose bytes these are, which aren't checked: for bytes that a store gives back as they were put. Of
+    /// other bytes the calls find nothing, or something in them; no call reads or writes past its memory.
+    ///
+    /// ```
+    /// use vizhoniku::{sort_key, KeyRef, Mode};
+    ///
+    /// let stored = sort_key("[1, null]", Mode::Json)?.into_bytes();
+    /// assert_eq!(KeyRef::from_trusted_bytes(&stored).to_text()?, "[1,null]");
+    /// # Ok::<(), vizhoniku::Error>(())
+    /// ```
     pub fn from_trusted_bytes(bytes: &[u8]) -> &KeyRef {
         KeyRef::of(bytes)
     }
 
     /// The bytes.
+    ///
+    /// ```
+    /// use vizhoniku::{sort_key, Mode};
+    ///
+    /// let (low, high) = (sort_key("[9.5]", Mode::Json)?, sort_key("[10]", Mode::Json)?);
+    /// assert!(low.as_bytes() < high.as_bytes());
+    /// # Ok::<(), vizhoniku::Error>(())
+    /// ```
     pub fn as_bytes(&self) -> &[u8] {
         &self.0
     }
@@ -194,6 +262,12 @@ impl KeyRef {
     /// # Errors
     ///
     /// [`Error::OutOfMemory`], and [`Error::NoKey`] for trusted bytes that are none.
+    ///
+    /// ```
+    /// let key = vizhoniku::sort_key("[1, 2.50]", vizhoniku::Mode::Json)?;
+    /// assert_eq!(key.to_text()?, "[1,2.5]");
+    /// # Ok::<(), vizhoniku::Error>(())
+    /// ```
     pub fn to_text(&self) -> Result<String, Error> {
         let capacity = self.0.len().saturating_add(64);
         let written = self.written(capacity, |key, key_size, buffer, capacity, size| {
@@ -204,6 +278,12 @@ impl KeyRef {
     }
 
     /// The kind of the value.
+    ///
+    /// ```
+    /// let key = vizhoniku::sort_key(r#"{"name": "Ann", "tags": ["x", 2.50]}"#, vizhoniku::Mode::Json)?;
+    /// assert_eq!((key.kind(), key.get("name").unwrap().kind()), (vizhoniku::Kind::Object, vizhoniku::Kind::String));
+    /// # Ok::<(), vizhoniku::Error>(())
+    /// ```
     pub fn kind(&self) -> Kind {
         // SAFETY: the key has its size.
         match unsafe { ffi::vizhoniku_key_kind(self.0.as_ptr(), self.0.len()) } {
@@ -217,6 +297,12 @@ impl KeyRef {
     }
 
     /// How many items an array or members an object has. `None` for other kinds.
+    ///
+    /// ```
+    /// let key = vizhoniku::sort_key(r#"{"name": "Ann", "tags": ["x", 2.50]}"#, vizhoniku::Mode::Json)?;
+    /// assert_eq!((key.count(), key.get("name").unwrap().count()), (Some(2), None));
+    /// # Ok::<(), vizhoniku::Error>(())
+    /// ```
     pub fn count(&self) -> Option<usize> {
         let mut count = 0;
         // SAFETY: the key has its size.
@@ -225,6 +311,13 @@ impl KeyRef {
     }
 
     /// The member of an object by its name.
+    ///
+    /// ```
+    /// let key = vizhoniku::sort_key(r#"{"name": "Ann", "tags": ["x", 2.50]}"#, vizhoniku::Mode::Json)?;
+    /// assert_eq!(key.get("name").and_then(|name| name.as_string()).as_deref(), Some("Ann"));
+    /// assert_eq!(key.get("age"), None);
+    /// # Ok::<(), vizhoniku::Error>(())
+    /// ```
     pub fn get(&self, name: impl AsRef<str>) -> Option<&KeyRef> {
         let (name, mut offset, mut size) = (name.as_ref(), 0, 0);
         // SAFETY: the key and the name have their sizes.
@@ -235,6 +328,13 @@ impl KeyRef {
     }
 
     /// The item of an array by its index, from 0 on; a negative one counts from the end, where -1 is the last item.
+    ///
+    /// ```
+    /// let key = vizhoniku::sort_key("[1, 2.50]", vizhoniku::Mode::Json)?;
+    /// assert_eq!((key.item(-1), key.item(1).and_then(|item| item.as_f64())), (key.item(1), Some(2.5)));
+    /// assert_eq!(key.item(2), None);
+    /// # Ok::<(), vizhoniku::Error>(())
+    /// ```
     pub fn item(&self, index: i64) -> Option<&KeyRef> {
         let (mut offset, mut size) = (0, 0);
         // SAFETY: the key has its size.
@@ -304,6 +404,13 @@ impl KeyRef {
     }
 
     /// The text of a string, without quotes and escapes. `None` for other kinds.
+    ///
+    /// ```
+    /// let key = vizhoniku::sort_key("[]", vizhoniku::Mode::Json)?;
+    /// assert_eq!(key.as_string(), None);
+    /// assert_eq!(vizhoniku::sort_key(r#""x\"y""#, vizhoniku::Mode::Json)?.as_string().as_deref(), Some("x\"y"));
+    /// # Ok::<(), vizhoniku::Error>(())
+    /// ```
     pub fn as_string(&self) -> Option<String> {
         let written = self.written(self.0.len(), |key, key_size, buffer, capacity, size| {
             // SAFETY: as in `to_text`.
@@ -313,6 +420,12 @@ impl KeyRef {
     }
 
     /// The boolean. `None` for other kinds.
+    ///
+    /// ```
+    /// let key = vizhoniku::sort_key("true", vizhoniku::Mode::Json)?;
+    /// assert_eq!(key.as_bool(), Some(true));
+    /// # Ok::<(), vizhoniku::Error>(())
+    /// ```
     pub fn as_bool(&self) -> Option<bool> {
         let mut value = 0;
         // SAFETY: the key has its size.
@@ -321,6 +434,12 @@ impl KeyRef {
     }
 
     /// The number, where it is an integer of this type. `None` for others and for other kinds.
+    ///
+    /// ```
+    /// let key = vizhoniku::sort_key("-7.0", vizhoniku::Mode::Json)?;
+    /// assert_eq!(key.as_i64(), Some(-7));
+    /// # Ok::<(), vizhoniku::Error>(())
+    /// ```
     pub fn as_i64(&self) -> Option<i64> {
         let mut value = 0;
         // SAFETY: the key has its size.
@@ -329,11 +448,23 @@ impl KeyRef {
     }
 
     /// The number, where it is an integer of this type. `None` for others and for other kinds.
+    ///
+    /// ```
+    /// let key = vizhoniku::sort_key("18446744073709551615", vizhoniku::Mode::Json)?;
+    /// assert_eq!((key.as_u64(), key.as_i64()), (Some(u64::MAX), None));
+    /// # Ok::<(), vizhoniku::Error>(())
+    /// ```
     pub fn as_u64(&self) -> Option<u64> {
         self.digits()?.parse().ok()
     }
 
     /// The double that is nearest to the number. `None` for other kinds.
+    ///
+    /// ```
+    /// let key = vizhoniku::sort_key("0.10", vizhoniku::Mode::Json)?;
+    /// assert_eq!(key.as_f64(), Some(0.1));
+    /// # Ok::<(), vizhoniku::Error>(())
+    /// ```
     pub fn as_f64(&self) -> Option<f64> {
         self.digits()?.parse().ok()
     }
@@ -347,6 +478,13 @@ impl KeyRef {
 
     /// Whether the value contains the other, as `@>` of PostgreSQL's `jsonb` says: an object each member of the other,
     /// an array each item, and a scalar an equal one.
+    ///
+    /// ```
+    /// let key = vizhoniku::sort_key(r#"{"name": "Ann", "tags": ["x", 2.50]}"#, vizhoniku::Mode::Json)?;
+    /// let other = vizhoniku::sort_key(r#"{"tags": [2.5]}"#, vizhoniku::Mode::Json)?;
+    /// assert!(key.contains(&other) && !other.contains(&key));
+    /// # Ok::<(), vizhoniku::Error>(())
+    /// ```
     pub fn contains(&self, other: &KeyRef) -> bool {
         // SAFETY: the keys have their sizes.
         let status =
@@ -354,8 +492,8 @@ impl KeyRef {
         status == ffi::ACCEPTED
     }
 
-    /// The key with this part at the path, or `None` where nothing changes. A part that is there is replaced. Where only
-    /// the last step leads nowhere, and with `create`, a member is added to an object, and to an array an item.
+    /// The key with this part at the path, or `None` where nothing changes. A part that is there is replaced. Where
+    /// only the last step leads nowhere, and with `create`, a member is added to an object, and to an array an item.
     ///
     /// # Errors
     ///
@@ -395,6 +533,13 @@ impl KeyRef {
     /// # Errors
     ///
     /// [`Error::NoPath`] and [`Error::OutOfMemory`].
+    ///
+    /// ```
+    /// let key = vizhoniku::sort_key(r#"{"name": "Ann", "tags": ["x", 2.50]}"#, vizhoniku::Mode::Json)?;
+    /// assert_eq!(key.remove("/tags/0")?.unwrap().to_string(), r#"{"name":"Ann","tags":[2.5]}"#);
+    /// assert_eq!(key.remove("/age")?, None);
+    /// # Ok::<(), vizhoniku::Error>(())
+    /// ```
     pub fn remove(&self, path: &str) -> Result<Option<Key>, Error> {
         self.changed(0, |key, key_size, buffer, capacity, size| {
             // SAFETY: as in `to_text`, and the path has its size.
@@ -407,6 +552,14 @@ impl KeyRef {
     /// # Errors
     ///
     /// [`Error::TooDeep`] and [`Error::OutOfMemory`].
+    ///
+    /// ```
+    /// let key = vizhoniku::sort_key(r#"{"name": "Ann", "tags": ["x", 2.50]}"#, vizhoniku::Mode::Json)?;
+    /// let part = vizhoniku::sort_key("7", vizhoniku::Mode::Json)?;
+    /// assert_eq!(key.put("tags", &part)?.unwrap().to_string(), r#"{"name":"Ann","tags":7}"#);
+    /// assert_eq!(part.put("tags", &part)?, None);
+    /// # Ok::<(), vizhoniku::Error>(())
+    /// ```
     pub fn put(&self, name: &str, value: &KeyRef) -> Result<Option<Key>, Error> {
         self.changed(name.len() + value.0.len(), |key, key_size, buffer, capacity, size| {
             // SAFETY: as in `to_text`, and the name and the value have their sizes.
@@ -431,6 +584,14 @@ impl KeyRef {
     /// # Errors
     ///
     /// [`Error::TooDeep`] and [`Error::OutOfMemory`].
+    ///
+    /// ```
+    /// let key = vizhoniku::sort_key("[1, 2.50]", vizhoniku::Mode::Json)?;
+    /// let part = vizhoniku::sort_key("7", vizhoniku::Mode::Json)?;
+    /// assert_eq!(key.push(&part)?.unwrap().to_string(), "[1,2.5,7]");
+    /// assert_eq!(part.push(&part)?, None);
+    /// # Ok::<(), vizhoniku::Error>(())
+    /// ```
     pub fn push(&self, item: &KeyRef) -> Result<Option<Key>, Error> {
         self.changed(item.0.len(), |key, key_size, buffer, capacity, size| {
             // SAFETY: as in `to_text`, and the item has its size.
@@ -444,6 +605,14 @@ impl KeyRef {
     /// # Errors
     ///
     /// [`Error::TooDeep`] and [`Error::OutOfMemory`].
+    ///
+    /// ```
+    /// let key = vizhoniku::sort_key("[1, 2.50]", vizhoniku::Mode::Json)?;
+    /// let part = vizhoniku::sort_key("7", vizhoniku::Mode::Json)?;
+    /// assert_eq!(key.merge(&part)?.to_string(), "[1,2.5,7]");
+    /// assert_eq!(part.merge(&key)?.to_string(), "[7,1,2.5]");
+    /// # Ok::<(), vizhoniku::Error>(())
+    /// ```
     pub fn merge(&self, other: &KeyRef) -> Result<Key, Error> {
         let merged = self.changed(other.0.len(), |key, key_size, buffer, capacity, size| {
             // SAFETY: as in `to_text`, and the other key has its size.
@@ -503,6 +672,13 @@ impl<'a> Parts<'a> {
 }
 
 /// The items of an array, from [`KeyRef::items`].
+///
+/// ```
+/// let key = vizhoniku::sort_key("[1, 2.50]", vizhoniku::Mode::Json)?;
+/// let mut items: vizhoniku::Items<'_> = key.items();
+/// assert_eq!((items.next().and_then(|item| item.as_i64()), items.count()), (Some(1), 1));
+/// # Ok::<(), vizhoniku::Error>(())
+/// ```
 #[derive(Clone)]
 pub struct Items<'a>(Parts<'a>);
 
@@ -517,6 +693,13 @@ impl<'a> Iterator for Items<'a> {
 impl std::iter::FusedIterator for Items<'_> {}
 
 /// The members of an object, from [`KeyRef::members`]: each name with its value's key.
+///
+/// ```
+/// let key = vizhoniku::sort_key(r#"{"name": "Ann", "tags": ["x", 2.50]}"#, vizhoniku::Mode::Json)?;
+/// let mut members: vizhoniku::Members<'_> = key.members();
+/// assert_eq!(members.next().map(|(name, value)| (name, value.to_string())), Some(("name".into(), "\"Ann\"".into())));
+/// # Ok::<(), vizhoniku::Error>(())
+/// ```
 #[derive(Clone)]
 pub struct Members<'a>(Parts<'a>);
 

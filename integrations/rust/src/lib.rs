@@ -17,7 +17,8 @@
 //! ```
 //!
 //! A text is anything with bytes, such as `&str`, `String`, `&[u8]` or `Vec<u8>`. Each text is parsed in a [`Mode`]. No
-//! call keeps anything, so all types are `Send` and `Sync`. A thread that parses untrusted text has 112 KB of stack free.
+//! call keeps anything, so all types are `Send` and `Sync`. A thread that parses untrusted text has 112 KB of stack
+//! free.
 #![warn(missing_docs)]
 #![deny(unsafe_op_in_unsafe_fn)]
 
@@ -25,21 +26,48 @@
 #[doc = include_str!("../README.md")]
 struct Readme;
 
+mod conversion;
+#[cfg(feature = "serde")]
+mod deserialize;
 mod document;
 mod error;
 mod ffi;
 mod key;
+mod number;
 mod parse;
+#[cfg(feature = "serde")]
+mod serialize;
+mod step;
 mod value;
 
+pub use conversion::ConversionError;
+#[cfg(feature = "serde")]
+pub use deserialize::{from_document, from_key, from_text, from_value};
 pub use document::Document;
-pub use error::{Code, Error, Rejection};
+pub use error::{Code, Error, Mismatch, Rejection};
 pub use key::{Items, Key, KeyRef, Kind, Members};
+pub use number::Number;
 use parse::parse;
+#[cfg(feature = "serde")]
+pub use serialize::{to_document, to_key, to_text, to_value};
 use std::cmp::Ordering;
-pub use value::{Number, Object, Value};
+pub use step::Step;
+pub use value::{Object, Value};
+
+/// The most arrays and objects that are nested in a document.
+#[cfg(feature = "serde")]
+pub(crate) const MOST_LEVELS: usize = 512;
 
 /// The grammar that a text is parsed by.
+///
+/// ```
+/// use vizhoniku::{check, Mode};
+///
+/// let taken = |text, mode| check(text, mode).is_ok();
+/// assert_eq!((taken("[1.5]", Mode::Standard), taken("[1.5]", Mode::Extended)), (false, true));
+/// assert_eq!((taken("[1e5]", Mode::Extended), taken("[1e5]", Mode::Json)), (false, true));
+/// assert_eq!((taken("{a: 1e5}", Mode::Json), taken("{a: 1e5}", Mode::ExtendedJson)), (false, true));
+/// ```
 #[derive(Clone, Copy, Debug, PartialEq, Eq, Hash)]
 #[repr(u32)]
 pub enum Mode {
@@ -112,7 +140,7 @@ fn utf8(bytes: Vec<u8>) -> Result<String, Error> {
 ///
 /// assert_eq!(check("[1, 2]", Mode::Standard), Ok(()));
 /// let error = check("{\n  \"port\": 8080,\n  \"port\": 8081\n}", Mode::Standard).unwrap_err();
-/// assert_eq!(error.to_string(), "line 3, column 8: duplicate object attribute \"port\"");
+/// assert_eq!(error.to_string(), "line 3, column 8, at /port: duplicate object attribute \"port\"");
 /// let rejection = error.rejection().unwrap();
 /// assert_eq!((rejection.code(), rejection.offset()), (Code::ObjectDuplicateKey, 25));
 /// ```
@@ -152,6 +180,14 @@ pub fn text(text: impl AsRef<[u8]>, mode: Mode) -> Result<String, Error> {
 /// # Errors
 ///
 /// [`Error::Rejected`] for a text that is no document, and [`Error::OutOfMemory`].
+///
+/// ```
+/// use vizhoniku::{sort_key, Mode};
+///
+/// assert!(sort_key("[9.5]", Mode::Json)? < sort_key("[10]", Mode::Json)?);
+/// assert_eq!(sort_key("1e2", Mode::Json)?, sort_key("100.0", Mode::Json)?);
+/// # Ok::<(), vizhoniku::Error>(())
+/// ```
 pub fn sort_key(text: impl AsRef<[u8]>, mode: Mode) -> Result<Key, Error> {
     let (written, status) = parse([text.as_ref()], mode, |[text], error| {
         write(text.len().saturating_add(16), |buffer, capacity, size| {
@@ -168,6 +204,13 @@ pub fn sort_key(text: impl AsRef<[u8]>, mode: Mode) -> Result<Key, Error> {
 /// # Errors
 ///
 /// [`Error::Rejected`] for a text that is no document of the mode, and [`Error::OutOfMemory`].
+///
+/// ```
+/// use vizhoniku::{document, Mode};
+///
+/// assert_eq!(document("[1.50, 1.5]", Mode::Json)?.to_text()?, "[1.50,1.5]");
+/// # Ok::<(), vizhoniku::Error>(())
+/// ```
 pub fn document(text: impl AsRef<[u8]>, mode: Mode) -> Result<Document, Error> {
     let (written, status) = parse([text.as_ref()], mode, |[text], error| {
         write(text.len().saturating_add(16), |buffer, capacity, size| {
@@ -184,6 +227,14 @@ pub fn document(text: impl AsRef<[u8]>, mode: Mode) -> Result<Document, Error> {
 /// # Errors
 ///
 /// Those of [`text`].
+///
+/// ```
+/// use vizhoniku::{sort_key, text_and_key, Mode};
+///
+/// let (text, key) = text_and_key("[1.50, null]", Mode::Json)?;
+/// assert_eq!((text.as_str(), key), ("[1.50,null]", sort_key("[1.50,null]", Mode::Json)?));
+/// # Ok::<(), vizhoniku::Error>(())
+/// ```
 pub fn text_and_key(text: impl AsRef<[u8]>, mode: Mode) -> Result<(String, Key), Error> {
     let ((written, key), status) = parse([text.as_ref()], mode, |[text], error| write_text_and_key(text, mode, error))?;
     accept(status)?;
@@ -228,6 +279,15 @@ fn write_text_and_key(text: &[u8], mode: Mode, error: &mut ffi::TextError) -> Ma
 ///
 /// [`Error::Rejected`] where a text is no document, of the first that is none ([`Rejection::is_second`]), and
 /// [`Error::OutOfMemory`].
+///
+/// ```
+/// use vizhoniku::{compare, Mode};
+///
+/// assert!(compare("9.5", "10", Mode::Json)?.is_lt());
+/// assert!(compare("[1, 2.0]", "[1.0, 2]", Mode::Json)?.is_eq());
+/// assert!(compare("[1]", "[1", Mode::Json).unwrap_err().rejection().unwrap().is_second());
+/// # Ok::<(), vizhoniku::Error>(())
+/// ```
 pub fn compare(left: impl AsRef<[u8]>, right: impl AsRef<[u8]>, mode: Mode) -> Result<Ordering, Error> {
     let (order, status) = parse([left.as_ref(), right.as_ref()], mode, |[left, right], error| {
         let (mode, mut order) = (mode as u32, 0);
@@ -241,8 +301,8 @@ pub fn compare(left: impl AsRef<[u8]>, right: impl AsRef<[u8]>, mode: Mode) -> R
     Ok(order.cmp(&0))
 }
 
-/// The text of the part at the path, a JSON Pointer (RFC 6901), or `None` where there is none. The whole text is parsed:
-/// for several parts of a document [`sort_key`] and [`KeyRef::pointer`] are faster.
+/// The text of the part at the path, a JSON Pointer (RFC 6901), or `None` where there is none. The whole text is
+/// parsed: for several parts of a document [`sort_key`] and [`KeyRef::pointer`] are faster.
 ///
 /// # Errors
 ///
@@ -274,6 +334,10 @@ pub fn part(text: impl AsRef<[u8]>, path: &str, mode: Mode) -> Result<Option<Str
 }
 
 /// The version of the library's interface, `VIZHONIKU_VERSION` of its header.
+///
+/// ```
+/// assert!(vizhoniku::version() >= 10);
+/// ```
 pub fn version() -> u32 {
     // SAFETY: it takes nothing.
     unsafe { ffi::vizhoniku_version() }

@@ -1,16 +1,26 @@
 //! Values of Rust: what a key or a document is of, to match on, and the way back.
 
-use crate::{document, sort_key, Document, Error, Key, KeyRef, Mode};
-use std::collections::BTreeMap;
+use crate::step::{steps, Step};
+use crate::{document, sort_key, Document, Error, Key, KeyRef, Kind, Mode, Number};
+use std::collections::{btree_map, BTreeMap};
 use std::fmt::{self, Write};
+use std::ops::Index;
+use std::slice;
+use std::str::FromStr;
 
 /// The members of an object, in the order of the bytes of their names.
+///
+/// ```
+/// let members = vizhoniku::Object::from([("b".into(), 1.into()), ("a".into(), 2.into())]);
+/// assert_eq!(vizhoniku::Value::from(members).to_string(), r#"{"a":2,"b":1}"#);
+/// ```
 pub type Object = BTreeMap<String, Value>;
 
-/// A value of JSON, to match on, from [`KeyRef::to_value`] and [`Document::to_value`].
+/// A value of JSON, to match on, from [`KeyRef::to_value`], [`Document::to_value`] and `parse`.
 ///
 /// Values are equal where their texts are. Those that are the same number with other digits, as 1.5 and 1.50, have equal
-/// keys. Its order is that of its key.
+/// keys. They have no order: that is the one of their keys. A value of a key or a document has at most 512 levels, so
+/// that it is cloned, compared and dropped within a bound of the machine stack; what a program nests deeper has none.
 ///
 /// ```
 /// use vizhoniku::{document, Document, Mode, Value};
@@ -43,55 +53,124 @@ pub enum Value {
     Object(Object),
 }
 
-/// A number, exactly: `digits` divided by ten to the power of `scale`. That of a key or a document has at most 38
-/// digits, before and behind the point together.
-#[derive(Clone, Copy, Debug, Default, PartialEq, Eq, Hash)]
-pub struct Number {
-    /// The digits as an integer.
-    pub digits: i128,
-    /// How many of them are behind the point.
-    pub scale: u32,
-}
-
-impl Number {
-    /// The digits where so many are behind the point, as cents for 2: `None` where that isn't exact, or too large.
-    pub fn at_scale(self, scale: u32) -> Option<i128> {
-        if scale >= self.scale {
-            return self.digits.checked_mul(10i128.checked_pow(scale - self.scale)?);
-        }
-        let power = 10i128.checked_pow(self.scale - scale)?;
-        (self.digits % power == 0).then_some(self.digits / power)
-    }
-
-    /// The double that is nearest to the number.
-    pub fn to_f64(self) -> f64 {
-        self.to_string().parse().unwrap_or(f64::NAN)
-    }
-}
-
-impl From<i64> for Number {
-    fn from(digits: i64) -> Number {
-        Number { digits: digits.into(), scale: 0 }
-    }
-}
-
-impl fmt::Display for Number {
-    fn fmt(&self, out: &mut fmt::Formatter<'_>) -> fmt::Result {
-        let scale = self.scale as usize;
-        let digits = format!("{:0>least$}", self.digits.unsigned_abs(), least = scale.saturating_add(1));
-        let (whole, fraction) = digits.split_at(digits.len() - scale);
-        let sign = if self.digits < 0 { "-" } else { "" };
-        write!(out, "{sign}{whole}{}{fraction}", if scale > 0 { "." } else { "" })
-    }
-}
-
 impl Value {
-    /// The member of an object by its name. `None` for other kinds.
-    pub fn get(&self, name: &str) -> Option<&Value> {
-        self.as_object()?.get(name)
+    /// The kind of the value.
+    ///
+    /// ```
+    /// use vizhoniku::{Kind, Value};
+    ///
+    /// assert_eq!((Value::from("x").kind(), Value::Null.kind()), (Kind::String, Kind::Null));
+    /// ```
+    pub fn kind(&self) -> Kind {
+        match self {
+            Value::Null => Kind::Null,
+            Value::Bool(_) => Kind::Boolean,
+            Value::Number(_) => Kind::Number,
+            Value::String(_) => Kind::String,
+            Value::Array(_) => Kind::Array,
+            Value::Object(_) => Kind::Object,
+        }
+    }
+
+    /// The member of an object by its name, or the item of an array by its index from 0 on. `None` where there is none,
+    /// and for other kinds.
+    ///
+    /// ```
+    /// let value: vizhoniku::Value = r#"{"tags": ["x"]}"#.parse()?;
+    /// assert_eq!(value.get("tags").and_then(|tags| tags.get(0)?.as_str()), Some("x"));
+    /// assert_eq!((value.get("name"), value.get(0)), (None, None));
+    /// # Ok::<(), vizhoniku::Error>(())
+    /// ```
+    pub fn get<S: Step>(&self, step: S) -> Option<&Value> {
+        step.of(self)
+    }
+
+    /// What [`Value::get`] finds, to be changed.
+    ///
+    /// ```
+    /// let mut value: vizhoniku::Value = r#"{"age": 41}"#.parse()?;
+    /// if let Some(age) = value.get_mut("age") {
+    ///     *age = 42.into();
+    /// }
+    /// assert_eq!(value.to_string(), r#"{"age":42}"#);
+    /// # Ok::<(), vizhoniku::Error>(())
+    /// ```
+    pub fn get_mut<S: Step>(&mut self, step: S) -> Option<&mut Value> {
+        step.of_mut(self)
+    }
+
+    /// The part at the path, a JSON Pointer (RFC 6901), or `None` where there is none.
+    ///
+    /// # Errors
+    ///
+    /// [`Error::NoPath`].
+    ///
+    /// ```
+    /// let value: vizhoniku::Value = r#"{"tags": ["x", "y"]}"#.parse()?;
+    /// assert_eq!(value.pointer("/tags/1")?.and_then(|tag| tag.as_str()), Some("y"));
+    /// assert_eq!(value.pointer("/tags/2")?, None);
+    /// # Ok::<(), vizhoniku::Error>(())
+    /// ```
+    pub fn pointer(&self, path: &str) -> Result<Option<&Value>, Error> {
+        Ok(steps(path)?.try_fold(self, |value, step| step.of(value)))
+    }
+
+    /// What [`Value::pointer`] finds, to be changed.
+    ///
+    /// # Errors
+    ///
+    /// [`Error::NoPath`].
+    ///
+    /// ```
+    /// let mut value: vizhoniku::Value = r#"{"tags": ["x", "y"]}"#.parse()?;
+    /// if let Some(tag) = value.pointer_mut("/tags/0")? {
+    ///     *tag = "z".into();
+    /// }
+    /// assert_eq!(value.to_string(), r#"{"tags":["z","y"]}"#);
+    /// # Ok::<(), vizhoniku::Error>(())
+    /// ```
+    pub fn pointer_mut(&mut self, path: &str) -> Result<Option<&mut Value>, Error> {
+        Ok(steps(path)?.try_fold(self, |value, step| step.of_mut(value)))
+    }
+
+    /// The items of an array in their order. There are none where the value is no array.
+    ///
+    /// ```
+    /// let value: vizhoniku::Value = "[1, 2, 3]".parse()?;
+    /// assert_eq!(value.items().filter_map(|item| item.as_i64()).sum::<i64>(), 6);
+    /// # Ok::<(), vizhoniku::Error>(())
+    /// ```
+    pub fn items(&self) -> slice::Iter<'_, Value> {
+        self.as_array().unwrap_or_default().iter()
+    }
+
+    /// The members of an object in the order of the bytes of their names. There are none where the value is no object.
+    ///
+    /// ```
+    /// let value: vizhoniku::Value = r#"{"b": 1, "a": 2}"#.parse()?;
+    /// assert_eq!(value.members().map(|(name, _)| name).collect::<Vec<_>>(), ["a", "b"]);
+    /// # Ok::<(), vizhoniku::Error>(())
+    /// ```
+    pub fn members(&self) -> impl Iterator<Item = (&str, &Value)> {
+        self.as_object().into_iter().flatten().map(|(name, value)| (name.as_str(), value))
+    }
+
+    /// Whether the value is a null.
+    ///
+    /// ```
+    /// assert!(vizhoniku::Value::default().is_null());
+    /// ```
+    pub fn is_null(&self) -> bool {
+        matches!(self, Value::Null)
     }
 
     /// The members of an object. `None` for other kinds.
+    ///
+    /// ```
+    /// let value: vizhoniku::Value = r#"{"a": 1}"#.parse()?;
+    /// assert_eq!(value.as_object().map(|members| members.len()), Some(1));
+    /// # Ok::<(), vizhoniku::Error>(())
+    /// ```
     pub fn as_object(&self) -> Option<&Object> {
         if let Value::Object(members) = self {
             Some(members)
@@ -100,7 +179,31 @@ impl Value {
         }
     }
 
+    /// The members of an object, to be changed. `None` for other kinds.
+    ///
+    /// ```
+    /// let mut value: vizhoniku::Value = r#"{"a": 1}"#.parse()?;
+    /// if let Some(members) = value.as_object_mut() {
+    ///     members.insert("b".into(), 2.into());
+    /// }
+    /// assert_eq!(value.to_string(), r#"{"a":1,"b":2}"#);
+    /// # Ok::<(), vizhoniku::Error>(())
+    /// ```
+    pub fn as_object_mut(&mut self) -> Option<&mut Object> {
+        if let Value::Object(members) = self {
+            Some(members)
+        } else {
+            None
+        }
+    }
+
     /// The items of an array. `None` for other kinds.
+    ///
+    /// ```
+    /// let value: vizhoniku::Value = "[1, true]".parse()?;
+    /// assert_eq!(value.as_array(), Some(&[1.into(), true.into()][..]));
+    /// # Ok::<(), vizhoniku::Error>(())
+    /// ```
     pub fn as_array(&self) -> Option<&[Value]> {
         if let Value::Array(items) = self {
             Some(items)
@@ -109,7 +212,29 @@ impl Value {
         }
     }
 
+    /// The items of an array, to be changed. `None` for other kinds.
+    ///
+    /// ```
+    /// let mut value: vizhoniku::Value = "[1]".parse()?;
+    /// if let Some(items) = value.as_array_mut() {
+    ///     items.push("x".into());
+    /// }
+    /// assert_eq!(value.to_string(), r#"[1,"x"]"#);
+    /// # Ok::<(), vizhoniku::Error>(())
+    /// ```
+    pub fn as_array_mut(&mut self) -> Option<&mut Vec<Value>> {
+        if let Value::Array(items) = self {
+            Some(items)
+        } else {
+            None
+        }
+    }
+
     /// The text of a string. `None` for other kinds.
+    ///
+    /// ```
+    /// assert_eq!(vizhoniku::Value::from("x").as_str(), Some("x"));
+    /// ```
     pub fn as_str(&self) -> Option<&str> {
         if let Value::String(text) = self {
             Some(text)
@@ -119,6 +244,12 @@ impl Value {
     }
 
     /// The number. `None` for other kinds.
+    ///
+    /// ```
+    /// let value: vizhoniku::Value = "1.50".parse()?;
+    /// assert_eq!(value.as_number().and_then(|number| number.at_scale(2)), Some(150));
+    /// # Ok::<(), vizhoniku::Error>(())
+    /// ```
     pub fn as_number(&self) -> Option<Number> {
         if let Value::Number(number) = self {
             Some(*number)
@@ -128,42 +259,85 @@ impl Value {
     }
 
     /// The number, where it is an integer of this type. `None` for others and for other kinds.
+    ///
+    /// ```
+    /// let [one, two] = ["8080.0", "8080.5"].map(|text| text.parse::<vizhoniku::Value>());
+    /// assert_eq!((one?.as_i64(), two?.as_i64()), (Some(8080), None));
+    /// # Ok::<(), vizhoniku::Error>(())
+    /// ```
     pub fn as_i64(&self) -> Option<i64> {
-        self.as_number()?.at_scale(0)?.try_into().ok()
+        self.try_into().ok()
+    }
+
+    /// The number, where it is an integer of this type. `None` for others and for other kinds.
+    ///
+    /// ```
+    /// assert_eq!(vizhoniku::Value::from(u64::MAX).as_u64(), Some(u64::MAX));
+    /// assert_eq!(vizhoniku::Value::from(-1).as_u64(), None);
+    /// ```
+    pub fn as_u64(&self) -> Option<u64> {
+        self.try_into().ok()
+    }
+
+    /// The double that is nearest to the number. `None` for other kinds. `f64::try_from(&value)` is only that which is
+    /// the number exactly.
+    ///
+    /// ```
+    /// let value: vizhoniku::Value = "0.1".parse()?;
+    /// assert_eq!(value.as_f64(), Some(0.1));
+    /// # Ok::<(), vizhoniku::Error>(())
+    /// ```
+    pub fn as_f64(&self) -> Option<f64> {
+        self.as_number().map(Number::to_f64)
     }
 
     /// The boolean. `None` for other kinds.
+    ///
+    /// ```
+    /// assert_eq!(vizhoniku::Value::from(true).as_bool(), Some(true));
+    /// ```
     pub fn as_bool(&self) -> Option<bool> {
-        if let Value::Bool(boolean) = self {
-            Some(*boolean)
-        } else {
-            None
-        }
+        self.try_into().ok()
     }
 }
 
-macro_rules! from {
-    ($($type:ty: $name:pat => $value:expr;)*) => {$(
-        impl From<$type> for Value {
-            fn from($name: $type) -> Value {
-                $value
-            }
-        }
-    )*};
+/// The member or the item that a step leads to, and a null where there is none, so that steps follow one another.
+///
+/// ```
+/// let value: vizhoniku::Value = r#"{"tags": ["x", "y"]}"#.parse()?;
+/// assert_eq!(value["tags"][1].as_str(), Some("y"));
+/// assert!(value["tags"][2].is_null() && value["names"]["first"].is_null());
+/// # Ok::<(), vizhoniku::Error>(())
+/// ```
+impl<S: Step> Index<S> for Value {
+    type Output = Value;
+
+    fn index(&self, step: S) -> &Value {
+        static NULL: Value = Value::Null;
+        self.get(step).unwrap_or(&NULL)
+    }
 }
 
-from! {
-    bool: it => Value::Bool(it);
-    i64: it => Value::Number(it.into());
-    Number: it => Value::Number(it);
-    &str: it => Value::String(it.into());
-    String: it => Value::String(it);
-    Vec<Value>: it => Value::Array(it);
-    Object: it => Value::Object(it);
+/// The value of a text of JSON ([`Mode::Json`]), with all its digits. An error is [`Error::Rejected`] with the line,
+/// the column and the path of the fault.
+///
+/// ```
+/// use vizhoniku::Value;
+///
+/// assert_eq!("[1.50, null]".parse::<Value>()?, Value::from([Value::Number("1.50".parse()?), Value::Null]));
+/// assert_eq!("[1.5,".parse::<Value>().unwrap_err().line(), Some(1));
+/// # Ok::<(), vizhoniku::Error>(())
+/// ```
+impl FromStr for Value {
+    type Err = Error;
+
+    fn from_str(text: &str) -> Result<Value, Error> {
+        document(text, Mode::Json)?.to_value()
+    }
 }
 
 /// Writes a string in quotes. The library's escapes are shorter, but its parser takes these.
-fn write_string(text: &str, out: &mut fmt::Formatter<'_>) -> fmt::Result {
+pub(crate) fn write_string(text: &str, out: &mut dyn Write) -> fmt::Result {
     out.write_char('"')?;
     for character in text.chars() {
         match character {
@@ -178,31 +352,71 @@ fn write_string(text: &str, out: &mut fmt::Formatter<'_>) -> fmt::Result {
     out.write_char('"')
 }
 
-/// The text of the value, as the library writes it.
-impl fmt::Display for Value {
-    fn fmt(&self, out: &mut fmt::Formatter<'_>) -> fmt::Result {
+/// What is still to be written of an array or an object.
+enum Rest<'a> {
+    Items(slice::Iter<'a, Value>),
+    Members(btree_map::Iter<'a, String, Value>),
+}
+
+impl<'a> Rest<'a> {
+    /// Writes a comma where one is due, and the name of the next part, or else the bracket at the end.
+    fn write_next(&mut self, is_first: bool, out: &mut dyn Write) -> Result<Option<&'a Value>, fmt::Error> {
+        let comma = if is_first { "" } else { "," };
         match self {
-            Value::Null => out.write_str("null"),
-            Value::Bool(boolean) => write!(out, "{boolean}"),
-            Value::Number(number) => write!(out, "{number}"),
-            Value::String(text) => write_string(text, out),
-            Value::Array(items) => {
-                out.write_char('[')?;
-                for (at, item) in items.iter().enumerate() {
-                    write!(out, "{}{item}", if at > 0 { "," } else { "" })?;
-                }
-                out.write_char(']')
+            Rest::Items(items) => {
+                let item = items.next();
+                out.write_str(if item.is_some() { comma } else { "]" })?;
+                Ok(item)
             }
-            Value::Object(members) => {
-                out.write_char('{')?;
-                for (at, (name, value)) in members.iter().enumerate() {
-                    out.write_str(if at > 0 { "," } else { "" })?;
+            Rest::Members(members) => {
+                let member = members.next();
+                out.write_str(if member.is_some() { comma } else { "}" })?;
+                if let Some((name, _)) = member {
                     write_string(name, out)?;
-                    write!(out, ":{value}")?;
+                    out.write_char(':')?;
                 }
-                out.write_char('}')
+                Ok(member.map(|(_, value)| value))
             }
         }
+    }
+}
+
+/// Writes a scalar, or the bracket that begins an array or an object, whose rest it returns.
+fn write_begin<'a>(value: &'a Value, out: &mut fmt::Formatter<'_>) -> Result<Option<Rest<'a>>, fmt::Error> {
+    match value {
+        Value::Null => out.write_str("null")?,
+        Value::Bool(boolean) => write!(out, "{boolean}")?,
+        Value::Number(number) => write!(out, "{number}")?,
+        Value::String(text) => write_string(text, out)?,
+        Value::Array(items) => {
+            out.write_char('[')?;
+            return Ok(Some(Rest::Items(items.iter())));
+        }
+        Value::Object(members) => {
+            out.write_char('{')?;
+            return Ok(Some(Rest::Members(members.iter())));
+        }
+    }
+    Ok(None)
+}
+
+/// The text of the value, as the library writes it. It takes the same machine stack however deep the value is nested.
+impl fmt::Display for Value {
+    fn fmt(&self, out: &mut fmt::Formatter<'_>) -> fmt::Result {
+        let (mut open, mut is_first) = (Vec::new(), true);
+        open.extend(write_begin(self, out)?);
+        while let Some(rest) = open.last_mut() {
+            let begun = match rest.write_next(is_first, out)? {
+                Some(part) => write_begin(part, out)?,
+                None => {
+                    open.pop();
+                    None
+                }
+            };
+            is_first = begun.is_some();
+            open.extend(begun);
+        }
+        Ok(())
     }
 }
 
@@ -212,8 +426,8 @@ enum Open {
     Members(Object, String),
 }
 
-/// Reads a text that the library wrote, which has no whitespace, and is of its one form. It doesn't call itself, so that
-/// a document of 512 levels takes no more of the stack than a flat one.
+/// Reads a text that the library wrote, which has no whitespace, and is of its one form. It doesn't call itself, so
+/// that a document of 512 levels takes no more of the stack than a flat one.
 struct Reader<'a>(&'a str);
 
 impl<'a> Reader<'a> {
@@ -256,11 +470,7 @@ impl<'a> Reader<'a> {
             "null" => Value::Null,
             "true" => Value::Bool(true),
             "false" => Value::Bool(false),
-            number => {
-                let (whole, fraction) = number.split_once('.').unwrap_or((number, ""));
-                let digits = [whole, fraction].concat().parse().ok()?;
-                Value::Number(Number { digits, scale: fraction.len() as u32 })
-            }
+            number => Value::Number(Number::of_plain(number)?),
         })
     }
 
@@ -312,6 +522,12 @@ impl KeyRef {
     /// # Errors
     ///
     /// Those of [`KeyRef::to_text`].
+    ///
+    /// ```
+    /// let key = vizhoniku::sort_key("[1.50]", vizhoniku::Mode::Json)?;
+    /// assert_eq!(key.to_value()?, "[1.5]".parse()?);
+    /// # Ok::<(), vizhoniku::Error>(())
+    /// ```
     pub fn to_value(&self) -> Result<Value, Error> {
         Reader(&self.to_text()?).value().ok_or(Error::NoKey)
     }
@@ -323,6 +539,12 @@ impl Document {
     /// # Errors
     ///
     /// Those of [`Document::to_text`].
+    ///
+    /// ```
+    /// let document = vizhoniku::document("[1.50]", vizhoniku::Mode::Json)?;
+    /// assert_eq!(document.to_value()?, "[1.50]".parse()?);
+    /// # Ok::<(), vizhoniku::Error>(())
+    /// ```
     pub fn to_value(&self) -> Result<Value, Error> {
         Reader(&self.to_text()?).value().ok_or(Error::NoDocument)
     }

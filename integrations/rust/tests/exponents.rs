@@ -83,13 +83,13 @@ fn two_modes_take_none() {
 #[test]
 fn only_json() {
     for (given, message) in [
-        ("[1e5, +1e5]", "line 1, column 7: expected value"),
-        ("[1e5, .5]", "line 1, column 7: expected value"),
-        ("[01]", "line 1, column 3: invalid number"),
-        ("[1e5,\n\x0c1]", "line 2, column 1: expected value"),
-        ("[\"\t\"]", "line 1, column 3: control character (\\u0000-\\u001F) found while parsing a string"),
+        ("[1e5, +1e5]", "line 1, column 7, at /1: expected value"),
+        ("[1e5, .5]", "line 1, column 7, at /1: expected value"),
+        ("[01]", "line 1, column 3, at /0: invalid number"),
+        ("[1e5,\n\x0c1]", "line 2, column 1, at /1: expected value"),
+        ("[\"\t\"]", "line 1, column 3, at /0: control character (\\u0000-\\u001F) found while parsing a string"),
         ("{a: 1}", "line 1, column 2: expected ident"),
-        ("[1e39]", "line 1, column 5: number not carried"),
+        ("[1e39]", "line 1, column 5, at /0: number not carried"),
     ] {
         assert_eq!(rejection(check(given, Mode::Json)).to_string(), message, "{given}");
     }

@@ -55,7 +55,8 @@ fn deep() {
         .unwrap();
 }
 
-/// What the value of each text of the vectors is written as is the library's text, and its document is that of the text.
+/// What the value of each text of the vectors is written as is the library's text, and its document is that of the
+/// text.
 #[test]
 fn vectors() {
     let file = Path::new(env!("CARGO_MANIFEST_DIR")).join("../../tests/vectors.jsonl");

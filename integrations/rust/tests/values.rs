@@ -140,7 +140,7 @@ fn changes() {
 #[test]
 fn errors() {
     let error = compare("1", "[1,\n x", Mode::Extended).expect_err("an error");
-    assert_eq!(error.to_string(), "second text, line 2, column 2: expected value");
+    assert_eq!(error.to_string(), "second text, line 2, column 2, at /1: expected value");
     let rejection = error.rejection().expect("a rejection");
     assert!(rejection.is_second());
     assert_eq!((rejection.code(), rejection.code().number()), (Code::ExpectedSomeValue, 5));
@@ -249,7 +249,10 @@ fn documents_keep_all_digits() {
     assert_eq!(kept("1.50e1").to_string(), "15.0");
     assert_eq!(format!("{:?}", kept("[2.0]")), "Document([2.0])");
     assert_eq!(Document::from(key("[1.50]")).to_string(), "[1.5]");
-    assert_eq!(document("[1,", Mode::Standard).unwrap_err().to_string(), "line 1, column 4: EOF while parsing a value");
+    assert_eq!(
+        document("[1,", Mode::Standard).unwrap_err().to_string(),
+        "line 1, column 4, at /1: EOF while parsing a value"
+    );
 }
 
 #[test]
