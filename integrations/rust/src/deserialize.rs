@@ -97,6 +97,13 @@ impl de::Error for Error {
     fn custom<M: fmt::Display>(message: M) -> Error {
         Error::of_mismatch(String::new(), message.to_string())
     }
+
+    fn invalid_type(found: Unexpected<'_>, expected: &dyn de::Expected) -> Error {
+        match found {
+            Unexpected::Unit => Error::custom(format_args!("invalid type: null, expected {expected}")),
+            _ => Error::custom(format_args!("invalid type: {found}, expected {expected}")),
+        }
+    }
 }
 
 /// What begins the bytes that are a number. No text has bytes, and these are no UTF-8.
@@ -126,8 +133,13 @@ fn visit_number<'de, V: Visitor<'de>>(number: Number, visitor: V) -> Result<V::V
     } else if let Ok(integer) = u64::try_from(number.digits) {
         return visitor.visit_u64(integer);
     }
-    let error = Error::invalid_type(Unexpected::Other(&format!("number {number}")), &visitor);
+    let error = no_number(number, &visitor);
     visit_exactly(number, visitor).map_err(|_| error)
+}
+
+/// The error of a number where another type is expected.
+fn no_number(number: Number, expected: &dyn de::Expected) -> Error {
+    Error::invalid_type(Unexpected::Other(&format!("number {number}")), expected)
 }
 
 /// Passes an integer to a type of one.
@@ -240,6 +252,17 @@ impl<'de> Deserializer<'de> for Part<'de> {
         self.deserialize_str(visitor)
     }
 
+    fn deserialize_bytes<V: Visitor<'de>>(self, visitor: V) -> Result<V::Value, Error> {
+        match self.value {
+            Value::Number(number) => Err(no_number(*number, &visitor)),
+            _ => self.deserialize_any(visitor),
+        }
+    }
+
+    fn deserialize_byte_buf<V: Visitor<'de>>(self, visitor: V) -> Result<V::Value, Error> {
+        self.deserialize_bytes(visitor)
+    }
+
     fn deserialize_option<V: Visitor<'de>>(self, visitor: V) -> Result<V::Value, Error> {
         match self.value {
             Value::Null => visitor.visit_none(),
@@ -275,7 +298,7 @@ impl<'de> Deserializer<'de> for Part<'de> {
     }
 
     forward_to_deserialize_any! {
-        bool char bytes byte_buf unit unit_struct seq tuple tuple_struct map struct identifier
+        bool char unit unit_struct seq tuple tuple_struct map struct identifier
     }
 }
 

@@ -199,7 +199,7 @@ impl Rejection {
     }
 
     /// The path of the part of the value that is wrong, a JSON Pointer (RFC 6901): of the innermost item or member with
-    /// the fault, and `""` where that is the whole.
+    /// the fault, and `""` where that is the whole. Names are in it verbatim, with any control characters.
     ///
     /// ```
     /// let error = vizhoniku::check("{\"a\": [1,\n 01]}", vizhoniku::Mode::Json).unwrap_err();
