@@ -14,6 +14,7 @@ import functools
 import gc
 import importlib.util
 import inspect
+import itertools
 import json
 import operator
 import os
@@ -502,12 +503,13 @@ class Keys(unittest.TestCase):
         draw = random.Random(12)
         bounds = [None, *range(-7, 8), 2**70, -2**70]
         steps = [None, 1, 2, 3, 7, -1, -2, -3, -7, 2**63 - 1, -2**63, 2**70, -2**70]
-        arrays: List[List[Any]] = [[], ["x"], [1, "x", [2], None, {"a": 1.5}], [*range(30)]]
-        for values in arrays:
-            key, keys = v.Key.of(values), [v.Key.of(value) for value in values]
-            for _ in range(1000):
+        arrays: List[List[Any]] = [[], ["x"], [1.0, "x", [2], None, {"a": Decimal("1.50")}], [*range(30)]]
+        kinds: List[Any] = [v.Key, v.Document]
+        for values, kind in itertools.product(arrays, kinds):
+            stored, parts = kind.of(values), [kind.of(value) for value in values]
+            for _ in range(500):
                 which = slice(draw.choice(bounds), draw.choice(bounds), draw.choice(steps))
-                self.assertEqual(key[which], keys[which], which)
+                self.assertEqual(stored[which], parts[which], which)
         self.assertEqual(v.Key("[1, 'x', 2]")[1:], [v.Key('"x"'), v.Key("2")])
         self.assertEqual(type(v.Key("[1]")[:]), list)
         array: Any = v.Key("[1]")
@@ -569,43 +571,49 @@ class Keys(unittest.TestCase):
         self.assertEqual(str(raised.exception), "the bytes aren't a document")
 
     def test_items_and_members(self) -> None:
-        array, whole = v.Key("[1, 'x', [2]]"), v.Key('{"b": 1, "a": [2], "": null, "b\\u0000": 3}')
-        self.assertEqual((array[0], array[-1], array[1]), (v.Key("1.0"), v.Key("[2]"), v.Key('"x"')))
-        self.assertEqual((whole["b"], whole[""], whole["b\0"]), (v.Key("1"), v.Key("null"), v.Key("3")))
-        for index in (3, -4, 2**63, -2**63 - 1, 2**200):
-            self.assertRaises(IndexError, lambda: array[index])
-        with self.assertRaises(KeyError) as raised:
-            whole["zz"]
-        self.assertEqual(raised.exception.args, ("zz",))
-        self.assertEqual(([part.text() for part in array], list(whole)), (["1", '"x"', "[2]"], ["", "a", "b", "b\0"]))
-        self.assertEqual([(name, part.text()) for name, part in whole.items()],
-                         [("", "null"), ("a", "[2]"), ("b", "1"), ("b\0", "3")])
-        self.assertEqual(([part.text() for part in reversed(array)], list(reversed(whole))),
-                         (["[2]", '"x"', "1"], ["b\0", "b", "a", ""]))
-        self.assertEqual(list(reversed(v.Key("[]"))) + list(reversed(v.Key("{}"))), [])
-        self.assertEqual((len(array), len(whole), len(v.Key("[]")), len(v.Key("{}"))), (3, 4, 0, 0))
-        self.assertEqual((v.Key("1.00") in array, v.Key("2") in array), (True, False))
-        self.assertEqual(("a" in whole, "zz" in whole), (True, False))
-        self.assertTrue(v.Key("[]") and v.Key("null") and v.Key("0") and v.Key("{}"))
-        self.assertEqual(list(v.Key("[]")) + list(v.Key("{}")) + list(v.Key("{}").items()), [])
+        kinds: List[Any] = [v.Key, v.Document]
+        for kind in kinds:
+            array, whole = kind("[1, 'x', [2]]"), kind('{"b": 1, "a": [2], "": null, "b\\u0000": 3}')
+            self.assertEqual((array[0], array[-1], array[1]), (kind("1"), kind("[2]"), kind('"x"')))
+            self.assertEqual((whole["b"], whole[""], whole["b\0"]), (kind("1"), kind("null"), kind("3")))
+            for index in (3, -4, 2**63, -2**63 - 1, 2**200):
+                self.assertRaises(IndexError, lambda: array[index])
+            with self.assertRaises(KeyError) as raised:
+                whole["zz"]
+            self.assertEqual(raised.exception.args, ("zz",))
+            self.assertEqual([part.text() for part in array], ["1", '"x"', "[2]"])
+            self.assertEqual(list(whole), ["", "a", "b", "b\0"])
+            self.assertEqual([(name, part.text()) for name, part in whole.items()],
+                             [("", "null"), ("a", "[2]"), ("b", "1"), ("b\0", "3")])
+            self.assertEqual(([part.text() for part in reversed(array)], list(reversed(whole))),
+                             (["[2]", '"x"', "1"], ["b\0", "b", "a", ""]))
+            self.assertEqual(list(reversed(kind("[]"))) + list(reversed(kind("{}"))), [])
+            self.assertEqual((len(array), len(whole), len(kind("[]")), len(kind("{}"))), (3, 4, 0, 0))
+            self.assertEqual((kind("1") in array, kind("2") in array), (True, False))
+            self.assertEqual(("a" in whole, "zz" in whole), (True, False))
+            self.assertTrue(kind("[]") and kind("null") and kind("0") and kind("{}"))
+            self.assertEqual(list(kind("[]")) + list(kind("{}")) + list(kind("{}").items()), [])
+        self.assertTrue(v.Key("1.00") in v.Key("[1]"))
 
     def test_what_has_no_parts(self) -> None:
-        number, array, whole = v.Key("1"), v.Key("[1]"), v.Key('{"a":1}')
-        none: Any = None
-        calls: List[Tuple[Callable[[], Any], str]] = [
-            (lambda: len(number), "number is no array and no object"),
-            (lambda: iter(number), "number is no array and no object"),
-            (lambda: reversed(number), "number is no array and no object"),
-            (lambda: 1 in v.Key("null"), "null is no array and no object"),
-            (lambda: array.items(), "array is no object"), (lambda: array["a"], "array is no object"),
-            (lambda: whole[0], "object is no array"), (lambda: v.Key('""')[0], "string is no array"),
-            (lambda: 1 in array, "an item is a Key, and not int"),
-            (lambda: v.Key("1") in whole, "a name is a str, and not Key"),
-            (lambda: array[none], "a name is a str and an index an int, and not NoneType")]
-        for call, words in calls:
-            with self.assertRaises(TypeError) as raised:
-                call()
-            self.assertEqual(str(raised.exception), words)
+        kinds: List[Any] = [v.Key, v.Document]
+        for kind in kinds:
+            number, array, whole = kind("1"), kind("[1]"), kind('{"a":1}')
+            none: Any = None
+            calls: List[Tuple[Callable[[], Any], str]] = [
+                (lambda: len(number), "number is no array and no object"),
+                (lambda: iter(number), "number is no array and no object"),
+                (lambda: reversed(number), "number is no array and no object"),
+                (lambda: 1 in kind("null"), "null is no array and no object"),
+                (lambda: array.items(), "array is no object"), (lambda: array["a"], "array is no object"),
+                (lambda: whole[0], "object is no array"), (lambda: kind('""')[0], "string is no array"),
+                (lambda: 1 in array, f"an item is a {kind.__name__}, and not int"),
+                (lambda: kind("1") in whole, f"a name is a str, and not {kind.__name__}"),
+                (lambda: array[none], "a name is a str and an index an int, and not NoneType")]
+            for call, words in calls:
+                with self.assertRaises(TypeError) as raised:
+                    call()
+                self.assertEqual(str(raised.exception), words)
 
     def test_bytes(self) -> None:
         for line in IN_ORDER:
@@ -673,9 +681,11 @@ class Keys(unittest.TestCase):
             self.assertRaises(ValueError, v.Key.from_bytes, data)
 
     def test_parts_outlive_the_whole(self) -> None:
-        parts = iter(v.Key("[1, [2, 'x'], {a: 3}]"))
-        self.assertEqual([part.text() for part in parts], ["1", '[2,"x"]', '{"a":3}'])
-        self.assertRaises(StopIteration, next, parts)
+        kinds: List[Any] = [v.Key, v.Document]
+        for kind in kinds:
+            parts = iter(kind("[1, [2, 'x'], {a: 3}]"))
+            self.assertEqual([part.text() for part in parts], ["1", '[2,"x"]', '{"a":3}'])
+            self.assertRaises(StopIteration, next, parts)
 
     def test_damaged_bytes(self) -> None:
         """Bytes that pass the check are walked through, and others aren't taken."""
@@ -1177,6 +1187,54 @@ class Digits(unittest.TestCase):
         self.assertEqual(v.Key("[1]").push(v.Document("2.50")), v.Key("[1,2.5]"))
         self.assertIs(v.Key.of(v.Document("1.50")) == v.Key("1.5"), True)
 
+    def test_parts(self) -> None:
+        """Items and members, one after the other and by themselves, are documents with the digits of the whole."""
+        price = v.Document('{"net": 1.50, "tax": [0.10, 2, [3.00], "4.0"], "é": {"b": 5.0, "": null}}')
+        self.assertEqual((list(price), len(price), "net" in price, "b" in price), (["net", "tax", "é"], 3, True, False))
+        self.assertEqual([(name, part.text()) for name, part in price.items()],
+                         [("net", "1.50"), ("tax", '[0.10,2,[3.00],"4.0"]'), ("é", '{"":null,"b":5.0}')])
+        self.assertEqual([part.text() for part in price["tax"]], ["0.10", "2", "[3.00]", '"4.0"'])
+        self.assertEqual((price["tax"][2][0].text(), price["é"]["b"].text(), price["tax"][-2].text()),
+                         ("3.00", "5.0", "[3.00]"))
+        self.assertEqual((v.Document("0.10") in price["tax"], v.Document("0.1") in price["tax"]), (True, False))
+        with self.assertRaises(TypeError) as raised:
+            v.Key("2") in price["tax"]
+        self.assertEqual(str(raised.exception), "an item is a Document, and not Key")
+        long = v.Document('["%s",1.50,{"%s":2.0}]' % ("x" * 5000, "y" * 5000))
+        self.assertEqual([part.text() for part in long], ['"%s"' % ("x" * 5000), "1.50", '{"%s":2.0}' % ("y" * 5000)])
+        self.assertEqual(long[2]["y" * 5000], v.Document("2.0"))
+
+    def test_parts_against_values(self) -> None:
+        draw = random.Random(13)
+
+        def drawn(depth: int) -> Any:
+            kind = draw.randrange(2, 5) if depth else draw.randrange(2)
+            if kind > 3:
+                return {"".join(draw.choices("ab/~é𝄞", k=2)): drawn(depth - 1) for _ in range(draw.randrange(5))}
+            if kind > 1:
+                return [drawn(draw.randrange(depth)) for _ in range(draw.randrange(5))]
+            return draw.choice((None, "1.50", 7, Decimal("1.0"), Decimal("-1.50"), Decimal("0.000"), "x" * 300))
+
+        def compare(value: Any, document: v.Document) -> int:
+            self.assertEqual(document, v.Document.of(value))
+            if isinstance(value, list):
+                wanted = [v.Document.of(item) for item in value]
+                self.assertEqual((list(document), list(reversed(document)), len(document)),
+                                 (wanted, wanted[::-1], len(value)))
+                self.assertEqual([document[i] for i in range(-len(value), len(value))], wanted * 2)
+                self.assertTrue(all(part in document for part in wanted))
+                return 1 + sum(compare(item, part) for item, part in zip(value, document))
+            if isinstance(value, dict):
+                names = sorted(value, key=str.encode)
+                self.assertEqual((list(document), list(reversed(document)), len(document)),
+                                 (names, names[::-1], len(value)))
+                self.assertEqual(list(document.items()), [(name, v.Document.of(value[name])) for name in names])
+                self.assertTrue(all(name in document for name in names) and "zzz" not in document)
+                return 1 + sum(compare(value[name], document[name]) for name in names)
+            return 1
+
+        self.assertGreater(sum(compare(value, v.Document.of(value)) for value in (drawn(4) for _ in range(300))), 2000)
+
     def test_against_values(self) -> None:
         """Changes are those of keys, and each number that stays keeps its digits."""
         draw = random.Random(11)
@@ -1243,6 +1301,11 @@ class Digits(unittest.TestCase):
             (lambda: whole.put("a", deepest), ValueError, too_deep),
             (lambda: whole.set("/a", deepest), ValueError, too_deep),
             (none.text, ValueError, no_document), (none.value, ValueError, no_document),
+            (lambda: len(none), ValueError, no_document), (lambda: iter(none), ValueError, no_document),
+            (none.items, ValueError, no_document), (lambda: none["a"], ValueError, no_document),
+            (lambda: none[0], ValueError, no_document), (lambda: none[:], ValueError, no_document),
+            (lambda: "a" in none, ValueError, no_document), (lambda: float(none), ValueError, no_document),
+            (lambda: int(none), ValueError, no_document), (lambda: reversed(none), ValueError, no_document),
             (lambda: none.push(1), ValueError, no_document), (lambda: none.put("a", 1), ValueError, no_document),
             (v.Document.from_trusted_bytes(b"\x00\xff").text, ValueError, no_document),
             (lambda: v.Document.of([none]), ValueError, no_document)]
@@ -1276,11 +1339,15 @@ class Digits(unittest.TestCase):
                              lambda: document.put("c", 1.0), lambda: document.merge([1.0]),
                              lambda: v.Document("[1.0]").push(document),
                              lambda: document.contains([1]), lambda: repr(document), lambda: hash(document.key),
-                             lambda: float(document), lambda: int(document), lambda: document.get("/none", 1)):
+                             lambda: float(document), lambda: int(document), lambda: document.get("/none", 1),
+                             lambda: list(document), lambda: list(document.items()), lambda: len(document),
+                             lambda: document["a"], lambda: document["a"][1], lambda: list(document["a"]),
+                             lambda: document[0], lambda: document[:2], lambda: document in document,
+                             lambda: "a" in document, lambda: list(reversed(document))):
                     try:
                         call()
                         passed += 1
-                    except (ValueError, TypeError):
+                    except (ValueError, TypeError, LookupError):
                         pass
         self.assertGreater(passed, 1000)
         self.assertGreater(rejected, 100)
@@ -1299,6 +1366,8 @@ or_a_number: Union[Key, int] = key.get(pointer(0), default=0)
 kept: Union[Document, str] = document.get("/0", "")
 item: Key = key[0]
 items: List[Key] = key[:1]
+kept_item: Document = document[0]
+kept_items: List[Document] = document[:1]
 numbers: Tuple[float, int, float, int] = float(item), int(item), float(document), int(document)
 """
 
@@ -1364,7 +1433,7 @@ class Both(unittest.TestCase):
                 outcome = [(name, one.default) for name, one in inspect.signature(found).parameters.items()]
                 self.assertEqual(outcome, self.parameters_of(call), name)
                 compared += 1
-        self.assertEqual(compared, 33)
+        self.assertEqual(compared, 34)
 
     def test_words_of_help(self) -> None:
         """What help() tells is the same by ctypes and by the module in C, and an editor shows it by the stub.
@@ -1382,7 +1451,7 @@ class Both(unittest.TestCase):
                 assert words and outcome
                 self.assertEqual(outcome.split(), words.split(), name)
                 compared += 1
-        self.assertEqual(compared, 33)
+        self.assertEqual(compared, 34)
         for entry in self.parsed("_native.pyi").body:
             if isinstance(entry, ast.ClassDef):
                 words = ast.get_docstring(entry)
@@ -1452,7 +1521,8 @@ class Both(unittest.TestCase):
             lambda: key.get("a", path), lambda: key.get(number, path), lambda: document.get("a", path),
             lambda: key[path:], lambda: key["a"][path:], lambda: key["a"][::0], lambda: float(key),  # type: ignore
             lambda: int(document), lambda: int(v.Key("1.5")), lambda: float(none),
-            lambda: v.pointer(path, key)]  # type: ignore[arg-type]
+            lambda: v.pointer(path, key), lambda: document["zz"], lambda: document[0],  # type: ignore[arg-type]
+            lambda: key in document, lambda: key in document["a"], lambda: document["a"][9], lambda: list(none)]
 
         def calls() -> None:
             v.text(text), v.sort_key(text, v.STANDARD), v.get(text, path), v.compare(text, text), v.text_and_key(text)
@@ -1470,6 +1540,8 @@ class Both(unittest.TestCase):
             document.contains(document), document.contains({"b": "x"}), document.set("/a/0", document)
             document.set("/c/d", path), document.remove("/a"), document.remove("/c"), document.put("n", key)
             v.Document("[1.0]").push(document), document.merge(document), document.merge({"b": path})
+            list(document), list(document.items()), list(document["a"]), document["a"][0], document["a"][::-1]
+            len(document), "a" in document, document["a"][1] in document["a"], iter(document["a"]), document.items()
             pickle.loads(pickle.dumps(document))
             key.get("/c", path), key.get("/a", path), document.get("/c", path), document.get("/a", default=path)
             key["a"][:], key["a"][::-1], float(key["a"][0]), int(key["a"][1]), int(v.Document("2.0"))
@@ -1477,7 +1549,7 @@ class Both(unittest.TestCase):
             for wrong in wrongs:
                 try:
                     wrong()
-                except (ValueError, TypeError, KeyError):
+                except (ValueError, TypeError, LookupError):
                     pass
 
         watched: List[Any] = [text, path, key, document, none, v.Key, v.Document, *v.Mode]
@@ -1508,6 +1580,8 @@ class Both(unittest.TestCase):
             v.Document.from_bytes(bytearray(bytes(document))), v.Document.of(document.value())
             document.set("/1", document), document.remove("/1"), document.push(document), document.merge(document)
             document.contains(document), repr(v.Document.from_trusted_bytes(bytes(document)[1:]))
+            list(document), document[-1], document[::-2], document[1] in document, next(iter(document))
+            list(v.Document('{"%s":1.0}' % ("x" * 4000)).items()), len(document)
             v.Document("{}").put("x" * 4000, document), v.Key.of(document)
             self.assertRaises(v.RejectedText, v.check, '{"%s":1,"%s":1}' % ("x" * 4000, "x" * 4000))
             self.assertRaises(v.RejectedText, v.compare, "1e1", '{"%s":1e5, "%s":[x]}' % ("x" * 4000, "y" * 4000))
@@ -1532,16 +1606,16 @@ class Growth(unittest.TestCase):
     LEFT_OUT = {"Mode", "PathError", "RejectedText", "Text", "EXTENDED", "EXTENDED_JSON", "JSON", "STANDARD", "NATIVE",
                 "INTERFACE", "pointer", "Key.kind", "Key.__bool__", "Key.__float__", "Key.__int__", "Key.__copy__",
                 "Key.__deepcopy__", "Key.__setattr__", "Key.__new__", "Key.__le__", "Key.__gt__", "Key.__ge__",
-                "Key.__ne__", "Document.__float__", "Document.__int__", "Document.__copy__", "Document.__deepcopy__",
-                "Document.__setattr__", "Document.__new__", "Document.__le__", "Document.__gt__", "Document.__ge__",
-                "Document.__ne__"}
+                "Key.__ne__", "Document.__bool__", "Document.__float__", "Document.__int__", "Document.__copy__",
+                "Document.__deepcopy__", "Document.__setattr__", "Document.__new__", "Document.__le__",
+                "Document.__gt__", "Document.__ge__", "Document.__ne__"}
 
     def calls(self, size: int, end: str) -> List[Tuple[str, str, Callable[[], Any]]]:
         """Calls over documents of so many parts, with decimals that end so: what is called, of what, and the call."""
         members = ",".join('"k%d":%s' % (i, ("null", '"x"', f"[{i}.{end}]", f"{i}.{end}")[i % 4]) for i in range(size))
         items = ",".join(('"a"', f'{{"id":{i},"price":{i}.{end}}}', f"{i}.{end}")[i % 3] for i in range(size))
         exponents = "[%s]" % ",".join(f"{i}.{end}e-3" for i in range(size))
-        name, last, none = "k9998", f"/{size - 1}", v.Key('"none"')
+        name, last = "k9998", f"/{size - 1}"
         calls: List[Tuple[str, str, Callable[[], Any]]] = []
 
         def add(called: str, what: str, function: Callable[..., Any], *arguments: Any) -> None:
@@ -1564,9 +1638,6 @@ class Growth(unittest.TestCase):
             add("Key.get", what, key.get, last)
             add("Key.get", what + ", a name", key.get, f"/{name}/0")
             add("Key.get", what + ", a default", key.get, "/none", key)
-            add("Key.__len__", what, len, key)
-            add("Key.__iter__", what, list, key)
-            add("Key.__reversed__", what, lambda one: list(reversed(one)), key)
             add("Key.__eq__", what, operator.eq, key, same)
             add("Key.__lt__", what, operator.lt, key, same)
             add("Key.__hash__", what, lambda one: hash(v.Key.from_bytes(one)), data)
@@ -1580,16 +1651,8 @@ class Growth(unittest.TestCase):
             add("Key.merge", what, key.merge, same)
             if key.kind == "object":
                 add("Key.put", what, key.put, "new", part)
-                add("Key.items", what, lambda one: list(one.items()), key)
-                add("Key.__getitem__", what, operator.getitem, key, name)
-                add("Key.__contains__", what, operator.contains, key, "none")
             else:
                 add("Key.push", what, key.push, part)
-                add("Key.__getitem__", what, operator.getitem, key, -1)
-                add("Key.__getitem__", what + ", from the front", operator.getitem, key, size - 1)
-                for which in (slice(None), slice(None, None, -1), slice(size // 2, None, 3), slice(-3, None)):
-                    add("Key.__getitem__", f"{what}, {which}", operator.getitem, key, which)
-                add("Key.__contains__", what, operator.contains, key, none)
             document = v.Document(text)
             data, kept, part_of = bytes(document), v.Document.from_bytes(bytes(document)), v.Document("[1.50]")
             path = last if key.kind == "array" else f"/{name}"
@@ -1617,6 +1680,22 @@ class Growth(unittest.TestCase):
                 add("Document.put", what, document.put, "new", part_of)
             else:
                 add("Document.push", what, document.push, part_of)
+            stored: List[Any] = [key, document]
+            for whole in stored:
+                kind = type(whole).__name__
+                add(f"{kind}.__len__", what, len, whole)
+                add(f"{kind}.__iter__", what, list, whole)
+                add(f"{kind}.__reversed__", what, lambda one: list(reversed(one)), whole)
+                if key.kind == "object":
+                    add(f"{kind}.items", what, lambda one: list(one.items()), whole)
+                    add(f"{kind}.__getitem__", what, operator.getitem, whole, name)
+                    add(f"{kind}.__contains__", what, operator.contains, whole, "none")
+                    continue
+                add(f"{kind}.__getitem__", what, operator.getitem, whole, -1)
+                add(f"{kind}.__getitem__", what + ", from the front", operator.getitem, whole, size - 1)
+                for which in (slice(None), slice(None, None, -1), slice(size // 2, None, 3), slice(-3, None)):
+                    add(f"{kind}.__getitem__", f"{what}, {which}", operator.getitem, whole, which)
+                add(f"{kind}.__contains__", what, operator.contains, whole, type(whole)('"none"'))
         return calls
 
     def test_calls(self) -> None:
@@ -1801,8 +1880,8 @@ size_t vizhoniku_document_key(const char *document, size_t size) {
 }
 
 #define DOCUMENT(name) uint32_t vizhoniku_document_##name(void) { return status; }
-DOCUMENT(check) DOCUMENT(text) DOCUMENT(part) DOCUMENT(set) DOCUMENT(remove) DOCUMENT(put) DOCUMENT(push)
-DOCUMENT(merge)
+DOCUMENT(check) DOCUMENT(text) DOCUMENT(part) DOCUMENT(range) DOCUMENT(begin) DOCUMENT(next) DOCUMENT(set)
+DOCUMENT(remove) DOCUMENT(put) DOCUMENT(push) DOCUMENT(merge)
 
 void vizhoniku_locate(const char *text, size_t text_size, const struct error *error, struct location *location) {
   (void)text, (void)text_size, (void)error;

@@ -38,6 +38,11 @@ class _Entry(ctypes.Structure):
     _fields_ = [(name, ctypes.c_size_t) for name in ("name_offset", "name_size", "offset", "size")]
 
 
+class _DocumentCursor(ctypes.Structure):
+    _fields_ = [("parts", _Cursor), ("before", ctypes.c_size_t), ("entries", ctypes.c_size_t),
+                ("count", ctypes.c_ubyte)]
+
+
 class _Symbol(ctypes.Structure):
     """Dl_info of dlfcn.h."""
 
@@ -107,6 +112,10 @@ def _load() -> ctypes.CDLL:
         library.vizhoniku_document_check.argtypes = text_in
         library.vizhoniku_document_key.argtypes = text_in
         library.vizhoniku_document_part.argtypes = [*text_in, *text_in, *text_out]
+        library.vizhoniku_document_range.argtypes = [*text_in, size, size, *text_out]
+        library.vizhoniku_document_begin.argtypes = [*text_in, ctypes.POINTER(_DocumentCursor)]
+        library.vizhoniku_document_next.argtypes = [*text_in, ctypes.POINTER(_DocumentCursor), ctypes.POINTER(_Entry),
+                                                    *text_out]
         library.vizhoniku_document_set.argtypes = [*text_in, *text_in, *text_in, ctypes.c_uint32, *text_out]
         library.vizhoniku_document_remove.argtypes = [*text_in, *text_in, *text_out]
         library.vizhoniku_document_put.argtypes = [*text_in, *text_in, *text_in, *text_out]
@@ -115,8 +124,9 @@ def _load() -> ctypes.CDLL:
         for name in ("check", "text", "part", "sort_key", "text_and_key", "compare", "reason", "key_check", "key_kind",
                      "key_count", "key_member", "key_item", "key_part", "key_begin", "key_next", "key_name",
                      "key_text", "key_contains", "key_set", "key_remove", "key_put", "key_push", "key_merge",
-                     "error_path", "document", "document_check", "document_text", "document_part", "document_set",
-                     "document_remove", "document_put", "document_push", "document_merge"):
+                     "error_path", "document", "document_check", "document_text", "document_part", "document_range",
+                     "document_begin", "document_next", "document_set", "document_remove", "document_put",
+                     "document_push", "document_merge"):
             getattr(library, "vizhoniku_" + name).restype = status
         library.vizhoniku_document_key.restype = size
         library.vizhoniku_locate.restype = None
@@ -380,6 +390,98 @@ class _Stored:
             raise TypeError(f"{kind} is no {' and no '.join(kinds)}")
         return kind
 
+    def _key(self) -> "Key":
+        """The key, which a document begins with."""
+        raise NotImplementedError
+
+    def _part(self: _S, offset: int, size: int) -> _S:
+        """The part at a range of the key."""
+        raise NotImplementedError
+
+    def _parts(self: _S) -> Iterator[Tuple[bytes, _S]]:
+        """The items, or the members with the ranges of their names in the key."""
+        raise NotImplementedError
+
+    def _found(self: _S, call: Callable[..., int]) -> Optional[_S]:
+        """The part whose range in the key the call finds, or None."""
+        offset, size = ctypes.c_size_t(), ctypes.c_size_t()
+        status = call(offset, size)
+        if status == _NO_PART:
+            return None
+        _raise_of_key(status)
+        return self._part(offset.value, size.value)
+
+    def _member(self: _S, name: str) -> Optional[_S]:
+        key, data = bytes(self._key()), _bytes(name)
+        return self._found(functools.partial(_library.vizhoniku_key_member, key, len(key), data, len(data)))
+
+    def _item(self: _S, index: int) -> Optional[_S]:
+        if not -2**63 <= index < 2**63:
+            return None
+        key = bytes(self._key())
+        return self._found(functools.partial(_library.vizhoniku_key_item, key, len(key), index))
+
+    def __getitem__(self, which: Union[str, int, slice]) -> Any:
+        """The member of a name, the item of an index, or a list of the items of a slice.
+
+        Raises KeyError or IndexError where there is none, and TypeError of another kind.
+        """
+        if isinstance(which, slice):
+            self._needs("array")
+            return items_of(self, which)
+        if isinstance(which, str):
+            self._needs("object")
+            part = self._member(which)
+            if part is None:
+                raise KeyError(which)
+        elif isinstance(which, int):
+            self._needs("array")
+            part = self._item(which)
+            if part is None:
+                raise IndexError("the array has no such item")
+        else:
+            raise TypeError(f"a name is a str and an index an int, and not {type(which).__name__}")
+        return part
+
+    def __iter__(self) -> Iterator[Any]:
+        """The items of an array, or the names of an object. Raises TypeError of another kind."""
+        if self._needs("array", "object") == "object":
+            return (_name(name) for name, _ in self._key()._parts())
+        return (part for _, part in self._parts())
+
+    def __reversed__(self) -> Iterator[Any]:
+        """The same as iter, from the last one on."""
+        return reversed(list(self))
+
+    def items(self: _S) -> Iterator[Tuple[str, _S]]:
+        """The members of an object, in the order of their names' bytes: pairs of the name, a str, and the part.
+
+        Raises TypeError of another kind.
+        """
+        self._needs("object")
+        return ((_name(name), part) for name, part in self._parts())
+
+    def __len__(self) -> int:
+        """How many items an array has, or how many members an object. Raises TypeError of another kind."""
+        self._needs("array", "object")
+        key, count = bytes(self._key()), ctypes.c_size_t()
+        _raise_of_key(_library.vizhoniku_key_count(key, len(key), count))
+        return count.value
+
+    def __bool__(self) -> bool:
+        """True, also of [] and of false, so that a part is told from the None of get."""
+        return True
+
+    def __contains__(self, part: object) -> bool:
+        """Whether an object has the name, or an array an item that equals the part."""
+        if self._needs("array", "object") == "object":
+            if not isinstance(part, str):
+                raise TypeError(f"a name is a str, and not {type(part).__name__}")
+            return self._member(part) is not None
+        if not isinstance(part, type(self)):
+            raise TypeError(f"an item is a {type(self).__name__}, and not {type(part).__name__}")
+        return any(part._data == item._data for _, item in self._parts())
+
     def __eq__(self, other: object) -> bool:
         if not isinstance(other, type(self)):
             return NotImplemented
@@ -475,9 +577,9 @@ class Key(_Stored):
         A name alone is no path: its path is "/name", or pointer(name) where the name may have a / or a ~. Raises
         PathError where the path is none.
         """
-        offset, size, path_data = ctypes.c_size_t(), ctypes.c_size_t(), _bytes(path)
-        status = _library.vizhoniku_key_part(self._data, len(self._data), path_data, len(path_data), offset, size)
-        part = self._found(status, offset, size)
+        data = _bytes(path)
+        part = self._found(functools.partial(
+            _library.vizhoniku_key_part, self._data, len(self._data), data, len(data)))
         return default if part is None else part
 
     def contains(self, other: Any) -> bool:
@@ -546,44 +648,11 @@ class Key(_Stored):
         return self._changed(functools.partial(
             _library.vizhoniku_key_merge, self._data, len(self._data), data, len(data)), len(data))
 
-    def _found(self, status: int, offset: ctypes.c_size_t, size: ctypes.c_size_t) -> "Optional[Key]":
-        if status == _NO_PART:
-            return None
-        _raise_of_key(status)
-        return Key._of(self._data[offset.value:offset.value + size.value])
+    def _key(self) -> "Key":
+        return self
 
-    def _member(self, name: str) -> "Optional[Key]":
-        offset, size, data = ctypes.c_size_t(), ctypes.c_size_t(), _bytes(name)
-        return self._found(_library.vizhoniku_key_member(self._data, len(self._data), data, len(data), offset, size),
-                           offset, size)
-
-    def _item(self, index: int) -> "Optional[Key]":
-        if not -2**63 <= index < 2**63:
-            return None
-        offset, size = ctypes.c_size_t(), ctypes.c_size_t()
-        return self._found(_library.vizhoniku_key_item(self._data, len(self._data), index, offset, size), offset, size)
-
-    def __getitem__(self, which: Union[str, int, slice]) -> Any:
-        """The member of a name, the item of an index, or a list of the items of a slice.
-
-        Raises KeyError or IndexError where there is none, and TypeError of another kind.
-        """
-        if isinstance(which, slice):
-            self._needs("array")
-            return items_of(self, which)
-        if isinstance(which, str):
-            self._needs("object")
-            part = self._member(which)
-            if part is None:
-                raise KeyError(which)
-        elif isinstance(which, int):
-            self._needs("array")
-            part = self._item(which)
-            if part is None:
-                raise IndexError("the array has no such item")
-        else:
-            raise TypeError(f"a name is a str and an index an int, and not {type(which).__name__}")
-        return part
+    def _part(self, offset: int, size: int) -> "Key":
+        return Key._of(self._data[offset:offset + size])
 
     def _parts(self) -> "Iterator[Tuple[bytes, Key]]":
         cursor, entry = _Cursor(), _Entry()
@@ -591,49 +660,9 @@ class Key(_Stored):
         while status == _ACCEPTED:
             status = _library.vizhoniku_key_next(self._data, len(self._data), cursor, entry)
             if status == _ACCEPTED:
-                yield (self._data[entry.name_offset:entry.name_offset + entry.name_size],
-                       Key._of(self._data[entry.offset:entry.offset + entry.size]))
+                yield _name_in(self._data, entry), self._part(entry.offset, entry.size)
         if status != _NO_PART:
             _raise_of_key(status)
-
-    def __iter__(self) -> "Iterator[Any]":
-        """The items of an array, which are keys, or the names of an object. Raises TypeError of another kind."""
-        if self._needs("array", "object") == "object":
-            return (_name(name) for name, _ in self._parts())
-        return (part for _, part in self._parts())
-
-    def __reversed__(self) -> "Iterator[Any]":
-        """The same as iter, from the last one on."""
-        return reversed(list(self))
-
-    def items(self) -> "Iterator[Tuple[str, Key]]":
-        """The members of an object, in the order of their names' bytes: pairs of a name, a str, and a key.
-
-        Raises TypeError of another kind.
-        """
-        self._needs("object")
-        return ((_name(name), part) for name, part in self._parts())
-
-    def __len__(self) -> int:
-        """How many items an array has, or how many members an object. Raises TypeError of another kind."""
-        self._needs("array", "object")
-        count = ctypes.c_size_t()
-        _raise_of_key(_library.vizhoniku_key_count(self._data, len(self._data), count))
-        return count.value
-
-    def __bool__(self) -> bool:
-        """True, of each key, so that a part that get finds is told from None."""
-        return True
-
-    def __contains__(self, part: object) -> bool:
-        """Whether an object has the name, or an array an item that equals the key."""
-        if self._needs("array", "object") == "object":
-            if not isinstance(part, str):
-                raise TypeError(f"a name is a str, and not {type(part).__name__}")
-            return self._member(part) is not None
-        if not isinstance(part, Key):
-            raise TypeError(f"an item is a Key, and not {type(part).__name__}")
-        return any(part._data == item._data for _, item in self._parts())
 
     def __repr__(self) -> str:
         return f"Key({self.text()!r})"
@@ -644,7 +673,8 @@ class Document(_Stored):
 
     Documents are compared and hashed by their bytes: they are in the order of their values, and those of equal values
     in that of these zeros. Two are equal where their texts are. A key's bytes are the document of a value without such
-    zeros. RejectedText is raised where the text is no document of the mode.
+    zeros. Parts are found as in a key, and are documents. RejectedText is raised where the text is no document of the
+    mode.
     """
 
     __module__ = "vizhoniku"
@@ -773,6 +803,26 @@ class Document(_Stored):
         return self._changed(functools.partial(
             _library.vizhoniku_document_merge, self._data, len(self._data), data, len(data)), len(data))
 
+    def _key(self) -> Key:
+        return self.key
+
+    def _part(self, offset: int, size: int) -> "Document":
+        data = self._written(functools.partial(
+            _library.vizhoniku_document_range, self._data, len(self._data), offset, size), size + 64)
+        if data is None:
+            raise RuntimeError(f"unknown status {_NO_PART}")
+        return Document._of(data)
+
+    def _parts(self) -> "Iterator[Tuple[bytes, Document]]":
+        cursor, entry = _DocumentCursor(), _Entry()
+        _raise_of_key(_library.vizhoniku_document_begin(self._data, len(self._data), cursor))
+        following = functools.partial(_library.vizhoniku_document_next, self._data, len(self._data), cursor, entry)
+        while True:
+            data = self._written(following, 256)
+            if data is None:
+                return
+            yield _name_in(self._data, entry), Document._of(data)
+
     def _needs(self, *kinds: str) -> str:
         if not self._kind():
             raise ValueError(NO_DOCUMENT)
@@ -798,6 +848,11 @@ def _raise_of_key(status: int) -> None:
         raise ValueError(TOO_DEEP)
     if status != _ACCEPTED:
         raise RuntimeError(f"unknown status {status}")
+
+
+def _name_in(key: bytes, entry: _Entry) -> bytes:
+    """The range of a member's name in a key."""
+    return key[entry.name_offset:entry.name_offset + entry.name_size]
 
 
 def _name(data: bytes) -> str:

@@ -476,8 +476,10 @@ struct key {
 struct parts {
   PyObject_HEAD
   PyObject *data;
-  struct vizhoniku_key_cursor next;
+  size_t size;    /* how many of the bytes are walked through: all of them, or those of the key */
+  int has_digits; /* whether the parts are documents, by a cursor of documents; else only its first field counts */
   int has_values; /* whether members come with their values */
+  struct vizhoniku_document_cursor next;
 };
 
 static const struct state *state_of(PyObject *self) { return PyType_GetModuleState(Py_TYPE(self)); }
@@ -684,16 +686,37 @@ static PyObject *key_py_text(PyObject *self, PyObject *none) {
   return result;
 }
 
-/* The part that a call found, or `absent`. */
-static PyObject *found(const struct state *state, struct text key, uint32_t status, size_t offset, size_t size,
-                       PyObject *absent) {
-  if (status == VIZHONIKU_ACCEPTED) return make_key_of(state, key.at + offset, size);
+/* What follows from a status that isn't success: `absent` where there is no part, else NULL, where an exception is
+ * raised. With VIZHONIKU_TOO_SHORT it is already, since there was no memory for the buffer. */
+static PyObject *not_found(const struct state *state, uint32_t status, PyObject *absent) {
   if (status != VIZHONIKU_NO_PART) {
-    raise_status(state, status);
+    if (status != VIZHONIKU_TOO_SHORT) raise_status(state, status);
     return NULL;
   }
   Py_INCREF(absent);
   return absent;
+}
+
+/* The document of the part at a range of a document's key. */
+static PyObject *document_at(PyObject *self, size_t offset, size_t size) {
+  struct text document = key_text(((struct key *)self)->data);
+  struct written part;
+  uint32_t status;
+  begin_written(&part);
+  do {
+    status = vizhoniku_document_range(document.at, document.size, offset, size, part.at, part.capacity, &part.size);
+  } while (status == VIZHONIKU_TOO_SHORT && ensure_capacity(&part, part.size));
+  PyObject *result = status == VIZHONIKU_ACCEPTED ? make_stored(Py_TYPE(self), bytes_of(&part))
+                                                  : not_found(state_of(self), status, Py_None);
+  free_written(&part);
+  return result;
+}
+
+/* The part that a call found in the key, or `absent`. */
+static PyObject *found(PyObject *self, uint32_t status, size_t offset, size_t size, PyObject *absent) {
+  if (status != VIZHONIKU_ACCEPTED) return not_found(state_of(self), status, absent);
+  if (what_is(self) == DOCUMENT) return document_at(self, offset, size);
+  return make_key_of(state_of(self), key_in(self).at + offset, size);
 }
 
 /* Reads the path that get is passed, and its default. Returns 0 where an exception is raised. */
@@ -713,13 +736,13 @@ static PyObject *key_get(PyObject *self, PyObject *const *given, Py_ssize_t coun
   if (!read_path(given, count, keywords, &path, &absent)) return NULL;
   uint32_t status = vizhoniku_key_part(key.at, key.size, path.at, path.size, &offset, &size);
   free_text(&path);
-  return found(state_of(self), key, status, offset, size, absent);
+  return found(self, status, offset, size, absent);
 }
 
 static PyObject *document_get(PyObject *self, PyObject *const *given, Py_ssize_t count, PyObject *keywords) {
   struct text document = key_text(((struct key *)self)->data), path;
   struct written part;
-  PyObject *absent, *result = NULL;
+  PyObject *absent;
   uint32_t status;
   if (!read_path(given, count, keywords, &path, &absent)) return NULL;
   begin_written(&part);
@@ -734,14 +757,8 @@ static PyObject *document_get(PyObject *self, PyObject *const *given, Py_ssize_t
                                        &part.size);
     }
   } while (status == VIZHONIKU_TOO_SHORT && ensure_capacity(&part, part.size));
-  if (status == VIZHONIKU_ACCEPTED) {
-    result = make_stored(Py_TYPE(self), bytes_of(&part));
-  } else if (status == VIZHONIKU_NO_PART) {
-    result = absent;
-    Py_INCREF(result);
-  } else if (status != VIZHONIKU_TOO_SHORT) {
-    raise_status(state_of(self), status);
-  }
+  PyObject *result = status == VIZHONIKU_ACCEPTED ? make_stored(Py_TYPE(self), bytes_of(&part))
+                                                  : not_found(state_of(self), status, absent);
   free_written(&part);
   free_text(&path);
   return result;
@@ -764,17 +781,17 @@ static uint32_t need_kind(PyObject *self, uint32_t one, uint32_t other) {
 
 /* The member of a name, or None. */
 static PyObject *member_of(PyObject *self, PyObject *object) {
-  struct text key = key_text(((struct key *)self)->data), name;
+  struct text key = key_in(self), name;
   size_t offset = 0, size = 0;
   if (!read_text(object, A_TEXT, &name)) return NULL;
   uint32_t status = vizhoniku_key_member(key.at, key.size, name.at, name.size, &offset, &size);
   free_text(&name);
-  return found(state_of(self), key, status, offset, size, Py_None);
+  return found(self, status, offset, size, Py_None);
 }
 
 /* The item of an index, or None. */
 static PyObject *item_of(PyObject *self, PyObject *object) {
-  struct text key = key_text(((struct key *)self)->data);
+  struct text key = key_in(self);
   size_t offset = 0, size = 0;
   long long index = PyLong_AsLongLong(object);
   if (index == -1 && PyErr_Occurred()) {
@@ -783,7 +800,7 @@ static PyObject *item_of(PyObject *self, PyObject *object) {
     Py_RETURN_NONE;
   }
   uint32_t status = vizhoniku_key_item(key.at, key.size, index, &offset, &size);
-  return found(state_of(self), key, status, offset, size, Py_None);
+  return found(self, status, offset, size, Py_None);
 }
 
 static PyObject *key_subscript(PyObject *self, PyObject *which) {
@@ -807,7 +824,7 @@ static PyObject *key_subscript(PyObject *self, PyObject *which) {
 }
 
 static Py_ssize_t key_length(PyObject *self) {
-  struct text key = key_text(((struct key *)self)->data);
+  struct text key = key_in(self);
   size_t count;
   if (!need_kind(self, VIZHONIKU_ARRAY, VIZHONIKU_OBJECT)) return -1;
   uint32_t status = vizhoniku_key_count(key.at, key.size, &count);
@@ -831,29 +848,23 @@ static int key_truth(PyObject *self) {
   return 1;
 }
 
-static int key_contains(PyObject *self, PyObject *part) {
-  const struct state *state = state_of(self);
-  struct text key = key_text(((struct key *)self)->data);
-  struct vizhoniku_key_cursor cursor;
-  struct vizhoniku_key_entry entry;
-  uint32_t kind = need_kind(self, VIZHONIKU_ARRAY, VIZHONIKU_OBJECT);
-  if (!kind) return -1;
-  if (kind == VIZHONIKU_OBJECT) {
-    if (!PyUnicode_Check(part)) {
-      raise_type("a name is a str, and not %U", part);
-      return -1;
-    }
-    PyObject *member = member_of(self, part);
-    if (!member) return -1;
-    int is_there = member != Py_None;
-    Py_DECREF(member);
-    return is_there;
-  }
-  if (Py_TYPE(part) != (PyTypeObject *)state->key_type) {
-    raise_type("an item is a Key, and not %U", part);
+static int has_member(PyObject *self, PyObject *name) {
+  if (!PyUnicode_Check(name)) {
+    raise_type("a name is a str, and not %U", name);
     return -1;
   }
-  struct text wanted = key_text(((struct key *)part)->data);
+  PyObject *member = member_of(self, name);
+  if (!member) return -1;
+  int is_there = member != Py_None;
+  Py_DECREF(member);
+  return is_there;
+}
+
+/* Whether a key has an item of the same bytes, none of which is copied. */
+static int key_has_item(PyObject *self, PyObject *item) {
+  struct text key = key_text(((struct key *)self)->data), wanted = key_text(((struct key *)item)->data);
+  struct vizhoniku_key_cursor cursor;
+  struct vizhoniku_key_entry entry;
   uint32_t status = vizhoniku_key_begin(key.at, key.size, &cursor);
   while (status == VIZHONIKU_ACCEPTED) {
     status = vizhoniku_key_next(key.at, key.size, &cursor, &entry);
@@ -862,7 +873,7 @@ static int key_contains(PyObject *self, PyObject *part) {
       return 1;
   }
   if (status == VIZHONIKU_NO_PART) return 0;
-  raise_status(state, status);
+  raise_status(state_of(self), status);
   return -1;
 }
 
@@ -885,11 +896,15 @@ static PyObject *key_repr(PyObject *self) {
   return result;
 }
 
+/* Names alone are walked through in the key also of a document. */
 static PyObject *make_parts(PyObject *self, int has_values) {
   const struct state *state = state_of(self);
-  struct text key = key_text(((struct key *)self)->data);
-  struct vizhoniku_key_cursor next;
-  uint32_t status = vizhoniku_key_begin(key.at, key.size, &next);
+  PyObject *data = ((struct key *)self)->data;
+  int has_digits = what_is(self) == DOCUMENT && (has_values || kind_of(self) == VIZHONIKU_ARRAY);
+  struct text walked = has_digits ? key_text(data) : key_in(self);
+  struct vizhoniku_document_cursor next = {{0, 0}, 0, 0, 0};
+  uint32_t status = has_digits ? vizhoniku_document_begin(walked.at, walked.size, &next)
+                               : vizhoniku_key_begin(walked.at, walked.size, &next.parts);
   if (status != VIZHONIKU_ACCEPTED) {
     raise_status(state, status);
     return NULL;
@@ -897,10 +912,12 @@ static PyObject *make_parts(PyObject *self, int has_values) {
   allocfunc allocate = (allocfunc)PyType_GetSlot((PyTypeObject *)state->parts_type, Py_tp_alloc);
   struct parts *parts = (struct parts *)allocate((PyTypeObject *)state->parts_type, 0);
   if (!parts) return NULL;
-  Py_INCREF(((struct key *)self)->data);
-  parts->data = ((struct key *)self)->data;
-  parts->next = next;
+  Py_INCREF(data);
+  parts->data = data;
+  parts->size = walked.size;
+  parts->has_digits = has_digits;
   parts->has_values = has_values;
+  parts->next = next;
   return (PyObject *)parts;
 }
 
@@ -923,6 +940,23 @@ static PyObject *key_items(PyObject *self, PyObject *none) {
   return need_kind(self, VIZHONIKU_OBJECT, VIZHONIKU_OBJECT) ? make_parts(self, 1) : NULL;
 }
 
+static int document_has_item(PyObject *self, PyObject *item) {
+  PyObject *parts = make_parts(self, 0);
+  int is_there = parts ? PySequence_Contains(parts, item) : -1;
+  Py_XDECREF(parts);
+  return is_there;
+}
+
+static int key_contains(PyObject *self, PyObject *part) {
+  int is_document = what_is(self) == DOCUMENT;
+  uint32_t kind = need_kind(self, VIZHONIKU_ARRAY, VIZHONIKU_OBJECT);
+  if (!kind) return -1;
+  if (kind == VIZHONIKU_OBJECT) return has_member(self, part);
+  if (Py_TYPE(part) == Py_TYPE(self)) return is_document ? document_has_item(self, part) : key_has_item(self, part);
+  raise_type(is_document ? "an item is a Document, and not %U" : "an item is a Key, and not %U", part);
+  return -1;
+}
+
 static PyObject *parts_iterate(PyObject *self) {
   Py_INCREF(self);
   return self;
@@ -942,24 +976,48 @@ static PyObject *name_of(const struct state *state, const unsigned char *at, siz
   return result;
 }
 
-static PyObject *parts_next(PyObject *self) {
+/* Moves on to the next part, whose document is written where the parts are documents. */
+static uint32_t walk(struct parts *parts, struct vizhoniku_key_entry *entry, struct written *document) {
+  struct text walked = key_text(parts->data);
+  uint32_t status;
+  if (!parts->has_digits) return vizhoniku_key_next(walked.at, parts->size, &parts->next.parts, entry);
+  do {
+    status = vizhoniku_document_next(walked.at, parts->size, &parts->next, entry, document->at, document->capacity,
+                                     &document->size);
+  } while (status == VIZHONIKU_TOO_SHORT && ensure_capacity(document, document->size));
+  return status;
+}
+
+/* An item, a name, or a name with its value. */
+static PyObject *entry_of(PyObject *self, const struct vizhoniku_key_entry *entry, const struct written *document) {
   const struct state *state = state_of(self);
-  struct parts *parts = (struct parts *)self;
+  const struct parts *parts = (const struct parts *)self;
   struct text key = key_text(parts->data);
-  struct vizhoniku_key_entry entry;
-  uint32_t status = vizhoniku_key_next(key.at, key.size, &parts->next, &entry);
-  if (status == VIZHONIKU_NO_PART) return NULL;
-  if (status != VIZHONIKU_ACCEPTED) {
-    raise_status(state, status);
-    return NULL;
+  PyObject *name = NULL, *value;
+  if (entry->name_size) {
+    name = name_of(state, key.at + entry->name_offset, entry->name_size);
+    if (!name || !parts->has_values) return name;
   }
-  if (!entry.name_size) return make_key_of(state, key.at + entry.offset, entry.size);
-  PyObject *name = name_of(state, key.at + entry.name_offset, entry.name_size);
-  if (!name || !parts->has_values) return name;
-  PyObject *value = make_key_of(state, key.at + entry.offset, entry.size);
+  value = parts->has_digits ? make_stored((PyTypeObject *)state->document_type, bytes_of(document))
+                            : make_key_of(state, key.at + entry->offset, entry->size);
+  if (!name) return value;
   if (value) return Py_BuildValue("(NN)", name, value);
   Py_DECREF(name);
   return NULL;
+}
+
+static PyObject *parts_next(PyObject *self) {
+  struct vizhoniku_key_entry entry;
+  struct written document;
+  PyObject *result = NULL;
+  begin_written(&document);
+  uint32_t status = walk((struct parts *)self, &entry, &document);
+  if (status == VIZHONIKU_ACCEPTED)
+    result = entry_of(self, &entry, &document);
+  else if (status != VIZHONIKU_NO_PART && status != VIZHONIKU_TOO_SHORT)
+    raise_status(state_of(self), status);
+  free_written(&document);
+  return result;
 }
 
 /* Appends bytes. Returns 0 where there is no memory for them. */
@@ -1328,7 +1386,13 @@ static PyObject *key_merge(PyObject *self, PyObject *const *given, Py_ssize_t co
   {"__bytes__", key_bytes, METH_NOARGS, HELP("__bytes__($self)", "The bytes that from_bytes takes.")}, \
   {"__reduce__", key_reduce, METH_NOARGS, HELP("__reduce__($self)", "For pickle.")}, \
   {"__copy__", key_copy, METH_NOARGS, HELP("__copy__($self)", "The same, since it doesn't change.")}, \
-  {"__deepcopy__", key_copy, METH_O, HELP("__deepcopy__($self, memo, /)", "The same, since it doesn't change.")}
+  {"__deepcopy__", key_copy, METH_O, HELP("__deepcopy__($self, memo, /)", "The same, since it doesn't change.")}, \
+  {"__reversed__", key_reversed, METH_NOARGS, \
+   HELP("__reversed__($self)", "The same as iter, from the last one on.")}, \
+  {"items", key_items, METH_NOARGS, \
+   HELP("items($self)", \
+        "The members of an object, in the order of their names' bytes: pairs of the name, a str, and the part.\n\n" \
+        "Raises TypeError of another kind.")}
 
 static PyMethodDef key_methods[] = {
     {"from_bytes", CALL(key_from_bytes) | METH_CLASS,
@@ -1377,12 +1441,6 @@ static PyMethodDef key_methods[] = {
           "The key merged with another value, as || of PostgreSQL's jsonb does: a key or what Key.of takes.\n\n"
           "Two objects become one with the members of both, where those of the other win. Else two arrays become\n"
           "one, for which a value that is no array is an array of itself.")},
-    {"__reversed__", key_reversed, METH_NOARGS,
-     HELP("__reversed__($self)", "The same as iter, from the last one on.")},
-    {"items", key_items, METH_NOARGS,
-     HELP("items($self)",
-          "The members of an object, in the order of their names' bytes: pairs of a name, a str, and a key.\n\n"
-          "Raises TypeError of another kind.")},
     {NULL, NULL, 0, NULL},
 };
 
@@ -1481,8 +1539,8 @@ static PyType_Slot document_slots[] = {
                 "stays 1.50.\n\n"
                 "Documents are compared and hashed by their bytes: they are in the order of their values, and those\n"
                 "of equal values in that of these zeros. Two are equal where their texts are. A key's bytes are the\n"
-                "document of a value without such zeros. RejectedText is raised where the text is no document of the\n"
-                "mode."},
+                "document of a value without such zeros. Parts are found as in a key, and are documents. RejectedText\n"
+                "is raised where the text is no document of the mode."},
     {Py_tp_new, SLOT(key_new)},
     {Py_tp_dealloc, SLOT(key_free)},
     {Py_tp_methods, document_methods},
@@ -1490,6 +1548,11 @@ static PyType_Slot document_slots[] = {
     {Py_tp_richcompare, SLOT(key_compare)},
     {Py_tp_hash, SLOT(key_hash)},
     {Py_tp_repr, SLOT(key_repr)},
+    {Py_tp_iter, SLOT(key_iterate)},
+    {Py_mp_subscript, SLOT(key_subscript)},
+    {Py_mp_length, SLOT(key_length)},
+    {Py_sq_contains, SLOT(key_contains)},
+    {Py_nb_bool, SLOT(key_truth)},
     {Py_nb_float, SLOT(key_float)},
     {Py_nb_int, SLOT(key_int)},
     {0, NULL},

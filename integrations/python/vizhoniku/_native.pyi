@@ -127,7 +127,7 @@ class Key:
         """
 
     def items(self) -> Iterator[Tuple[str, Key]]:
-        """The members of an object, in the order of their names' bytes: pairs of a name, a str, and a key.
+        """The members of an object, in the order of their names' bytes: pairs of the name, a str, and the part.
 
         Raises TypeError of another kind.
         """
@@ -142,7 +142,7 @@ class Key:
     @overload
     def __getitem__(self, which: slice) -> List[Key]: ...
     def __iter__(self) -> Iterator[Any]:
-        """The items of an array, which are keys, or the names of an object. Raises TypeError of another kind."""
+        """The items of an array, or the names of an object. Raises TypeError of another kind."""
 
     def __reversed__(self) -> Iterator[Any]:
         """The same as iter, from the last one on."""
@@ -151,10 +151,10 @@ class Key:
         """How many items an array has, or how many members an object. Raises TypeError of another kind."""
 
     def __bool__(self) -> bool:
-        """True, of each key, so that a part that get finds is told from None."""
+        """True, also of [] and of false, so that a part is told from the None of get."""
 
     def __contains__(self, part: object) -> bool:
-        """Whether an object has the name, or an array an item that equals the key."""
+        """Whether an object has the name, or an array an item that equals the part."""
 
     def __float__(self) -> float:
         """The float nearest to a number. Raises TypeError of another kind."""
@@ -182,7 +182,8 @@ class Document:
 
     Documents are compared and hashed by their bytes: they are in the order of their values, and those of equal values
     in that of these zeros. Two are equal where their texts are. A key's bytes are the document of a value without such
-    zeros. RejectedText is raised where the text is no document of the mode.
+    zeros. Parts are found as in a key, and are documents. RejectedText is raised where the text is no document of the
+    mode.
     """
 
     def __new__(cls, text: Text, mode: int = EXTENDED_JSON) -> Document: ...
@@ -259,6 +260,36 @@ class Document:
 
     def merge(self, other: Any) -> Document:
         """The document merged with another value, as Key.merge has it: a document or what Document.of takes."""
+
+    def items(self) -> Iterator[Tuple[str, Document]]:
+        """The members of an object, in the order of their names' bytes: pairs of the name, a str, and the part.
+
+        Raises TypeError of another kind.
+        """
+
+    @overload
+    def __getitem__(self, which: Union[str, int]) -> Document:
+        """The member of a name, the item of an index, or a list of the items of a slice.
+
+        Raises KeyError or IndexError where there is none, and TypeError of another kind.
+        """
+
+    @overload
+    def __getitem__(self, which: slice) -> List[Document]: ...
+    def __iter__(self) -> Iterator[Any]:
+        """The items of an array, or the names of an object. Raises TypeError of another kind."""
+
+    def __reversed__(self) -> Iterator[Any]:
+        """The same as iter, from the last one on."""
+
+    def __len__(self) -> int:
+        """How many items an array has, or how many members an object. Raises TypeError of another kind."""
+
+    def __bool__(self) -> bool:
+        """True, also of [] and of false, so that a part is told from the None of get."""
+
+    def __contains__(self, part: object) -> bool:
+        """Whether an object has the name, or an array an item that equals the part."""
 
     def __float__(self) -> float:
         """The float nearest to a number. Raises TypeError of another kind."""
