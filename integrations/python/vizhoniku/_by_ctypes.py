@@ -477,7 +477,7 @@ class _Stored:
         if self._needs("array", "object") == "object":
             if not isinstance(part, str):
                 raise TypeError(f"a name is a str, and not {type(part).__name__}")
-            return self._member(part) is not None
+            return self._key()._member(part) is not None
         if not isinstance(part, type(self)):
             raise TypeError(f"an item is a {type(self).__name__}, and not {type(part).__name__}")
         return any(part._data == item._data for _, item in self._parts())

@@ -779,14 +779,20 @@ static uint32_t need_kind(PyObject *self, uint32_t one, uint32_t other) {
   return VIZHONIKU_NO_KIND;
 }
 
-/* The member of a name, or None. */
-static PyObject *member_of(PyObject *self, PyObject *object) {
+/* Finds the range of a member in the key. Returns the status, or -1 where an exception is raised. */
+static int64_t find_member(PyObject *self, PyObject *object, size_t *offset, size_t *size) {
   struct text key = key_in(self), name;
-  size_t offset = 0, size = 0;
-  if (!read_text(object, A_TEXT, &name)) return NULL;
-  uint32_t status = vizhoniku_key_member(key.at, key.size, name.at, name.size, &offset, &size);
+  if (!read_text(object, A_TEXT, &name)) return -1;
+  uint32_t status = vizhoniku_key_member(key.at, key.size, name.at, name.size, offset, size);
   free_text(&name);
-  return found(self, status, offset, size, Py_None);
+  return status;
+}
+
+/* The member of a name, or None. */
+static PyObject *member_of(PyObject *self, PyObject *name) {
+  size_t offset = 0, size = 0;
+  int64_t status = find_member(self, name, &offset, &size);
+  return status < 0 ? NULL : found(self, (uint32_t)status, offset, size, Py_None);
 }
 
 /* The item of an index, or None. */
@@ -853,11 +859,11 @@ static int has_member(PyObject *self, PyObject *name) {
     raise_type("a name is a str, and not %U", name);
     return -1;
   }
-  PyObject *member = member_of(self, name);
-  if (!member) return -1;
-  int is_there = member != Py_None;
-  Py_DECREF(member);
-  return is_there;
+  size_t offset = 0, size = 0;
+  int64_t status = find_member(self, name, &offset, &size);
+  if (status == VIZHONIKU_ACCEPTED || status == VIZHONIKU_NO_PART) return status == VIZHONIKU_ACCEPTED;
+  if (status >= 0) raise_status(state_of(self), (uint32_t)status);
+  return -1;
 }
 
 /* Whether a key has an item of the same bytes, none of which is copied. */
