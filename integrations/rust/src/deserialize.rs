@@ -2,7 +2,7 @@
 
 use crate::serialize::NUMBER;
 use crate::step::integer;
-use crate::{document, Document, Error, KeyRef, Mode, Number, Object, Value, MOST_LEVELS};
+use crate::{document, Document, Error, Key, KeyRef, Mode, Number, Object, Value, MOST_LEVELS};
 use serde::de::{
     self, Deserialize, DeserializeOwned, DeserializeSeed, Deserializer, EnumAccess, Error as _, IntoDeserializer,
     MapAccess, SeqAccess, Unexpected, VariantAccess, Visitor,
@@ -513,6 +513,20 @@ impl<'de> Visitor<'de> for NumberVisitor {
 impl<'de> Deserialize<'de> for Value {
     fn deserialize<D: Deserializer<'de>>(deserializer: D) -> Result<Value, D::Error> {
         ValueVisitor { levels: 0 }.deserialize(deserializer)
+    }
+}
+
+/// The key of the value.
+impl<'de> Deserialize<'de> for Key {
+    fn deserialize<D: Deserializer<'de>>(deserializer: D) -> Result<Key, D::Error> {
+        Key::try_from(&Value::deserialize(deserializer)?).map_err(D::Error::custom)
+    }
+}
+
+/// The document of the value, with all its digits.
+impl<'de> Deserialize<'de> for Document {
+    fn deserialize<D: Deserializer<'de>>(deserializer: D) -> Result<Document, D::Error> {
+        Document::try_from(&Value::deserialize(deserializer)?).map_err(D::Error::custom)
     }
 }
 

@@ -16,6 +16,19 @@
 //! # }
 //! ```
 //!
+//! A [`Value`] is there to match on, with exact numbers, and `to_string()` of it is its text:
+//!
+//! ```
+//! use vizhoniku::Value;
+//!
+//! let value: Value = r#"{"name": "cup", "price": 1.50}"#.parse()?;
+//! assert_eq!((value["name"].as_str(), value["price"].to_string()), (Some("cup"), "1.50".into()));
+//! # Ok::<(), vizhoniku::Error>(())
+//! ```
+//!
+//! With the feature `serde` types that derive `Deserialize` come out of texts, keys and documents (`from_text` and its
+//! kin), and those that derive `Serialize` go in (`to_document` and its kin).
+//!
 //! A text is anything with bytes, such as `&str`, `String`, `&[u8]` or `Vec<u8>`. Each text is parsed in a [`Mode`]. No
 //! call keeps anything, so all types are `Send` and `Sync`. A thread that parses untrusted text has 112 KB of stack
 //! free.

@@ -1,7 +1,7 @@
 //! Serde: what is serialized becomes a text, a key, a document or a value.
 
 use crate::value::write_string;
-use crate::{document, sort_key, text, Document, Error, Key, Mode, Number, Value, MOST_LEVELS};
+use crate::{document, sort_key, text, Document, Error, Key, KeyRef, Mode, Number, Value, MOST_LEVELS};
 use serde::ser::{self, Error as _, Impossible, SerializeMap, SerializeSeq, Serializer};
 use serde::Serialize;
 use std::fmt::{self, Write};
@@ -140,6 +140,27 @@ impl Serialize for Inside {
 impl Serialize for Value {
     fn serialize<S: Serializer>(&self, serializer: S) -> Result<S::Ok, S::Error> {
         Nested { value: self, levels: 0 }.serialize(serializer)
+    }
+}
+
+/// The value of the key.
+impl Serialize for KeyRef {
+    fn serialize<S: Serializer>(&self, serializer: S) -> Result<S::Ok, S::Error> {
+        self.to_value().map_err(S::Error::custom)?.serialize(serializer)
+    }
+}
+
+/// The value of the key.
+impl Serialize for Key {
+    fn serialize<S: Serializer>(&self, serializer: S) -> Result<S::Ok, S::Error> {
+        (**self).serialize(serializer)
+    }
+}
+
+/// The value of the document, with all its digits.
+impl Serialize for Document {
+    fn serialize<S: Serializer>(&self, serializer: S) -> Result<S::Ok, S::Error> {
+        self.to_value().map_err(S::Error::custom)?.serialize(serializer)
     }
 }
 

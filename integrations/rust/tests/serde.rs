@@ -1,14 +1,15 @@
 //! The feature serde: types that derive Serialize and Deserialize, beside what serde_json does with them.
 #![cfg(feature = "serde")]
 
-use serde::de::{DeserializeOwned, DeserializeSeed, SeqAccess, Visitor};
+use serde::de::value::F32Deserializer;
+use serde::de::{DeserializeOwned, DeserializeSeed, IntoDeserializer, SeqAccess, Visitor};
 use serde::{forward_to_deserialize_any, Deserialize, Deserializer, Serialize, Serializer};
 use std::collections::{BTreeMap, HashMap};
 use std::ffi::CString;
 use std::fmt::Debug;
 use vizhoniku::{
     document, from_document, from_key, from_text, from_value, sort_key, text, to_document, to_key, to_text, to_value,
-    Code, Error, Mode, Number, Value,
+    Code, Document, Error, Key, Mode, Number, Value,
 };
 
 const LONG: &str = "0.12345678901234567890123456789012345678";
@@ -111,6 +112,7 @@ fn as_in_serde_json<T: Serialize + DeserializeOwned + PartialEq + Debug>(it: T) 
 fn types_are_as_in_serde_json() {
     as_in_serde_json(vec![Shape::Point, Shape::Circle(0.1), Shape::Line(-1, 2)]);
     as_in_serde_json([Shape::Box { width: 1, height: None }, Shape::Box { width: 2, height: Some(65_535) }]);
+    as_in_serde_json(vec![Shape::Line(0, 0); 600]);
     as_in_serde_json(vec![Tagged::Price { amount: number("1.5"), rounded: 1.5 }, Tagged::Nothing]);
     as_in_serde_json(vec![Untagged::Integer(1), Untagged::Text("1".into()), Untagged::Number(number("0.5"))]);
     as_in_serde_json((Unit, (), Pair(-1, "x".into()), Some(Some(true)), None::<u8>));
@@ -159,10 +161,25 @@ fn doubles_are_the_nearest() {
     for double in [f64::NAN, f64::INFINITY, f64::NEG_INFINITY] {
         let error = to_text(&BTreeMap::from([("a", [0.0, double])])).unwrap_err();
         assert_eq!((error.path(), error.line()), (Some("/a/1"), None), "{error}");
+        assert_eq!(error.to_string(), format!("at /a/1: {double:?} isn't a number of JSON"));
     }
     assert!(to_text(&[f32::NAN]).is_err());
+    for (variant, path) in [
+        (Measure::One(f64::NAN), "/0/One"),
+        (Measure::Two(0.0, f64::NAN), "/0/Two/1"),
+        (Measure::Named { size: f64::NAN }, "/0/Named/size"),
+    ] {
+        assert_eq!(to_text(&[variant]).unwrap_err().path(), Some(path));
+    }
     let error = to_text(&[1e300]).unwrap_err();
     assert_eq!(error.to_string(), "at /0: number not carried");
+}
+
+#[derive(Serialize)]
+enum Measure {
+    One(f64),
+    Two(f64, f64),
+    Named { size: f64 },
 }
 
 #[derive(Debug, PartialEq, Serialize, Deserialize)]
@@ -210,6 +227,25 @@ fn all_digits_are_kept() {
     assert!(from_text::<Tagged>(tagged.replace("0.5", LONG), Mode::Json).is_err());
 }
 
+#[derive(Debug, PartialEq, Serialize, Deserialize)]
+struct Row {
+    key: Key,
+    document: Document,
+}
+
+/// A key and a document are their values, in this crate's texts and in those of other formats.
+#[test]
+fn keys_and_documents_are_values() {
+    let given = r#"{"document":{"a":[1.50]},"key":{"a":[1.50]}}"#;
+    let part = r#"{"a":[1.50]}"#;
+    let row = Row { key: sort_key(part, Mode::Json).unwrap(), document: document(part, Mode::Json).unwrap() };
+    assert_eq!(from_text::<Row>(given, Mode::Json).as_ref(), Ok(&row));
+    assert_eq!(to_text(&row).as_deref(), Ok(r#"{"document":{"a":[1.50]},"key":{"a":[1.5]}}"#));
+    assert_eq!(to_text(row.key.get("a").unwrap()).as_deref(), Ok("[1.5]"));
+    assert_eq!(serde_json::to_string(&row).unwrap(), r#"{"key":{"a":[1.5]},"document":{"a":[1.5]}}"#);
+    assert_eq!(serde_json::from_str::<Row>(given).unwrap().key, row.key);
+}
+
 /// A text can't spell what this crate passes through serde.
 #[test]
 fn names_of_members_mean_nothing() {
@@ -255,6 +291,10 @@ fn paths_of_errors() {
         (r#"{"shape": {"Box": []}, "lines": []}"#, "at /shape/Box: invalid type: array, expected an object"),
         (r#"{"shape": {"Point": 1}, "lines": []}"#, "at /shape/Point: invalid type: integer `1`, expected unit"),
         (r#"{"shape": {}, "lines": []}"#, "at /shape: invalid value: map, expected an object with one member"),
+        (
+            r#"{"shape": {"Circle": 1, "Line": [1, 2]}, "lines": []}"#,
+            "at /shape: invalid value: map, expected an object with one member",
+        ),
         (r#"{"shape": null, "lines": []}"#, "at /shape: invalid type: null, expected a string or an object"),
         (
             r#"{"shape": "Point", "lines": [], "counts": {"07": true}}"#,
@@ -402,6 +442,8 @@ fn other_formats() {
     let error = serde_json::to_string(&number(LONG)).unwrap_err();
     assert_eq!(error.to_string(), format!("no double has the digits of {LONG}"));
     assert_eq!(serde_json::from_str::<Number>("0.1").unwrap(), number("0.1"));
+    let of_float: F32Deserializer<Error> = 0.1_f32.into_deserializer();
+    assert_eq!(Number::deserialize(of_float), Ok(number("0.1")));
     assert!(serde_json::from_str::<Number>("1e300").is_err() && serde_json::from_str::<Number>("\"1\"").is_err());
     let error = serde_json::from_str::<Value>(r#"{"a":1,"a":2}"#).unwrap_err();
     assert!(error.to_string().starts_with("duplicate object attribute \"a\""), "{error}");
