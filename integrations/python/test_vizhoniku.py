@@ -1607,8 +1607,8 @@ class Growth(unittest.TestCase):
                 "INTERFACE", "pointer", "Key.kind", "Key.__bool__", "Key.__float__", "Key.__int__", "Key.__copy__",
                 "Key.__deepcopy__", "Key.__setattr__", "Key.__new__", "Key.__le__", "Key.__gt__", "Key.__ge__",
                 "Key.__ne__", "Document.__bool__", "Document.__float__", "Document.__int__", "Document.__copy__",
-                "Document.__deepcopy__", "Document.__setattr__", "Document.__new__", "Document.__le__",
-                "Document.__gt__", "Document.__ge__", "Document.__ne__"}
+                "Document.__deepcopy__", "Document.__reversed__", "Document.__setattr__", "Document.__new__",
+                "Document.__le__", "Document.__gt__", "Document.__ge__", "Document.__ne__"}
 
     def calls(self, size: int, end: str) -> List[Tuple[str, str, Callable[[], Any]]]:
         """Calls over documents of so many parts, with decimals that end so: what is called, of what, and the call."""
@@ -1680,12 +1680,14 @@ class Growth(unittest.TestCase):
                 add("Document.put", what, document.put, "new", part_of)
             else:
                 add("Document.push", what, document.push, part_of)
+            add("Key.__reversed__", what, lambda one: list(reversed(one)), key)
+            if key.kind == "array":
+                add("Key.__getitem__", what + ", a slice", operator.getitem, key, slice(-2, None, -1))
             stored: List[Any] = [key, document]
             for whole in stored:
                 kind = type(whole).__name__
                 add(f"{kind}.__len__", what, len, whole)
                 add(f"{kind}.__iter__", what, list, whole)
-                add(f"{kind}.__reversed__", what, lambda one: list(reversed(one)), whole)
                 if key.kind == "object":
                     add(f"{kind}.items", what, lambda one: list(one.items()), whole)
                     add(f"{kind}.__getitem__", what, operator.getitem, whole, name)
@@ -1693,8 +1695,6 @@ class Growth(unittest.TestCase):
                     continue
                 add(f"{kind}.__getitem__", what, operator.getitem, whole, -1)
                 add(f"{kind}.__getitem__", what + ", from the front", operator.getitem, whole, size - 1)
-                for which in (slice(None), slice(None, None, -1), slice(size // 2, None, 3), slice(-3, None)):
-                    add(f"{kind}.__getitem__", f"{what}, {which}", operator.getitem, whole, which)
                 add(f"{kind}.__contains__", what, operator.contains, whole, type(whole)('"none"'))
         return calls
 
