@@ -2,7 +2,7 @@
 
 use crate::serialize::NUMBER;
 use crate::step::integer;
-use crate::{document, Document, Error, Key, KeyRef, Mode, Number, Object, Value, MOST_LEVELS};
+use crate::{document, inner_levels, Document, Error, Key, KeyRef, Mode, Number, Object, Value};
 use serde::de::{
     self, Deserialize, DeserializeOwned, DeserializeSeed, Deserializer, EnumAccess, Error as _, IntoDeserializer,
     MapAccess, SeqAccess, Unexpected, VariantAccess, Visitor,
@@ -161,16 +161,8 @@ struct Part<'de> {
 }
 
 impl<'de> Part<'de> {
-    /// The number of levels inside of this array or object.
-    fn inner_levels(self) -> Result<usize, Error> {
-        if self.levels >= MOST_LEVELS {
-            return Err(Error::TooDeep);
-        }
-        Ok(self.levels + 1)
-    }
-
     fn visit_items<V: Visitor<'de>>(self, items: &'de [Value], visitor: V) -> Result<V::Value, Error> {
-        let mut rest = Items { rest: items.iter(), index: 0, levels: self.inner_levels()? };
+        let mut rest = Items { rest: items.iter(), index: 0, levels: inner_levels(self.levels)? };
         let visited = visitor.visit_seq(&mut rest)?;
         match rest.rest.len() {
             0 => Ok(visited),
@@ -179,7 +171,7 @@ impl<'de> Part<'de> {
     }
 
     fn visit_members<V: Visitor<'de>>(self, members: &'de Object, visitor: V) -> Result<V::Value, Error> {
-        let mut rest = Members { rest: members.iter(), value: None, levels: self.inner_levels()? };
+        let mut rest = Members { rest: members.iter(), value: None, levels: inner_levels(self.levels)? };
         let visited = visitor.visit_map(&mut rest)?;
         match rest.rest.len() {
             0 => Ok(visited),
@@ -286,7 +278,7 @@ impl<'de> Deserializer<'de> for Part<'de> {
         match self.value {
             Value::String(variant) => visitor.visit_enum(variant.as_str().into_deserializer()),
             Value::Object(members) if members.len() == 1 => {
-                visitor.visit_enum(Members { rest: members.iter(), value: None, levels: self.inner_levels()? })
+                visitor.visit_enum(Members { rest: members.iter(), value: None, levels: inner_levels(self.levels)? })
             }
             Value::Object(_) => Err(Error::invalid_value(Unexpected::Map, &"an object with one member")),
             _ => self.other_type("a string or an object"),
@@ -539,10 +531,7 @@ struct ValueVisitor {
 impl ValueVisitor {
     /// Makes the parts of an array or an object.
     fn parts<E: de::Error>(self) -> Result<ValueVisitor, E> {
-        if self.levels == MOST_LEVELS {
-            return Err(E::custom(Error::TooDeep));
-        }
-        Ok(ValueVisitor { levels: self.levels + 1 })
+        Ok(ValueVisitor { levels: inner_levels(self.levels).map_err(E::custom)? })
     }
 }
 

@@ -69,7 +69,16 @@ pub use value::{Object, Value};
 
 /// The most arrays and objects that are nested in a document.
 #[cfg(feature = "serde")]
-pub(crate) const MOST_LEVELS: usize = 512;
+const MOST_LEVELS: usize = 512;
+
+/// How many arrays and objects are around the parts of one that is inside of so many.
+#[cfg(feature = "serde")]
+pub(crate) fn inner_levels(levels: usize) -> Result<usize, Error> {
+    if levels >= MOST_LEVELS {
+        return Err(Error::TooDeep);
+    }
+    Ok(levels + 1)
+}
 
 /// The grammar that a text is parsed by.
 ///

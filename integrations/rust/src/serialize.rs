@@ -1,7 +1,7 @@
 //! Serde: what is serialized becomes a text, a key, a document or a value.
 
 use crate::value::write_string;
-use crate::{document, sort_key, text, Document, Error, Key, KeyRef, Mode, Number, Value, MOST_LEVELS};
+use crate::{document, inner_levels, sort_key, text, Document, Error, Key, KeyRef, Mode, Number, Value};
 use serde::ser::{self, Error as _, Impossible, SerializeMap, SerializeSeq, Serializer};
 use serde::Serialize;
 use std::fmt::{self, Write};
@@ -171,17 +171,9 @@ struct Nested<'a> {
 }
 
 impl Nested<'_> {
-    /// An error where this array or object isn't to be nested so deep.
-    fn check_levels<E: ser::Error>(&self) -> Result<(), E> {
-        match self.levels {
-            MOST_LEVELS.. => Err(E::custom(Error::TooDeep)),
-            _ => Ok(()),
-        }
-    }
-
-    /// A part of an array or an object that is this value.
-    fn part<'a>(&self, value: &'a Value) -> Nested<'a> {
-        Nested { value, levels: self.levels + 1 }
+    /// How many arrays and objects are around the parts of this one.
+    fn inner_levels<E: ser::Error>(&self) -> Result<usize, E> {
+        inner_levels(self.levels).map_err(E::custom)
     }
 }
 
@@ -194,14 +186,14 @@ impl Serialize for Nested<'_> {
             Value::String(text) => serializer.serialize_str(text),
             Value::Array(items) => {
                 let mut parts = serializer.serialize_seq(Some(items.len()))?;
-                self.check_levels()?;
-                items.iter().try_for_each(|item| parts.serialize_element(&self.part(item)))?;
+                let levels = self.inner_levels()?;
+                items.iter().try_for_each(|value| parts.serialize_element(&Nested { value, levels }))?;
                 parts.end()
             }
             Value::Object(members) => {
                 let mut parts = serializer.serialize_map(Some(members.len()))?;
-                self.check_levels()?;
-                members.iter().try_for_each(|(name, value)| parts.serialize_entry(name, &self.part(value)))?;
+                let levels = self.inner_levels()?;
+                members.iter().try_for_each(|(name, value)| parts.serialize_entry(name, &Nested { value, levels }))?;
                 parts.end()
             }
         }
@@ -238,10 +230,7 @@ impl Writer {
     }
 
     fn open(&mut self, bracket: char) -> Result<(), Error> {
-        if self.levels == MOST_LEVELS {
-            return Err(Error::TooDeep);
-        }
-        self.levels += 1;
+        self.levels = inner_levels(self.levels)?;
         self.write(bracket)
     }
 

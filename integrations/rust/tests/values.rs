@@ -4,8 +4,8 @@ use std::cmp::Ordering;
 use std::collections::{hash_map::DefaultHasher, BTreeSet, HashSet};
 use std::hash::{Hash, Hasher};
 use vizhoniku::{
-    check, compare, document, part, sort_key, text, text_and_key, version, Code, Document, Error, Key, KeyRef, Kind,
-    Mode,
+    check, compare, document, part, sort_key, text, text_and_key, version, Code, ConversionError, Document, Error, Key,
+    KeyRef, Kind, Mode, Number, Value,
 };
 
 /// Documents in the order of their values; those of one line are equal.
@@ -202,7 +202,7 @@ fn texts_that_grow() {
 #[test]
 fn threads() {
     fn is_shared<T: Send + Sync + 'static>() {}
-    is_shared::<(Key, Box<KeyRef>, Error, Mode, Kind, Code)>();
+    is_shared::<(Key, Box<KeyRef>, Error, Mode, Kind, Code, Document, Value, Number, ConversionError)>();
     let text: &str = &format!("[{}]", "{\"a\": [1, 2.5], \"b\": \"x\"},".repeat(200) + "0");
     let shared = &key(text);
     std::thread::scope(|scope| {
