@@ -2,9 +2,9 @@
 
 A document is stored under its sort key, and what is stored there is the rest of it (vizhoniku.Document): nothing where
 no decimal ends in zeros. LMDB bounds its keys, at 511 bytes as Debian builds it. A sort key past the bound is cut, the
-beginning of a hash of the whole key follows what is left, and the whole document is stored there. A cut key that differs
-from another key still has the order of the values; documents whose cut keys are equal are sorted by their whole keys
-when they are read.
+beginning of a hash of the whole key follows what is left, and the whole document is stored there. A cut key that
+differs from another key still has the order of the values; documents whose cut keys are equal are sorted by their
+whole keys when they are read.
 
 An environment in which the texts of documents were stored, as an older version did it, is read as well.
 
@@ -126,7 +126,8 @@ class Documents:
             return None if found is None else found.get(path)
 
     def where(self, path: vizhoniku.Text, low: vizhoniku.Text, high: Optional[vizhoniku.Text] = None) -> Iterator[str]:
-        """The texts of the documents whose part at the path equals low or, with high, is from low up to and without high.
+        """The texts of the documents whose part at the path equals low or, with high, is from low up to and without
+        high.
 
         They are in the order of their values. All documents are read.
         """
