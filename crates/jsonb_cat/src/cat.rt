@@ -151,3 +151,6 @@ pub fn run<R: Read, W: Write, E: Write>(
         }
     }
 }
+
+#[cfg(test)]
+mod tests;
