@@ -4,6 +4,7 @@
  * SPACES=N: standard input is so many spaces, one at each read, and then ends; with -1 it has no end.
  * SPACE_OF=FD SPACE=N: the descriptor takes so many bytes, and then fails as a full disk does.
  * REPORT_TO=FD: at the end, how often standard input was read, and how many bytes each read took at least. */
+#define _GNU_SOURCE /* for RTLD_NEXT */
 #include <dlfcn.h>
 #include <errno.h>
 #include <stdio.h>
