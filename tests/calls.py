@@ -76,7 +76,7 @@ OF_VALUES = {
     "tree_clone": written,
     "straight": lambda tree: FRONT + written(tree),
     "straight_key": lambda tree: digits(sort_key(tree)),
-    "decoded": lambda tree: written(fewest(tree)),
+    "key_text": lambda tree: FRONT + written(fewest(tree)),
     "cut_key": lambda tree: b"no key",
     "indented": lambda tree: digits(indented(tree, 1)),
     "part": lambda tree: part_text(tree, [b"1", b"a"]),

@@ -1,7 +1,7 @@
 -- What the statuses of `vizhoniku_key_text` say of a sort key.
 use Rattle.std.specs.Prelude.{◌≡◌, ℕ, List, Some}
-use Rattle.key_value.specs.declared.key.KeyError.{KeyError}
-use Rattle.key_value.specs.declared.key.KeyError.TheVariants as errors
+use Rattle.key_value.specs.declared.error.KeyError.{KeyError}
+use Rattle.key_value.specs.declared.error.KeyError.TheVariants as errors
 use Rattle.jsonb_spec.specs.SortKey.{key_of}
 use Rattle.jsonb_spec.specs.Text.{text_of}
 use Rattle.jsonb_spec.specs.Tree.{Tree}

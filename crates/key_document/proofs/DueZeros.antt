@@ -9,8 +9,8 @@ use Rattle.jsonb_spec.specs.Tree.{Num}
 use Rattle.jsonb_value.proofs.Trees.Runs.{heads, tails}
 use Rattle.key_document.specs.DueZeros.{AreDue}
 use Rattle.key_document.specs.declared.due.ZerosDue.{ZerosDue}
-use Rattle.key_value.specs.declared.key.KeyError.{KeyError}
-use Rattle.key_value.specs.declared.key.KeyError.TheVariants.{OutOfMemory}
+use Rattle.key_value.specs.declared.error.KeyError.{KeyError}
+use Rattle.key_value.specs.declared.error.KeyError.TheVariants.{OutOfMemory}
 use Rattle.key_text.specs.Counts.{count_of, ending_text, Completes}
 use Rattle.key_text.specs.FewestDigits.{fewest_digits}
 use Rattle.key_text.proofs.Counts.{none_next}

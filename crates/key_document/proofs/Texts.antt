@@ -8,8 +8,8 @@ use Rattle.jsonb_spec.specs.Tree.{Tree}
 use Rattle.jsonb_value.proofs.Trees.RangeTexts.{text_in_range}
 use Rattle.key_text.specs.FewestDigits.{with_fewest_digits, AppendsTextOf}
 use Rattle.key_document.specs.Changes.{of_key_error}
-use Rattle.key_value.specs.declared.key.KeyError.{KeyError}
-use Rattle.key_value.specs.declared.key.KeyError.TheVariants as key_errors
+use Rattle.key_value.specs.declared.error.KeyError.{KeyError}
+use Rattle.key_value.specs.declared.error.KeyError.TheVariants as key_errors
 use Rattle.key_document.specs.Document.{OfDocument}
 use Rattle.key_document.specs.declared.error.DocumentError.{DocumentError}
 use Rattle.key_document.specs.declared.error.DocumentError.TheVariants.{OutOfMemory}

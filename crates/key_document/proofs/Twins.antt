@@ -9,7 +9,7 @@ use Rattle.std.proofs.lemmas.Bool.{cases_lt}
 use Rattle.std.proofs.lemmas.Int.{unsigned_abs-mul}
 use Rattle.std.proofs.lemmas.Map.Lookups.{exact_bytes}
 use Rattle.std.proofs.lemmas.Nat.{pow-add}
-use Rattle.key_value.proofs.Members.{no_pair}
+use Rattle.key_value.proofs.FirstBytes.{no_pair}
 use Rattle.key_value.specs.Readable.{HasFewestDigits, IsAnyNumber}
 use Rattle.jsonb_spec.specs.Order.{bytes_cmp, num_cmp, tree_cmp}
 use Rattle.jsonb_spec.specs.Proper.{IsProper, AreProper, HaveProperParts, IsProperNumber}

@@ -4,8 +4,8 @@ use Rattle.std.specs.Borrow.{Bor}
 use Rattle.std.specs.Vec.{vec_capacity}
 use Rattle.std.specs.declared.alloc.Global.{Global}
 use Rattle.key_value.specs.Readable.{IsAnyNumber, IsReadable}
-use Rattle.key_value.specs.declared.key.KeyError.{KeyError}
-use Rattle.key_value.specs.declared.key.KeyError.TheVariants as key_errors
+use Rattle.key_value.specs.declared.error.KeyError.{KeyError}
+use Rattle.key_value.specs.declared.error.KeyError.TheVariants as key_errors
 use Rattle.jsonb_spec.specs.Grammar.{max_depth}
 use Rattle.jsonb_spec.specs.SortKey.{key_of}
 use Rattle.jsonb_spec.specs.Text.Range.{IsWithin}

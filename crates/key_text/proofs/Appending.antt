@@ -2,8 +2,8 @@
 use Rattle.std.proofs.Common.{◌≡◌, ℕ, ◌+◌, ◌<◌, ◌≤◌, List, [], ◌++◌, length, Result, Ok, Err, sym, ap, ◌∙◌, arith, append-nil, append_assoc, length-append}
 use Rattle.std.specs.Prelude.{IsErrAnd, OnOk, Vec, vec_len, vec_capacity}
 use Rattle.std.specs.declared.alloc.Global.{Global}
-use Rattle.key_value.specs.declared.key.KeyError.{KeyError}
-use Rattle.key_value.specs.declared.key.KeyError.TheVariants.{OutOfMemory}
+use Rattle.key_value.specs.declared.error.KeyError.{KeyError}
+use Rattle.key_value.specs.declared.error.KeyError.TheVariants.{OutOfMemory}
 use Rattle.jsonb_spec.specs.Text.Appending.{Appends}
 use Rattle.key_text.specs.Writes.{Preserves, Writes}
 

@@ -5,8 +5,8 @@ use Rattle.jsonb_spec.specs.Ascii as ascii
 use Rattle.jsonb_spec.specs.SortKey.{key_of, number_key, text_key}
 use Rattle.jsonb_spec.specs.Tree.{Num, Tree, number, array, object, Trees, no_trees, more_trees, Members, no_members, more_members}
 use Rattle.key_text.specs.FewestDigits.{spare_zeros}
-use Rattle.key_value.specs.declared.key.KeyError.{KeyError}
-use Rattle.key_value.specs.declared.key.KeyError.TheVariants.{OutOfMemory}
+use Rattle.key_value.specs.declared.error.KeyError.{KeyError}
+use Rattle.key_value.specs.declared.error.KeyError.TheVariants.{OutOfMemory}
 use Rattle.key_walk.specs.Open.{Open, items, members}
 
 -- how many zeros end the digits of a number behind the point

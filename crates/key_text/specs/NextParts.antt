@@ -6,8 +6,8 @@ use Rattle.jsonb_spec.specs.Text.Appending.{comma_before}
 use Rattle.key_text.specs.Writes.{name_text}
 use Rattle.key_text.specs.declared.write.Next.{Next}
 use Rattle.key_text.specs.declared.write.Next.TheVariants as next
-use Rattle.key_value.specs.declared.key.KeyError.{KeyError}
-use Rattle.key_value.specs.declared.key.KeyError.TheVariants.{OutOfMemory}
+use Rattle.key_value.specs.declared.error.KeyError.{KeyError}
+use Rattle.key_value.specs.declared.error.KeyError.TheVariants.{OutOfMemory}
 use Rattle.key_walk.specs.Open.{end_key, name_key}
 
 -- The bytes don't begin with the end.

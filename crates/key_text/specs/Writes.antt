@@ -3,8 +3,8 @@ use Rattle.std.specs.Prelude.{◌≡◌, ◌≢◌, ℕ, zero, suc, ◌+◌, ◌
 use Rattle.std.specs.Borrow.{Bor}
 use Rattle.std.specs.List.{flat_map}
 use Rattle.std.specs.declared.alloc.Global.{Global}
-use Rattle.key_value.specs.declared.key.KeyError.{KeyError}
-use Rattle.key_value.specs.declared.key.KeyError.TheVariants.{OutOfMemory}
+use Rattle.key_value.specs.declared.error.KeyError.{KeyError}
+use Rattle.key_value.specs.declared.error.KeyError.TheVariants.{OutOfMemory}
 use Rattle.key_value.specs.Reading.{IsDigits}
 use Rattle.key_walk.specs.Open.{Open, items, members}
 use Rattle.jsonb_spec.specs.Ascii as ascii

@@ -1,13 +1,9 @@
--- The bytes that a number was decoded from are its key.
-use Rattle.std.proofs.Common.{◌≡◌, ◌≢◌, ℕ, zero, suc, ◌+◌, ◌-◌, ◌*◌, ◌/◌, ◌%◌, ◌^◌, ◌<◌, ◌≤◌, ◌⊎◌, inl, inr, Bool, true, false, List, [], ◌∷◌, ◌++◌, map, ℤ, unsigned_abs, Option, Some, None, IfSome, refl, sym, ap, ◌∙◌, arith, append_assoc, append-nil}
+-- Bytes that digits are read from are the key of these digits.
+use Rattle.std.proofs.Common.{◌≡◌, ◌≢◌, ℕ, zero, suc, ◌+◌, ◌-◌, ◌*◌, ◌/◌, ◌%◌, ◌^◌, ◌<◌, ◌≤◌, ◌⊎◌, inl, inr, Bool, true, false, List, [], ◌∷◌, ◌++◌, map, Option, Some, None, IfSome, refl, sym, ap, ◌∙◌, arith, append_assoc, append-nil}
 use Rattle.std.proofs.Math.Nat.{pow-zero, pow-suc, mul-le-mul_right, mul-lt-mul_of_pos_right}
 use Rattle.std.proofs.lemmas.Bool.{cases_lt, cases_eq}
 use Rattle.std.proofs.lemmas.List.{map-append}
 use Rattle.std.proofs.lemmas.Nat.{div-add-mod', div-mul-add, mod-mul-add, div_below, mod_below, pow-add}
-use Rattle.std.proofs.lemmas.Int.{ints}
-use Rattle.std.specs.Int.{w128}
-use Rattle.std.specs.Prelude.{FitsSigned}
-use Rattle.jsonb_value.proofs.Numbers.Nearest.{unsigned_abs-signed}
 use Rattle.jsonb_spec.specs.Number.Signed.{signed_by}
 use Rattle.jsonb_spec.specs.SortKey.{number_key, exponent_key, digits_key, digit_count, magnitude_key, invert_if}
 use Rattle.jsonb_spec.specs.Tree.{Num}
@@ -22,7 +18,7 @@ use Rattle.std.specs.declared.cmp.Ordering.TheVariants.{Equal}
 use Rattle.std.proofs.lemmas.Map.Lookups.{exact_bytes}
 use Rattle.jsonb_value.proofs.Trees.Runs.{heads}
 use Rattle.key_value.proofs.Numbers.{turned_twice, far_exponent, near_exponent}
-use Rattle.key_value.specs.Reading.{DigitsRead, IsLastPair}
+use Rattle.key_value.specs.Reading.{IsLastPair}
 
 -- what holds of the value holds of it in another form
 pub if_some : {A : Type 0} {P Q : A → Type 0} (o : Option A) → IfSome o P → ((a : A) → P a → Q a) → IfSome o Q
@@ -45,6 +41,13 @@ near_exact negative first byte bytes rest small is high e =
     e ∙ ap (λ b. b ∷ rest) (back ∙ ap (invert_if negative) (sym moved)) ∙ ap (λ key. map (invert_if negative) key ++ rest) (sym (near_exponent (byte + 95) (omega (arith, high))))
 
 -- ---- digits
+
+-- These digits were read: whatever digits are behind them, the key of all begins with the bytes before the rest.
+pub record DigitsRead (negative : Bool) (bytes : List ℕ) (digits count : ℕ) (rest : List ℕ) : Type 0 where
+  pub front : List ℕ
+  pub below : digits < 10 ^ count
+  pub begins : (C M : ℕ) → 0 < M → M < 10 ^ C → map (invert_if negative) (digits_key (count + C) (digits * 10 ^ C + M)) ≡ front ++ map (invert_if negative) (digits_key C M)
+  pub occurs : bytes ≡ front ++ rest
 
 pub none_read : (negative : Bool) (bytes : List ℕ) → DigitsRead negative bytes 0 0 bytes
 none_read negative bytes = record {
@@ -240,7 +243,3 @@ down_key x sign scale digits count exponent s w is_scale low some below least sm
     let is_count = counted count digits below least some small in
     key_of_parts x sign scale digits count exponent s w some (sym is_count) (omega (arith, is_scale, low))
     ∙ sym (map-append (invert_if sign) (exponent_key exponent) (digits_key count digits))
-
--- a number of 128 bits has at most 39 digits
-pub at_most_39 : (z : ℤ) (sign : Bool) (magnitude : ℕ) → FitsSigned w128 z → z ≡ signed_by sign magnitude → magnitude < 10 ^ 39
-at_most_39 z sign magnitude fits is = omega (arith, ints, fits.sfits, ap unsigned_abs is, unsigned_abs-signed sign magnitude)

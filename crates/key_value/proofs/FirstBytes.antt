@@ -1,11 +1,13 @@
--- The kind of a value by the first byte of its key.
-use Rattle.std.proofs.Common.{◌≡◌, ◌≢◌, ℕ, ◌<◌, true, false, List, [], ◌∷◌, ◌++◌, length, IsUtf8, refl, sym, ap, ◌∙◌, arith}
-use Rattle.jsonb_spec.specs.Proper.{IsProperNumber}
+-- The kind of a value by the first byte of its key, and that none begins as an array or an object ends.
+use Rattle.std.proofs.Common.{◌≡◌, ◌≢◌, ℕ, zero, suc, ◌<◌, true, false, List, [], ◌∷◌, ◌++◌, length, IsUtf8, refl, sym, ap, ◌∙◌, arith}
+use Rattle.jsonb_spec.specs.Proper.{IsProper, IsProperNumber}
+use Rattle.jsonb_spec.specs.Text.Range.{IsWithin}
 use Rattle.jsonb_spec.specs.SortKey.{number_key, text_key, key_of, items_key, members_key}
 use Rattle.jsonb_spec.specs.Tree.{Num, Tree, null, boolean, string, number, array, object, Trees, Members}
 use Rattle.jsonb_value.proofs.SortKeys.Kinds.{begins, is_small, number_begins}
+use Rattle.jsonb_value.proofs.SortKeys.Texts.{text_key-other}
 use Rattle.jsonb_value.proofs.Trees.Runs.{heads, tails}
-use Rattle.key_value.specs.Readable.{IsReadableAt}
+use Rattle.key_value.specs.Readable.{IsAnyNumber, IsReadableAt}
 
 -- what the first byte and the bytes after it are, by the kind
 abbrev Begun : ℕ → Tree → ℕ → List ℕ → List ℕ → Type 0
@@ -93,3 +95,15 @@ pub no_key : (depth : ℕ) (t : Tree) → IsReadableAt depth t → (bytes more :
 no_key depth t r bytes more occurs none =
     let b = begins t r.proper in
     absurd (omega (arith, none, ap length (occurs ∙ ap (λ key. key ++ more) b.is)))
+
+-- no key begins with the byte that closes an array
+pub no_zero : (t : Tree) (depth : ℕ) (others rest : List ℕ) (first : ℕ) (tail : List ℕ) → IsProper t → IsWithin IsAnyNumber t depth → rest ≡ first ∷ tail → first ≡ 0 → rest ≡ key_of t ++ others → ⊥
+no_zero t depth others rest first tail p w e zero_there occurs =
+    let b = begins t p in
+    absurd (omega (arith, b.above, zero_there, heads first b.head tail (b.tail ++ others) (sym e ∙ occurs ∙ ap (λ key. key ++ others) b.is)))
+
+-- no text's key begins as the end of an object does
+pub no_pair : (key others rest more : List ℕ) → rest ≡ 0 ∷ 0 ∷ more → rest ≡ text_key key ++ others → ⊥
+no_pair [] others rest more e occurs = absurd (omega (arith, heads 0 1 more others (tails 0 0 (0 ∷ more) (1 ∷ others) (sym e ∙ occurs))))
+no_pair (zero ∷ key) others rest more e occurs = absurd (omega (arith, heads 0 255 more (text_key key ++ others) (tails 0 0 (0 ∷ more) (255 ∷ (text_key key ++ others)) (sym e ∙ occurs))))
+no_pair (suc b ∷ key) others rest more e occurs = absurd (omega (arith, heads 0 (suc b) (0 ∷ more) (text_key key ++ others) (sym e ∙ occurs ∙ ap (λ bytes. bytes ++ others) (text_key-other b key))))

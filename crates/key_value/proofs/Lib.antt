@@ -1,10 +1,7 @@
 pub mod Texts
-pub mod Items
-pub mod Members
 pub mod Numbers
 pub mod Wholes
 pub mod Signs
 pub mod FirstBytes
-pub mod Decoded
 pub mod Exact
 pub mod Integers

@@ -1,5 +1,5 @@
 -- The key of a number by its sign.
-use Rattle.std.proofs.Common.{◌≡◌, ◌≢◌, ℕ, zero, suc, ◌+◌, ◌-◌, ◌*◌, ◌^◌, ◌<◌, ◌≤◌, Bool, true, false, Equal, List, [], ◌∷◌, ◌++◌, map, ℤ, pos, negsuc, unsigned_abs, refl, sym, subst, ap, ◌∙◌, arith, append_assoc, length}
+use Rattle.std.proofs.Common.{◌≡◌, ◌≢◌, ℕ, zero, suc, ◌+◌, ◌-◌, ◌*◌, ◌^◌, ◌<◌, ◌≤◌, Bool, true, false, Equal, List, ◌∷◌, ◌++◌, map, None, ℤ, pos, negsuc, unsigned_abs, refl, sym, subst, ap, ◌∙◌, arith, append_assoc, length}
 use Rattle.std.proofs.lemmas.Bool.{lt-ltb, le-ltb}
 use Rattle.std.specs.Bool.{nat_lt}
 use Rattle.std.specs.Int.{is_negative}
@@ -13,16 +13,16 @@ use Rattle.jsonb_value.proofs.SortKeys.Kinds.{is_small, number_begins}
 use Rattle.jsonb_value.proofs.SortKeys.Numbers.{positive, negative, nothing_there, head_of, magnitude_split}
 use Rattle.jsonb_value.proofs.SortKeys.Trees.{keys_same}
 use Rattle.jsonb_value.proofs.Trees.Runs.{heads, tails}
-use Rattle.key_value.specs.Reading.{IsDigits, HasParts}
+use Rattle.key_value.specs.Reading.{exponent_of, read_as}
+use Rattle.key_value.proofs.Numbers.{exponent_read}
+use Rattle.key_value.proofs.Texts.{none_some, some_pair}
 
--- a number's key with no digits is that of 0
-pub zero_read : (n : Num) → IsProperNumber n → (first : ℕ) (rest bytes more : List ℕ) → bytes ≡ first ∷ rest → first ≡ 128 → bytes ≡ number_key n ++ more → (number_key n ≡ 128 ∷ []) × (rest ≡ more)
-zero_read n proper first rest bytes more e is occurs = by_whole n.whole refl
+-- with the byte of 0 it is 0
+pub zero_there : (n : Num) → IsProperNumber n → (first : ℕ) (rest bytes more : List ℕ) → bytes ≡ first ∷ rest → first ≡ 128 → bytes ≡ number_key n ++ more → n.whole ≡ pos 0
+zero_there n proper first rest bytes more e is occurs = by_whole n.whole refl
   where
-    by_whole : (z : ℤ) → n.whole ≡ z → (number_key n ≡ 128 ∷ []) × (rest ≡ more)
-    by_whole (pos zero) w =
-        let key = nothing_there n w in
-        (key, tails first 128 rest more (sym e ∙ occurs ∙ ap (λ k. k ++ more) key))
+    by_whole : (z : ℤ) → n.whole ≡ z → n.whole ≡ pos 0
+    by_whole (pos zero) w = w
     by_whole (pos (suc a)) w =
         let x = head_of n a (ap unsigned_abs w) (is_small n proper) in
         let key = positive n a w ∙ ap (map (invert_if false)) x.is in
@@ -31,6 +31,11 @@ zero_read n proper first rest bytes more e is occurs = by_whole n.whole refl
         let x = head_of n a (ap unsigned_abs w) (is_small n proper) in
         let key = negative n a w ∙ ap (map (invert_if true)) x.is in
         absurd (omega (arith, is, x.low, x.high, heads first (255 - x.head) rest (map (invert_if true) x.tail ++ more) (sym e ∙ occurs ∙ ap (λ k. k ++ more) key)))
+
+-- the key of 0 is one byte
+pub zero_read : (n : Num) → IsProperNumber n → (first : ℕ) (rest bytes more : List ℕ) → bytes ≡ first ∷ rest → first ≡ 128 → bytes ≡ number_key n ++ more → rest ≡ more
+zero_read n proper first rest bytes more e is occurs =
+    tails first 128 rest more (sym e ∙ occurs ∙ ap (λ k. k ++ more) (nothing_there n (zero_there n proper first rest bytes more e is occurs)))
 
 -- The bytes begin with the exponent and the digits of n, which has this sign.
 pub record IsSigned (n : Num) (sign : Bool) (bytes more : List ℕ) : Type 0 where
@@ -89,8 +94,19 @@ signed_read n proper first rest bytes more e other occurs = by_whole n.whole ref
 pub same_keys : (x n : Num) → IsProperNumber x → IsProperNumber n → num_cmp x n ≡ Equal → number_key x ≡ number_key n
 same_keys x n p q e = (keys_same (number x) (number n) p q).1 e
 
-pub parts_of : (n : Num) (sign : Bool) (bytes more : List ℕ) (s : IsSigned n sign bytes more) (exponent digits read : ℕ) → exponent ≡ s.exponent → IsDigits s.count (unsigned_abs n.whole) digits read → HasParts n exponent digits read
-parts_of n sign bytes more s exponent digits read e d = record { count = s.count; is_digits = d; is_exponent_key = omega (arith, e, s.is_exponent_key) }
+-- the exponent of its first digit, and what is behind it
+module _ (n : Num) (sign : Bool) (bytes more : List ℕ) (s : IsSigned n sign bytes more) where
+  abbrev digits_there : List ℕ
+  digits_there = map (invert_if sign) (digits_key s.count (unsigned_abs n.whole)) ++ more
+
+  pub exponent_there : exponent_of sign bytes ≡ read_as s.exponent digits_there
+  exponent_there = ap (exponent_of sign) s.occurs ∙ exponent_read sign s.exponent digits_there s.low
+
+  pub some_exponent : None ≡ exponent_of sign bytes → ⊥
+  some_exponent none = none_some _ (none ∙ exponent_there)
+
+  pub is_exponent : (exponent : ℕ) (digits : List ℕ) → read_as exponent digits ≡ exponent_of sign bytes → (exponent ≡ s.exponent) × (digits ≡ digits_there)
+  is_exponent exponent digits read = some_pair exponent s.exponent digits digits_there (read ∙ exponent_there)
 
 -- a number's key has a byte
 pub some_bytes : (n : Num) → IsProperNumber n → (bytes more : List ℕ) → bytes ≡ number_key n ++ more → length bytes ≡ 0 → ⊥

@@ -1,21 +1,21 @@
--- Digits with an exponent are the number that they were made of.
-use Rattle.std.proofs.Common.{◌≡◌, ℕ, zero, suc, ◌+◌, ◌-◌, ◌*◌, ◌^◌, ◌<◌, ◌≤◌, Bool, true, false, Equal, ℤ, pos, negsuc, unsigned_abs, refl, sym, subst, ap, ◌∙◌, arith}
+-- Digits with an exponent are the number that they were made of, and whether that is whole.
+use Rattle.std.proofs.Common.{◌≡◌, ◌≢◌, ℕ, zero, suc, ◌+◌, ◌-◌, ◌*◌, ◌%◌, ◌^◌, ◌<◌, ◌≤◌, Bool, true, false, Equal, ℤ, pos, negsuc, unsigned_abs, refl, sym, ap, ◌∙◌, arith}
 use Rattle.std.specs.Prelude.{◌*ℤ◌}
 use Rattle.std.proofs.Math.Nat.{mul-le-mul_left, mul-le-mul_right}
-use Rattle.std.proofs.lemmas.Int.{ints}
+use Rattle.std.proofs.lemmas.Int.{ints, unsigned_abs-mul}
 use Rattle.std.proofs.lemmas.Nat.{pow-add}
 use Rattle.std.specs.Int.{is_negative}
 use Rattle.std.specs.Cmp.{int_cmp_is}
 use borrow.Author.Differences.{product_is}
 use Rattle.jsonb_value.proofs.Numbers.Pointed.{is_negative-pos}
 use Rattle.std.specs.Ordering.{int_cmp}
+use Rattle.jsonb_spec.specs.Number.Cast.{HasValue}
 use Rattle.jsonb_spec.specs.Number.Signed.{signed_by}
 use Rattle.jsonb_spec.specs.Order.{decimal_cmp, num_cmp}
 use Rattle.jsonb_spec.specs.Proper.{FitsWhole, IsProperNumber}
 use Rattle.jsonb_spec.specs.Tree.{Form, int64, uint64, decimal64, decimal128, Num}
 use Rattle.jsonb_value.proofs.SortKeys.Digits.{ten}
-use Rattle.jsonb_value.proofs.SortKeys.Kinds.{is_small}
-use Rattle.key_value.specs.Reading.{HasParts}
+use Rattle.key_value.specs.Reading.{IsDigits}
 use Rattle.key_value.proofs.Numbers.{cancel}
 
 -- ---- how large a number is
@@ -27,25 +27,18 @@ whole_most uint64 (negsuc n) h = absurd h
 whole_most decimal64 whole h = omega (arith, ints)
 whole_most decimal128 whole h = omega (arith, ints)
 
-positive_most : (form : Form) (n : ℕ) → FitsWhole form (pos n) → n < 2 ^ 127
-positive_most int64 n h = omega (arith, ints, h.sfits)
-positive_most uint64 n h = omega (arith, h)
-positive_most decimal64 n h = omega (arith, ints, h.sfits)
-positive_most decimal128 n h = omega (arith, ints, h.sfits)
-
 pub most : (n : Num) → IsProperNumber n → unsigned_abs n.whole ≤ 2 ^ 127
 most n p = whole_most n.form n.whole p.1
 
-pub positive_below : (n : Num) → IsProperNumber n → is_negative n.whole ≡ false → unsigned_abs n.whole < 2 ^ 127
-positive_below n p sign = by_sign n.whole refl sign
-  where
-    by_sign : (z : ℤ) → n.whole ≡ z → is_negative z ≡ false → unsigned_abs n.whole < 2 ^ 127
-    by_sign (pos k) e s = omega (arith, ap unsigned_abs e, positive_most n.form k (subst (FitsWhole n.form) e p.1))
-    by_sign (negsuc k) e s = let clash : true ≡ false = s in cc
-
 -- ---- the digits and the exponent
 
-module _ (n : Num) (exponent digits read : ℕ) (proper : IsProperNumber n) (parts : HasParts n exponent digits read) where
+-- These are the digits of n, without its sign, and the first of them is at this exponent.
+pub record HasParts (n : Num) (exponent digits read : ℕ) : Type 0 where
+  pub count : ℕ
+  pub is_digits : IsDigits count (unsigned_abs n.whole) digits read
+  pub is_exponent_key : exponent + n.scale ≡ count + 255
+
+module _ (n : Num) (exponent digits read : ℕ) (parts : HasParts n exponent digits read) where
   exact : digits * 10 ^ (parts.count - read) ≡ unsigned_abs n.whole
   exact =
       let k = parts.count - read in
@@ -53,44 +46,40 @@ module _ (n : Num) (exponent digits read : ℕ) (proper : IsProperNumber n) (par
       let power : 10 ^ parts.count ≡ 10 ^ k * 10 ^ read = ap (λ i. 10 ^ i) (sym whole) ∙ pow-add 10 k read in
       cancel (digits * 10 ^ k) (unsigned_abs n.whole) (10 ^ read) (ten read) (omega (arith, ap (λ x. digits * x) power, parts.is_digits.whole))
 
-  at_most : (power : ℕ) → 0 < power → digits * power ≡ unsigned_abs n.whole → digits ≤ unsigned_abs n.whole
-  at_most power some e = let more : digits * 1 ≤ digits * power = mul-le-mul_left digits (omega (arith, some)) in omega (arith, e, more)
-
-  pub digits_most : digits ≤ unsigned_abs n.whole
-  digits_most = at_most (10 ^ (parts.count - read)) (ten (parts.count - read)) exact
-
-  pub scale_small : n.scale < 256
-  scale_small = (is_small n proper).scale
-
-  pub up_same : (255 + read ≤ exponent) → digits * 10 ^ (exponent - (255 + read)) * 10 ^ n.scale ≡ unsigned_abs n.whole
-  up_same h =
-      let e = exponent - (255 + read) in
-      let sum : e + n.scale ≡ parts.count - read = omega (arith, parts.is_exponent_key, h) in
-      let power : 10 ^ e * 10 ^ n.scale ≡ 10 ^ (parts.count - read) = sym (pow-add 10 e n.scale) ∙ ap (λ i. 10 ^ i) sum in
+  -- with zeros behind them they are the whole number
+  with_zeros : (zeros : ℕ) → zeros ≡ exponent - (255 + read) → 255 + read ≤ exponent → digits * 10 ^ zeros * 10 ^ n.scale ≡ unsigned_abs n.whole
+  with_zeros zeros e h =
+      let sum : zeros + n.scale ≡ parts.count - read = omega (arith, parts.is_exponent_key, e, h) in
+      let power : 10 ^ zeros * 10 ^ n.scale ≡ 10 ^ (parts.count - read) = sym (pow-add 10 zeros n.scale) ∙ ap (λ i. 10 ^ i) sum in
       omega (arith, ap (λ x. digits * x) power, exact)
 
-  pub up_most : (255 + read ≤ exponent) → digits * 10 ^ (exponent - (255 + read)) ≤ unsigned_abs n.whole
-  up_most h =
-      let up = digits * 10 ^ (exponent - (255 + read)) in
-      let more : up * 1 ≤ up * 10 ^ n.scale = mul-le-mul_left up (omega (arith, ten n.scale)) in
-      omega (arith, up_same h, more)
+  pub zeros_most : (zeros : ℕ) → zeros ≡ exponent - (255 + read) → 255 + read ≤ exponent → digits * 10 ^ zeros ≤ unsigned_abs n.whole
+  zeros_most zeros e h =
+      let all = digits * 10 ^ zeros in
+      let more : all * 1 ≤ all * 10 ^ n.scale = mul-le-mul_left all (omega (arith, ten n.scale)) in
+      omega (arith, with_zeros zeros e h, more)
 
-  pub up_power : (255 + read ≤ exponent) → 10 ^ (exponent - (255 + read)) ≤ unsigned_abs n.whole
-  up_power h =
-      let power = 10 ^ (exponent - (255 + read)) in
-      let more : 1 * power ≤ digits * power = mul-le-mul_right power (omega (arith, parts.is_digits.some)) in
-      omega (arith, up_most h, more)
+  pub power_most : (zeros : ℕ) → zeros ≡ exponent - (255 + read) → 255 + read ≤ exponent → 10 ^ zeros ≤ unsigned_abs n.whole
+  power_most zeros e h =
+      let more : 1 * 10 ^ zeros ≤ digits * 10 ^ zeros = mul-le-mul_right (10 ^ zeros) (omega (arith, parts.is_digits.some)) in
+      omega (arith, zeros_most zeros e h, more)
 
-  pub down_scale : exponent < 255 + read → (255 + read) - exponent ≤ n.scale
-  down_scale h = omega (arith, parts.is_exponent_key, parts.is_digits.fewer, h)
+  pub magnitude_is : (zeros power magnitude : ℕ) → zeros ≡ exponent - (255 + read) → 255 + read ≤ exponent → power ≡ 10 ^ zeros → magnitude ≡ digits * power → magnitude * 10 ^ n.scale ≡ unsigned_abs n.whole
+  magnitude_is zeros power magnitude e h is_power is_magnitude = ap (λ m. m * 10 ^ n.scale) (is_magnitude ∙ ap (λ p. digits * p) is_power) ∙ with_zeros zeros e h
 
-  pub down_same : exponent < 255 + read → digits * 10 ^ n.scale ≡ unsigned_abs n.whole * 10 ^ ((255 + read) - exponent)
-  down_same h =
-      let s = (255 + read) - exponent in
+  -- with the last of them behind the point they are no whole number
+  pub not_whole : exponent < 255 + read → digits % 10 ≢ 0 → (v : ℤ) → HasValue n v → ⊥
+  not_whole h last v has =
+      let s = 255 + read - exponent in
       let k = parts.count - read in
-      let sum : k + s ≡ n.scale = omega (arith, parts.is_exponent_key, parts.is_digits.fewer, h) in
-      let power : 10 ^ n.scale ≡ 10 ^ k * 10 ^ s = ap (λ i. 10 ^ i) (sym sum) ∙ pow-add 10 k s in
-      omega (arith, ap (λ x. digits * x) power, ap (λ x. x * 10 ^ s) exact)
+      let m = unsigned_abs v in
+      let sum : n.scale ≡ k + s = omega (arith, parts.is_exponent_key, parts.is_digits.fewer, h) in
+      let power : 10 ^ n.scale ≡ 10 ^ k * 10 ^ s = ap (λ i. 10 ^ i) sum ∙ pow-add 10 k s in
+      let whole : unsigned_abs n.whole ≡ m * 10 ^ n.scale = ap unsigned_abs has ∙ unsigned_abs-mul v (pos (10 ^ n.scale)) in
+      let same : digits ≡ m * 10 ^ s = cancel digits (m * 10 ^ s) (10 ^ k) (ten k) (omega (arith, exact, whole, ap (λ p. m * p) power)) in
+      let before : s ≡ (s - 1) + 1 = omega (arith, h) in
+      let tenfold : 10 ^ s ≡ 10 ^ (s - 1) * 10 = ap (λ i. 10 ^ i) before ∙ pow-add 10 (s - 1) 1 in
+      last (omega (arith, same, ap (λ p. m * p) tenfold))
 
 -- ---- signs
 

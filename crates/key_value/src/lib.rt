@@ -1,8 +1,8 @@
-//! Values read from sort keys.
+//! What sort keys consist of: exponents, digits and the bytes of texts; and the integer that a number's key is of.
 #![tactic(auto)]
 
-pub mod key;
+pub mod error;
 pub mod number;
 pub mod text;
 
-pub use key::{KeyError, value_of_sort_key};
+pub use error::KeyError;

@@ -1,38 +1,15 @@
-//! The numbers of sort keys.
+//! The exponents, the digits and the integers of sort keys.
 
-ghost use Rattle.std.specs.Prelude.{◌≡◌, ◌*◌, ◌^◌, ◌<◌, ◌≤◌, ◌++◌, ◌∷◌, ◌↔◌, List, ℕ, ℤ, length, map, ◌⊎◌, false, Some, FitsSigned, IfSome, IsTrue, IsFalse, MatchOption, option_map};
-ghost use Rattle.std.specs.Int.{is_negative, w64};
+ghost use Rattle.std.specs.Prelude.{◌≡◌, ◌≢◌, ◌*◌, ◌%◌, ◌^◌, ◌<◌, ◌≤◌, ◌++◌, ◌∷◌, ◌↔◌, List, ℕ, ℤ, length, map, ◌⊎◌, false, Some, FitsSigned, IfSome, MatchOption, option_map};
+ghost use Rattle.std.specs.Int.{w64};
 ghost use Rattle.jsonb_spec.specs.Number.Cast.{HasValue};
 ghost use Rattle.jsonb_spec.specs.Number.Signed.{signed_by};
-ghost use Rattle.jsonb_spec.specs.Order.{num_cmp};
-ghost use Rattle.std.specs.declared.cmp.Ordering.TheVariants.{Equal};
 ghost use Rattle.jsonb_spec.specs.Proper.{IsProperNumber};
 ghost use Rattle.jsonb_spec.specs.SortKey.{number_key, digits_key, invert_if};
 ghost use Rattle.jsonb_spec.specs.Tree.{Num};
-ghost use Rattle.jsonb_value.specs.View.{number_view};
-ghost use Rattle.key_value.specs.Reading.{exponent_of, second_of, AreDigits, BeginsWithDigit, BeginsWithNoDigit, DigitsOccur, DigitsRead, HasParts, IsDigits, IsLastPair, IsNoLastPair, IsNumberOf, NumberOccurs, ExponentOccurs, ReadsDigits};
+ghost use Rattle.key_value.specs.Reading.{exponent_of, second_of, ExponentOccurs, IsDigits, IsLastPair, IsNoLastPair, ReadsDigits};
 
-use jsonb_value::number::{Decimal64, Decimal128, Number};
 use jsonb_value::sort_key::kind;
-
-/// The number whose key the bytes begin with, and the bytes after it.
-pub(crate) fn read_number(bytes: &[u8]) -> Option<(Number, &[u8])>
-    ensures found { (n : Num) → IsProperNumber n → (more : List ℕ) → bytes.now ≡ number_key n ++ more
-        → MatchOption result ⊥ (λ r. (number_key (number_view r.0) ≡ number_key n) × (r.1.now ≡ more)) }
-    ensures read { IfSome result (λ r. NumberOccurs bytes.now (number_view r.0) r.1.now) }
-{
-    let (first, rest) = bytes.split_first()?;
-    if *first == kind::ZERO {
-        return Some((Number::UInt64(0), rest));
-    }
-    let negative = *first < kind::ZERO;
-    let (exponent, rest) = read_exponent(negative, bytes)?;
-    if !begins_with_digit(negative, rest) {
-        return None;
-    }
-    let (digits, count, rest) = read_digits(negative, rest)?;
-    Some((number_of(negative, exponent, digits, count)?, rest))
-}
 
 /// A byte of a key, turned round where the number is negative.
 pub fn invert_if(negative: bool, byte: u8) -> u8
@@ -71,17 +48,6 @@ fn read_second(negative: bool, bytes: &[u8]) -> Option<(u32, &[u8])>
     Some((u32::from(exponent), rest))
 }
 
-// The first digit isn't 0.
-fn begins_with_digit(negative: bool, bytes: &[u8]) -> bool
-    ensures yes { IsTrue result → BeginsWithDigit negative bytes.now }
-    ensures no { IsFalse result → BeginsWithNoDigit negative bytes.now }
-{
-    match bytes.split_first() {
-        Some((byte, _)) => invert_if(negative, *byte) >= 20,
-        None => false,
-    }
-}
-
 // How many digits `read_front` reads at most.
 const MAX_FRONT: u32 = 16;
 
@@ -89,7 +55,7 @@ const MAX_FRONT: u32 = 16;
 #[inline(always)]
 fn read_front(negative: bool, bytes: &[u8]) -> (u64, u32, &[u8])
     ensures reads { ReadsDigits negative bytes.now result.0 result.1 result.2.now }
-    ensures read { DigitsRead negative bytes.now result.0 result.1 result.2.now }
+    ensures below { result.0 < 10 ^ result.1 }
     ensures few { result.1 ≤ 16 }
     ensures shorter { length result.2.now ≤ length bytes.now }
 {
@@ -109,12 +75,13 @@ fn read_front(negative: bool, bytes: &[u8]) -> (u64, u32, &[u8])
     (digits, count, rest)
 }
 
-// The digits as a number, how many they are, and the bytes after them. A zero at the end is left out.
-fn read_digits(negative: bool, bytes: &[u8]) -> Option<(u128, u32, &[u8])>
+// The digits as a number, and how many they are. A zero at the end is left out.
+fn read_digits(negative: bool, bytes: &[u8]) -> Option<(u128, u32)>
     ensures found { (count magnitude : ℕ) → magnitude < 10 ^ count → 0 < magnitude → magnitude ≤ 2 ^ 127 → count ≤ 39
         → (more : List ℕ) → bytes.now ≡ map (invert_if negative) (digits_key count magnitude) ++ more
-        → MatchOption result ⊥ (λ r. IsDigits count magnitude r.0 r.1 × (r.2.now ≡ more)) }
-    ensures read { IfSome result (λ r. DigitsOccur negative bytes.now r.0 r.1 r.2.now) }
+        → MatchOption result ⊥ (λ r. IsDigits count magnitude r.0 r.1) }
+    ensures last { IfSome result (λ r. r.0 % 10 ≢ 0) }
+    ensures few { IfSome result (λ r. r.1 ≤ 42) }
 {
     let (front, mut count, mut rest) = read_front(negative, bytes);
     let mut digits = u128::from(front);
@@ -123,12 +90,9 @@ fn read_digits(negative: bool, bytes: &[u8]) -> Option<(u128, u32, &[u8])>
         let pair = byte / 2;
         if byte % 2 == 0 {
             let (digits, last) = last_pair(digits, pair)?;
-            return Some((digits, count + last, others));
+            return Some((digits, count + last));
         }
         if count > 38 {
-            return None;
-        }
-        if pair > 99 {
             return None;
         }
         digits = digits.checked_mul(100)?.checked_add(u128::from(pair))?;
@@ -156,65 +120,6 @@ fn last_pair(digits: u128, pair: u8) -> Option<(u128, u32)>
     ))
 }
 
-// The number of these digits, the first of which is at this exponent.
-fn number_of(negative: bool, exponent: u32, digits: u128, count: u32) -> Option<Number>
-    requires few { exponent < 512 }
-    requires digits { AreDigits digits count }
-    ensures number { IfSome result (λ x. IsNumberOf negative exponent digits count (number_view x)) }
-    ensures same { (n : Num) → IsProperNumber n → is_negative n.whole ≡ negative → HasParts n exponent digits count
-        → MatchOption result ⊥ (λ x. num_cmp (number_view x) n ≡ Equal) }
-{
-    let unit = 255 + count;
-    if exponent >= unit {
-        let power = 10u128.checked_pow(exponent - unit)?;
-        let whole = with_sign(negative, digits.checked_mul(power)?)?;
-        return Some(number_with(0, whole));
-    }
-    let scale = u8::try_from(unit - exponent).ok()?;
-    let signed = with_sign(negative, digits)?;
-    Some(number_with(scale, signed))
-}
-
-// The integer of this sign.
-fn with_sign(negative: bool, magnitude: u128) -> Option<i128>
-    ensures { MatchOption result ((2 ^ 127 < magnitude) ⊎ ((negative ≡ false) × (2 ^ 127 ≤ magnitude)))
-        (λ z. z ≡ signed_by negative magnitude) }
-{
-    if magnitude == 0 {
-        return Some(0);
-    }
-    let Ok(below) = i128::try_from(magnitude - 1) else {
-        return None;
-    };
-    if negative {
-        return Some(-1 - below);
-    }
-    below.checked_add(1)
-}
-
-// The number in the first form that carries it.
-fn number_with(scale: u8, whole: i128) -> Number
-    ensures scale { (number_view result).scale ≡ scale }
-    ensures whole { (number_view result).whole ≡ whole }
-    ensures proper { IsProperNumber (number_view result) }
-{
-    if scale == 0 {
-        if let Ok(value) = u64::try_from(whole) {
-            return Number::UInt64(value);
-        }
-        if let Ok(value) = i64::try_from(whole) {
-            return Number::Int64(value);
-        }
-    }
-    match i64::try_from(whole) {
-        Ok(value) => Number::Decimal64(Decimal64 { scale, value }),
-        Err(_) => Number::Decimal128(Decimal128 {
-            scale,
-            value: whole,
-        }),
-    }
-}
-
 /// The integer that a number is, from the bytes that its key begins, or `None` where it isn't whole or has more than 64
 /// bits. Of other bytes it may be any.
 pub fn integer_of(bytes: &[u8]) -> Option<i64>
@@ -233,8 +138,36 @@ fn any_integer(bytes: &[u8]) -> Option<i64>
     ensures { (n : Num) → IsProperNumber n → (more : List ℕ) → bytes.now ≡ number_key n ++ more
         → (v : ℤ) → (result ≡ Some v) ↔ (HasValue n v × FitsSigned w64 v) }
 {
-    let (number, _) = read_number(bytes)?;
-    number.as_i64()
+    let (first, _) = bytes.split_first()?;
+    if *first == kind::ZERO {
+        return Some(0);
+    }
+    let negative = *first < kind::ZERO;
+    let (exponent, rest) = read_exponent(negative, bytes)?;
+    let (digits, count) = read_digits(negative, rest)?;
+    // The last digit isn't 0, so none is behind the point.
+    let zeros = exponent.checked_sub(255 + count)?;
+    let power = 10u128.checked_pow(zeros)?;
+    let magnitude = digits.checked_mul(power)?;
+    let integer = with_sign(negative, magnitude)?;
+    Some(integer)
+}
+
+// The integer of this sign.
+fn with_sign(negative: bool, magnitude: u128) -> Option<i64>
+    ensures { MatchOption result ((2 ^ 63 < magnitude) ⊎ ((negative ≡ false) × (2 ^ 63 ≤ magnitude)))
+        (λ z. z ≡ signed_by negative magnitude) }
+{
+    if magnitude == 0 {
+        return Some(0);
+    }
+    let Ok(below) = i64::try_from(magnitude - 1) else {
+        return None;
+    };
+    if negative {
+        return Some(-1 - below);
+    }
+    below.checked_add(1)
 }
 
 // The integer whose key the bytes begin with, if it has at most 18 digits without zeros at the end.

@@ -1,34 +1,9 @@
-//! The texts of sort keys.
+//! The bytes of the texts of sort keys.
 
-ghost use Rattle.std.specs.Prelude.{◌≡◌, ◌<◌, ◌∷◌, List, ℕ, length, IfOk, IfSome, option_map, Some, string_bytes};
-ghost use Rattle.std.specs.Str.{IsUtf8};
-ghost use Rattle.jsonb_spec.specs.SortKey.{text_key};
-ghost use Rattle.key_value.specs.Reading.{byte_of, escape_of, FindsAtKey};
+ghost use Rattle.std.specs.Prelude.{◌≡◌, ◌<◌, ◌∷◌, List, ℕ, length, IfSome, option_map, Some};
+ghost use Rattle.key_value.specs.Reading.{byte_of, escape_of};
 
-use crate::key::KeyError;
 use jsonb_value::sort_key::kind;
-use std::alloc::Global;
-
-// The text whose key the bytes begin with, and the bytes after it.
-pub(crate) fn read_text(alloc: Global, bytes: &[u8]) -> Result<(String, &[u8]), KeyError>
-    ensures found { (text : List ℕ) → IsUtf8 text
-        → FindsAtKey (λ string. string_bytes string ≡ text) bytes.now (text_key text) result }
-    ensures shorter { IfOk result (λ r. length r.1.now < length bytes.now) }
-{
-    let mut text = Vec::new(alloc);
-    let mut rest = bytes;
-    'bytes: while let Some((byte, others)) = read_byte(rest) {
-        text.push(byte)?;
-        rest = others;
-    }
-    let Some(rest) = skip_pair(kind::TEXT_END, rest) else {
-        return Err(KeyError::Invalid);
-    };
-    let Ok(text) = String::from_utf8(text) else {
-        return Err(KeyError::Invalid);
-    };
-    Ok((text, rest))
-}
 
 /// The byte of a text whose key the bytes begin with, and the bytes after it.
 pub fn read_byte(bytes: &[u8]) -> Option<(u8, &[u8])>

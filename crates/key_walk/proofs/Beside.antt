@@ -4,9 +4,9 @@ use Rattle.std.specs.Str.{bytes_eq}
 use Rattle.key_value.specs.Readable.{IsReadableAt}
 use Rattle.key_walk.specs.declared.containment.Walk.{Walk}
 use Rattle.jsonb_spec.specs.Containment.{any_item, holds, holds_members}
-use Rattle.key_walk.specs.Open.{items, members, end_key}
+use Rattle.key_walk.specs.Open.{items, end_key}
 use Rattle.key_walk.specs.SideBySide.{AreReadableAt, HaveReadableAt, IsLeft, Occurs, OccursInside}
-use Rattle.key_walk.proofs.Holding.{below_more, drop_below, none_past, one_passed, first_found, items_open, members_open}
+use Rattle.key_walk.proofs.Holding.{below_more, drop_below, none_past, one_passed, first_found, items_open}
 use Rattle.key_walk.proofs.Opens.{no_end}
 use Rattle.key_walk.proofs.Occurrence.{regroup}
 use Rattle.key_walk.proofs.Walked.{moved_on}
@@ -159,6 +159,3 @@ item_is depth ts u key ours more n is = n.same ∙ ap (λ b. b || any_item (λ t
 
 pub item_inside : (depth : ℕ) (ts : Trees) (more behind : List ℕ) (walk : Walk) → depth ≤ 511 → AreReadableAt depth ts → Occurs walk (items_key ts ++ more) behind → OccursInside false walk more behind
 item_inside depth ts more behind walk l h occurs = record { parts = items ts; is = refl; fits = items_open ts depth 511 l h; occurs = occurs }
-
-pub member_inside : (depth : ℕ) (ms : Members) (more behind : List ℕ) (walk : Walk) → depth ≤ 511 → HaveReadableAt depth ms → Occurs walk (members_key ms ++ more) behind → OccursInside true walk more behind
-member_inside depth ms more behind walk l h occurs = record { parts = members ms; is = refl; fits = members_open ms depth 511 l h; occurs = occurs }

@@ -1,6 +1,7 @@
 -- Values in range: they are of JSON's kinds, and what the first byte of a key says of them.
 use Rattle.std.proofs.Common.{◌≡◌, ◌≢◌, ℕ, true, false, List, ◌∷◌, ◌++◌, sym, ap, ◌∙◌, arith}
-use Rattle.key_value.specs.Readable.{IsAnyNumber, IsReadableAt}
+use Rattle.key_value.specs.Readable.{IsAnyNumber, IsReadable, IsReadableAt}
+use Rattle.key_walk.specs.Checked.{IsSortKey}
 use Rattle.key_walk.specs.Frames.{IsInRangeAt}
 use Rattle.jsonb_spec.specs.Proper.{IsProperNumber}
 use Rattle.jsonb_spec.specs.SortKey.{key_of, number_key, items_key, members_key, text_key}
@@ -12,6 +13,10 @@ use Rattle.jsonb_value.proofs.Trees.Runs.{heads, tails}
 
 pub readable_at : (depth : ℕ) (t : Tree) → IsInRangeAt depth t → IsReadableAt depth t
 readable_at depth t r = record { proper = r.proper; within = widened HasFewDigits IsAnyNumber (λ n proper few. tt) t depth r.proper r.within }
+
+-- a key that was checked is that of a value of JSON's kinds
+pub key_readable : (bytes : List ℕ) (k : IsSortKey bytes) → IsReadable k.value
+key_readable bytes k = readable_at 512 k.value (record { proper = k.proper; within = k.in_range })
 
 pub array_in_range : (depth : ℕ) (t : Tree) → IsInRangeAt depth t → (first : ℕ) (rest bytes more : List ℕ) → bytes ≡ first ∷ rest → bytes ≡ key_of t ++ more → first ≡ 210 → (ts : Trees) × IsInRangeAt depth (array ts) × (rest ≡ items_key ts ++ more)
 array_in_range depth null r first rest bytes more e occurs is = absurd (omega (arith, is, heads first 211 rest more (sym e ∙ occurs)))

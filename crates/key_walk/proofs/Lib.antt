@@ -14,8 +14,6 @@ pub mod CheckedScalars
 pub mod Framed
 pub mod Stacked
 pub mod CheckedNames
-pub mod CheckedKeys
-pub mod CheckedParts
 pub mod PlainBytes
 pub mod NumberEnds
 pub mod Holding

@@ -1,5 +1,5 @@
 -- The keys of numbers in range, checked with no number made.
-use Rattle.std.proofs.Common.{◌≡◌, ◌≢◌, ℕ, zero, suc, ◌+◌, ◌-◌, ◌*◌, ◌/◌, ◌%◌, ◌^◌, ◌<◌, ◌≤◌, ◌⊎◌, ◌↔◌, inl, inr, Bool, true, false, List, ◌∷◌, ◌++◌, length, map, unsigned_abs, Option, Some, None, MatchOption, refl, sym, ap, subst, ◌∙◌, arith, append_assoc}
+use Rattle.std.proofs.Common.{◌≡◌, ◌≢◌, ℕ, zero, suc, ◌+◌, ◌-◌, ◌*◌, ◌/◌, ◌%◌, ◌^◌, ◌<◌, ◌≤◌, ◌⊎◌, ◌↔◌, inl, inr, Bool, true, false, List, ◌∷◌, ◌++◌, length, map, Option, Some, None, MatchOption, refl, sym, ap, subst, ◌∙◌, arith, append_assoc}
 use Rattle.std.proofs.Math.Nat.{mul-lt-mul_of_pos_right, pow-zero}
 use Rattle.std.proofs.lemmas.Bool.{cases_lt, cases_eq}
 use Rattle.std.proofs.lemmas.List.{map-append}
@@ -13,9 +13,9 @@ use Rattle.std.specs.Prelude.{FitsSigned}
 use Rattle.std.specs.Ordering.{ordering_then}
 use Rattle.std.specs.declared.cmp.Ordering.{Ordering}
 use Rattle.std.specs.declared.cmp.Ordering.TheVariants.{Less, Equal, Greater}
-use Rattle.key_value.specs.Reading.{DigitsRead, IsLastPair, ReadsDigits, exponent_of}
-use Rattle.key_value.proofs.Exact.{none_read, one_pair_read, last_pair_read, first_digit, digit_there, up_key, down_key}
-use Rattle.key_value.proofs.Numbers.{digits_begun, last_none, last_some, pair_read, pair_small, not_over, exponent_read}
+use Rattle.key_value.specs.Reading.{IsLastPair, ReadsDigits}
+use Rattle.key_value.proofs.Exact.{DigitsRead, none_read, one_pair_read, last_pair_read, first_digit, digit_there, up_key, down_key}
+use Rattle.key_value.proofs.Numbers.{digits_begun, last_none, last_some, pair_read, pair_small, not_over}
 use Rattle.key_value.proofs.Signs.{IsSigned, signed_read}
 use Rattle.key_walk.specs.Frames.{NumberFirst, DigitsFirst}
 use Rattle.jsonb_spec.specs.Number.Signed.{signed_by}
@@ -205,7 +205,3 @@ few_digits n sign bytes more s few = elim (cases_lt s.count 39) [
   | inl less ↦ omega (arith, less)
   | inr many ↦ absurd (omega (arith, s.least, few.1, power_le 39 s.count many))
 ]
-
--- the exponent of its first digit, and what is behind it
-pub exponent_there : (n : Num) (sign : Bool) (bytes more : List ℕ) (s : IsSigned n sign bytes more) → exponent_of sign bytes ≡ Some (s.exponent, map (invert_if sign) (digits_key s.count (unsigned_abs n.whole)) ++ more)
-exponent_there n sign bytes more s = ap (exponent_of sign) s.occurs ∙ exponent_read sign s.exponent (map (invert_if sign) (digits_key s.count (unsigned_abs n.whole)) ++ more) s.low

@@ -1,8 +1,7 @@
 -- Parts of keys where they are in the bytes: members by their names, items by their indices, and how many there are.
-use Rattle.std.proofs.Common.{◌≡◌, ℕ, suc, ◌+◌, ◌-◌, ◌<◌, ℤ, pos, negsuc, unsigned_abs, ◌<ℤ◌, Bool, true, false, List, [], ◌∷◌, ◌++◌, Bor, Option, Some, None, Result, Ok, Err, Ordering, Less, Equal, Greater, inl, inr, ◌⊎◌, length, if◌then◌else◌, refl, sym, ap, subst, ◌∙◌, arith, append_assoc}
+use Rattle.std.proofs.Common.{◌≡◌, ℕ, suc, ◌+◌, ◌-◌, ◌<◌, ℤ, pos, negsuc, unsigned_abs, ◌<ℤ◌, Bool, true, false, List, [], ◌∷◌, ◌++◌, Bor, Option, Some, None, Result, Ok, Err, Ordering, Less, Equal, Greater, inl, inr, ◌⊎◌, if◌then◌else◌, refl, sym, ap, subst, ◌∙◌, arith, append_assoc}
 use Rattle.std.proofs.lemmas.Bool.{le-ltb, lt-ltb}
 use Rattle.std.proofs.lemmas.Int.{ints}
-use Rattle.std.proofs.lemmas.List.{length-append}
 use Rattle.std.proofs.lemmas.Map.Text.{is_eq-slice_cmp}
 use Rattle.std.specs.Cmp.Lexicographic.{slice_cmp, nat_list_cmp_total}
 use Rattle.std.specs.Option.{option_and_then}
@@ -13,8 +12,8 @@ use Rattle.key_value.proofs.Texts.{none_some, some_same}
 use Rattle.jsonb_spec.specs.PartAt.{child_at, part_at}
 use Rattle.key_walk.specs.declared.find.NoKey.{NoKey}
 use Rattle.key_walk.specs.declared.walk.Kind.TheVariants as kind
-use Rattle.key_walk.specs.Found.{count_of, item_back, item_from, open_len, Finds, IsLeftOf, IsNext, IsRange, PartOccurs}
-use Rattle.key_walk.specs.Open.{Open, items, members, is_object, open_key, IsOpen, end_key, name_key, IsScalar}
+use Rattle.key_walk.specs.Found.{item_back, item_from, open_len, Finds, IsLeftOf, IsNext, PartOccurs}
+use Rattle.key_walk.specs.Open.{Open, items, members, is_object, open_key, IsOpen, end_key, name_key}
 use Rattle.key_walk.specs.Parts.{kind_of_tree, opened_tree}
 use Rattle.key_walk.proofs.Finds.{Parent, readable_inside}
 use Rattle.key_walk.proofs.Opens.{no_end}
@@ -39,15 +38,6 @@ has_kind t r e = absurd r.within
 
 pub left_of : (t : Tree) (of_object : Bool) (rest more : List ℕ) → Parent t of_object rest more → IsLeftOf t of_object rest more
 left_of t of_object rest more p = record { all = p.open_there; whole = p.whole; is = p.is; fits = p.fits; occurs = p.occurs }
-
-pub scalar_count : (t : Tree) → IsScalar t → None ≡ count_of t
-scalar_count (array ts) s = absurd s
-scalar_count (object ms) s = absurd s
-scalar_count t s = refl
-
-pub open_count : (o : Open) → Some (open_len o) ≡ count_of (opened_tree o)
-open_count (items ts) = refl
-open_count (members ms) = refl
 
 -- ---- the parts that are left
 
@@ -81,9 +71,6 @@ pub record PartsLeft (o : Open) (of_object : Bool) (count : ℕ) (rest more : Li
 
 abbrev pub CountsParts : Bool → List ℕ → ℕ → List ℕ → Type 0
 CountsParts of_object bytes count rest = (o : Open) → is_object o ≡ of_object → IsOpen o 511 → (more : List ℕ) → bytes ≡ open_key o ++ more → PartsLeft o of_object count rest more
-
-pub count_begun : (of_object : Bool) (bytes : List ℕ) → CountsParts of_object bytes 0 bytes
-count_begun of_object bytes = λ o is fits more e. record { left = o; is = is; fits = fits; counted = omega arith; occurs = e }
 
 -- the first of what is left
 pub record PartHere (o : Open) (of_object : Bool) (count : ℕ) (rest more : List ℕ) : Type 0 where
@@ -143,10 +130,6 @@ pub found_some : (bytes rest : List ℕ) (x : Bor (List ℕ)) (p : Option Tree) 
 found_some bytes rest x None t e is s = absurd (none_some t e)
 found_some bytes rest x (Some u) t e is s = subst (λ r. PartOccurs bytes r u) (sym is) (subst (λ v. PartOccurs bytes rest v) (sym (some_same u t e)) s)
 
-pub says_none : (bytes : List ℕ) (p : Option Tree) → Finds bytes p (Ok None) → p ≡ None
-says_none bytes None f = refl
-says_none bytes (Some t) f = absurd f
-
 pub record SaysSome (bytes rest : List ℕ) (p : Option Tree) : Type 0 where
   pub part : Tree
   pub is : p ≡ Some part
@@ -155,10 +138,6 @@ pub record SaysSome (bytes rest : List ℕ) (p : Option Tree) : Type 0 where
 pub says_some : (bytes : List ℕ) (x : Bor (List ℕ)) (p : Option Tree) → Finds bytes p (Ok (Some x)) → SaysSome bytes x.now p
 says_some bytes x None f = absurd f
 says_some bytes x (Some t) f = record { part = t; is = refl; there = f }
-
-pub no_fault : (bytes : List ℕ) (e : NoKey) (p : Option Tree) → Finds bytes p (Err e) → ⊥
-no_fault bytes e None f = f
-no_fault bytes e (Some t) f = f
 
 -- the same behind the first byte
 pub found_behind : (bytes rest : List ℕ) (first : ℕ) (p : Option Tree) (r : Result (Option (Bor (List ℕ))) NoKey) → bytes ≡ first ∷ rest → Finds rest p r → Finds bytes p r
@@ -179,9 +158,6 @@ pub record NamesLeft (name text left rest more : List ℕ) : Type 0 where
 
 abbrev pub ComparesNames : List ℕ → List ℕ → List ℕ → List ℕ → Type 0
 ComparesNames name bytes left rest = (text more : List ℕ) → bytes ≡ text_key text ++ more → NamesLeft name text left rest more
-
-pub names_begun : (name bytes : List ℕ) → ComparesNames name bytes name bytes
-names_begun name bytes = λ text more e. record { tail = text; same = refl; occurs = e }
 
 pub equal_names : (name text : List ℕ) → bytes_eq name text ≡ is_eq (bytes_cmp name text)
 equal_names name text = sym (is_eq-slice_cmp name text)
@@ -207,9 +183,6 @@ pub record MembersHere (ms : Members) (name bytes rest more : List ℕ) : Type 0
 
 abbrev pub WalksMembers : List ℕ → List ℕ → List ℕ → Type 0
 WalksMembers bytes name rest = (ms : Members) → KeysAscend ms → HaveProperParts ms → HaveWithin IsAnyNumber ms 511 → (more : List ℕ) → bytes ≡ members_key ms ++ more → MembersHere ms name bytes rest more
-
-pub walk_begun : (bytes name : List ℕ) → WalksMembers bytes name bytes
-walk_begun bytes name = λ ms a p w more e. record { left = ms; ascend = a; proper = p; within = w; same = refl; before = []; inside = refl; occurs = e }
 
 -- the first of them
 pub record MemberHere (ms : Members) (name bytes rest more : List ℕ) : Type 0 where
@@ -313,9 +286,6 @@ pub record ItemsHere (ts : Trees) (index before : ℕ) (bytes rest more : List �
 abbrev pub WalksItems : List ℕ → ℕ → ℕ → List ℕ → Type 0
 WalksItems bytes index before rest = (ts : Trees) → AreProper ts → AreWithin IsAnyNumber ts 511 → (more : List ℕ) → bytes ≡ items_key ts ++ more → ItemsHere ts index before bytes rest more
 
-pub items_walk_begun : (bytes : List ℕ) (index : ℕ) → WalksItems bytes index index bytes
-items_walk_begun bytes index = λ ts p w more e. record { left = ts; proper = p; within = w; same = refl; passed = []; inside = refl; occurs = e }
-
 pub record ItemHere (ts : Trees) (index before : ℕ) (bytes rest more : List ℕ) : Type 0 where
   pub item : Tree
   pub readable : IsReadable item
@@ -403,24 +373,6 @@ path_walked t names left others name key part rest p first f = record {
   inner = f.part;
   there = inside_of key part rest p.inner f.part p.there f.there;
   same = p.same ∙ ap (λ l. part_at l p.inner) first ∙ ap (option_and_then (part_at others)) f.is;
-}
-
-pub path_missed : (t : Tree) (names left others : List (List ℕ)) (name key part : List ℕ) (p : PathHere t names left key part) → left ≡ name ∷ others → child_at name p.inner ≡ None → part_at names t ≡ None
-path_missed t names left others name key part p first none = p.same ∙ ap (λ l. part_at l p.inner) first ∙ ap (option_and_then (part_at others)) none
-
-pub path_ended : (t : Tree) (names left : List (List ℕ)) (key part : List ℕ) (p : PathHere t names left key part) → length left ≡ 0 → part_at names t ≡ Some p.inner
-path_ended t names [] key part p over = p.same
-path_ended t names (name ∷ left) key part p over = absurd (omega (arith, over))
-
--- ---- where parts are
-
-pub range_there : (key part : List ℕ) (t : Tree) (s : PartOccurs key part t) (offset size : ℕ) → offset + length part ≡ length key → size + length s.behind ≡ length part → IsRange key offset size (key_of t)
-range_there key part t s offset size o z = record {
-  before = s.before;
-  behind = s.behind;
-  occurs = s.inside ∙ ap (λ l. s.before ++ l) s.occurs;
-  offset_is = omega (arith, o, ap length s.inside, length-append s.before part);
-  size_is = omega (arith, z, ap length s.occurs, length-append (key_of t) s.behind);
 }
 
 -- ---- one part after the other

@@ -2,8 +2,7 @@
 use Rattle.std.proofs.Common.{◌≡◌, ◌≢◌, ℕ, zero, suc, ◌+◌, ◌<◌, ◌≤◌, ◌⊎◌, inl, inr, Bool, true, false, List, [], ◌∷◌, ◌++◌, Some, None, get_or, set, length, refl, sym, ap, subst, ◌∙◌, arith, append_assoc, append-nil}
 use Rattle.std.proofs.lemmas.List.{get_or-set_same, get_or-set_other}
 use Rattle.key_value.specs.Readable.{IsReadableAt}
-use Rattle.key_value.proofs.Items.{no_zero}
-use Rattle.key_value.proofs.Members.{no_pair}
+use Rattle.key_value.proofs.FirstBytes.{no_pair, no_zero}
 use Rattle.key_walk.specs.Open.{Open, items, members, is_object, open_key, IsOpen, end_key, name_key}
 use Rattle.key_walk.specs.Steps.{AreOpen, Stacks, opens_key}
 use Rattle.jsonb_spec.specs.SortKey.{key_of}
@@ -167,7 +166,3 @@ part_there objects depth top rest more object below is_top l none = elim (end_or
   | inl x ↦ absurd (none_some (opens_key x.under ++ more) (none (opens_key x.under ++ more) x.occurs))
   | inr n ↦ n
 ]
-
--- what is left behind the name
-abbrev pub behind_name : (objects : List Bool) (depth : ℕ) (rest more : List ℕ) (object : Bool) → Next objects depth rest more object → List ℕ
-behind_name objects depth rest more object n = opens_key (n.others ∷ n.under) ++ more

@@ -1,5 +1,5 @@
 -- Parts at paths that are read a name at a time.
-use Rattle.std.proofs.Common.{◌≡◌, ℕ, List, [], ◌∷◌, ◌++◌, Bor, Option, Some, None, Result, Ok, Err, IsUtf8, eqb, false, length, true≢false, refl, sym, ap, subst, ◌∙◌, append-nil}
+use Rattle.std.proofs.Common.{◌≡◌, ℕ, List, [], ◌∷◌, ◌++◌, Bor, Option, Some, None, Result, Ok, Err, IsUtf8, eqb, false, length, true≢false, refl, sym, ap, subst, ◌∙◌}
 use Rattle.std.specs.List.{AllByRecursion}
 use Rattle.std.specs.Option.{option_and_then}
 use Rattle.key_value.specs.Readable.{IsReadable}
@@ -52,11 +52,6 @@ plain_name_read path rest others key text name found next p first plain is_text 
   texts = last_text p.names name p.texts is_text;
   finds = λ t r more e. subst (λ part. Finds key part next) (sym (last_name p.names name t)) (child key (part_at p.names t) (p.finds t r more e));
 }
-
--- all of the path is read
-pub plain_path : (path rest key : List ℕ) (found : Result (Option (Bor (List ℕ))) NoKey) → PathSoFar path rest key found → rest ≡ [] → (names : List (List ℕ)) × IsPath path names
-plain_path path rest key found p over =
-    (p.names, record { texts = p.texts; encoded = p.reads.encoded ∙ ap (λ l. encoded_keys p.names ++ l) over ∙ append-nil (encoded_keys p.names) })
 
 pub plain_path_found : (path rest key : List ℕ) (found : Result (Option (Bor (List ℕ))) NoKey) → PathSoFar path rest key found → rest ≡ [] → (t : Tree) → IsReadable t → (more : List ℕ) → key ≡ key_of t ++ more → (names : List (List ℕ)) → IsPath path names → Finds key (part_at names t) found
 plain_path_found path rest key found p over = λ t r more e names is_path.

@@ -39,7 +39,7 @@ word_skipped depth t r s first rest bytes more e occurs (inl is) = (one_byte dep
 word_skipped depth t r s first rest bytes more e occurs (inr (inl is)) = (one_byte depth t r first rest bytes more e occurs 22 is (λ head low high h. omega (arith, low, h))).1
 word_skipped depth t r s first rest bytes more e occurs (inr (inr (inl is))) =
     let n = number_there depth t r first rest bytes more e occurs (λ h. absurd (omega (arith, is, h))) (λ h. absurd (omega (arith, is, h))) (λ h. absurd (omega (arith, is, h))) (λ h. absurd (omega (arith, is, h))) (λ h. absurd (omega (arith, is, h))) (λ h. absurd (omega (arith, is, h))) in
-    (zero_read n.0 n.1 first rest bytes more e is n.2).1
+    zero_read n.0 n.1 first rest bytes more e is n.2
 word_skipped depth t r s first rest bytes more e occurs (inr (inr (inr is))) = (one_byte depth t r first rest bytes more e occurs 211 is (λ head low high h. omega (arith, high, h))).1
 
 -- what is left of an array or an object that begins is well-formed one level further in

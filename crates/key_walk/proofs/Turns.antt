@@ -128,9 +128,6 @@ reported_is b B (Err e) reported = absurd reported
 pub no_ok : {A : Type 0} (e : NoKey) (x : A) → ◌≡◌ {A = Result A NoKey} (Err e) (Ok x) → ⊥
 no_ok e x is = cc
 
-pub one_answer_reported : (a b : Bool) → ◌≡◌ {A = Result Bool NoKey} (Ok a) (Ok b) → a ≡ b
-one_answer_reported a b e = cc
-
 -- ---- at the top
 
 pub whole_left : (key bytes : List ℕ) → key ≡ bytes → IsLeft key key bytes

@@ -4,7 +4,6 @@ use Rattle.std.specs.Borrow.{Bor}
 use Rattle.std.specs.declared.cmp.Ordering.{Ordering}
 use Rattle.std.specs.declared.cmp.Ordering.TheVariants.{Equal}
 use Rattle.key_value.specs.Readable.{IsAnyNumber, IsReadable}
-use Rattle.jsonb_spec.specs.PartAt.{IsAt, IsChild}
 use Rattle.jsonb_spec.specs.Proper.{AreProper, HaveProperParts}
 use Rattle.jsonb_spec.specs.Order.{bytes_cmp}
 use Rattle.jsonb_spec.specs.SortKey.{items_key, key_of, members_key, text_key}
@@ -14,7 +13,6 @@ use Rattle.jsonb_spec.specs.Tree.{Members, Tree, Trees}
 use Rattle.key_walk.specs.declared.find.NoKey.{NoKey}
 use Rattle.key_walk.specs.Found.{Finds}
 use Rattle.key_walk.specs.Open.{Open, end_key, is_object, open_key, IsOpen}
-use Rattle.key_walk.specs.Parts.{ChildAt, IsKeyAt, OccursAt}
 
 -- Whichever value's key the bytes begin with, this is so of the value, and of the bytes behind its key.
 abbrev pub AtKey : List ℕ → (Tree → List ℕ → Type 0) → Type 0
@@ -58,18 +56,6 @@ Splits result part more = MatchOption result ⊥ (λ r. (r.0.now ≡ part) × (r
 abbrev pub SplitsNamed : Option (Bor (List ℕ) × Bor (List ℕ) × Bor (List ℕ)) → List ℕ → List ℕ → List ℕ → Type 0
 SplitsNamed result name part more =
     MatchOption result ⊥ (λ r. (r.0.now ≡ name) × (r.1.now ≡ part) × (r.2.now ≡ more))
-
--- The bytes from the member of that name on, or from the item of that index on, or nothing where there is none.
-abbrev pub FindsChild : Tree → List ℕ → Option (Bor (List ℕ)) → Type 0
-FindsChild t name result = MatchOption result ((u : Tree) → IsChild t name u → ⊥) (λ rest. ChildAt t name rest.now)
-
--- The bytes from the part at the path of these names on, or nothing where there is none.
-abbrev pub FindsAt : Tree → List (List ℕ) → Option (Bor (List ℕ)) → Type 0
-FindsAt t names result = MatchOption result ((u : Tree) → IsAt t names u → ⊥) (λ rest. OccursAt t names rest.now)
-
--- The key of the part at the path of these names, or nothing where there is none.
-abbrev pub FindsKeyAt : Tree → List (List ℕ) → Option (Bor (List ℕ)) → Type 0
-FindsKeyAt t names result = MatchOption result ((u : Tree) → IsAt t names u → ⊥) (λ part. IsKeyAt t names part.now)
 
 -- What is found is no longer than these bytes.
 abbrev pub FindsWithin : List ℕ → Result (Option (Bor (List ℕ))) NoKey → Type 0

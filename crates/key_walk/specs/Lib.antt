@@ -3,7 +3,6 @@ pub mod Found
 pub mod Checked
 pub mod Frames
 pub mod Fronts
-pub mod KeyView
 pub mod Open
 pub mod Parts
 pub mod Steps

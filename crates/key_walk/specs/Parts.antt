@@ -1,10 +1,8 @@
 -- Parts of values, found in their keys.
-use Rattle.std.specs.Prelude.{◌≡◌, ◌≢◌, ℕ, ◌≤◌, ◌⊎◌, List, ◌∷◌, ◌++◌, Option, Some, None}
-use Rattle.jsonb_spec.specs.PartAt.{IsChild, IsAt}
+use Rattle.std.specs.Prelude.{◌≡◌, ◌≢◌, ℕ, ◌≤◌, ◌⊎◌, List, ◌∷◌, Option, Some, None}
 use Rattle.key_walk.specs.declared.walk.Kind.{Kind}
 use Rattle.key_walk.specs.declared.walk.Kind.TheVariants as variants
 use Rattle.key_walk.specs.Open.{Open, items, members}
-use Rattle.jsonb_spec.specs.SortKey.{key_of}
 use Rattle.jsonb_spec.specs.SortKey.Kind as kind
 use Rattle.jsonb_spec.specs.Tree.{Tree, null, boolean, string, number, array, object}
 
@@ -39,29 +37,3 @@ BeginsNoKey bytes = (first : ℕ) → (rest : List ℕ) → bytes ≡ first ∷ 
 abbrev pub opened_tree : Open → Tree
 opened_tree (items ts) = array ts
 opened_tree (members ms) = object ms
-
--- The bytes begin with the key of the member of that name, or of the item of that index.
-pub record ChildAt (t : Tree) (name rest : List ℕ) : Type 0 where
-  pub child : Tree
-  pub is : IsChild t name child
-  pub behind : List ℕ
-  pub occurs : rest ≡ key_of child ++ behind
-
--- The bytes begin with the key of the part at the path of these names.
-pub record OccursAt (t : Tree) (names : List (List ℕ)) (rest : List ℕ) : Type 0 where
-  pub part : Tree
-  pub at : IsAt t names part
-  pub behind : List ℕ
-  pub occurs : rest ≡ key_of part ++ behind
-
--- The bytes are the key of the member of that name, or of the item of that index.
-pub record IsKeyOfChild (t : Tree) (name key : List ℕ) : Type 0 where
-  pub child : Tree
-  pub is : IsChild t name child
-  pub is_key : key ≡ key_of child
-
--- The bytes are the key of the part at the path of these names.
-pub record IsKeyAt (t : Tree) (names : List (List ℕ)) (key : List ℕ) : Type 0 where
-  pub part : Tree
-  pub at : IsAt t names part
-  pub is_key : key ≡ key_of part

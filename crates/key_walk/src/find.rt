@@ -69,12 +69,8 @@ pub fn count_parts(key: &[u8]) -> Result<Option<usize>, NoKey>
     Ok(Some(count))
 }
 
-/// How many parts are before the end of the object or the array.
-///
-/// # Errors
-///
-/// `NoKey` where a part's key or the end is missing.
-pub(crate) fn count_left(object: bool, bytes: &[u8]) -> Result<usize, NoKey>
+// How many parts are before the end of the object or the array.
+fn count_left(object: bool, bytes: &[u8]) -> Result<usize, NoKey>
     ensures counted { AtParts object bytes.now (λ o more. result ≡ Ok (open_len o)) }
     ensures within { IfOk result (λ count. count ≤ length bytes.now) }
 {
@@ -193,7 +189,7 @@ fn child_of<'k>(
 
 // The bytes from the member of that name on, or from the item of that index on.
 #[inline(always)]
-pub(crate) fn find_child<'k>(key: &'k [u8], name: &str) -> Result<Option<&'k [u8]>, NoKey>
+fn find_child<'k>(key: &'k [u8], name: &str) -> Result<Option<&'k [u8]>, NoKey>
     ensures finds { FindsPart key.now (child_at name.now) result }
 {
     if name.len() <= SHORT {

@@ -3,12 +3,10 @@
 
 mod ascii;
 pub mod check;
-pub mod checked;
 mod containment;
 mod digits;
 pub mod find;
 pub mod names;
-pub mod part;
 pub mod pass;
 pub mod skip;
 pub mod steps;
@@ -16,7 +14,6 @@ pub mod text;
 pub mod walk;
 
 pub use check::is_sort_key;
-pub use checked::{Items, Key, Members};
 pub use containment::contains;
 pub use find::{
     NoKey, count_parts, find_item, find_member, find_part, find_plain_part, next_part, open_key,

@@ -7,7 +7,7 @@
 //! | one text, which is accepted | `ok`, its tree, its serialized form in hexadecimal, and `same` or `differs` |
 //! | one text, which is rejected | `no` and the printed error, in hexadecimal; and `differs` where the value of the text, or a text that is checked or appended straight, is rejected otherwise, or the buffer changes |
 //! | two texts, which are accepted | `less`, `equal` or `greater`; `differs` where their sort keys compare otherwise |
-//! | a text for its key | `ok`, the sort key in hexadecimal, and `differs` where the key's value isn't equal, or where the key that is appended straight is another; or `no` as above |
+//! | a text for its key | `ok`, the sort key in hexadecimal, and `differs` where the text of the key has another value, or where the key that is appended straight is another; or `no` as above |
 //! | contents | `ok` and their text in hexadecimal, or `no` as above; and the offset that `parse_string` leaves |
 //! | one number | its text, `as_i128`, `as_i64`, `as_u64`, `to_i128`, `to_i64`, `to_u64`, `neg`, and its sort key |
 //! | two numbers | their order, their sum, difference, product and remainder |
@@ -23,6 +23,7 @@
 use crate::same::are_same;
 use crate::{numbers, straight, tree};
 use jsonb::{Error, Grammar, JsonAst, Value};
+use key_text::write_text_of_key;
 use std::alloc::{AllocError, Global};
 use std::cmp::Ordering;
 
@@ -68,11 +69,12 @@ fn of_key(alloc: Global, text: &str) -> Result<String, AllocError> {
     }
 }
 
-// The sort key of a text's value, and whether the key is decoded as an equal value and is appended straight too.
+// The sort key of a text's value, and whether the text of the key has an equal value, and the key that is appended
+// straight is the same.
 fn sort_key(alloc: Global, text: &[u8]) -> jsonb::Result<(Vec<u8>, bool)> {
     let value = jsonb::parse_value(alloc, text)?;
     let key = key_of_value(alloc, &value)?;
-    let agrees = decodes(alloc, &key, &value)?
+    let agrees = has_text(alloc, &key, text)?
         && straight::gives_key(alloc, Grammar::Extended, text, &key)?;
     Ok((key, agrees))
 }
@@ -83,18 +85,14 @@ fn key_of_value(alloc: Global, value: &Value<'_>) -> jsonb::Result<Vec<u8>> {
     Ok(key)
 }
 
-// Whether the key is decoded as a value that is equal to an owned copy of this one.
-fn decodes(alloc: Global, key: &[u8], value: &Value<'_>) -> jsonb::Result<bool> {
-    let owned = value.to_owned_value(alloc)?;
-    Ok(is_key_of(alloc, key, &owned))
-}
-
-// Whether the key is decoded as an equal value.
-fn is_key_of(alloc: Global, key: &[u8], value: &Value<'static>) -> bool {
-    match key_value::value_of_sort_key(alloc, key) {
-        Ok(decoded) => decoded == *value,
-        Err(_) => false,
+// Whether the text of the key has a value that is equal to the one of this text.
+fn has_text(alloc: Global, key: &[u8], text: &[u8]) -> jsonb::Result<bool> {
+    let mut written = Vec::new(alloc);
+    if write_text_of_key(key, &mut written).is_err() {
+        return Ok(false);
     }
+    let order = order_of_values(alloc, Grammar::Extended, &written, text)?;
+    Ok(order == Ordering::Equal)
 }
 
 fn of_body(alloc: Global, body: &str) -> Result<String, AllocError> {

@@ -5,7 +5,8 @@
 use crate::{documents, numbers};
 use jsonb::{Error, Grammar, JsonAst, Result, Value, append_part};
 use jsonb_path::read_keys;
-use key_value::{KeyError, value_of_sort_key};
+use key_text::write_text_of_key;
+use key_value::KeyError;
 use std::alloc::Global;
 use std::borrow::CowStr;
 use std::io;
@@ -56,7 +57,7 @@ fn report_text<W: Write>(alloc: Global, mode: Grammar, text: &[u8], out: &mut W)
     say(out, "tree_clone", tree_clone(alloc, mode, text))?;
     say(out, "straight", straight(alloc, mode, text))?;
     say(out, "straight_key", straight_key(alloc, mode, text))?;
-    say(out, "decoded", text_of_key(alloc, mode, text))?;
+    say(out, "key_text", text_from_key(alloc, mode, text))?;
     say(out, "cut_key", cut_key(alloc, mode, text))?;
     say(out, "indented", indented_text(alloc, mode, text))?;
     say(out, "part", part(alloc, mode, text, b"/1/a"))?;
@@ -144,26 +145,30 @@ pub fn bytes_or_error(alloc: Global, done: Result<()>, buffer: Vec<u8>) -> Resul
     }
 }
 
-// The text of what the sort key is decoded as.
-fn text_of_key(alloc: Global, mode: Grammar, text: &[u8]) -> Result<Vec<u8>> {
+// The text of the sort key, behind what the buffer held.
+fn text_from_key(alloc: Global, mode: Grammar, text: &[u8]) -> Result<Vec<u8>> {
     let mut key = Vec::new(alloc);
     read(alloc, mode, text)?.write_sort_key(&mut key)?;
-    value_of(alloc, &key)
+    text_of_key(alloc, &key)
 }
 
-// What a sort key without its last byte is decoded as.
+// The text of a sort key without its last byte.
 fn cut_key(alloc: Global, mode: Grammar, text: &[u8]) -> Result<Vec<u8>> {
     let mut key = Vec::new(alloc);
     read(alloc, mode, text)?.write_sort_key(&mut key)?;
     let _last = key.pop();
-    value_of(alloc, &key)
+    text_of_key(alloc, &key)
 }
 
-fn value_of(alloc: Global, key: &[u8]) -> Result<Vec<u8>> {
-    match value_of_sort_key(alloc, key) {
-        Ok(value) => text_of(alloc, &value),
-        Err(KeyError::Invalid) => Ok(Vec::from_slice(alloc, b"no key")?),
-        Err(KeyError::OutOfMemory) => Err(Error::OutOfMemory),
+fn text_of_key(alloc: Global, key: &[u8]) -> Result<Vec<u8>> {
+    let mut buffer = Vec::from_slice(alloc, b"x")?;
+    match write_text_of_key(key, &mut buffer) {
+        Ok(()) => Ok(buffer),
+        Err(KeyError::Invalid) if &buffer[..] == b"x".as_slice() => {
+            Ok(Vec::from_slice(alloc, b"no key")?)
+        }
+        Err(KeyError::Invalid) => Ok(Vec::from_slice(alloc, b"the buffer has changed")?),
+        Err(KeyError::OutOfMemory) => bytes_or_error(alloc, Err(Error::OutOfMemory), buffer),
     }
 }
 

@@ -20,7 +20,7 @@ returns-in_err-extend_from_slice-clause-found c = λ n proper more e.
 pub returns-then-first-clause-found : goal.returns-then-first-clause-found
 returns-then-first-clause-found c = λ n proper more e.
     let zero_text = zero_is n (zero_there n proper c.in-Some.first.now c.in-Some.others.now c.args.bytes.now more c.in-Some.ensures.cases.0 c.if-first.true e) in
-    ((zero_read n proper c.in-Some.first.now c.in-Some.others.now c.args.bytes.now more c.in-Some.ensures.cases.0 c.if-first.true e).1, c.in_ok-extend_from_slice.ensures.items ∙ ap (λ t. c.args.buf.now.items ++ t) (sym zero_text))
+    (zero_read n proper c.in-Some.first.now c.in-Some.others.now c.args.bytes.now more c.in-Some.ensures.cases.0 c.if-first.true e, c.in_ok-extend_from_slice.ensures.items ∙ ap (λ t. c.args.buf.now.items ++ t) (sym zero_text))
 
 pub returns-in_default-read_exponent-clause-found : goal.returns-in_default-read_exponent-clause-found
 returns-in_default-read_exponent-clause-found c = λ n proper more e.

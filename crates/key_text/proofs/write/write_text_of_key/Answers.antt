@@ -4,7 +4,7 @@ use Rattle.jsonb_spec.specs.Grammar.{max_depth}
 use Rattle.key_text.specs.FewestDigits.{with_fewest_digits}
 use Rattle.key_text.proofs.Documents.{document_appended}
 use Rattle.key_text.proofs.Whole.{appended, key_retained, no_counts, readable_retained}
-use Rattle.key_walk.proofs.CheckedKeys.{key_readable}
+use Rattle.key_walk.proofs.InRange.{key_readable}
 use Rattle.key_text.proofs.write.write_text_of_key.Goals as goal
 
 -- that of the value with the fewest digits, which has this key and no zeros

@@ -3,7 +3,7 @@ use Rattle.jsonb_spec.specs.SortKey.{key_of}
 use Rattle.jsonb_spec.specs.Text.{tree_text}
 use Rattle.key_text.specs.Counts.{counts_at}
 use Rattle.key_text.proofs.Counts.{all_due}
-use Rattle.key_value.specs.declared.key.KeyError.TheVariants.{Invalid, OutOfMemory}
+use Rattle.key_value.specs.declared.error.KeyError.TheVariants.{Invalid, OutOfMemory}
 use Rattle.key_text.proofs.write.write_text_with.Goals as goal
 
 pub returns-then-is_empty-clause-ok : goal.returns-then-is_empty-clause-ok

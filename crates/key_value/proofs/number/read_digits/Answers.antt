@@ -1,7 +1,6 @@
-use Rattle.std.proofs.Common.{◌+◌, ◌/◌, arith, refl, rules, subst, sym}
-use Rattle.key_value.specs.Reading.{DigitsRead, ReadsDigits}
-use Rattle.key_value.proofs.Numbers.{last_none, last_some, pair_within, pair_small, pair_read, not_over}
-use Rattle.key_value.proofs.Exact.{one_pair_read, last_pair_read}
+use Rattle.std.proofs.Common.{◌+◌, ◌/◌, arith, refl, subst, sym}
+use Rattle.key_value.specs.Reading.{ReadsDigits}
+use Rattle.key_value.proofs.Numbers.{last_none, last_some, pair_within, pair_read, not_over}
 use Rattle.key_value.proofs.number.read_digits.Goals as goal
 
 pub returns-in_err-digits-clause-found : goal.returns-in_err-digits-clause-found
@@ -14,7 +13,7 @@ returns-clause-found c = λ C M below some high few more e.
 
 pub returns-then-byte-eq0-clause-found : goal.returns-then-byte-eq0-clause-found
 returns-then-byte-eq0-clause-found c = λ C M below some high few more e.
-    last_some c.args.negative c.args.bytes.now c.pairs.digits c.pairs.count c.pairs.rest.now c.in-Some.byte.now c.in-Some.others.now c.invert_if-byte.result c.pairs.invariant.reads c.in-Some.ensures.cases.0 c.invert_if-byte.ensures C M below some high few more e c.if-byte-eq0.true (c.invert_if-byte.result / 2) c.in_ok-digits.digits c.in_ok-digits.last refl c.in_ok-digits.ensures
+    (last_some c.args.negative c.args.bytes.now c.pairs.digits c.pairs.count c.pairs.rest.now c.in-Some.byte.now c.in-Some.others.now c.invert_if-byte.result c.pairs.invariant.reads c.in-Some.ensures.cases.0 c.invert_if-byte.ensures C M below some high few more e c.if-byte-eq0.true (c.invert_if-byte.result / 2) c.in_ok-digits.digits c.in_ok-digits.last refl c.in_ok-digits.ensures).0
 
 pub returns-in_err-checked_mul-clause-found : goal.returns-in_err-checked_mul-clause-found
 returns-in_err-checked_mul-clause-found c = λ C M below some high few more e.
@@ -30,33 +29,19 @@ pub pairs-preserved : goal.pairs-preserved
 pairs-preserved c = record {
   reads = λ C M below some high few more e.
       pair_read c.args.negative c.args.bytes.now c.pairs.digits c.pairs.count c.pairs.rest.now c.in-Some.byte.now c.in-Some.others.now c.invert_if-byte.result c.pairs.invariant.reads c.in-Some.ensures.cases.0 c.invert_if-byte.ensures C M below some high few more e c.if-byte-eq0.false (c.invert_if-byte.result / 2) c.in_ok-digits-2.digits (c.pairs.count + 2) refl (omega (arith, c.in_ok-digits-2.ensures, c.in_ok-checked_mul.ensures, c.from.ensures)) refl;
-  read = one_pair_read c.args.negative c.args.bytes.now c.pairs.digits c.pairs.count c.pairs.rest.now c.in-Some.others.now c.in-Some.byte.now c.invert_if-byte.result (c.invert_if-byte.result / 2) c.in_ok-digits-2.digits c.pairs.invariant.read c.in-Some.ensures.cases.0 (search rules) c.invert_if-byte.ensures refl c.if-byte-eq0.false (omega (arith, c.if-pair-gt99.false)) (omega (arith, c.in_ok-digits-2.ensures, c.in_ok-checked_mul.ensures, c.from.ensures));
-  within = omega (arith, c.in-Some.ensures.cases.1, c.pairs.invariant.within);
   few = omega (arith, c.if-count-gt38.false);
 }
 
-pub returns-then-byte-eq0-clause-read : goal.returns-then-byte-eq0-clause-read
-returns-then-byte-eq0-clause-read c =
-    let read = last_pair_read c.args.negative c.args.bytes.now c.pairs.digits c.pairs.count c.pairs.rest.now c.in-Some.others.now c.in-Some.byte.now c.invert_if-byte.result (c.invert_if-byte.result / 2) c.in_ok-digits.digits c.in_ok-digits.last c.pairs.invariant.read c.in-Some.ensures.cases.0 (search rules) c.invert_if-byte.ensures refl c.if-byte-eq0.true c.in_ok-digits.ensures in
-    record {
-      occurs = read.0;
-      shorter = omega (arith, c.in-Some.ensures.cases.1, c.pairs.invariant.within);
-      below = read.1;
-      few = omega (arith, c.pairs.invariant.few, c.in_ok-digits.ensures.few);
-      fewest = c.in_ok-digits.ensures.not_zero;
-    }
+pub returns-then-byte-eq0-clause-last : goal.returns-then-byte-eq0-clause-last
+returns-then-byte-eq0-clause-last c = c.in_ok-digits.ensures.not_zero
 
-pub returns-then-pair-gt99-clause-found : goal.returns-then-pair-gt99-clause-found
-returns-then-pair-gt99-clause-found c = λ C M below some high few more e.
-    let small = pair_small c.args.negative c.args.bytes.now c.pairs.digits c.pairs.count c.pairs.rest.now c.in-Some.byte.now c.in-Some.others.now c.invert_if-byte.result c.pairs.invariant.reads c.in-Some.ensures.cases.0 c.invert_if-byte.ensures C M below some high few more e c.if-byte-eq0.false (c.invert_if-byte.result / 2) refl in
-    absurd (omega (arith, small, c.if-pair-gt99.true))
+pub returns-then-byte-eq0-clause-few : goal.returns-then-byte-eq0-clause-few
+returns-then-byte-eq0-clause-few c = omega (arith, c.pairs.invariant.few, c.in_ok-digits.ensures.few)
 
 pub pairs-init : goal.pairs-init
 pairs-init c =
     let front = c.read_front-front.result in
     record {
       reads = subst (λ d. ReadsDigits c.args.negative c.args.bytes.now d front.1 front.2.now) (sym c.from-digits.ensures) c.read_front-front.ensures.reads;
-      read = subst (λ d. DigitsRead c.args.negative c.args.bytes.now d front.1 front.2.now) (sym c.from-digits.ensures) c.read_front-front.ensures.read;
-      within = c.read_front-front.ensures.shorter;
       few = omega (arith, c.read_front-front.ensures.few);
     }

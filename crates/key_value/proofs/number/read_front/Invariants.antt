@@ -1,12 +1,12 @@
-use Rattle.std.proofs.Common.{◌≤◌, length}
-use Rattle.key_value.specs.Reading.{DigitsRead, ReadsDigits}
+use Rattle.std.proofs.Common.{◌^◌, ◌<◌, ◌≤◌, length}
+use Rattle.key_value.specs.Reading.{ReadsDigits}
 use Rattle.key_value.proofs.number.read_front.Given as goal
 
 -- what was read is before what is left
 abbrev pub invariant-pairs : goal.invariant-pairs
 invariant-pairs l = record {
   reads : ReadsDigits l.negative l.bytes l.digits l.count l.rest;
-  read : DigitsRead l.negative l.bytes l.digits l.count l.rest;
+  below : l.digits < 10 ^ l.count;
   within : length l.rest ≤ length l.bytes;
   few : l.count ≤ 16;
 }

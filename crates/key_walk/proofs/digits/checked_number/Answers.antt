@@ -1,10 +1,10 @@
 use Rattle.std.proofs.Common.{rules, arith, unsigned_abs, ◌∙◌}
 use Rattle.std.specs.Bool.{nat_lt}
-use Rattle.key_value.proofs.Signs.{some_bytes}
+use Rattle.key_value.proofs.Signs.{exponent_there, some_bytes}
 use Rattle.key_value.proofs.Texts.{none_some, some_pair}
 use Rattle.key_walk.specs.Frames.{NumberFirst}
 use Rattle.key_walk.proofs.Checks.{never, exactly}
-use Rattle.key_walk.proofs.NumberEnds.{few_digits, number_ends, number_read, number_there, exponent_there}
+use Rattle.key_walk.proofs.NumberEnds.{few_digits, number_ends, number_read, number_there}
 use Rattle.key_walk.proofs.digits.checked_number.Goals.{then-exponent-via-then-exponent, then-exponent-via-else-exponent+then-exponent-count}
 use Rattle.key_walk.proofs.digits.checked_number.Goals as goal
 

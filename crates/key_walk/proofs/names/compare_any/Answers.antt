@@ -1,4 +1,4 @@
-use Rattle.key_value.proofs.Members.{no_pair}
+use Rattle.key_value.proofs.FirstBytes.{no_pair}
 use Rattle.key_walk.proofs.names.compare_any.Goals as goal
 
 pub returns-then-is_over-clause-compares : goal.returns-then-is_over-clause-compares

@@ -1,6 +1,6 @@
 use Rattle.std.proofs.Common.{◌≡◌, ◌/◌, ◌^◌, ◌++◌, List, ℕ, drop, arith, subst}
 use Rattle.jsonb_spec.specs.SortKey.{text_key}
-use Rattle.key_value.proofs.Members.{no_pair}
+use Rattle.key_value.proofs.FirstBytes.{no_pair}
 use Rattle.key_walk.proofs.Fronts.{AreBytes, name_above, name_below, name_same, name_there, word_front}
 use Rattle.key_walk.proofs.KeyFronts.{name_bytes}
 use Rattle.key_walk.specs.Fronts.{IsFront, IsKeyFront, number_of}
