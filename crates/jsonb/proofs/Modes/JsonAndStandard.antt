@@ -21,9 +21,9 @@ use Rattle.text_scan.specs.Parsing.Number.{IsNumberBoundary, standard_number_at}
 use Rattle.text_scan.specs.Parsing.Scalar.{begins_number, key_at, number_value_at, other_scalar_at, quoted_at, scalar_at}
 use Rattle.text_scan.specs.Parsing.Whitespace.{skip_closed_whitespace, skip_whitespace}
 use Rattle.text_scan.proofs.Containers.JoinedParts.{Ends, IsShown, Starts, ends-piece, ends-whitespace, ends_at, length-joined, joined-skip, on_byte-none, on_byte-other, other, padded_complete, skip-padded, skip-starts, starts-append}
-use Rattle.text_scan.proofs.Numbers.ExactNumbers.{json_sound, json_complete}
+use Rattle.text_scan.proofs.Numbers.Read.{number_complete_of, number_faults_of, number_sound_of}
 use Rattle.text_scan.proofs.Numbers.Reading.{not_representable, no_number}
-use Rattle.text_scan.proofs.Numbers.Standard.{number_sound, number_faults, standard_is_text}
+use Rattle.text_scan.proofs.Numbers.Standard.{standard_is_text}
 use Rattle.text_scan.proofs.Text.Whitespace.{pass-whitespace, pass-stop, skip-skip, skip-stop, skip-whitespace}
 use Rattle.text_parse.proofs.Containers.Values.{IsValueComplete, member_skip, value_is_complete}
 use Rattle.text_parse.proofs.Scalars.Encodings.{Follows, no_more, before, break_ends, key_complete, number_opens}
@@ -83,14 +83,14 @@ same_front front core back rest joined ends =
 
 number_goes : (size : ℕ) (core rest : List ℕ) (n : Num) → IsJsonNumber core n → IsNumberBoundary rest → (r : Parse Num) → standard_number_at size (core ++ rest) ≡ r → ((m : Num) × IsStandardNumber core m) ⊎ Stops r
 number_goes size core rest n is ends (Ok (m, after)) at =
-    let s = number_sound size (core ++ rest) m after at in
-    let j = json_sound size (core ++ rest) n rest (json_complete size core rest n is ends) in
+    let s = number_sound_of size standard (core ++ rest) m after at in
+    let j = number_sound_of size json (core ++ rest) n rest (number_complete_of size json core rest n is ends) in
     let same : length after ≡ length rest =
     ⊎_elim (λ less. absurd (j.longest s.core after s.joined less (standard_is_text s.core m s.number)))
     (λ most. ⊎_elim (λ less. absurd (s.longest core rest refl less is.0)) (λ least. omega (arith, most, least)) (cases_lt (length rest) (length after))) (cases_lt (length after) (length rest)) in
     inl (m, subst (λ c. IsStandardNumber c m) (same_front s.core core after rest (sym s.joined) same) s.number)
 number_goes size core rest n is ends (Err f) at =
-    elim (number_faults size (core ++ rest) f at) [
+    elim (number_faults_of size standard (core ++ rest) f at) [
       | not_representable code read ↦ inr (f.offset, λ i. Err (record { code = code i; offset = f.offset }))
       | no_number code none ↦ absurd (none core rest refl is.0 ends)
     ]

@@ -12,7 +12,8 @@ use Rattle.text_scan.specs.Parsing.ExactNumber.{exact_at, exact_to, extended_jso
 use Rattle.text_scan.specs.Parsing.ExtendedNumber.{scanned_to}
 use Rattle.text_scan.specs.Parsing.Number.{End, digits_from, integer_at, number_to, representable_at, standard_end, standard_number_at, then_from, fraction_from, exponent_from, whole_from, whole_start}
 use Rattle.text_scan.specs.Parsing.Scalar.{number_at}
-use Rattle.text_scan.proofs.Numbers.ExactNumbers.{json_faults, json_sound, json_unique}
+use Rattle.text_scan.proofs.Numbers.ExactNumbers.{json_unique}
+use Rattle.text_scan.proofs.Numbers.Read.{number_faults_of, number_sound_of}
 use Rattle.text_scan.proofs.Numbers.Reading.{FaultRead, no_number, not_representable}
 use Rattle.text_scan.proofs.Steps.Tests.{same_read}
 use Rattle.text_parse.specs.Grammars.{exact_scan, takes_exponents}
@@ -82,11 +83,11 @@ module _ (size : ℕ) (bytes core rest : List ℕ) (n value : Num) (joined : byt
   by_number : (end : ℕ) (o : Option Num) → standard_end bytes ≡ Ok end → exact_at bytes end ≡ o → drop end bytes ≡ rest → representable_at size (drop end bytes) o ≡ Ok (value, rest)
   unfolding json_number_at
   by_number end (Some m) stops is left =
-      let s = json_sound size bytes m rest (ap (λ (r : End). scanned_to size bytes (exact_to bytes r)) stops ∙ ap (representable_at size (drop end bytes)) is ∙ ap (λ (r : List ℕ). Ok (m, r)) left) in
+      let s = number_sound_of size json bytes m rest (ap (λ (r : End). scanned_to size bytes (exact_to bytes r)) stops ∙ ap (representable_at size (drop end bytes)) is ∙ ap (λ (r : List ℕ). Ok (m, r)) left) in
       let same : s.core ≡ core = front_same s.core core rest rest (sym s.joined ∙ joined) refl in
       ap₂ (λ (k : Num) (r : List ℕ). Ok (k, r)) (json_unique core m value (subst (λ c. IsJsonNumber c m) same s.number) number) left
   by_number end None stops is left =
-      absurd (no_fault end left (json_faults (length bytes) bytes _ (ap (λ (r : End). scanned_to (length bytes) bytes (exact_to bytes r)) stops ∙ ap (representable_at (length bytes) (drop end bytes)) is)))
+      absurd (no_fault end left (number_faults_of (length bytes) json bytes _ (ap (λ (r : End). scanned_to (length bytes) bytes (exact_to bytes r)) stops ∙ ap (representable_at (length bytes) (drop end bytes)) is)))
 
   by_end : (r : End) → standard_end bytes ≡ r → number_to size bytes r ≡ Ok (n, rest) → scanned_to size bytes (exact_to bytes r) ≡ Ok (value, rest)
   by_end (Ok end) stops at = by_number end (exact_at bytes end) stops refl (left_is end (integer_at bytes end) at)

@@ -109,21 +109,21 @@ moves_here bytes start end (inr (mark, more, digits)) =
 -- ---- a text has one number
 
 -- the number of a decimal with these parts, once its point is moved
-abbrev moved_by : List ℕ → List ℕ → Option (List ℕ) → ℕ → ℕ → Num
+abbrev pub moved_by : List ℕ → List ℕ → Option (List ℕ) → ℕ → ℕ → Num
 moved_by sign whole fraction right left = moved_number (starts_with_minus sign) (digits_value 10 (whole ++ fraction_digits fraction)) (length (fraction_digits fraction)) right left
 
 -- the bytes are a decimal text with this number, of few digits or of many
-record IsMoved (bytes : List ℕ) (n : Num) : Type 0 where
-  sign : List ℕ
-  zeros : List ℕ
-  whole : List ℕ
-  fraction : Option (List ℕ)
-  exponent : List ℕ
-  parts : HasTextParts bytes sign zeros whole fraction exponent
-  right : ℕ
-  left : ℕ
-  moves : Moves exponent right left
-  value : n ≡ moved_by sign whole fraction right left
+pub record IsMoved (bytes : List ℕ) (n : Num) : Type 0 where
+  pub sign : List ℕ
+  pub zeros : List ℕ
+  pub whole : List ℕ
+  pub fraction : Option (List ℕ)
+  pub exponent : List ℕ
+  pub parts : HasTextParts bytes sign zeros whole fraction exponent
+  pub right : ℕ
+  pub left : ℕ
+  pub moves : Moves exponent right left
+  pub value : n ≡ moved_by sign whole fraction right left
 
 moved_unique : (core : List ℕ) (m n : Num) → IsMoved core m → IsMoved core n → m ≡ n
 moved_unique core m n p q =
@@ -138,7 +138,7 @@ moved_unique core m n p q =
 exact_parts : (core : List ℕ) (n : Num) (d : IsExactDecimal core n) → HasTextParts core d.sign d.zeros d.whole d.fraction d.exponent
 exact_parts core n d = parts_with core d.front d.exponent d.sign d.zeros d.whole d.fraction d.joined (moves_exponent d.exponent d.right d.left d.moves) d.parts
 
-exact_moved : (core : List ℕ) (n : Num) → IsExactDecimal core n → IsMoved core n
+pub exact_moved : (core : List ℕ) (n : Num) → IsExactDecimal core n → IsMoved core n
 exact_moved core n d = record {
   sign = d.sign;
   zeros = d.zeros;
@@ -172,18 +172,6 @@ moved_exact core n m few_behind few = record {
 
 pub exact_unique : (core : List ℕ) (m n : Num) → IsExactDecimal core m → IsExactDecimal core n → m ≡ n
 exact_unique core m n p q = moved_unique core m n (exact_moved core m p) (exact_moved core n q)
-
--- the parts of an exact decimal's text
-pub record HasExactParts (core : List ℕ) : Type 0 where
-  pub sign : List ℕ
-  pub zeros : List ℕ
-  pub whole : List ℕ
-  pub fraction : Option (List ℕ)
-  pub exponent : List ℕ
-  pub parts : HasTextParts core sign zeros whole fraction exponent
-
-pub exact_has_parts : (core : List ℕ) (n : Num) → IsExactDecimal core n → HasExactParts core
-exact_has_parts core n d = record { sign = d.sign; zeros = d.zeros; whole = d.whole; fraction = d.fraction; exponent = d.exponent; parts = exact_parts core n d }
 
 pub exact_is_text : (core : List ℕ) (n : Num) → IsExactDecimal core n → IsDecimalText core
 exact_is_text core n d = decimal_text_of core d.sign d.zeros d.whole d.fraction d.exponent (exact_parts core n d)

@@ -1,5 +1,5 @@
 -- Parsing a number of JSON or of extended JSON gives what the grammar says, and the grammar's numbers are parsed so.
-use Rattle.std.proofs.Common.{◌≡◌, ℕ, ◌+◌, ◌<◌, false, List, ◌++◌, take, refl, sym, subst, ◌∙◌, inl, inr, ⊎_elim, arith, Option, Some, None, Ok, Err}
+use Rattle.std.proofs.Common.{◌≡◌, ℕ, ◌+◌, ◌<◌, false, List, take, refl, sym, subst, ◌∙◌, inl, inr, ⊎_elim, arith, Option, Some, None, Ok, Err}
 use Rattle.std.specs.Prelude.{slice_index, MatchOption, ◌==◌}
 use Rattle.std.proofs.lemmas.Bool.{cases_eq, cases_lt}
 use Rattle.jsonb_spec.specs.Grammar.ExactNumber.{IsExactDecimal, IsJsonNumber, IsExtendedJsonNumber}
@@ -8,9 +8,8 @@ use Rattle.jsonb_spec.specs.Grammar.StandardNumber.{IsStandardText}
 use Rattle.jsonb_spec.specs.Grammar.Scalar.{IsNumber}
 use Rattle.jsonb_spec.specs.Mode.{json, extended_json, strict, lenient}
 use Rattle.jsonb_spec.specs.Tree.{Num}
-use Rattle.text_scan.specs.Parsing.{Fault}
-use Rattle.text_scan.specs.Parsing.Number.{End, IsNumberBoundary, whole_start, standard_end}
-use Rattle.text_scan.specs.Parsing.ExtendedNumber.{core_start, front_end, point_end, behind_end, decimal_end, EndsExtended}
+use Rattle.text_scan.specs.Parsing.Number.{End, whole_start, standard_end}
+use Rattle.text_scan.specs.Parsing.ExtendedNumber.{core_start, front_end, point_end, behind_end, decimal_end}
 use Rattle.text_scan.specs.Parsing.ExactNumber.{exact_at, exact_to, json_number_at, extended_json_scan, extended_json_number_at}
 use Rattle.text_scan.proofs.Numbers.Steps.{differs, whole_end}
 use Rattle.text_scan.proofs.Numbers.Scan.{IsDigitRun, IsFractionEnd, IsExponentEnd, IsScan}
@@ -18,11 +17,11 @@ use Rattle.text_scan.proofs.Numbers.ScanText.{scan_end_within, scan_longest}
 use Rattle.text_scan.proofs.Numbers.Ends.{ScannedTo, scanned, scanned_text, none_ends}
 use Rattle.text_scan.proofs.Numbers.DecimalScan.{IsPointEnd, IsDecimalScan, parts_to, core_zeros, core_digits, counted_digits, point_here, decimal_scanned}
 use Rattle.text_scan.proofs.Numbers.DecimalScanText.{text_of_scan}
-use Rattle.text_scan.proofs.Numbers.Reading.{FindsNumber, NumberRead, FaultRead, found_at, scan_sound, scan_faults, scan_complete}
+use Rattle.text_scan.proofs.Numbers.Reading.{FindsNumber, found_at, IsScanned}
 use Rattle.text_scan.proofs.Numbers.ExtendedParts.{IsLenientNumber, lenient_is_text, lenient_unique}
 use Rattle.text_scan.proofs.Numbers.Standard.{NumberStart, text_starts}
 use Rattle.text_scan.proofs.Numbers.Extended.{IsDecimalHere, decimal_found, decimal_missing, finds_by_kind, ExtendedStart, decimal_begins, hexadecimal_begins}
-use Rattle.text_scan.proofs.Numbers.Exact.{exact_at_end, exact_has_parts, exact_is_text, exact_unique}
+use Rattle.text_scan.proofs.Numbers.Exact.{exact_at_end, exact_is_text, exact_moved, exact_unique}
 
 -- ---- a standard text is a decimal one
 
@@ -88,20 +87,9 @@ finds_json bytes (Ok end) at =
     by_option None is_text none = λ n number. none n number.1
 finds_json bytes (Err offset) at = (refl, none_ends bytes offset at)
 
--- What is parsed is a number text with its number, and no longer one is there.
-pub json_sound : (size : ℕ) (bytes : List ℕ) (n : Num) (rest : List ℕ) → json_number_at size bytes ≡ Ok (n, rest) → NumberRead json bytes n rest
+pub json_scanned : (size : ℕ) (bytes : List ℕ) → IsScanned json size bytes (json_number_at size bytes)
 unfolding json_number_at
-json_sound size bytes n rest at = scan_sound json size bytes n rest _ (finds_json bytes (standard_end bytes) refl) at
-
--- Each fault is one of two, and its meaning is known.
-pub json_faults : (size : ℕ) (bytes : List ℕ) (f : Fault) → json_number_at size bytes ≡ Err f → FaultRead json size bytes f
-unfolding json_number_at
-json_faults size bytes f at = scan_faults json size bytes f _ (finds_json bytes (standard_end bytes) refl) at
-
--- A number text that nothing goes on with is parsed so.
-pub json_complete : (size : ℕ) (core rest : List ℕ) (n : Num) → IsJsonNumber core n → IsNumberBoundary rest → json_number_at size (core ++ rest) ≡ Ok (n, rest)
-unfolding json_number_at
-json_complete size core rest n number ends = scan_complete json json_is_text json_unique size core rest n _ (finds_json (core ++ rest) (standard_end (core ++ rest)) refl) number ends
+json_scanned size bytes = record { scan = exact_to bytes (standard_end bytes); finds = finds_json bytes (standard_end bytes) refl; is = refl }
 
 -- ---- extended JSON
 
@@ -113,7 +101,7 @@ pub extended_json_unique : (core : List ℕ) (m n : Num) → IsExtendedJsonNumbe
 extended_json_unique core m n p q = lenient_unique IsExactDecimal exact_is_text exact_unique core m n p q
 
 pub extended_json_starts : (core : List ℕ) (n : Num) → IsExtendedJsonNumber core n → ExtendedStart core
-extended_json_starts core n (inl decimal) = let p = exact_has_parts core n decimal in decimal_begins core p.sign p.zeros p.whole p.fraction p.exponent p.parts
+extended_json_starts core n (inl decimal) = let p = exact_moved core n decimal in decimal_begins core p.sign p.zeros p.whole p.fraction p.exponent p.parts
 extended_json_starts core n (inr hexadecimal) = hexadecimal_begins core n hexadecimal
 
 finds_exact : (bytes : List ℕ) → IsDecimalHere bytes → (r : End) → decimal_end bytes ≡ r → FindsNumber lenient (IsLenientNumber IsExactDecimal) bytes (exact_to bytes r)
@@ -127,17 +115,6 @@ finds_extended_json : (bytes : List ℕ) → FindsNumber lenient (IsNumber exten
 unfolding extended_json_scan
 finds_extended_json bytes = finds_by_kind IsExactDecimal exact_is_text bytes (exact_to bytes (decimal_end bytes)) (λ here. finds_exact bytes here (decimal_end bytes) refl)
 
--- What is parsed is a number text with its number, and no longer one is there.
-pub extended_json_sound : (size : ℕ) (bytes : List ℕ) (n : Num) (rest : List ℕ) → extended_json_number_at size bytes ≡ Ok (n, rest) → NumberRead extended_json bytes n rest
+pub extended_json_scanned : (size : ℕ) (bytes : List ℕ) → IsScanned extended_json size bytes (extended_json_number_at size bytes)
 unfolding extended_json_number_at
-extended_json_sound size bytes n rest at = scan_sound extended_json size bytes n rest (extended_json_scan bytes) (finds_extended_json bytes) at
-
--- Each fault is one of two, and its meaning is known.
-pub extended_json_faults : (size : ℕ) (bytes : List ℕ) (f : Fault) → extended_json_number_at size bytes ≡ Err f → FaultRead extended_json size bytes f
-unfolding extended_json_number_at
-extended_json_faults size bytes f at = scan_faults extended_json size bytes f (extended_json_scan bytes) (finds_extended_json bytes) at
-
--- A number text that nothing goes on with is parsed so.
-pub extended_json_complete : (size : ℕ) (core rest : List ℕ) (n : Num) → IsExtendedJsonNumber core n → EndsExtended rest → extended_json_number_at size (core ++ rest) ≡ Ok (n, rest)
-unfolding extended_json_number_at
-extended_json_complete size core rest n number ends = scan_complete extended_json extended_json_is_text extended_json_unique size core rest n (extended_json_scan (core ++ rest)) (finds_extended_json (core ++ rest)) number ends
+extended_json_scanned size bytes = record { scan = extended_json_scan bytes; finds = finds_extended_json bytes; is = refl }

@@ -12,9 +12,8 @@ use Rattle.jsonb_spec.specs.Code.{invalid_number_value}
 use Rattle.jsonb_spec.specs.Grammar.StandardNumber.{IsSign}
 use Rattle.jsonb_spec.specs.Grammar.ExtendedNumber.{IsDecimalNumber, IsDecimalText, IsHexadecimalNumber, IsExtendedNumber}
 use Rattle.jsonb_spec.specs.Tree.{Num}
-use Rattle.text_scan.specs.Parsing.{Fault}
 use Rattle.text_scan.specs.Parsing.Number.{End}
-use Rattle.text_scan.specs.Parsing.ExtendedNumber.{Scanned, core_start, core_byte, front_end, point_end, behind_end, decimal_end, decimal_at, decimal_to, decimal_scan, is_word_start, is_hexadecimal_start, extended_scan, extended_number_at, is_extended_start, EndsExtended, scan_by_kind}
+use Rattle.text_scan.specs.Parsing.ExtendedNumber.{Scanned, core_start, core_byte, front_end, point_end, behind_end, decimal_end, decimal_at, decimal_to, decimal_scan, is_word_start, is_hexadecimal_start, extended_scan, extended_number_at, is_extended_start, scan_by_kind}
 use Rattle.text_scan.proofs.Numbers.Steps.{is_digit}
 use Rattle.text_scan.proofs.Numbers.Scan.{exponent_fault_is}
 use Rattle.text_scan.proofs.Numbers.DecimalScan.{DecimalCase, no_digit, second, further, decimal_case, no_digits, second_point, core_within, core_digits, point_here, point_ordered}
@@ -23,8 +22,8 @@ use Rattle.text_scan.proofs.Numbers.DecimalStates.{IsDecimalDue, NoDecimalEnds, 
 use Rattle.text_scan.proofs.Numbers.ExtendedTexts.{IsWordStart, ScansExtended, ScansOther, goes_on_more, decimals_before_letter, only_decimals, sign_front}
 use Rattle.text_scan.proofs.Numbers.HexadecimalMeaning.{IsHexadecimalFront, reads_hexadecimal}
 use Rattle.text_scan.proofs.Scalars.WordMeaning.{reads_word}
-use Rattle.text_scan.proofs.Numbers.ExtendedParts.{decimal_representable, decimal_is_text, unrepresentable_decimal_is_text, IsLenientNumber, decimal_without_number, other_without_number, extended_is_text, extended_unique}
-use Rattle.text_scan.proofs.Numbers.Reading.{IsLongestText, FindsNumber, NumberRead, FaultRead, found_at, scan_sound, scan_faults, scan_complete}
+use Rattle.text_scan.proofs.Numbers.ExtendedParts.{decimal_representable, decimal_is_text, unrepresentable_decimal_is_text, IsLenientNumber, decimal_without_number, other_without_number}
+use Rattle.text_scan.proofs.Numbers.Reading.{IsLongestText, FindsNumber, found_at, IsScanned}
 use Rattle.jsonb_value.proofs.Numbers.Fractions.{fraction_digits, fraction_text}
 use Rattle.text_scan.proofs.Numbers.TextParts.{IsUnrepresentableDecimal, HasTextParts, decimal_text_of, plain_parts}
 use Rattle.jsonb_spec.specs.Grammar.Scalar.{IsNumber}
@@ -169,22 +168,9 @@ finds_extended : (bytes : List ℕ) → FindsNumber lenient (IsNumber extended) 
 unfolding extended_scan
 finds_extended bytes = finds_by_kind IsDecimalNumber decimal_is_text bytes (decimal_scan bytes) (finds_decimal bytes)
 
--- ---- parsing and the definition
-
--- What is parsed is a number text with its number, and no longer one is there.
-pub extended_sound : (size : ℕ) (bytes : List ℕ) (n : Num) (rest : List ℕ) → extended_number_at size bytes ≡ Ok (n, rest) → NumberRead extended bytes n rest
+pub extended_scanned : (size : ℕ) (bytes : List ℕ) → IsScanned extended size bytes (extended_number_at size bytes)
 unfolding extended_number_at
-extended_sound size bytes n rest at = scan_sound extended size bytes n rest (extended_scan bytes) (finds_extended bytes) at
-
--- Each fault is one of two, and its meaning is known.
-pub extended_faults : (size : ℕ) (bytes : List ℕ) (f : Fault) → extended_number_at size bytes ≡ Err f → FaultRead extended size bytes f
-unfolding extended_number_at
-extended_faults size bytes f at = scan_faults extended size bytes f (extended_scan bytes) (finds_extended bytes) at
-
--- A number text that nothing goes on with is parsed so.
-pub extended_complete : (size : ℕ) (core rest : List ℕ) (n : Num) → IsExtendedNumber core n → EndsExtended rest → extended_number_at size (core ++ rest) ≡ Ok (n, rest)
-unfolding extended_number_at
-extended_complete size core rest n number ends = scan_complete extended extended_is_text extended_unique size core rest n (extended_scan (core ++ rest)) (finds_extended (core ++ rest)) number ends
+extended_scanned size bytes = record { scan = extended_scan bytes; finds = finds_extended bytes; is = refl }
 
 -- ---- how a number text begins
 

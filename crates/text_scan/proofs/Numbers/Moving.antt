@@ -1,7 +1,7 @@
 -- Numbers whose point an exponent moves, as far as numbers in range go.
-use Rattle.std.proofs.Common.{◌≡◌, ℕ, zero, suc, ◌+◌, ◌-◌, ◌*◌, ◌^◌, ◌<◌, ◌≤◌, ◌&&◌, Bool, true, false, Option, Some, None, refl, sym, subst, ap, ◌∙◌, inl, inr, ⊎_elim, arith, true≢false}
+use Rattle.std.proofs.Common.{◌≡◌, ℕ, zero, suc, ◌+◌, ◌-◌, ◌*◌, ◌^◌, ◌<◌, ◌≤◌, ◌&&◌, Bool, true, false, Option, None, refl, sym, subst, ap, ◌∙◌, inl, inr, ⊎_elim, arith, true≢false}
 use Rattle.std.specs.Prelude.{nat_le, nat_lt, unsigned_abs}
-use Rattle.std.proofs.lemmas.Bool.{and_right, cond-false, cond-true}
+use Rattle.std.proofs.lemmas.Bool.{and_right, cond-false}
 use Rattle.std.proofs.lemmas.Bool.Decides.{nat_tests}
 use Rattle.std.proofs.Math.Nat.{pow-le-pow_right, pow-zero, mul-le-mul_right, mul-le-mul_left, one-le-pow}
 use Rattle.jsonb_spec.specs.Grammar.ExactNumber.{exact_number, moved_number}
@@ -11,19 +11,13 @@ use Rattle.text_scan.specs.ExactRead.{IsClamped, Shifts}
 use Rattle.text_scan.specs.Parsing.ExactNumber.{few_digits}
 use Rattle.text_scan.specs.declared.parser.exact.Shift.{Shift}
 use Rattle.text_scan.proofs.Numbers.Forms.{size_is}
-use Rattle.text_scan.proofs.Numbers.Steps.{is_below, is_not_below}
+use Rattle.text_scan.proofs.Numbers.Steps.{is_not_below}
 
 -- ---- numbers in range
 
 -- the number of this scale and magnitude
 abbrev pub number_of : Bool → ℕ → ℕ → Num
 number_of negative scale m = exact_number scale (signed_by negative m)
-
-pub is_few : (negative : Bool) (scale m : ℕ) → scale ≤ 38 → m < 10 ^ 38 → few_digits (number_of negative scale m) ≡ Some (number_of negative scale m)
-is_few negative scale m low small =
-    let first : nat_le scale 38 ≡ true = grind (arith, nat_tests) in
-    let second : nat_lt (unsigned_abs (signed_by negative m)) (10 ^ 38) ≡ true = ap (λ (n : ℕ). nat_lt n (10 ^ 38)) (size_is negative m) ∙ is_below m (10 ^ 38) small in
-    cond-true (nat_le scale 38 && nat_lt (unsigned_abs (signed_by negative m)) (10 ^ 38)) _ _ (ap (λ b. b && nat_lt (unsigned_abs (signed_by negative m)) (10 ^ 38)) first ∙ second)
 
 pub too_deep : (negative : Bool) (scale m : ℕ) → 38 < scale → few_digits (number_of negative scale m) ≡ None
 too_deep negative scale m high =

@@ -1,5 +1,5 @@
 -- What parsing a number gives, and how a number begins, in each mode.
-use Rattle.std.proofs.Common.{◌≡◌, ℕ, true, List, ◌∷◌, ◌++◌, inl, inr, ⊎_elim, eqb-true, Ok, Err}
+use Rattle.std.proofs.Common.{◌≡◌, ℕ, true, List, ◌∷◌, ◌++◌, ◌∙◌, inl, inr, ⊎_elim, eqb-true, Ok, Err}
 use Rattle.std.specs.Prelude.{◌==◌}
 use Rattle.std.specs.Char.{is_ascii_digit}
 use Rattle.std.proofs.lemmas.Bool.{or_cases}
@@ -10,11 +10,11 @@ use Rattle.text_scan.specs.Parsing.{Fault}
 use Rattle.text_scan.specs.Parsing.Number.{is_number_start}
 use Rattle.text_scan.specs.Parsing.Scalar.{begins_number, number_at}
 use Rattle.text_scan.proofs.Numbers.Steps.{digit_is}
-use Rattle.text_scan.proofs.Numbers.Reading.{EndsNumber, NumberRead, FaultRead}
-use Rattle.text_scan.proofs.Numbers.Standard.{NumberStart, standard_is_text, number_starts, number_unique, number_sound, number_faults, number_complete}
-use Rattle.text_scan.proofs.Numbers.Extended.{OpensNumber, ExtendedStart, extended_starts, opens_extended, extended_sound, extended_faults, extended_complete}
+use Rattle.text_scan.proofs.Numbers.Reading.{EndsNumber, FaultRead, IsScanned, NumberRead, parsed_answer, scan_complete}
+use Rattle.text_scan.proofs.Numbers.Standard.{NumberStart, standard_is_text, standard_scanned, number_starts, number_unique}
+use Rattle.text_scan.proofs.Numbers.Extended.{OpensNumber, ExtendedStart, extended_scanned, extended_starts, opens_extended}
 use Rattle.text_scan.proofs.Numbers.ExtendedParts.{extended_is_text, extended_unique}
-use Rattle.text_scan.proofs.Numbers.ExactNumbers.{json_is_text, json_unique, json_starts, json_sound, json_faults, json_complete, extended_json_is_text, extended_json_unique, extended_json_starts, extended_json_sound, extended_json_faults, extended_json_complete}
+use Rattle.text_scan.proofs.Numbers.ExactNumbers.{json_is_text, json_scanned, json_unique, json_starts, extended_json_is_text, extended_json_scanned, extended_json_unique, extended_json_starts}
 
 -- a number's bytes are a number text
 pub number_text_of : (mode : Mode) (core : List ℕ) (n : Num) → IsNumber mode core n → IsNumberText (strictness mode) core
@@ -30,26 +30,26 @@ number_unique_of extended core m n p q = extended_unique core m n p q
 number_unique_of json core m n p q = json_unique core m n p q
 number_unique_of extended_json core m n p q = extended_json_unique core m n p q
 
+-- a scan finds what is parsed
+scanned_of : (size : ℕ) (mode : Mode) (bytes : List ℕ) → IsScanned mode size bytes (number_at size mode bytes)
+scanned_of size standard bytes = standard_scanned size bytes
+scanned_of size extended bytes = extended_scanned size bytes
+scanned_of size json bytes = json_scanned size bytes
+scanned_of size extended_json bytes = extended_json_scanned size bytes
+
 -- What is parsed is a number text with its number, and no longer one is there.
 pub number_sound_of : (size : ℕ) (mode : Mode) (bytes : List ℕ) (n : Num) (rest : List ℕ) → number_at size mode bytes ≡ Ok (n, rest) → NumberRead mode bytes n rest
-number_sound_of size standard bytes n rest at = number_sound size bytes n rest at
-number_sound_of size extended bytes n rest at = extended_sound size bytes n rest at
-number_sound_of size json bytes n rest at = json_sound size bytes n rest at
-number_sound_of size extended_json bytes n rest at = extended_json_sound size bytes n rest at
+number_sound_of size mode bytes n rest at = parsed_answer mode size bytes (number_at size mode bytes) (Ok (n, rest)) (scanned_of size mode bytes) at
 
 -- Each fault is one of two, and its meaning is known.
 pub number_faults_of : (size : ℕ) (mode : Mode) (bytes : List ℕ) (f : Fault) → number_at size mode bytes ≡ Err f → FaultRead mode size bytes f
-number_faults_of size standard bytes f at = number_faults size bytes f at
-number_faults_of size extended bytes f at = extended_faults size bytes f at
-number_faults_of size json bytes f at = json_faults size bytes f at
-number_faults_of size extended_json bytes f at = extended_json_faults size bytes f at
+number_faults_of size mode bytes f at = parsed_answer mode size bytes (number_at size mode bytes) (Err f) (scanned_of size mode bytes) at
 
 -- A number text that nothing goes on with is parsed so.
 pub number_complete_of : (size : ℕ) (mode : Mode) (core rest : List ℕ) (n : Num) → IsNumber mode core n → EndsNumber (strictness mode) rest → number_at size mode (core ++ rest) ≡ Ok (n, rest)
-number_complete_of size standard core rest n number ends = number_complete size core rest n number ends
-number_complete_of size extended core rest n number ends = extended_complete size core rest n number ends
-number_complete_of size json core rest n number ends = json_complete size core rest n number ends
-number_complete_of size extended_json core rest n number ends = extended_json_complete size core rest n number ends
+number_complete_of size mode core rest n number ends =
+    let s = scanned_of size mode (core ++ rest) in
+    s.is ∙ scan_complete mode (number_text_of mode) (number_unique_of mode) size core rest n s.scan s.finds number ends
 
 -- ---- how a number begins
 

@@ -117,7 +117,7 @@ nothing_ends s bytes none core after joined text ends =
     stops_after s core after ends (subst (λ xs. Continues s (slice_index xs (length core))) joined (none (length core) (omega (arith, total)) (subst (IsNumberText s) (sym front) text)))
 
 -- what parsing answers
-abbrev IsAnswer : Mode → ℕ → List ℕ → Parse Num → Type 0
+abbrev pub IsAnswer : Mode → ℕ → List ℕ → Parse Num → Type 0
 IsAnswer mode size bytes (Ok (n, rest)) = NumberRead mode bytes n rest
 IsAnswer mode size bytes (Err f) = FaultRead mode size bytes f
 
@@ -138,13 +138,14 @@ scanned_answer mode size bytes (Ok (None, end)) t = not_representable refl (reco
 })
 scanned_answer mode size bytes (Err f) (code, none) = no_number code (nothing_ends (strictness mode) bytes none)
 
--- What is parsed is a number text with its number, and no longer one is there.
-pub scan_sound : (mode : Mode) (size : ℕ) (bytes : List ℕ) (n : Num) (rest : List ℕ) (r : Scanned) → FindsNumber (strictness mode) (IsNumber mode) bytes r → scanned_to size bytes r ≡ Ok (n, rest) → NumberRead mode bytes n rest
-scan_sound mode size bytes n rest r finds at = subst (IsAnswer mode size bytes) at (scanned_answer mode size bytes r finds)
+-- What is parsed of the bytes is what a scan finds.
+pub record IsScanned (mode : Mode) (size : ℕ) (bytes : List ℕ) (parsed : Parse Num) : Type 0 where
+  pub scan : Scanned
+  pub finds : FindsNumber (strictness mode) (IsNumber mode) bytes scan
+  pub is : parsed ≡ scanned_to size bytes scan
 
--- Each fault is one of two, and its meaning is known.
-pub scan_faults : (mode : Mode) (size : ℕ) (bytes : List ℕ) (f : Fault) (r : Scanned) → FindsNumber (strictness mode) (IsNumber mode) bytes r → scanned_to size bytes r ≡ Err f → FaultRead mode size bytes f
-scan_faults mode size bytes f r finds at = subst (IsAnswer mode size bytes) at (scanned_answer mode size bytes r finds)
+pub parsed_answer : (mode : Mode) (size : ℕ) (bytes : List ℕ) (parsed r : Parse Num) → IsScanned mode size bytes parsed → parsed ≡ r → IsAnswer mode size bytes r
+parsed_answer mode size bytes parsed r s at = subst (IsAnswer mode size bytes) (sym s.is ∙ at) (scanned_answer mode size bytes s.scan s.finds)
 
 -- A number text that nothing goes on with is parsed so.
 module _ (mode : Mode) (is_text : (core : List ℕ) (n : Num) → IsNumber mode core n → IsNumberText (strictness mode) core) (unique : (core : List ℕ) (m n : Num) → IsNumber mode core m → IsNumber mode core n → m ≡ n) where

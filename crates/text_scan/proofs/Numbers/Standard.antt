@@ -8,11 +8,10 @@ use Rattle.std.proofs.lemmas.List.{append-nil}
 use Rattle.jsonb_spec.specs.Code.{invalid_number_value}
 use Rattle.jsonb_spec.specs.Tree.{Num}
 use Rattle.jsonb_spec.specs.Grammar.StandardNumber.{IsWhole, IsFraction, IsExponent, IsInteger, IsStandardNumber, IsStandardText}
-use Rattle.text_scan.specs.Parsing.{Fault}
-use Rattle.text_scan.specs.Parsing.Number.{ContinuesAfterInteger, IsNumberBoundary, is_number_start, End, standard_end, integer_at, number_to, standard_number_at}
+use Rattle.text_scan.specs.Parsing.Number.{ContinuesAfterInteger, is_number_start, End, standard_end, integer_at, number_to, standard_number_at}
 use Rattle.text_scan.specs.Parsing.ExtendedNumber.{Scanned, scanned_to}
 use Rattle.text_scan.proofs.Numbers.Steps.{is_digit}
-use Rattle.text_scan.proofs.Numbers.Reading.{FindsNumber, NumberRead, FaultRead, found_at, scan_sound, scan_faults, scan_complete}
+use Rattle.text_scan.proofs.Numbers.Reading.{FindsNumber, found_at, IsScanned, NumberRead, parsed_answer}
 use Rattle.text_scan.proofs.Numbers.ScanText.{scan_longest, scan_end_within}
 use Rattle.text_scan.proofs.Numbers.Ends.{scanned, scanned_text, none_ends, number_at_end}
 use Rattle.text_scan.proofs.Numbers.TextParts.{HasParts, IsStandardUnrepresentable, parts_of, standard_text_of, integer_parts}
@@ -141,24 +140,14 @@ finds_integer bytes (Ok end) at =
     without_number None unrepresentable = λ n number. number_representable (take end bytes) n number unrepresentable
 finds_integer bytes (Err offset) at = (refl, none_ends bytes offset at)
 
-scanned_integer : (size : ℕ) (bytes : List ℕ) → standard_number_at size bytes ≡ scanned_to size bytes (integer_to bytes (standard_end bytes))
+pub standard_scanned : (size : ℕ) (bytes : List ℕ) → IsScanned standard size bytes (standard_number_at size bytes)
 unfolding standard_number_at
-scanned_integer size bytes = by_end (standard_end bytes)
+standard_scanned size bytes = record { scan = integer_to bytes (standard_end bytes); finds = finds_integer bytes (standard_end bytes) refl; is = by_end (standard_end bytes) }
   where
     by_end : (r : End) → number_to size bytes r ≡ scanned_to size bytes (integer_to bytes r)
     by_end (Ok end) = refl
     by_end (Err offset) = refl
 
--- ---- parsing and the definition
-
 -- What is parsed is a number text with its number, and no longer one is there.
 pub number_sound : (size : ℕ) (bytes : List ℕ) (n : Num) (rest : List ℕ) → standard_number_at size bytes ≡ Ok (n, rest) → NumberRead standard bytes n rest
-number_sound size bytes n rest at = scan_sound standard size bytes n rest _ (finds_integer bytes (standard_end bytes) refl) (sym (scanned_integer size bytes) ∙ at)
-
--- Each fault is one of two, and its meaning is known.
-pub number_faults : (size : ℕ) (bytes : List ℕ) (f : Fault) → standard_number_at size bytes ≡ Err f → FaultRead standard size bytes f
-number_faults size bytes f at = scan_faults standard size bytes f _ (finds_integer bytes (standard_end bytes) refl) (sym (scanned_integer size bytes) ∙ at)
-
--- A number text that nothing goes on with is parsed so.
-pub number_complete : (size : ℕ) (core rest : List ℕ) (n : Num) → IsStandardNumber core n → IsNumberBoundary rest → standard_number_at size (core ++ rest) ≡ Ok (n, rest)
-number_complete size core rest n number ends = scanned_integer size (core ++ rest) ∙ scan_complete standard standard_is_text number_unique size core rest n _ (finds_integer (core ++ rest) (standard_end (core ++ rest)) refl) number ends
+number_sound size bytes n rest at = parsed_answer standard size bytes (standard_number_at size bytes) (Ok (n, rest)) (standard_scanned size bytes) at

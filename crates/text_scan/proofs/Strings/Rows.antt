@@ -1,5 +1,5 @@
 -- Strings of grammars that have the same items.
-use Rattle.std.proofs.Common.{List, [], ◌∷◌, ◌≡◌, ℕ, zero, suc, length, take, drop, get_or, Bool, false, cond, ◌&&◌, eqb, ltb, Ok, Err, Result, ⊎_elim, sym, ap, ◌∙◌, refl, eqb-true}
+use Rattle.std.proofs.Common.{List, [], ◌∷◌, ◌≡◌, ℕ, zero, suc, length, take, drop, get_or, Bool, false, cond, ◌&&◌, eqb, ltb, Ok, Err, ⊎_elim, sym, ap, ◌∙◌, refl, eqb-true}
 use Rattle.std.proofs.lemmas.Bool.{cases_Bool, eqb-false}
 use Rattle.jsonb_spec.specs.Code.{unexpected_end_of_hex_escape}
 use Rattle.jsonb_spec.specs.Grammar.StringBody.{Item, encoding, escaped_byte}
@@ -7,8 +7,8 @@ use Rattle.jsonb_spec.specs.Mode.{Mode, Strictness, strictness, GoesBeyondJson}
 use Rattle.jsonb_spec.specs.Tree.{Mark}
 use Rattle.jsonb_value.specs.declared.error.Error.{Error}
 use Rattle.jsonb_value.specs.declared.error.Error.TheVariants.{Syntax, OutOfMemory}
-use Rattle.text_scan.specs.Parsing.String.{Body, unit_of, unit_at, known_escape, escape_at, item_at, onto, then_items, items_within, meaning_of, body_of, quote_end, string_of_body, string_up_to, string_at}
-use Rattle.text_scan.specs.QuotedString.{ChecksContents, DecodesContents}
+use Rattle.text_scan.specs.Parsing.String.{Body, unit_of, unit_at, known_escape, escape_at, item_at, onto, then_items, items_within, meaning_of, body_of}
+use Rattle.text_scan.specs.QuotedString.{DecodesContents}
 use Rattle.text_scan.specs.StrictString.{RejectsContents}
 use Rattle.text_scan.proofs.Steps.Modes.{beyond-true, beyond-raw}
 use Rattle.text_scan.proofs.Strings.Items.{braced_unit, item-backslash, item-raw}
@@ -54,27 +54,9 @@ pub body-beyond : (p q : Mode) (bytes : List ℕ) → GoesBeyondJson p → GoesB
 unfolding body_of
 body-beyond p q bytes beyond too same = ap (meaning_of bytes) (items-beyond p q (length bytes) bytes beyond too same)
 
--- ---- whole strings
-
--- two modes that parse the same of the contents parse the same string
-pub string-same : (size : ℕ) (p q : Mode) (quote : ℕ) (bytes : List ℕ) → ((end : ℕ) → quote_end quote bytes ≡ Ok end → body_of p (take end bytes) ≡ body_of q (take end bytes)) → string_at size p quote bytes ≡ string_at size q quote bytes
-unfolding string_at
-string-same size p q quote bytes same = by_end (quote_end quote bytes) refl
-  where
-    by_end : (r : Result ℕ ℕ) → quote_end quote bytes ≡ r → string_up_to size p bytes r ≡ string_up_to size q bytes r
-    by_end (Ok end) is = ap (string_of_body size bytes end) (same end is)
-    by_end (Err at) is = refl
-
-pub string-beyond : (size : ℕ) (p q : Mode) (quote : ℕ) (bytes : List ℕ) → GoesBeyondJson p → GoesBeyondJson q → strictness p ≡ strictness q → string_at size p quote bytes ≡ string_at size q quote bytes
-string-beyond size p q quote bytes beyond too same = string-same size p q quote bytes (λ end is. body-beyond p q (take end bytes) beyond too same)
-
 -- ---- what the check for JSON rejects
 
 pub rejects_decoded : (idx : ℕ) (e : Error) (read : Body (Mark × List ℕ)) → RejectsContents idx e read → DecodesContents idx (Err e) read
 rejects_decoded idx (Syntax code offset) read r = r
 rejects_decoded idx OutOfMemory read r = tt
 rejects_decoded idx other read r = r
-
-pub rejects_checked : (idx : ℕ) (e : Error) (text : List ℕ) (read : Body (Mark × List ℕ)) → RejectsContents idx e read → ChecksContents idx (Err e) text read
-rejects_checked idx (Syntax code offset) text read r = r
-rejects_checked idx other text read r = r
