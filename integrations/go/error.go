@@ -82,7 +82,7 @@ func errorOf(text []byte, mode Mode, outcome C.struct_outcome) error {
 	if reason.status != C.VIZHONIKU_REJECTED || found.status != C.VIZHONIKU_ACCEPTED {
 		return ErrOutOfMemory
 	}
-	location := C.call_location(begin(text), size(len(text)), fault)
+	location := C.call_locate(begin(text), size(len(text)), fault)
 	return &Error{
 		Code:     Code(fault.code),
 		Second:   fault.which == 2,

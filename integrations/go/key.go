@@ -96,7 +96,7 @@ func (key Key) Kind() Kind { return Kind(C.vizhoniku_key_kind(key.begin(), key.s
 // Count returns how many items an array or members an object has. It is false for other kinds.
 func (key Key) Count() (int, bool) {
 	outcome := C.call_key_count(key.begin(), key.size())
-	return int(outcome.size), outcome.status == C.VIZHONIKU_ACCEPTED
+	return int(outcome.count), outcome.status == C.VIZHONIKU_ACCEPTED
 }
 
 func (key Key) found(outcome C.struct_outcome) (Key, error) {

@@ -1,7 +1,7 @@
-//! The functions of `vizhoniku.h`. `tests/header.rs` compares this file with the header.
+//! What the crate takes of `vizhoniku.h`. packaging/calls makes this file of the header, for what the sources name.
 
 #[repr(C)]
-#[derive(Default)]
+#[derive(Clone, Default)]
 pub struct TextError {
     pub code: u32,
     pub which: u32,
@@ -9,7 +9,7 @@ pub struct TextError {
 }
 
 #[repr(C)]
-#[derive(Default)]
+#[derive(Clone, Default)]
 pub struct Location {
     pub index: usize,
     pub line: usize,
@@ -24,7 +24,7 @@ pub struct KeyCursor {
 }
 
 #[repr(C)]
-#[derive(Default)]
+#[derive(Clone, Default)]
 pub struct KeyEntry {
     pub name_offset: usize,
     pub name_size: usize,
