@@ -32,6 +32,10 @@ pub struct KeyEntry {
     pub size: usize,
 }
 
+pub const STANDARD: u32 = 0;
+pub const EXTENDED: u32 = 1;
+pub const JSON: u32 = 2;
+pub const EXTENDED_JSON: u32 = 3;
 pub const ACCEPTED: u32 = 0;
 pub const REJECTED: u32 = 1;
 pub const OUT_OF_MEMORY: u32 = 2;
@@ -39,6 +43,11 @@ pub const TOO_SHORT: u32 = 4;
 pub const NO_PART: u32 = 5;
 pub const NO_PATH: u32 = 6;
 pub const TOO_DEEP: u32 = 8;
+pub const BOOLEAN: u32 = 2;
+pub const NUMBER: u32 = 3;
+pub const STRING: u32 = 4;
+pub const ARRAY: u32 = 5;
+pub const OBJECT: u32 = 6;
 
 #[rustfmt::skip] // a function a line
 extern "C" {

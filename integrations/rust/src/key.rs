@@ -287,11 +287,11 @@ impl KeyRef {
     pub fn kind(&self) -> Kind {
         // SAFETY: the key has its size.
         match unsafe { ffi::vizhoniku_key_kind(self.0.as_ptr(), self.0.len()) } {
-            2 => Kind::Boolean,
-            3 => Kind::Number,
-            4 => Kind::String,
-            5 => Kind::Array,
-            6 => Kind::Object,
+            ffi::BOOLEAN => Kind::Boolean,
+            ffi::NUMBER => Kind::Number,
+            ffi::STRING => Kind::String,
+            ffi::ARRAY => Kind::Array,
+            ffi::OBJECT => Kind::Object,
             _ => Kind::Null,
         }
     }

@@ -94,13 +94,13 @@ pub(crate) fn inner_levels(levels: usize) -> Result<usize, Error> {
 #[repr(u32)]
 pub enum Mode {
     /// JSON as RFC 8259 has it, with integers of 64 bits alone as numbers.
-    Standard = 0,
+    Standard = ffi::STANDARD,
     /// Also decimals of up to 38 digits, hexadecimals, comments, single quotes, names without quotes and more.
-    Extended = 1,
+    Extended = ffi::EXTENDED,
     /// RFC 8259 to the letter. Numbers, also those with exponents, have their exact value, of at most 38 digits.
-    Json = 2,
+    Json = ffi::JSON,
     /// [`Mode::Extended`] in which decimals may have exponents.
-    ExtendedJson = 3,
+    ExtendedJson = ffi::EXTENDED_JSON,
 }
 
 /// What a call has made, and its status.
