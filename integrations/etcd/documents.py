@@ -18,15 +18,13 @@ a text is rejected or no member answers.
 import argparse
 import base64
 import json
-import os
 import sys
 import time
 import urllib.error
 import urllib.request
 from typing import Any, Dict, Iterator, List, Optional, Sequence, Tuple
 
-sys.path.insert(0, os.path.join(os.path.dirname(os.path.abspath(__file__)), "..", "python"))
-import vizhoniku  # noqa: E402
+import vizhoniku
 
 _PAGE = 1000  # documents that one request reads
 _LATER = (4, 14)  # the codes of gRPC for a request that another member, or a later time, may answer

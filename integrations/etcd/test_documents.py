@@ -12,10 +12,9 @@ import unittest
 import unittest.mock
 from typing import Any, Dict, List, Tuple
 
+import vizhoniku
 from cluster import Cluster
 from documents import Documents, EtcdError, Unavailable, _to_json
-
-import vizhoniku  # in the folder that documents.py adds
 
 HERE = os.path.dirname(os.path.abspath(__file__))
 

@@ -1,14 +1,14 @@
-"""Builds the module in C where pkg-config finds the library, which is linked in, for Python 3.10 and all that follow.
+"""Builds the package, of which a module in C has the library in it: for Python 3.10 and all that follow.
 
-Else the package goes by ctypes.
+The library is linked in from where pkg-config finds it.
 """
 
 import os
 import subprocess
 import sys
-from typing import Any, Dict
 
 from setuptools import Extension, setup
+from setuptools.command.build_ext import build_ext
 
 
 def outcome(variable: str) -> str:
@@ -21,15 +21,19 @@ def outcome(variable: str) -> str:
     return os.fsdecode(ran.stdout.rstrip(b"\n"))
 
 
-def options() -> Dict[str, Any]:
-    library = os.path.join(outcome("libdir"), "libvizhoniku.a")
-    if sys.version_info < (3, 10) or not os.path.isabs(library) or not os.path.exists(library):
-        return {}
-    module = Extension("vizhoniku._native", ["vizhoniku/_native.c"], include_dirs=[outcome("includedir")],
-                       define_macros=[("Py_LIMITED_API", "0x030A0000")], py_limited_api=True, extra_objects=[library],
-                       extra_compile_args=["-std=c99", "-Wall", "-Wextra", "-fvisibility=hidden"],
-                       extra_link_args=["-Wl,--exclude-libs,ALL"], depends=[library])
-    return {"ext_modules": [module], "options": {"bdist_wheel": {"py_limited_api": "cp310"}}}
+LIBRARY = os.path.join(outcome("libdir"), "libvizhoniku.a")
 
 
-setup(**options())
+class Build(build_ext):
+    def run(self) -> None:
+        if not os.path.isabs(LIBRARY) or not os.path.exists(LIBRARY):
+            sys.exit("the library libvizhoniku.a isn't found by pkg-config: install it (make install PREFIX=FOLDER), and "
+                     "name its place by PKG_CONFIG_PATH (FOLDER/lib/pkgconfig)")
+        super().run()
+
+
+module = Extension("vizhoniku._native", ["vizhoniku/_native.c"], include_dirs=[outcome("includedir")],
+                   define_macros=[("Py_LIMITED_API", "0x030A0000")], py_limited_api=True, extra_objects=[LIBRARY],
+                   extra_compile_args=["-std=c99", "-Wall", "-Wextra", "-fvisibility=hidden"],
+                   extra_link_args=["-Wl,--exclude-libs,ALL"], depends=[LIBRARY])
+setup(ext_modules=[module], cmdclass={"build_ext": Build}, options={"bdist_wheel": {"py_limited_api": "cp310"}})

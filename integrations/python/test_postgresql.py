@@ -1,7 +1,8 @@
 """Tries the page's code for columns of PostgreSQL's type vjson: python3 test_postgresql.py
 
 It is run against a server of its own with the extension, which needs what integrations/postgresql/test needs, and by
-psycopg, psycopg2 and SQLAlchemy. What is missing of these is skipped.
+psycopg, psycopg2 and SQLAlchemy. What is missing of these is skipped. The package is the one in the folder
+that the environment variable VIZHONIKU_PACKAGES names.
 """
 
 import decimal
@@ -14,7 +15,7 @@ import unittest
 from typing import Any, Dict, List
 
 HERE = os.path.dirname(os.path.abspath(__file__))
-sys.path.insert(0, HERE)
+sys.path[0] = os.environ["VIZHONIKU_PACKAGES"]  # in the place of this folder, which has the sources alone
 sys.path.append(os.path.join(HERE, "..", "postgresql"))
 
 import cluster

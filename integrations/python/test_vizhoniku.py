@@ -1,8 +1,7 @@
 """Tries the module, and documents in LMDB: python3 test_vizhoniku.py
 
-Tries the package in the folder that the environment variable VIZHONIKU_PACKAGES names, or in that of this file. Where
-that has no module in C, libvizhoniku.so.0 is needed where the package looks for it. The tests of LMDB are skipped where
-python3-lmdb is missing, and those over a library that stands in for it where cc is.
+Tries the package in the folder that the environment variable VIZHONIKU_PACKAGES names. The tests of LMDB are skipped
+where python3-lmdb is missing, and those over a library that stands in for the real one where cc or python3-dev is.
 """
 
 import ast
@@ -24,6 +23,7 @@ import re
 import shutil
 import subprocess
 import sys
+import sysconfig
 import tempfile
 import threading
 import time
@@ -35,8 +35,8 @@ from fractions import Fraction
 from typing import Any, Callable, Dict, List, NamedTuple, Optional, Tuple
 
 HERE = os.path.dirname(os.path.abspath(__file__))
-PACKAGES = os.environ.get("VIZHONIKU_PACKAGES", HERE)
-sys.path.insert(0, PACKAGES)
+PACKAGES = os.environ["VIZHONIKU_PACKAGES"]
+sys.path[0] = PACKAGES  # in the place of this folder, which has the sources alone
 sys.path.append(os.path.dirname(HERE))
 
 import growth
@@ -1372,13 +1372,56 @@ numbers: Tuple[float, int, float, int] = float(item), int(item), float(document)
 """
 
 
-class Both(unittest.TestCase):
-    """The module in C and that by ctypes."""
+class Module(unittest.TestCase):
+    """The module in C, as a user of Python sees it."""
 
-    def test_which_is_tried(self) -> None:
-        self.assertEqual(v.NATIVE, PACKAGES != HERE)
-        self.assertEqual(inspect.isbuiltin(v.check), v.NATIVE)
-        self.assertEqual((v.Key.__module__, v.Document.__module__), ("vizhoniku", "vizhoniku"))
+    def test_one_build_serves_all_versions(self) -> None:
+        self.assertEqual(os.path.basename(v._native.__file__), "_native.abi3.so")
+
+    def test_types(self) -> None:
+        """Keys and documents are as Python's own values: nobody changes one, also not by a subclass."""
+        kinds: List[Any] = [v.Key, v.Document]
+        for kind in kinds:
+            self.assertEqual(kind.__module__, "vizhoniku")
+            self.assertRaisesRegex(TypeError, "not an acceptable base type", type, "Own", (kind,), {})
+            whole = kind('{"a":[1,2.50]}')
+            data = bytes(whole)
+            for name in ("_data", "text", "new"):
+                self.assertRaises(AttributeError, setattr, whole, name, b"1")
+                self.assertRaises(AttributeError, object.__setattr__, whole, name, b"1")
+                self.assertRaises(TypeError, setattr, kind, name, None)
+            self.assertRaises(AttributeError, delattr, whole, "text")
+            self.assertEqual(bytes(whole), data)
+            self.assertEqual([name for name in dir(whole) if name.startswith("_") and not name.endswith("__")], [])
+            for parts in (iter(whole), whole.items(), iter(whole["a"])):
+                self.assertIs(iter(parts), parts)
+                self.assertRaises(TypeError, type(parts))
+        self.assertRaisesRegex(TypeError, "'<' not supported", operator.lt, v.Key("1"), v.Document("1"))
+
+    def test_words_of_wrong_calls(self) -> None:
+        key: Any = v.Key("[1]")
+        number: Any = 1
+        calls: List[Tuple[Callable[[], Any], str]] = [
+            (lambda: v.check(), "check() missing required argument 'text' (pos 1)"),  # type: ignore[call-arg]
+            (lambda: v.get("1"), "get() missing required argument 'path' (pos 2)"),  # type: ignore[call-arg]
+            (lambda: v.Key(), "Key() missing required argument 'text' (pos 1)"),  # type: ignore[call-arg]
+            (lambda: key.set("/0"), "set() missing required argument 'value' (pos 2)"),
+            (lambda: v.check("1", 1, 2), "check() takes at most 2 arguments (3 given)"),  # type: ignore[call-arg]
+            (lambda: key.push(1, 2), "push() takes at most 1 arguments (2 given)"),
+            (lambda: v.check("1", modus=1), "check() got an unexpected keyword argument 'modus'"),  # type: ignore
+            (lambda: key.get("", path=""), "get() got multiple values for argument 'path'"),
+            (lambda: v.check(number), "a text is a str, bytes, a bytearray or a memoryview, and not int"),
+            (lambda: v.Key.from_bytes("x"), "a key is bytes, a bytearray or a memoryview, and not str"),  # type: ignore
+            (lambda: v.Document.from_bytes(number), "a document is bytes, a bytearray or a memoryview, and not int"),
+            (lambda: key.put("a", 1), "array is no object"), (lambda: v.Key("{}").push(1), "object is no array"),
+            (lambda: key.put(1, 1), "a name is a str, and not int"), (lambda: key["a"], "array is no object"),
+            (lambda: len(v.Key("1")), "number is no array and no object"),
+            (lambda: 1 in key, "an item is a Key, and not int"),
+            (lambda: key[1.0], "a name is a str and an index an int, and not float")]
+        for call, words in calls:
+            with self.assertRaises(TypeError) as raised:
+                call()
+            self.assertEqual(str(raised.exception), words)
 
     def test_names_of_arguments(self) -> None:
         self.assertEqual(v.text(text="1", mode=v.STANDARD), "1")
@@ -1409,10 +1452,9 @@ class Both(unittest.TestCase):
         calls: Dict[Tuple[str, str], ast.FunctionDef] = {}
         for entry in self.parsed(name).body:
             inside = entry.name if isinstance(entry, ast.ClassDef) else ""
-            for kind in ("Key", "Document") if inside == "_Stored" else (inside,):
-                for call in entry.body if isinstance(entry, ast.ClassDef) else [entry]:
-                    if isinstance(call, ast.FunctionDef):
-                        calls.setdefault((kind, call.name), call)
+            for call in entry.body if isinstance(entry, ast.ClassDef) else [entry]:
+                if isinstance(call, ast.FunctionDef):
+                    calls.setdefault((inside, call.name), call)
         return calls
 
     def found(self, kind: str, name: str) -> Any:
@@ -1420,7 +1462,7 @@ class Both(unittest.TestCase):
         inside = getattr(v, kind) if kind else v
         return inside if name == "__new__" else getattr(inside, name)
 
-    def test_the_stub_is_of_both(self) -> None:
+    def test_the_stub_is_of_the_module(self) -> None:
         """Each call of the stub is there, with its parameters and their defaults, as help() tells them."""
         compared = 0
         for (kind, name), call in self.calls_in("_native.pyi").items():
@@ -1436,15 +1478,13 @@ class Both(unittest.TestCase):
         self.assertEqual(compared, 34)
 
     def test_words_of_help(self) -> None:
-        """What help() tells is the same by ctypes and by the module in C, and an editor shows it by the stub.
+        """What help() tells is what an editor shows by the stub.
 
         Of what begins with two underscores C has words of its own.
         """
-        told = self.calls_in("_by_ctypes.py")
         compared = 0
         for (kind, name), call in self.calls_in("_native.pyi").items():
-            words = ast.get_docstring(told[kind, name])
-            self.assertEqual(ast.get_docstring(call), words, name)
+            words = ast.get_docstring(call)
             outcome = inspect.getdoc(self.found(kind, name))
             self.assertTrue(outcome, name)
             if not name.startswith("_"):
@@ -1466,9 +1506,9 @@ class Both(unittest.TestCase):
             found = re.search('#define VIZHONIKU_VERSION_STRING "(.*)"', file.read())
         self.assertEqual(v.__version__, found and found[1])
 
-    def test_types(self) -> None:
+    def test_types_by_mypy(self) -> None:
         """Where mypy is installed it finds nothing wrong in the package, nor in what uses it."""
-        if importlib.util.find_spec("mypy") is None or v.NATIVE:
+        if importlib.util.find_spec("mypy") is None:
             return
         with tempfile.TemporaryDirectory() as folder:
             for what in (["-p", "vizhoniku"], ["-c", USE]):
@@ -1603,7 +1643,7 @@ class Growth(unittest.TestCase):
     """Calls over large documents take time in proportion to their size."""
 
     # Calls that look at no document, or at its first byte alone, and operators that are made as one that is timed is.
-    LEFT_OUT = {"Mode", "PathError", "RejectedText", "Text", "EXTENDED", "EXTENDED_JSON", "JSON", "STANDARD", "NATIVE",
+    LEFT_OUT = {"Mode", "PathError", "RejectedText", "Text", "EXTENDED", "EXTENDED_JSON", "JSON", "STANDARD",
                 "INTERFACE", "pointer", "Key.kind", "Key.__bool__", "Key.__float__", "Key.__int__", "Key.__copy__",
                 "Key.__deepcopy__", "Key.__setattr__", "Key.__new__", "Key.__le__", "Key.__gt__", "Key.__ge__",
                 "Key.__ne__", "Document.__bool__", "Document.__float__", "Document.__int__", "Document.__copy__",
@@ -1738,13 +1778,12 @@ class Versions(InAnInterpreter):
         """The versions are those of the header, and the file is one that is loaded here too."""
         with open(os.path.join(TOP, "include", "vizhoniku.h"), encoding="utf-8") as file:
             text, number = re.findall(r'^#define VIZHONIKU_VERSION(?:_STRING)? "?(.*?)"?$', file.read(), re.M)
-        *versions, calls = self.run_python("-m", "vizhoniku").splitlines()
+        *versions, place = self.run_python("-m", "vizhoniku").splitlines()
         self.assertEqual(versions, [f"vizhoniku {text}", f"interface version {number} of the library"])
         self.assertEqual(v.INTERFACE, int(number))
-        module, path = calls.split(": ", 1)
-        self.assertEqual(module, "calls by the module in C" if v.NATIVE else "calls by ctypes")
+        self.assertEqual(place, f"the library is in {v._native.__file__}")
         with open("/proc/self/maps", encoding="utf-8", errors="surrogateescape") as maps:
-            self.assertIn(os.path.realpath(path), maps.read())
+            self.assertIn(os.path.realpath(v._native.__file__), maps.read())
         self.assertEqual(self.run_python("-m", "vizhoniku", "x"), "usage: python3 -m vizhoniku")
 
 
@@ -1766,126 +1805,96 @@ print(vizhoniku.text("[1, 2]"))
 """)
         self.assertEqual(outcome, "MemoryError\n[1,2]")
 
-@unittest.skipIf(v.NATIVE, "")
-class Loading(InAnInterpreter):
-    """How the library is found, each time in an interpreter of its own."""
-
-    def library(self) -> str:
-        with open("/proc/self/maps", encoding="utf-8", errors="surrogateescape") as maps:
-            return next(line.split(maxsplit=5)[5].strip() for line in maps if "libvizhoniku.so" in line)
-
-    def test_by_the_environment_variable(self) -> None:
-        outcome = self.run_with("import vizhoniku; print(vizhoniku.text('[ ]'))", VIZHONIKU=self.library(),
-                             LD_LIBRARY_PATH="", PKG_CONFIG_PATH="")
-        self.assertEqual(outcome, "[]")
-
-    def test_a_wrong_path_is_reported(self) -> None:
-        outcome = self.run_with("import vizhoniku", VIZHONIKU="/nowhere/libvizhoniku.so.0")
-        self.assertIn("ImportError: the library that VIZHONIKU names can't be loaded: /nowhere/", outcome)
-
-    def test_another_library_is_reported(self) -> None:
-        outcome = self.run_with("import vizhoniku", VIZHONIKU="libc.so.6")
-        self.assertIn("ImportError: the library lacks a function: ", outcome)
+class Sources(InAnInterpreter):
+    def test_the_sources_alone(self) -> None:
+        """The folder vizhoniku without the module in C says what is lacking."""
+        outcome = self.run_with(f"import sys; sys.path[0] = {HERE!r}; import vizhoniku")
+        self.assertEqual(outcome.splitlines()[-1], "ImportError: this folder has the sources of vizhoniku alone, "
+                         "without its module in C: install the package by pip, or a wheel of it")
 
 
 # A library that is in for the real one. Each call answers `status`, and rejects a text at its start. Where `waits`
 # is set it first waits for `goes_on`, which another thread has to set, for ten seconds at most.
 STAND_IN = r"""
 #define _POSIX_C_SOURCE 200809L
-#include <stddef.h>
-#include <stdint.h>
+#include <stdlib.h>
 #include <time.h>
+#include <vizhoniku.h>
 
-struct error { uint32_t code, which; size_t position; };
-struct location { size_t index, line, column; };
+typedef const unsigned char *bytes;
+typedef struct vizhoniku_error error_of;
 
 volatile int waits, is_waiting, goes_on;
-volatile uint32_t status, reason_status = 1, path_status;
+volatile uint32_t status, reason_status = 1, path_status, kind;
 
-static uint32_t answer(struct error *error) {
+static uint32_t answer(void) {
   const struct timespec moment = {0, 1000000};
   is_waiting = 1;
   for (int i = 0; waits && !goes_on && i < 10000; i++) nanosleep(&moment, NULL);
-  error->code = error->which = status == 1;
-  error->position = 0;
   return waits && !goes_on ? 99 : status;
 }
 
-uint32_t vizhoniku_version(void) { return INTERFACE; }
-
-uint32_t vizhoniku_check(uint32_t mode, const char *text, size_t text_size, struct error *error) {
-  (void)mode, (void)text, (void)text_size;
-  return answer(error);
+static uint32_t of_text(error_of *error) {
+  error->code = error->which = status == VIZHONIKU_REJECTED;
+  error->position = 0;
+  return answer();
 }
 
-uint32_t vizhoniku_text(uint32_t mode, const char *text, size_t text_size, char *buffer, size_t room, size_t *size,
-                        struct error *error) {
-  (void)mode, (void)text, (void)text_size, (void)buffer, (void)room;
-  *size = 0;
-  return answer(error);
+uint32_t vizhoniku_version(void) { return (uint32_t)atoi(getenv("INTERFACE")); }
+size_t vizhoniku_document_key(bytes document, size_t document_size) { return document_size; }
+uint32_t vizhoniku_key_kind(bytes key, size_t key_size) { return kind; }
+void vizhoniku_locate(bytes text, size_t size, const error_of *error, struct vizhoniku_location *location) {
+  location->index = 0, location->line = location->column = 1;
 }
 
-uint32_t vizhoniku_error_path(uint32_t mode, const char *text, size_t text_size, const struct error *error,
-                              char *buffer, size_t room, size_t *size) {
-  (void)mode, (void)text, (void)text_size, (void)error, (void)buffer, (void)room;
-  *size = 0;
-  return path_status;
+/* Calls with a text, after what they write to, with keys and documents, and those that write. */
+#define TEXT(name, zeroed, ...) \
+  uint32_t vizhoniku_##name(uint32_t mode, __VA_ARGS__, error_of *error) { zeroed; return of_text(error); }
+#define ANSWERS(name, ...) uint32_t vizhoniku_##name(bytes stored, size_t stored_size, __VA_ARGS__) { return answer(); }
+#define CHECKS(name) uint32_t vizhoniku_##name(bytes stored, size_t stored_size) { return answer(); }
+#define BUFFER unsigned char *buffer, size_t buffer_size, size_t *size
+#define OTHER bytes other, size_t other_size
+#define WRITES(name, given) uint32_t vizhoniku_##name(bytes stored, size_t stored_size, given BUFFER) { \
+  *size = 0; \
+  return answer(); \
 }
+#define COMMA ,
+#define BOTH(kind) \
+  CHECKS(kind##_check) WRITES(kind##_text,) WRITES(kind##_remove, OTHER COMMA) WRITES(kind##_push, OTHER COMMA) \
+  WRITES(kind##_merge, OTHER COMMA) WRITES(kind##_put, OTHER COMMA bytes part COMMA size_t part_size COMMA) \
+  WRITES(kind##_set, OTHER COMMA bytes part COMMA size_t part_size COMMA uint32_t create COMMA)
 
-uint32_t vizhoniku_sort_key(uint32_t mode, const char *text, size_t text_size, char *buffer, size_t room, size_t *size,
-                            struct error *error) {
-  return vizhoniku_text(mode, text, text_size, buffer, room, size, error);
-}
+TEXT(check, (void)0, bytes text, size_t text_size)
+TEXT(text, *size = 0, bytes text, size_t text_size, BUFFER)
+TEXT(sort_key, *size = 0, bytes text, size_t text_size, BUFFER)
+TEXT(document, *size = 0, bytes text, size_t text_size, BUFFER)
+TEXT(part, *size = 0, OTHER, bytes text, size_t text_size, BUFFER)
+TEXT(text_and_key, *size = *key_size = 0, bytes text, size_t text_size, BUFFER, unsigned char *key_buffer,
+     size_t key_buffer_size, size_t *key_size)
+TEXT(compare, *order = 0, bytes text, size_t text_size, OTHER, int32_t *order)
+BOTH(key)
+BOTH(document)
+ANSWERS(key_count, size_t *count)
+ANSWERS(key_member, OTHER, size_t *offset, size_t *size)
+ANSWERS(key_item, int64_t index, size_t *offset, size_t *size)
+ANSWERS(key_part, OTHER, size_t *offset, size_t *size)
+ANSWERS(key_begin, struct vizhoniku_key_cursor *cursor)
+ANSWERS(key_next, struct vizhoniku_key_cursor *cursor, struct vizhoniku_key_entry *entry)
+ANSWERS(key_contains, OTHER)
+ANSWERS(document_begin, struct vizhoniku_document_cursor *cursor)
+WRITES(key_name,)
+WRITES(document_part, OTHER COMMA)
+WRITES(document_range, size_t offset COMMA size_t part_size COMMA)
+WRITES(document_next, struct vizhoniku_document_cursor *cursor COMMA struct vizhoniku_key_entry *entry COMMA)
 
-uint32_t vizhoniku_part(uint32_t mode, const char *path, size_t path_size, const char *text, size_t text_size,
-                        char *buffer, size_t room, size_t *size, struct error *error) {
-  (void)path, (void)path_size;
-  return vizhoniku_text(mode, text, text_size, buffer, room, size, error);
-}
-
-uint32_t vizhoniku_text_and_key(uint32_t mode, const char *text, size_t text_size, char *buffer, size_t room,
-                                size_t *size, char *key_buffer, size_t key_room, size_t *key_size,
-                                struct error *error) {
-  (void)key_buffer, (void)key_room;
-  *key_size = 0;
-  return vizhoniku_text(mode, text, text_size, buffer, room, size, error);
-}
-
-uint32_t vizhoniku_compare(uint32_t mode, const char *left, size_t left_size, const char *right, size_t right_size,
-                           int32_t *order, struct error *error) {
-  (void)mode, (void)left, (void)left_size, (void)right, (void)right_size;
-  *order = 0;
-  return answer(error);
-}
-
-uint32_t vizhoniku_reason(uint32_t mode, const char *text, size_t text_size, char *buffer, size_t room, size_t *size) {
-  (void)mode, (void)text, (void)text_size, (void)buffer, (void)room;
+uint32_t vizhoniku_reason(uint32_t mode, bytes text, size_t text_size, BUFFER) {
   *size = 0;
   return reason_status;
 }
 
-/* Calls on keys, whose arguments don't matter. */
-#define KEY(name) uint32_t vizhoniku_key_##name(void) { return status; }
-KEY(check) KEY(kind) KEY(count) KEY(member) KEY(item) KEY(part) KEY(begin) KEY(next) KEY(name) KEY(text)
-KEY(contains) KEY(set) KEY(remove) KEY(put) KEY(push) KEY(merge)
-
-uint32_t vizhoniku_document(uint32_t mode, const char *text, size_t text_size, char *buffer, size_t room, size_t *size,
-                            struct error *error) {
-  return vizhoniku_text(mode, text, text_size, buffer, room, size, error);
-}
-
-size_t vizhoniku_document_key(const char *document, size_t size) {
-  (void)document;
-  return size;
-}
-
-#define DOCUMENT(name) uint32_t vizhoniku_document_##name(void) { return status; }
-DOCUMENT(check) DOCUMENT(text) DOCUMENT(part) DOCUMENT(range) DOCUMENT(begin) DOCUMENT(next) DOCUMENT(set)
-DOCUMENT(remove) DOCUMENT(put) DOCUMENT(push) DOCUMENT(merge)
-
-void vizhoniku_locate(const char *text, size_t text_size, const struct error *error, struct location *location) {
-  (void)text, (void)text_size, (void)error;
-  location->index = 0, location->line = location->column = 1;
+uint32_t vizhoniku_error_path(uint32_t mode, bytes text, size_t text_size, const error_of *error, BUFFER) {
+  *size = 0;
+  return path_status;
 }
 """
 
@@ -1894,16 +1903,28 @@ OVER_STAND_IN = """
 import ctypes
 import threading
 import vizhoniku as v
-from vizhoniku._by_ctypes import _library
 
-status = ctypes.c_uint32.in_dll(_library, "status")
-reason_status = ctypes.c_uint32.in_dll(_library, "reason_status")
-path_status = ctypes.c_uint32.in_dll(_library, "path_status")
-waits, is_waiting, goes_on = (ctypes.c_int.in_dll(_library, name) for name in ("waits", "is_waiting", "goes_on"))
-calls = {"check": lambda: v.check("1"), "is_valid": lambda: v.is_valid("1"), "text": lambda: v.text("1"),
-         "sort_key": lambda: v.sort_key("1"), "text_and_key": lambda: v.text_and_key("1"),
-         "get": lambda: v.get("1", ""), "compare": lambda: v.compare("1", "1"),
-         "Document": lambda: bytes(v.Document("1"))}
+library = ctypes.CDLL(v._native.__file__)
+status, reason_status, path_status, kind = (
+    ctypes.c_uint32.in_dll(library, name) for name in ("status", "reason_status", "path_status", "kind"))
+waits, is_waiting, goes_on = (ctypes.c_int.in_dll(library, name) for name in ("waits", "is_waiting", "goes_on"))
+text, data = "1" * 2000, bytes(2000)
+calls = {"check": lambda: v.check(text), "is_valid": lambda: v.is_valid(text), "text": lambda: v.text(text),
+         "sort_key": lambda: v.sort_key(text), "text_and_key": lambda: v.text_and_key(text),
+         "get": lambda: v.get(text, ""), "compare": lambda: v.compare(text, text),
+         "Key": lambda: bytes(v.Key(text)), "Document": lambda: bytes(v.Document(text))}
+stored = {}
+for name, one in (("Key", v.Key), ("Document", v.Document)):
+    whole = one.from_bytes(data)
+    stored[name] = whole
+    calls.update({
+        name + ".from_bytes": lambda one=one: bytes(one.from_bytes(data)) == data,
+        name + ".text": lambda whole=whole: whole.text(),
+        name + ".contains": lambda whole=whole: whole.contains(whole),
+        name + ".set": lambda whole=whole: bytes(whole.set("", whole)),
+        name + ".remove": lambda whole=whole: bytes(whole.remove("")),
+        name + ".merge": lambda whole=whole: bytes(whole.merge(whole))})
+calls["Document.get"] = lambda: bytes(stored["Document"].get(""))
 
 def told(call):
     try:
@@ -1933,55 +1954,46 @@ for name, call in calls.items():
 """
 
 
-@unittest.skipIf(v.NATIVE, "")
 @unittest.skipIf(shutil.which("cc") is None, "cc is missing")
+@unittest.skipIf(not os.path.exists(sysconfig.get_paths()["include"] + "/Python.h"), "python3-dev is missing")
 class StandIn(InAnInterpreter):
-    """What the module makes of statuses, of other versions and of places of the library."""
+    """What the module makes of statuses, and of other versions of the library."""
 
     folder: "tempfile.TemporaryDirectory[str]"
 
     @classmethod
     def setUpClass(cls) -> None:
+        """Builds the module over that library, beside the other files of the package."""
         cls.folder = tempfile.TemporaryDirectory()
-        for version in (VERSION - 1, VERSION, VERSION + 1):
-            os.mkdir(os.path.join(cls.folder.name, str(version)))
-            subprocess.run(["cc", "-std=c99", "-Wall", "-Wextra", "-Werror", "-pedantic", "-shared", "-fPIC",
-                            f"-DINTERFACE={version}", "-x", "c", "-", "-o", cls.library_of(version)],
-                           input=STAND_IN.encode(), check=True)
+        cls.addClassCleanup(cls.folder.cleanup)
+        package = os.path.join(cls.folder.name, "vizhoniku")
+        shutil.copytree(os.path.join(PACKAGES, "vizhoniku"), package, ignore=shutil.ignore_patterns("*.so"))
+        subprocess.run(["cc", "-std=c99", "-Wall", "-Werror", "-shared", "-fPIC", "-DPy_LIMITED_API=0x030A0000",
+                        "-I" + sysconfig.get_paths()["include"], "-I" + os.path.join(TOP, "include"),
+                        os.path.join(HERE, "vizhoniku", "_native.c"), "-x", "c", "-",
+                        "-o", os.path.join(package, "_native.abi3.so")], input=STAND_IN.encode(), check=True)
 
-    @classmethod
-    def tearDownClass(cls) -> None:
-        cls.folder.cleanup()
-
-    @classmethod
-    def folder_of(cls, version: int) -> str:
-        return os.path.join(cls.folder.name, str(version))
-
-    @classmethod
-    def library_of(cls, version: int) -> str:
-        return os.path.join(cls.folder_of(version), "libvizhoniku.so.0")
+    def over(self, code: str, version: int = VERSION) -> List[str]:
+        """What the code prints over that library, of this version."""
+        ran = subprocess.run([sys.executable, "-B", "-c", code], cwd=self.folder.name, stdout=subprocess.PIPE,
+                             stderr=subprocess.STDOUT, env={**os.environ, "INTERFACE": str(version)}, check=False)
+        return ran.stdout.decode().splitlines()
 
     def test_an_older_library_is_rejected(self) -> None:
-        for version, wanted in ((VERSION, "0"), (VERSION + 1, "0")):
-            self.assertEqual(self.run_with("import vizhoniku; print(vizhoniku.compare('', ''))",
-                                           VIZHONIKU=self.library_of(version)), wanted)
         for version in (VERSION, VERSION + 1):
-            path, folder = self.library_of(version), self.folder_of(version)
-            for environment in ({"VIZHONIKU": path}, {"VIZHONIKU": "", "LD_LIBRARY_PATH": folder}):
-                told = self.run_python("-m", "vizhoniku", **environment).splitlines()
-                self.assertEqual(told[1:], [f"interface version {version} of the library", f"calls by ctypes: {path}"])
-        outcome = self.run_with("import vizhoniku", VIZHONIKU=self.library_of(VERSION - 1))
-        self.assertEqual(outcome.splitlines()[-1], f"ImportError: libvizhoniku has interface version {VERSION - 1}, "
-                                                f"and {VERSION} is needed")
+            self.assertEqual(self.over("import vizhoniku as v; print(v.INTERFACE, v.compare('', ''))", version),
+                             [f"{version} 0"])
+        self.assertEqual(self.over("import vizhoniku", VERSION - 1)[-1],
+                         f"ImportError: libvizhoniku has interface version {VERSION - 1}, and {VERSION} is needed")
 
     def test_statuses(self) -> None:
         """Each call without memory, with a status that there isn't, and a rejected text without memory for words."""
-        outcome = self.run_with(OVER_STAND_IN + """
+        outcome = self.over(OVER_STAND_IN + """
 for status.value in (2, 3, 4_000_000_000):
     print(status.value, *sorted({told(call) for call in calls.values()}))
 status.value = 1
 for reason_status.value in (1, 2):
-    print(*(told(call) for call in calls.values()))
+    print(*(told(call) for call in [*calls.values()][:9]))
 reason_status.value = 1
 for path_status.value in (0, 2, 3):
     try:
@@ -1990,41 +2002,45 @@ for path_status.value in (0, 2, 3):
         print(repr(fault.path))
     except MemoryError:
         print("MemoryError")
-""", VIZHONIKU=self.library_of(VERSION))
-        self.assertEqual(outcome.splitlines(), [
+""")
+        self.assertEqual(outcome, [
             "2 MemoryError", "3 RuntimeError", "4000000000 RuntimeError",
-            "RejectedText False" + " RejectedText" * 6, "MemoryError False" + " MemoryError" * 6,
+            "RejectedText False" + " RejectedText" * 7, "MemoryError False" + " MemoryError" * 7,
             "''", "MemoryError", "None",
         ])
 
-    def goes_on(self, **environment: str) -> None:
-        outcome = self.run_with(WHILE_A_CALL_READS, **environment)
-        self.assertEqual(outcome.splitlines(), ["check None", "is_valid True", "text ", "sort_key b''",
-                                             "text_and_key ('', b'')", "get ", "compare 0", "Document b''"])
+    def test_statuses_of_keys_and_documents(self) -> None:
+        """Each call of a key and of a document raises the same of one status."""
+        outcome = self.over(OVER_STAND_IN + """
+ARRAY, OBJECT = 5, 6
+for name, whole in stored.items():
+    of = {"len": (ARRAY, lambda: len(whole)), "item": (ARRAY, lambda: whole[0]), "iter": (ARRAY, lambda: list(whole)),
+          "name": (OBJECT, lambda: whole["a"]), "names": (OBJECT, lambda: list(whole)),
+          "items": (OBJECT, lambda: list(whole.items())), "in": (OBJECT, lambda: "a" in whole),
+          "has": (ARRAY, lambda: whole in whole), "get": (OBJECT, lambda: whole.get("")),
+          "put": (OBJECT, lambda: whole.put("a", whole)), "push": (ARRAY, lambda: whole.push(whole)),
+          "text": (OBJECT, lambda: whole.text()), "contains": (OBJECT, lambda: whole.contains(whole)),
+          "set": (OBJECT, lambda: whole.set("", whole)), "remove": (OBJECT, lambda: whole.remove("")),
+          "merge": (OBJECT, lambda: whole.merge(whole))}
+    for status.value in (2, 3, 6, 7, 8, 10, 4_000_000_000):
+        answers = {}
+        for call, (kind.value, function) in of.items():
+            answers.setdefault(told(function), []).append(call)
+        print(name, status.value, *(f"{len(who)} {answer}" if len(who) > 1 else f"{who[0]} {answer}"
+                                    for answer, who in answers.items()))
+    status.value = 5
+    print(name, whole.remove("") is whole, whole.get(""), whole.get("", 7), whole.contains(whole))
+""")
+        self.assertEqual(outcome, [f"{name} {rest}" for name in ("Key", "Document") for rest in (
+            "2 16 MemoryError", "3 16 RuntimeError", "6 15 PathError put ValueError", "7 16 ValueError",
+            "8 16 ValueError", "10 16 ValueError", "4000000000 16 RuntimeError", "True None 7 False")])
 
     def test_other_threads_go_on(self) -> None:
-        self.goes_on(VIZHONIKU=self.library_of(VERSION))
-        self.goes_on(VIZHONIKU="", LD_LIBRARY_PATH=self.folder_of(VERSION), PKG_CONFIG_PATH="")
-
-    @unittest.skipIf(shutil.which("pkg-config") is None, "pkg-config is missing")
-    def test_where_pkg_config_says(self) -> None:
-        elsewhere = self.run_with("import ctypes; ctypes.CDLL('libvizhoniku.so.0'); print('found')", LD_LIBRARY_PATH="")
-        if elsewhere == "found":
-            self.skipTest("the system has a library, which comes first")
-        with tempfile.TemporaryDirectory(prefix="two words ") as folder:
-            def report(libdir: str) -> None:
-                with open(os.path.join(folder, "vizhoniku.pc"), "w", encoding="utf-8") as file:
-                    file.write(f"prefix={folder}\nincludedir={folder}\nlibdir={libdir}\n\n"
-                               "Name: vizhoniku\nDescription: stands in\nVersion: 0\n")
-
-            report(self.folder_of(VERSION))
-            self.goes_on(VIZHONIKU="", LD_LIBRARY_PATH="", PKG_CONFIG_PATH=folder)
-            shutil.copy(self.library_of(VERSION), folder)
-            report(folder)
-            self.goes_on(VIZHONIKU="", LD_LIBRARY_PATH="", PKG_CONFIG_PATH=folder)
-            report(os.path.join(folder, "nowhere"))
-            outcome = self.run_with("import vizhoniku", VIZHONIKU="", LD_LIBRARY_PATH="", PKG_CONFIG_PATH=folder)
-            self.assertIn("ImportError: libvizhoniku.so.0 is not found", outcome)
+        outcome = self.over(WHILE_A_CALL_READS)
+        self.assertEqual(outcome[:9], ["check None", "is_valid True", "text ", "sort_key b''", "text_and_key ('', b'')",
+                                       "get ", "compare 0", "Key b''", "Document b''"])
+        self.assertEqual(outcome[9:], [f"{kind}.{answer}" for kind in ("Key", "Document") for answer in (
+            "from_bytes True", "text ", "contains True", "set b''", "remove b''", "merge b''")] + ["Document.get b''"])
 
 
 @unittest.skipIf(lmdb is None, "python3-lmdb is missing")

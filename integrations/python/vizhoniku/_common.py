@@ -1,4 +1,4 @@
-"""What both ways to call the library share: modes, texts, paths and errors."""
+"""Modes, texts, paths and errors."""
 
 import enum
 from typing import Optional, Union

@@ -1,10 +1,11 @@
-/* The calls of the library for Python, as _by_ctypes.py has them: the same names, arguments, results and errors.
+/* The calls of the library for Python.
  *
  * It keeps to the limited API of Python 3.10, so that one build serves each later version. The static library is linked
  * in. Other threads run while a text of RELEASED bytes or more is read. */
 #define PY_SSIZE_T_CLEAN
 #include <Python.h>
 
+#include <stddef.h>
 #include <stdint.h>
 #include <string.h>
 
@@ -22,9 +23,12 @@
 /* How many modes there are. */
 #define MODES 4
 
-/* What the functions need of Python: the module's own, since there may be several interpreters. */
+#define DEFAULT_MODE VIZHONIKU_EXTENDED_JSON
+
+/* What the functions need of Python: the module's own, since there may be several interpreters. These are objects
+ * alone, so that it is an array of them too. */
 struct state {
-  PyObject *mode;      /* the class Mode */
+  PyObject *mode;         /* the class Mode */
   PyObject *modes[MODES]; /* its members, each at its number */
   PyObject *path_error;
   PyObject *rejection; /* makes a RejectedText */
@@ -33,9 +37,9 @@ struct state {
   PyObject *value_of;  /* the value of a key or a document */
   PyObject *float_of;  /* the float and the int of one that is a number */
   PyObject *int_of;
-  PyObject *items_of;  /* the items of an array in a slice */
-  PyObject *decimal;   /* the class Decimal */
-  PyObject *bad_path;  /* words */
+  PyObject *items_of; /* the items of an array in a slice */
+  PyObject *decimal;  /* the class Decimal */
+  PyObject *bad_path; /* words */
   PyObject *no_key;
   PyObject *no_document;
   PyObject *no_name;
@@ -54,13 +58,12 @@ struct text {
   PyObject *holder; /* or NULL where the text itself does */
 };
 
-static void free_text(struct text *text) { Py_CLEAR(text->holder); }
-
-/* Raises TypeError, with the name of the object's type in the words. */
-static void raise_type(const char *words, PyObject *object) {
+/* Raises TypeError, with the name of the object's type in the words. Returns NULL. */
+static PyObject *raise_type(const char *words, PyObject *object) {
   PyObject *type = PyObject_GetAttrString((PyObject *)Py_TYPE(object), "__name__");
   if (type) PyErr_Format(PyExc_TypeError, words, type);
   Py_XDECREF(type);
+  return NULL;
 }
 
 /* Reads a text. Half of a surrogate pair in a str becomes three bytes that aren't UTF-8, which the library rejects at
@@ -94,135 +97,6 @@ static int read_text(PyObject *object, const char *words, struct text *text) {
 #define A_TEXT "a text is a str, bytes, a bytearray or a memoryview, and not %U"
 #define A_KEY "a key is bytes, a bytearray or a memoryview, and not %U"
 #define A_DOCUMENT "a document is bytes, a bytearray or a memoryview, and not %U"
-
-/* Sorts the arguments of a call by the names of the parameters; those that aren't given are NULL. Returns 0 where an
- * exception is raised. */
-static int sort_arguments(const char *function, const char *const *names, Py_ssize_t least, PyObject *const *given,
-                          Py_ssize_t count, PyObject *keywords, PyObject **arguments) {
-  Py_ssize_t most = 0, named = keywords ? PyTuple_Size(keywords) : 0;
-  while (names[most]) arguments[most++] = NULL;
-  if (count > most) {
-    PyErr_Format(PyExc_TypeError, "%s() takes at most %zd arguments (%zd given)", function, most, count + named);
-    return 0;
-  }
-  for (Py_ssize_t i = 0; i < count; i++) arguments[i] = given[i];
-  for (Py_ssize_t i = 0; i < named; i++) {
-    PyObject *name = PyTuple_GetItem(keywords, i);
-    Py_ssize_t at = 0;
-    while (at < most && PyUnicode_CompareWithASCIIString(name, names[at])) at++;
-    if (at == most || arguments[at]) {
-      const char *words = at == most ? "%s() got an unexpected keyword argument '%U'"
-                                     : "%s() got multiple values for argument '%U'";
-      PyErr_Format(PyExc_TypeError, words, function, name);
-      return 0;
-    }
-    arguments[at] = given[count + i];
-  }
-  for (Py_ssize_t i = 0; i < least; i++) {
-    if (!arguments[i]) {
-      PyErr_Format(PyExc_TypeError, "%s() missing required argument '%s'", function, names[i]);
-      return 0;
-    }
-  }
-  return 1;
-}
-
-#define DEFAULT_MODE VIZHONIKU_EXTENDED_JSON
-
-/* The members of the class Mode, each at its number. */
-static const char *const mode_names[MODES] = {
-    [VIZHONIKU_STANDARD] = "STANDARD",
-    [VIZHONIKU_EXTENDED] = "EXTENDED",
-    [VIZHONIKU_JSON] = "JSON",
-    [VIZHONIKU_EXTENDED_JSON] = "EXTENDED_JSON",
-};
-
-/* Reads a mode: Mode(4) raises the error of what is none. Returns 0 where an exception is raised. */
-static int read_mode(const struct state *state, PyObject *object, uint32_t *mode) {
-  *mode = DEFAULT_MODE;
-  if (!object) return 1;
-  for (*mode = 0; *mode < MODES; ++*mode)
-    if (object == state->modes[*mode]) return 1;
-  PyObject *member = PyObject_CallFunctionObjArgs(state->mode, object, NULL);
-  if (!member) return 0;
-  *mode = (uint32_t)PyLong_AsUnsignedLong(member);
-  Py_DECREF(member);
-  return !PyErr_Occurred();
-}
-
-/* The words of the library for a rejected text, as bytes. */
-static PyObject *words_of(uint32_t mode, const struct text *text) {
-  unsigned char small[256], *words = small;
-  size_t capacity = sizeof small, size;
-  uint32_t status;
-  for (;;) {
-    status = vizhoniku_reason(mode, text->at, text->size, words, capacity, &size);
-    if (status != VIZHONIKU_TOO_SHORT) break;
-    if (words != small) PyMem_Free(words);
-    capacity = size;
-    if (!(words = PyMem_Malloc(capacity))) return PyErr_NoMemory();
-  }
-  PyObject *result = status == VIZHONIKU_OUT_OF_MEMORY ? PyErr_NoMemory()
-                                                       : PyBytes_FromStringAndSize((char *)words, (Py_ssize_t)size);
-  if (words != small) PyMem_Free(words);
-  return result;
-}
-
-/* The path of the innermost item or member at which the text was rejected, or None where it can't be reported. */
-static PyObject *path_of(uint32_t mode, const struct vizhoniku_error *error, const struct text *text) {
-  unsigned char small[256], *path = small;
-  size_t capacity = sizeof small, size;
-  uint32_t status;
-  for (;;) {
-    status = vizhoniku_error_path(mode, text->at, text->size, error, path, capacity, &size);
-    if (status != VIZHONIKU_TOO_SHORT) break;
-    if (path != small) PyMem_Free(path);
-    capacity = size;
-    if (!(path = PyMem_Malloc(capacity))) return PyErr_NoMemory();
-  }
-  PyObject *result = Py_None;
-  if (status == VIZHONIKU_ACCEPTED)
-    result = PyUnicode_DecodeUTF8((char *)path, (Py_ssize_t)size, "replace");
-  else if (status == VIZHONIKU_OUT_OF_MEMORY)
-    result = PyErr_NoMemory();
-  else
-    Py_INCREF(result);
-  if (path != small) PyMem_Free(path);
-  return result;
-}
-
-/* Raises RejectedText for the text of an object. */
-static void raise_rejected(const struct state *state, uint32_t mode, const struct vizhoniku_error *error,
-                           PyObject *object, const struct text *text) {
-  struct vizhoniku_location location;
-  vizhoniku_locate(text->at, text->size, error, &location);
-  PyObject *words = words_of(mode, text);
-  PyObject *path = words ? path_of(mode, error, text) : NULL;
-  PyObject *raised = !path ? NULL : PyObject_CallFunction(
-      state->rejection, "Oy#OIInnnO", object, (const char *)text->at, (Py_ssize_t)text->size, words, error->code,
-      error->which, (Py_ssize_t)location.index, (Py_ssize_t)location.line, (Py_ssize_t)location.column, path);
-  Py_XDECREF(words);
-  Py_XDECREF(path);
-  if (!raised) return;
-  PyErr_SetObject((PyObject *)Py_TYPE(raised), raised);
-  Py_DECREF(raised);
-}
-
-/* Raises what a status says that is neither success nor about a text. */
-static void raise_status(const struct state *state, uint32_t status) {
-  if (status == VIZHONIKU_OUT_OF_MEMORY)
-    PyErr_NoMemory();
-  else if (status == VIZHONIKU_NO_PATH)
-    PyErr_SetObject(state->path_error, state->bad_path);
-  else if (status == VIZHONIKU_NO_KEY)
-    PyErr_SetObject(PyExc_ValueError, state->no_key);
-  else if (status == VIZHONIKU_NO_DOCUMENT)
-    PyErr_SetObject(PyExc_ValueError, state->no_document);
-  else if (status == VIZHONIKU_TOO_DEEP)
-    PyErr_SetObject(PyExc_ValueError, state->too_deep);
-  else
-    PyErr_Format(PyExc_RuntimeError, "unknown status %u", (unsigned)status);
-}
 
 /* Bytes that are written: in `small`, or in memory of Python's. */
 struct written {
@@ -263,206 +137,284 @@ static PyObject *bytes_of(const struct written *written) {
   return PyBytes_FromStringAndSize((const char *)written->at, (Py_ssize_t)written->size);
 }
 
-/* What a call of the library does with a text. */
-enum what { CHECK, TEXT, SORT_KEY, DOCUMENT, TEXT_AND_KEY, PART };
+/* What a call of the library does. Behind what is of keys is the same of documents. First come those that write
+ * nothing, or few bytes of many, and from TEXT on those that write about as many as they take. */
+enum what {
+  CHECK, IS_VALID, COMPARE, KEY_CHECK, DOCUMENT_CHECK, KEY_CONTAINS, PART, REASON, ERROR_PATH, DOCUMENT_PART,
+  DOCUMENT_RANGE, TEXT, TEXT_AND_KEY, SORT_KEY, DOCUMENT, KEY_TEXT, DOCUMENT_TEXT, KEY_SET, DOCUMENT_SET, KEY_REMOVE,
+  DOCUMENT_REMOVE, KEY_PUT, DOCUMENT_PUT, KEY_PUSH, DOCUMENT_PUSH, KEY_MERGE, DOCUMENT_MERGE
+};
+
+/* A call of the library: what it takes, and what it writes. */
+struct call {
+  enum what what;
+  uint32_t mode;
+  uint32_t create;
+  struct text text; /* or the bytes of a key or a document */
+  struct text step; /* a path or a name */
+  struct text part; /* what is set, put, pushed, merged, looked for or compared */
+  size_t offset, size;
+  int32_t order;
+  struct vizhoniku_error error;
+  struct written written;
+  struct written key; /* of a text that is written too */
+};
+
+static void begin_call(struct call *call, enum what what) {
+  static const struct text none = {NULL, 0, NULL};
+  call->what = what;
+  call->text = call->step = call->part = none;
+  begin_written(&call->written);
+  begin_written(&call->key);
+}
+
+static void end_call(struct call *call) {
+  Py_XDECREF(call->text.holder);
+  Py_XDECREF(call->step.holder);
+  Py_XDECREF(call->part.holder);
+  free_written(&call->written);
+  free_written(&call->key);
+}
+
+#define IN(text) (text).at, (text).size
+#define OUT(written) (written).at, (written).capacity, &(written).size
+
+/* The calls that there are of keys and of documents. */
+#define OF_BOTH(WHAT, kind) \
+  case WHAT##_CHECK: \
+    return vizhoniku_##kind##_check(IN(call->text)); \
+  case WHAT##_TEXT: \
+    return vizhoniku_##kind##_text(IN(call->text), OUT(call->written)); \
+  case WHAT##_SET: \
+    return vizhoniku_##kind##_set(IN(call->text), IN(call->step), IN(call->part), call->create, OUT(call->written)); \
+  case WHAT##_REMOVE: \
+    return vizhoniku_##kind##_remove(IN(call->text), IN(call->step), OUT(call->written)); \
+  case WHAT##_PUT: \
+    return vizhoniku_##kind##_put(IN(call->text), IN(call->step), IN(call->part), OUT(call->written)); \
+  case WHAT##_PUSH: \
+    return vizhoniku_##kind##_push(IN(call->text), IN(call->part), OUT(call->written)); \
+  case WHAT##_MERGE: \
+    return vizhoniku_##kind##_merge(IN(call->text), IN(call->part), OUT(call->written))
 
 /* Calls the library once. */
-static uint32_t call_once(enum what what, uint32_t mode, const struct text *path, const struct text *text,
-                          struct written *written, struct written *key, struct vizhoniku_error *error) {
-  switch (what) {
+static uint32_t call_once(struct call *call) {
+  switch (call->what) {
   case CHECK:
-    return vizhoniku_check(mode, text->at, text->size, error);
+  case IS_VALID:
+    return vizhoniku_check(call->mode, IN(call->text), &call->error);
+  case COMPARE:
+    return vizhoniku_compare(call->mode, IN(call->text), IN(call->part), &call->order, &call->error);
+  case KEY_CONTAINS:
+    return vizhoniku_key_contains(IN(call->text), IN(call->part));
+  case PART:
+    return vizhoniku_part(call->mode, IN(call->step), IN(call->text), OUT(call->written), &call->error);
+  case REASON:
+    return vizhoniku_reason(call->mode, IN(call->text), OUT(call->written));
+  case ERROR_PATH:
+    return vizhoniku_error_path(call->mode, IN(call->text), &call->error, OUT(call->written));
+  case DOCUMENT_PART:
+    return vizhoniku_document_part(IN(call->text), IN(call->step), OUT(call->written));
+  case DOCUMENT_RANGE:
+    return vizhoniku_document_range(IN(call->text), call->offset, call->size, OUT(call->written));
   case TEXT:
-    return vizhoniku_text(mode, text->at, text->size, written->at, written->capacity, &written->size, error);
-  case SORT_KEY:
-    return vizhoniku_sort_key(mode, text->at, text->size, key->at, key->capacity, &key->size, error);
-  case DOCUMENT:
-    return vizhoniku_document(mode, text->at, text->size, key->at, key->capacity, &key->size, error);
+    return vizhoniku_text(call->mode, IN(call->text), OUT(call->written), &call->error);
   case TEXT_AND_KEY:
-    return vizhoniku_text_and_key(mode, text->at, text->size, written->at, written->capacity, &written->size, key->at,
-                                  key->capacity, &key->size, error);
-  default:
-    return vizhoniku_part(mode, path->at, path->size, text->at, text->size, written->at, written->capacity,
-                          &written->size, error);
+    return vizhoniku_text_and_key(call->mode, IN(call->text), OUT(call->written), OUT(call->key), &call->error);
+  case SORT_KEY:
+    return vizhoniku_sort_key(call->mode, IN(call->text), OUT(call->written), &call->error);
+  case DOCUMENT:
+    return vizhoniku_document(call->mode, IN(call->text), OUT(call->written), &call->error);
+  OF_BOTH(KEY, key);
+  OF_BOTH(DOCUMENT, document);
   }
+  return VIZHONIKU_UNKNOWN_MODE;
 }
 
-/* Calls the library until the buffers are long enough, and raises what the status says unless it is success, or
- * VIZHONIKU_NO_PART, or VIZHONIKU_REJECTED of a call that only checks. Returns the status, or -1 where an exception is
- * raised. */
-static int64_t call_library(const struct state *state, enum what what, uint32_t mode, const struct text *path,
-                            PyObject *object, const struct text *text, struct written *written, struct written *key,
-                            int reports_rejection) {
-  struct vizhoniku_error error;
+/* Calls the library until the buffers are long enough, while other threads run where that many bytes are read. Returns
+ * the status. With VIZHONIKU_TOO_SHORT an exception is raised, since there was no memory for a buffer. */
+static uint32_t call_library(struct call *call, size_t read) {
+  size_t capacity = call->text.size + 2 * call->step.size + call->part.size + 64;
   uint32_t status;
-  if (what != PART && written && !ensure_capacity(written, text->size + 16)) return -1;
-  if (key && !ensure_capacity(key, text->size + 64)) return -1;
-  for (;;) {
-    if (text->size >= RELEASED) {
-      Py_BEGIN_ALLOW_THREADS
-      status = call_once(what, mode, path, text, written, key, &error);
-      Py_END_ALLOW_THREADS
-    } else {
-      status = call_once(what, mode, path, text, written, key, &error);
+  if (call->what >= TEXT && !ensure_capacity(&call->written, capacity)) return VIZHONIKU_TOO_SHORT;
+  if (call->what == TEXT_AND_KEY && !ensure_capacity(&call->key, capacity)) return VIZHONIKU_TOO_SHORT;
+  do {
+    PyThreadState *thread = read >= RELEASED ? PyEval_SaveThread() : NULL;
+    status = call_once(call);
+    if (thread) PyEval_RestoreThread(thread);
+  } while (status == VIZHONIKU_TOO_SHORT && ensure_capacity(&call->written, call->written.size) &&
+           ensure_capacity(&call->key, call->key.size));
+  return status;
+}
+
+/* The name of a function, and its parameters: how many of them a call has to pass, and their names. */
+struct function {
+  const char *name;
+  enum what what;
+  Py_ssize_t least;
+  const char *names[MOST + 1];
+};
+
+/* Sorts the arguments of a call by the names of the parameters; those that aren't given are NULL. Returns 0 where an
+ * exception is raised. */
+static int sort_arguments(const struct function *function, PyObject *const *given, Py_ssize_t count, PyObject *keywords,
+                          PyObject **arguments) {
+  const char *const *names = function->names;
+  Py_ssize_t most = 0, named = keywords ? PyTuple_Size(keywords) : 0;
+  while (names[most]) arguments[most++] = NULL;
+  if (count > most) {
+    PyErr_Format(PyExc_TypeError, "%s() takes at most %zd arguments (%zd given)", function->name, most, count + named);
+    return 0;
+  }
+  for (Py_ssize_t i = 0; i < count; i++) arguments[i] = given[i];
+  for (Py_ssize_t i = 0; i < named; i++) {
+    PyObject *name = PyTuple_GetItem(keywords, i);
+    Py_ssize_t at = 0;
+    while (at < most && PyUnicode_CompareWithASCIIString(name, names[at])) at++;
+    if (at == most || arguments[at]) {
+      const char *words = at == most ? "%s() got an unexpected keyword argument '%U'"
+                                     : "%s() got multiple values for argument '%U'";
+      PyErr_Format(PyExc_TypeError, words, function->name, name);
+      return 0;
     }
-    if (status != VIZHONIKU_TOO_SHORT) break;
-    if (written && !ensure_capacity(written, written->size)) return -1;
-    if (key && !ensure_capacity(key, key->size)) return -1;
+    arguments[at] = given[count + i];
   }
-  if (status == VIZHONIKU_ACCEPTED || status == VIZHONIKU_NO_PART) return status;
-  if (status == VIZHONIKU_REJECTED) {
-    if (reports_rejection) return status;
-    raise_rejected(state, mode, &error, object, text);
-  } else {
-    raise_status(state, status);
-  }
-  return -1;
-}
-
-static const char *const text_and_mode[] = {"text", "mode", NULL};
-
-/* Reads the arguments of a call of a text and perhaps a mode. Returns 0 where an exception is raised. */
-static int read_call(const struct state *state, const char *function, PyObject *const *given, Py_ssize_t count,
-                     PyObject *keywords, PyObject **object, struct text *text, uint32_t *mode) {
-  PyObject *arguments[MOST];
-  if (!sort_arguments(function, text_and_mode, 1, given, count, keywords, arguments)) return 0;
-  *object = arguments[0];
-  return read_mode(state, arguments[1], mode) && read_text(*object, A_TEXT, text);
-}
-
-static PyObject *py_check(PyObject *module, PyObject *const *given, Py_ssize_t count, PyObject *keywords) {
-  const struct state *state = PyModule_GetState(module);
-  PyObject *object;
-  struct text text;
-  uint32_t mode;
-  if (!read_call(state, "check", given, count, keywords, &object, &text, &mode)) return NULL;
-  int64_t status = call_library(state, CHECK, mode, NULL, object, &text, NULL, NULL, 0);
-  free_text(&text);
-  if (status < 0) return NULL;
-  Py_RETURN_NONE;
-}
-
-static PyObject *py_is_valid(PyObject *module, PyObject *const *given, Py_ssize_t count, PyObject *keywords) {
-  const struct state *state = PyModule_GetState(module);
-  PyObject *object;
-  struct text text;
-  uint32_t mode;
-  if (!read_call(state, "is_valid", given, count, keywords, &object, &text, &mode)) return NULL;
-  int64_t status = call_library(state, CHECK, mode, NULL, object, &text, NULL, NULL, 1);
-  free_text(&text);
-  return status < 0 ? NULL : PyBool_FromLong(status == VIZHONIKU_ACCEPTED);
-}
-
-static PyObject *py_text(PyObject *module, PyObject *const *given, Py_ssize_t count, PyObject *keywords) {
-  const struct state *state = PyModule_GetState(module);
-  PyObject *object, *result = NULL;
-  struct text text;
-  struct written written;
-  uint32_t mode;
-  if (!read_call(state, "text", given, count, keywords, &object, &text, &mode)) return NULL;
-  begin_written(&written);
-  if (call_library(state, TEXT, mode, NULL, object, &text, &written, NULL, 0) >= 0) result = str_of(&written);
-  free_written(&written);
-  free_text(&text);
-  return result;
-}
-
-/* The sort key or the document of a text, as bytes. */
-static PyObject *data_of_text(const struct state *state, enum what what, PyObject *object, uint32_t mode) {
-  PyObject *result = NULL;
-  struct text text;
-  struct written key;
-  if (!read_text(object, A_TEXT, &text)) return NULL;
-  begin_written(&key);
-  if (call_library(state, what, mode, NULL, object, &text, NULL, &key, 0) >= 0) result = bytes_of(&key);
-  free_written(&key);
-  free_text(&text);
-  return result;
-}
-
-static PyObject *py_sort_key(PyObject *module, PyObject *const *given, Py_ssize_t count, PyObject *keywords) {
-  const struct state *state = PyModule_GetState(module);
-  PyObject *arguments[MOST];
-  uint32_t mode;
-  if (!sort_arguments("sort_key", text_and_mode, 1, given, count, keywords, arguments)) return NULL;
-  return read_mode(state, arguments[1], &mode) ? data_of_text(state, SORT_KEY, arguments[0], mode) : NULL;
-}
-
-static PyObject *py_text_and_key(PyObject *module, PyObject *const *given, Py_ssize_t count, PyObject *keywords) {
-  const struct state *state = PyModule_GetState(module);
-  PyObject *object, *result = NULL;
-  struct text text;
-  struct written written, key;
-  uint32_t mode;
-  if (!read_call(state, "text_and_key", given, count, keywords, &object, &text, &mode)) return NULL;
-  begin_written(&written);
-  begin_written(&key);
-  if (call_library(state, TEXT_AND_KEY, mode, NULL, object, &text, &written, &key, 0) >= 0)
-    result = Py_BuildValue("(NN)", str_of(&written), bytes_of(&key));
-  free_written(&written);
-  free_written(&key);
-  free_text(&text);
-  return result;
-}
-
-static PyObject *py_get(PyObject *module, PyObject *const *given, Py_ssize_t count, PyObject *keywords) {
-  static const char *const names[] = {"text", "path", "mode", NULL};
-  const struct state *state = PyModule_GetState(module);
-  PyObject *arguments[MOST], *result = NULL;
-  struct text text, path;
-  struct written written;
-  uint32_t mode;
-  if (!sort_arguments("get", names, 2, given, count, keywords, arguments)) return NULL;
-  if (!read_mode(state, arguments[2], &mode) || !read_text(arguments[0], A_TEXT, &text)) return NULL;
-  if (read_text(arguments[1], A_TEXT, &path)) {
-    begin_written(&written);
-    int64_t status = call_library(state, PART, mode, &path, arguments[0], &text, &written, NULL, 0);
-    if (status == VIZHONIKU_NO_PART) {
-      result = Py_None;
-      Py_INCREF(result);
-    } else if (status >= 0) {
-      result = str_of(&written);
+  for (Py_ssize_t i = 0; i < function->least; i++) {
+    if (!arguments[i]) {
+      PyErr_Format(PyExc_TypeError, "%s() missing required argument '%s' (pos %zd)", function->name, names[i], i + 1);
+      return 0;
     }
-    free_written(&written);
-    free_text(&path);
   }
-  free_text(&text);
-  return result;
+  return 1;
 }
 
-static PyObject *compare_texts(const struct state *state, uint32_t mode, PyObject **objects, const struct text *left,
-                               const struct text *right) {
-  struct vizhoniku_error error;
-  int32_t order;
-  uint32_t status;
-  if (left->size + right->size >= RELEASED) {
-    Py_BEGIN_ALLOW_THREADS
-    status = vizhoniku_compare(mode, left->at, left->size, right->at, right->size, &order, &error);
-    Py_END_ALLOW_THREADS
-  } else {
-    status = vizhoniku_compare(mode, left->at, left->size, right->at, right->size, &order, &error);
-  }
-  if (status == VIZHONIKU_ACCEPTED) return PyLong_FromLong(order);
-  if (status == VIZHONIKU_REJECTED)
-    raise_rejected(state, mode, &error, objects[error.which - 1], error.which == 2 ? right : left);
-  else
-    raise_status(state, status);
+/* Reads a mode: Mode(4) raises the error of what is none. Returns 0 where an exception is raised. */
+static int read_mode(const struct state *state, PyObject *object, uint32_t *mode) {
+  *mode = DEFAULT_MODE;
+  if (!object) return 1;
+  for (*mode = 0; *mode < MODES; ++*mode)
+    if (object == state->modes[*mode]) return 1;
+  PyObject *member = PyObject_CallFunctionObjArgs(state->mode, object, NULL);
+  if (!member) return 0;
+  *mode = (uint32_t)PyLong_AsUnsignedLong(member);
+  Py_DECREF(member);
+  return !PyErr_Occurred();
+}
+
+/* Raises what a status says that is neither success nor about a text. With VIZHONIKU_TOO_SHORT an exception is raised
+ * already. Returns NULL. */
+static PyObject *raise_status(const struct state *state, uint32_t status) {
+  if (status == VIZHONIKU_OUT_OF_MEMORY)
+    PyErr_NoMemory();
+  else if (status == VIZHONIKU_NO_PATH)
+    PyErr_SetObject(state->path_error, state->bad_path);
+  else if (status == VIZHONIKU_NO_KEY)
+    PyErr_SetObject(PyExc_ValueError, state->no_key);
+  else if (status == VIZHONIKU_NO_DOCUMENT)
+    PyErr_SetObject(PyExc_ValueError, state->no_document);
+  else if (status == VIZHONIKU_TOO_DEEP)
+    PyErr_SetObject(PyExc_ValueError, state->too_deep);
+  else if (status != VIZHONIKU_TOO_SHORT)
+    PyErr_Format(PyExc_RuntimeError, "unknown status %u", (unsigned)status);
   return NULL;
 }
 
-static PyObject *py_compare(PyObject *module, PyObject *const *given, Py_ssize_t count, PyObject *keywords) {
-  static const char *const names[] = {"left", "right", "mode", NULL};
-  const struct state *state = PyModule_GetState(module);
-  PyObject *arguments[MOST], *result = NULL;
-  struct text left, right;
-  uint32_t mode;
-  if (!sort_arguments("compare", names, 2, given, count, keywords, arguments)) return NULL;
-  if (!read_mode(state, arguments[2], &mode) || !read_text(arguments[0], A_TEXT, &left)) return NULL;
-  if (read_text(arguments[1], A_TEXT, &right)) {
-    result = compare_texts(state, mode, arguments, &left, &right);
-    free_text(&right);
+/* Of a rejected text the words of the library, as bytes, or the path of the innermost item or member at which it was
+ * rejected, and None where that can't be reported. */
+static PyObject *told_of(struct call *call, enum what what) {
+  call->what = what;
+  uint32_t status = call_library(call, 0);
+  if (status == VIZHONIKU_TOO_SHORT) return NULL;
+  if (status == VIZHONIKU_OUT_OF_MEMORY) return PyErr_NoMemory();
+  if (what == REASON) return bytes_of(&call->written);
+  if (status != VIZHONIKU_ACCEPTED) Py_RETURN_NONE;
+  return PyUnicode_DecodeUTF8((const char *)call->written.at, (Py_ssize_t)call->written.size, "replace");
+}
+
+/* Raises RejectedText for the text of a call, which is that of the object. Returns NULL. */
+static PyObject *raise_rejected(const struct state *state, struct call *call, PyObject *object) {
+  struct vizhoniku_location location;
+  vizhoniku_locate(IN(call->text), &call->error, &location);
+  PyObject *words = told_of(call, REASON);
+  PyObject *path = words ? told_of(call, ERROR_PATH) : NULL;
+  PyObject *raised = !path ? NULL : PyObject_CallFunction(
+      state->rejection, "Oy#OIInnnO", object, (const char *)call->text.at, (Py_ssize_t)call->text.size, words,
+      call->error.code, call->error.which, (Py_ssize_t)location.index, (Py_ssize_t)location.line,
+      (Py_ssize_t)location.column, path);
+  Py_XDECREF(words);
+  Py_XDECREF(path);
+  if (raised) PyErr_SetObject((PyObject *)Py_TYPE(raised), raised);
+  Py_XDECREF(raised);
+  return NULL;
+}
+
+/* What a function returns whose call was accepted. */
+static PyObject *made_by(const struct call *call) {
+  switch (call->what) {
+  case CHECK:
+    Py_RETURN_NONE;
+  case COMPARE:
+    return PyLong_FromLong(call->order);
+  case SORT_KEY:
+  case DOCUMENT:
+    return bytes_of(&call->written);
+  case TEXT_AND_KEY:
+    return Py_BuildValue("(NN)", str_of(&call->written), bytes_of(&call->key));
+  default:
+    return str_of(&call->written);
   }
-  free_text(&left);
+}
+
+/* Calls the library with the texts of one or two objects. Returns what the function does. */
+static PyObject *call_with_texts(const struct state *state, struct call *call, PyObject *const *objects) {
+  uint32_t status = call_library(call, call->text.size + call->part.size);
+  if (call->what == IS_VALID && status <= VIZHONIKU_REJECTED) return PyBool_FromLong(status == VIZHONIKU_ACCEPTED);
+  if (status == VIZHONIKU_ACCEPTED) return made_by(call);
+  if (status == VIZHONIKU_NO_PART) Py_RETURN_NONE;
+  if (status != VIZHONIKU_REJECTED) return raise_status(state, status);
+  if (call->error.which != 2) return raise_rejected(state, call, objects[0]);
+  struct text first = call->text;
+  call->text = call->part;
+  call->part = first;
+  return raise_rejected(state, call, objects[1]);
+}
+
+/* A function of one or two texts, the second of which may be a path, and perhaps of a mode. */
+static PyObject *of_texts(const struct state *state, const struct function *function, PyObject *const *given,
+                          Py_ssize_t count, PyObject *keywords) {
+  PyObject *arguments[MOST], *result = NULL;
+  struct call call;
+  if (!sort_arguments(function, given, count, keywords, arguments)) return NULL;
+  begin_call(&call, function->what);
+  struct text *second = function->what == PART ? &call.step : &call.part;
+  if (read_mode(state, arguments[function->least], &call.mode) && read_text(arguments[0], A_TEXT, &call.text) &&
+      (function->least == 1 || read_text(arguments[1], A_TEXT, second)))
+    result = call_with_texts(state, &call, arguments);
+  end_call(&call);
+  return result;
+}
+
+#define OF_TEXTS(name, ...) \
+  static PyObject *py_##name(PyObject *module, PyObject *const *given, Py_ssize_t count, PyObject *keywords) { \
+    static const struct function function = {#name, __VA_ARGS__}; \
+    return of_texts(PyModule_GetState(module), &function, given, count, keywords); \
+  }
+
+OF_TEXTS(check, CHECK, 1, {"text", "mode", NULL})
+OF_TEXTS(is_valid, IS_VALID, 1, {"text", "mode", NULL})
+OF_TEXTS(text, TEXT, 1, {"text", "mode", NULL})
+OF_TEXTS(sort_key, SORT_KEY, 1, {"text", "mode", NULL})
+OF_TEXTS(text_and_key, TEXT_AND_KEY, 1, {"text", "mode", NULL})
+OF_TEXTS(get, PART, 2, {"text", "path", "mode", NULL})
+OF_TEXTS(compare, COMPARE, 2, {"left", "right", "mode", NULL})
+
+/* The sort key or the document of a text, as bytes. */
+static PyObject *data_of_text(const struct state *state, enum what what, PyObject *object, uint32_t mode) {
+  struct call call;
+  PyObject *result = NULL;
+  begin_call(&call, what);
+  call.mode = mode;
+  if (read_text(object, A_TEXT, &call.text)) result = call_with_texts(state, &call, &object);
+  end_call(&call);
   return result;
 }
 
@@ -484,24 +436,27 @@ struct parts {
 
 static const struct state *state_of(PyObject *self) { return PyType_GetModuleState(Py_TYPE(self)); }
 
+static int is_document(PyObject *self) { return Py_TYPE(self) == (PyTypeObject *)state_of(self)->document_type; }
+
+static struct text text_in(PyObject *data) {
+  struct text text = {(const unsigned char *)PyBytes_AsString(data), (size_t)PyBytes_Size(data), NULL};
+  return text;
+}
+
 /* The bytes of a key or a document. */
-static struct text key_text(PyObject *data) {
-  struct text key = {(const unsigned char *)PyBytes_AsString(data), (size_t)PyBytes_Size(data), NULL};
-  return key;
-}
-
-/* What makes an object of a type: SORT_KEY of a key, DOCUMENT of a document. */
-static enum what what_of(const struct state *state, PyTypeObject *type) {
-  return type == (PyTypeObject *)state->document_type ? DOCUMENT : SORT_KEY;
-}
-
-static enum what what_is(PyObject *self) { return what_of(state_of(self), Py_TYPE(self)); }
+static struct text bytes_in(PyObject *self) { return text_in(((struct key *)self)->data); }
 
 /* The bytes of the key that a key is, or that a document begins with. */
 static struct text key_in(PyObject *self) {
-  struct text key = key_text(((struct key *)self)->data);
-  if (what_is(self) == DOCUMENT) key.size = vizhoniku_document_key(key.at, key.size);
+  struct text key = bytes_in(self);
+  if (is_document(self)) key.size = vizhoniku_document_key(IN(key));
   return key;
+}
+
+/* Begins a call of a key or of a document, which is that of keys or the one behind it. */
+static void begin_call_of(struct call *call, enum what what, PyObject *self) {
+  begin_call(call, what + is_document(self));
+  call->text = bytes_in(self);
 }
 
 /* Makes a key or a document of bytes, to which it takes the caller's reference. */
@@ -522,6 +477,11 @@ static PyObject *make_key(const struct state *state, PyObject *data) {
 
 static PyObject *make_key_of(const struct state *state, const unsigned char *at, size_t size) {
   return make_key(state, PyBytes_FromStringAndSize((const char *)at, (Py_ssize_t)size));
+}
+
+/* What makes an object of a type: SORT_KEY of a key, DOCUMENT of a document. */
+static enum what what_of(const struct state *state, PyTypeObject *type) {
+  return type == (PyTypeObject *)state->document_type ? DOCUMENT : SORT_KEY;
 }
 
 static PyObject *key_new(PyTypeObject *type, PyObject *given, PyObject *keywords) {
@@ -550,71 +510,40 @@ static void parts_free(PyObject *self) { free_with_data(self, ((struct parts *)s
 /* Reads the arguments of a call of one object. Returns it, or NULL where an exception is raised. */
 static PyObject *read_one(const char *function, const char *name, PyObject *const *given, Py_ssize_t count,
                           PyObject *keywords) {
-  const char *const names[] = {name, NULL};
+  const struct function of_one = {function, 0, 1, {name, NULL}};
   PyObject *arguments[MOST];
-  return sort_arguments(function, names, 1, given, count, keywords, arguments) ? arguments[0] : NULL;
+  return sort_arguments(&of_one, given, count, keywords, arguments) ? arguments[0] : NULL;
 }
 
-static PyObject *key_from_bytes(PyObject *type, PyObject *const *given, Py_ssize_t count, PyObject *keywords) {
-  const struct state *state = PyType_GetModuleState((PyTypeObject *)type);
-  struct text text = {NULL, 0, NULL};
-  uint32_t status = VIZHONIKU_NO_KEY;
-  PyObject *object = read_one("from_bytes", "data", given, count, keywords);
+/* The key or the document of bytes, which are checked where `what` isn't DOCUMENT_TEXT. */
+static PyObject *of_bytes(PyTypeObject *type, const char *function, enum what what, PyObject *const *given,
+                          Py_ssize_t count, PyObject *keywords) {
+  PyObject *object = read_one(function, "data", given, count, keywords), *data = NULL;
+  const char *words = what == KEY_CHECK ? A_KEY : A_DOCUMENT;
+  struct call call;
   if (!object) return NULL;
-  if (PyUnicode_Check(object)) {
-    raise_type(A_KEY, object);
-    return NULL;
-  }
-  if (!read_text(object, A_KEY, &text)) return NULL;
-  if (text.size >= RELEASED) {
-    Py_BEGIN_ALLOW_THREADS
-    status = vizhoniku_key_check(text.at, text.size);
-    Py_END_ALLOW_THREADS
+  if (PyUnicode_Check(object)) return raise_type(words, object);
+  begin_call(&call, what);
+  if (!read_text(object, words, &call.text)) return NULL;
+  uint32_t status = what == DOCUMENT_TEXT ? VIZHONIKU_ACCEPTED : call_library(&call, call.text.size);
+  if (status == VIZHONIKU_ACCEPTED) {
+    data = call.text.holder;
+    Py_INCREF(data);
   } else {
-    status = vizhoniku_key_check(text.at, text.size);
+    raise_status(PyType_GetModuleState(type), status);
   }
-  if (status == VIZHONIKU_ACCEPTED) return make_key(state, text.holder);
-  free_text(&text);
-  raise_status(state, status);
-  return NULL;
+  end_call(&call);
+  return make_stored(type, data);
 }
 
-/* Reads the bytes of a document, which `function` is passed, and returns whether it could. */
-static int read_document(const char *function, PyObject *const *given, Py_ssize_t count, PyObject *keywords,
-                         struct text *text) {
-  PyObject *object = read_one(function, "data", given, count, keywords);
-  if (!object) return 0;
-  if (PyUnicode_Check(object)) {
-    raise_type(A_DOCUMENT, object);
-    return 0;
+#define OF_BYTES(name, function, what) \
+  static PyObject *name(PyObject *type, PyObject *const *given, Py_ssize_t count, PyObject *keywords) { \
+    return of_bytes((PyTypeObject *)type, function, what, given, count, keywords); \
   }
-  return read_text(object, A_DOCUMENT, text);
-}
 
-static PyObject *document_from_bytes(PyObject *type, PyObject *const *given, Py_ssize_t count, PyObject *keywords) {
-  struct text text = {NULL, 0, NULL};
-  uint32_t status = VIZHONIKU_NO_DOCUMENT;
-  if (!read_document("from_bytes", given, count, keywords, &text)) return NULL;
-  if (text.size >= RELEASED) {
-    Py_BEGIN_ALLOW_THREADS
-    status = vizhoniku_document_check(text.at, text.size);
-    Py_END_ALLOW_THREADS
-  } else {
-    status = vizhoniku_document_check(text.at, text.size);
-  }
-  if (status == VIZHONIKU_ACCEPTED) return make_stored((PyTypeObject *)type, text.holder);
-  free_text(&text);
-  raise_status(PyType_GetModuleState((PyTypeObject *)type), status);
-  return NULL;
-}
-
-static PyObject *document_from_trusted_bytes(PyObject *type, PyObject *const *given, Py_ssize_t count,
-                                             PyObject *keywords) {
-  struct text text = {NULL, 0, NULL};
-  return read_document("from_trusted_bytes", given, count, keywords, &text)
-             ? make_stored((PyTypeObject *)type, text.holder)
-             : NULL;
-}
+OF_BYTES(key_from_bytes, "from_bytes", KEY_CHECK)
+OF_BYTES(document_from_bytes, "from_bytes", DOCUMENT_CHECK)
+OF_BYTES(document_from_trusted_bytes, "from_trusted_bytes", DOCUMENT_TEXT)
 
 static PyObject *key_bytes(PyObject *self, PyObject *none) {
   (void)none;
@@ -636,8 +565,8 @@ static PyObject *key_copy(PyObject *self, PyObject *unused) {
 }
 
 static uint32_t kind_of(PyObject *self) {
-  struct text key = key_text(((struct key *)self)->data);
-  return vizhoniku_key_kind(key.at, key.size);
+  struct text key = bytes_in(self);
+  return vizhoniku_key_kind(IN(key));
 }
 
 static PyObject *key_kind(PyObject *self, void *unused) {
@@ -658,110 +587,66 @@ static PyObject *document_key(PyObject *self, void *unused) {
 }
 
 static PyObject *key_py_text(PyObject *self, PyObject *none) {
-  uint32_t (*call)(const unsigned char *, size_t, unsigned char *, size_t, size_t *) =
-      what_is(self) == DOCUMENT ? vizhoniku_document_text : vizhoniku_key_text;
-  struct text key = key_text(((struct key *)self)->data);
-  struct written written;
-  PyObject *result = NULL;
-  uint32_t status;
+  struct call call;
   (void)none;
-  begin_written(&written);
-  if (!ensure_capacity(&written, key.size + 64)) return NULL;
-  for (;;) {
-    if (key.size >= RELEASED) {
-      Py_BEGIN_ALLOW_THREADS
-      status = call(key.at, key.size, written.at, written.capacity, &written.size);
-      Py_END_ALLOW_THREADS
-    } else {
-      status = call(key.at, key.size, written.at, written.capacity, &written.size);
-    }
-    if (status != VIZHONIKU_TOO_SHORT) break;
-    if (!ensure_capacity(&written, written.size)) return NULL;
-  }
-  if (status == VIZHONIKU_ACCEPTED)
-    result = str_of(&written);
-  else
-    raise_status(state_of(self), status);
-  free_written(&written);
-  return result;
+  begin_call_of(&call, KEY_TEXT, self);
+  uint32_t status = call_library(&call, call.text.size);
+  PyObject *text = status == VIZHONIKU_ACCEPTED ? str_of(&call.written) : raise_status(state_of(self), status);
+  end_call(&call);
+  return text;
 }
 
-/* What follows from a status that isn't success: `absent` where there is no part, else NULL, where an exception is
- * raised. With VIZHONIKU_TOO_SHORT it is already, since there was no memory for the buffer. */
+/* What follows from a status that isn't success: `absent` where there is no part, else NULL. */
 static PyObject *not_found(const struct state *state, uint32_t status, PyObject *absent) {
-  if (status != VIZHONIKU_NO_PART) {
-    if (status != VIZHONIKU_TOO_SHORT) raise_status(state, status);
-    return NULL;
-  }
+  if (status != VIZHONIKU_NO_PART) return raise_status(state, status);
   Py_INCREF(absent);
   return absent;
 }
 
-/* The document of the part at a range of a document's key. */
-static PyObject *document_at(PyObject *self, size_t offset, size_t size) {
-  struct text document = key_text(((struct key *)self)->data);
-  struct written part;
-  uint32_t status;
-  begin_written(&part);
-  do {
-    status = vizhoniku_document_range(document.at, document.size, offset, size, part.at, part.capacity, &part.size);
-  } while (status == VIZHONIKU_TOO_SHORT && ensure_capacity(&part, part.size));
-  PyObject *result = status == VIZHONIKU_ACCEPTED ? make_stored(Py_TYPE(self), bytes_of(&part))
-                                                  : not_found(state_of(self), status, Py_None);
-  free_written(&part);
+/* The key or the document that a call writes, or `absent`. Ends the call. */
+static PyObject *stored_by(PyObject *self, struct call *call, size_t read, PyObject *absent) {
+  uint32_t status = call_library(call, read);
+  PyObject *result = NULL;
+  if (status == VIZHONIKU_ACCEPTED)
+    result = make_stored(Py_TYPE(self), bytes_of(&call->written));
+  else if (status == VIZHONIKU_NO_PATH && (call->what == KEY_PUT || call->what == DOCUMENT_PUT))
+    PyErr_SetObject(PyExc_ValueError, state_of(self)->no_name);
+  else
+    result = not_found(state_of(self), status, absent);
+  end_call(call);
   return result;
 }
 
 /* The part that a call found in the key, or `absent`. */
 static PyObject *found(PyObject *self, uint32_t status, size_t offset, size_t size, PyObject *absent) {
+  struct call call;
   if (status != VIZHONIKU_ACCEPTED) return not_found(state_of(self), status, absent);
-  if (what_is(self) == DOCUMENT) return document_at(self, offset, size);
-  return make_key_of(state_of(self), key_in(self).at + offset, size);
-}
-
-/* Reads the path that get is passed, and its default. Returns 0 where an exception is raised. */
-static int read_path(PyObject *const *given, Py_ssize_t count, PyObject *keywords, struct text *path,
-                     PyObject **absent) {
-  static const char *const names[] = {"path", "default", NULL};
-  PyObject *arguments[MOST];
-  if (!sort_arguments("get", names, 1, given, count, keywords, arguments)) return 0;
-  *absent = arguments[1] ? arguments[1] : Py_None;
-  return read_text(arguments[0], A_TEXT, path);
+  if (!is_document(self)) return make_key_of(state_of(self), bytes_in(self).at + offset, size);
+  begin_call(&call, DOCUMENT_RANGE);
+  call.text = bytes_in(self);
+  call.offset = offset;
+  call.size = size;
+  return stored_by(self, &call, 0, absent);
 }
 
 static PyObject *key_get(PyObject *self, PyObject *const *given, Py_ssize_t count, PyObject *keywords) {
-  struct text key = key_text(((struct key *)self)->data), path;
+  static const struct function function = {"get", DOCUMENT_PART, 1, {"path", "default", NULL}};
+  PyObject *arguments[MOST];
+  struct text key = bytes_in(self), path;
   size_t offset = 0, size = 0;
-  PyObject *absent;
-  if (!read_path(given, count, keywords, &path, &absent)) return NULL;
-  uint32_t status = vizhoniku_key_part(key.at, key.size, path.at, path.size, &offset, &size);
-  free_text(&path);
+  if (!sort_arguments(&function, given, count, keywords, arguments) || !read_text(arguments[0], A_TEXT, &path))
+    return NULL;
+  PyObject *absent = arguments[1] ? arguments[1] : Py_None;
+  if (is_document(self)) {
+    struct call call;
+    begin_call(&call, DOCUMENT_PART);
+    call.text = key;
+    call.step = path;
+    return stored_by(self, &call, key.size, absent);
+  }
+  uint32_t status = vizhoniku_key_part(IN(key), IN(path), &offset, &size);
+  Py_XDECREF(path.holder);
   return found(self, status, offset, size, absent);
-}
-
-static PyObject *document_get(PyObject *self, PyObject *const *given, Py_ssize_t count, PyObject *keywords) {
-  struct text document = key_text(((struct key *)self)->data), path;
-  struct written part;
-  PyObject *absent;
-  uint32_t status;
-  if (!read_path(given, count, keywords, &path, &absent)) return NULL;
-  begin_written(&part);
-  do {
-    if (document.size >= RELEASED) {
-      Py_BEGIN_ALLOW_THREADS
-      status = vizhoniku_document_part(document.at, document.size, path.at, path.size, part.at, part.capacity,
-                                       &part.size);
-      Py_END_ALLOW_THREADS
-    } else {
-      status = vizhoniku_document_part(document.at, document.size, path.at, path.size, part.at, part.capacity,
-                                       &part.size);
-    }
-  } while (status == VIZHONIKU_TOO_SHORT && ensure_capacity(&part, part.size));
-  PyObject *result = status == VIZHONIKU_ACCEPTED ? make_stored(Py_TYPE(self), bytes_of(&part))
-                                                  : not_found(state_of(self), status, absent);
-  free_written(&part);
-  free_text(&path);
-  return result;
 }
 
 /* Raises TypeError unless the kind of a key or a document is one of two. Returns the kind, or 0 where an exception is
@@ -770,7 +655,7 @@ static uint32_t need_kind(PyObject *self, uint32_t one, uint32_t other) {
   const struct state *state = state_of(self);
   uint32_t kind = kind_of(self);
   if (kind == one || kind == other) return kind;
-  if (!kind && what_is(self) == DOCUMENT)
+  if (!kind && is_document(self))
     raise_status(state, VIZHONIKU_NO_DOCUMENT);
   else if (one == other)
     PyErr_Format(PyExc_TypeError, "%U is no %U", state->kinds[kind], state->kinds[one]);
@@ -783,8 +668,8 @@ static uint32_t need_kind(PyObject *self, uint32_t one, uint32_t other) {
 static int64_t find_member(PyObject *self, PyObject *object, size_t *offset, size_t *size) {
   struct text key = key_in(self), name;
   if (!read_text(object, A_TEXT, &name)) return -1;
-  uint32_t status = vizhoniku_key_member(key.at, key.size, name.at, name.size, offset, size);
-  free_text(&name);
+  uint32_t status = vizhoniku_key_member(IN(key), IN(name), offset, size);
+  Py_XDECREF(name.holder);
   return status;
 }
 
@@ -805,7 +690,7 @@ static PyObject *item_of(PyObject *self, PyObject *object) {
     PyErr_Clear();
     Py_RETURN_NONE;
   }
-  uint32_t status = vizhoniku_key_item(key.at, key.size, index, &offset, &size);
+  uint32_t status = vizhoniku_key_item(IN(key), index, &offset, &size);
   return found(self, status, offset, size, Py_None);
 }
 
@@ -813,10 +698,8 @@ static PyObject *key_subscript(PyObject *self, PyObject *which) {
   PyObject *part;
   int is_name = PyUnicode_Check(which), is_slice = PySlice_Check(which);
   uint32_t wanted = is_name ? VIZHONIKU_OBJECT : VIZHONIKU_ARRAY;
-  if (!is_name && !is_slice && !PyLong_Check(which)) {
-    raise_type("a name is a str and an index an int, and not %U", which);
-    return NULL;
-  }
+  if (!is_name && !is_slice && !PyLong_Check(which))
+    return raise_type("a name is a str and an index an int, and not %U", which);
   if (!need_kind(self, wanted, wanted)) return NULL;
   if (is_slice) return PyObject_CallFunctionObjArgs(state_of(self)->items_of, self, which, NULL);
   part = is_name ? member_of(self, which) : item_of(self, which);
@@ -833,21 +716,21 @@ static Py_ssize_t key_length(PyObject *self) {
   struct text key = key_in(self);
   size_t count;
   if (!need_kind(self, VIZHONIKU_ARRAY, VIZHONIKU_OBJECT)) return -1;
-  uint32_t status = vizhoniku_key_count(key.at, key.size, &count);
+  uint32_t status = vizhoniku_key_count(IN(key), &count);
   if (status == VIZHONIKU_ACCEPTED) return (Py_ssize_t)count;
   raise_status(state_of(self), status);
   return -1;
 }
 
-static PyObject *key_float(PyObject *self) {
+/* What a function of the package makes of a number. */
+static PyObject *of_number(PyObject *self, PyObject *function) {
   if (!need_kind(self, VIZHONIKU_NUMBER, VIZHONIKU_NUMBER)) return NULL;
-  return PyObject_CallFunctionObjArgs(state_of(self)->float_of, self, NULL);
+  return PyObject_CallFunctionObjArgs(function, self, NULL);
 }
 
-static PyObject *key_int(PyObject *self) {
-  if (!need_kind(self, VIZHONIKU_NUMBER, VIZHONIKU_NUMBER)) return NULL;
-  return PyObject_CallFunctionObjArgs(state_of(self)->int_of, self, NULL);
-}
+static PyObject *key_float(PyObject *self) { return of_number(self, state_of(self)->float_of); }
+
+static PyObject *key_int(PyObject *self) { return of_number(self, state_of(self)->int_of); }
 
 static int key_truth(PyObject *self) {
   (void)self;
@@ -868,12 +751,12 @@ static int has_member(PyObject *self, PyObject *name) {
 
 /* Whether a key has an item of the same bytes, none of which is copied. */
 static int key_has_item(PyObject *self, PyObject *item) {
-  struct text key = key_text(((struct key *)self)->data), wanted = key_text(((struct key *)item)->data);
+  struct text key = bytes_in(self), wanted = bytes_in(item);
   struct vizhoniku_key_cursor cursor;
   struct vizhoniku_key_entry entry;
-  uint32_t status = vizhoniku_key_begin(key.at, key.size, &cursor);
+  uint32_t status = vizhoniku_key_begin(IN(key), &cursor);
   while (status == VIZHONIKU_ACCEPTED) {
-    status = vizhoniku_key_next(key.at, key.size, &cursor, &entry);
+    status = vizhoniku_key_next(IN(key), &cursor, &entry);
     if (status == VIZHONIKU_ACCEPTED && entry.size == wanted.size &&
         !memcmp(key.at + entry.offset, wanted.at, wanted.size))
       return 1;
@@ -893,11 +776,11 @@ static Py_hash_t key_hash(PyObject *self) { return PyObject_Hash(((struct key *)
 static PyObject *key_repr(PyObject *self) {
   PyObject *text = key_py_text(self, NULL);
   if (!text) {
-    if (what_is(self) != DOCUMENT || !PyErr_ExceptionMatches(PyExc_ValueError)) return NULL;
+    if (!is_document(self) || !PyErr_ExceptionMatches(PyExc_ValueError)) return NULL;
     PyErr_Clear();
     return PyUnicode_FromFormat("Document.from_trusted_bytes(%R)", ((struct key *)self)->data);
   }
-  PyObject *result = PyUnicode_FromFormat(what_is(self) == DOCUMENT ? "Document(%R)" : "Key(%R)", text);
+  PyObject *result = PyUnicode_FromFormat(is_document(self) ? "Document(%R)" : "Key(%R)", text);
   Py_DECREF(text);
   return result;
 }
@@ -906,15 +789,12 @@ static PyObject *key_repr(PyObject *self) {
 static PyObject *make_parts(PyObject *self, int has_values) {
   const struct state *state = state_of(self);
   PyObject *data = ((struct key *)self)->data;
-  int has_digits = what_is(self) == DOCUMENT && (has_values || kind_of(self) == VIZHONIKU_ARRAY);
-  struct text walked = has_digits ? key_text(data) : key_in(self);
+  int has_digits = is_document(self) && (has_values || kind_of(self) == VIZHONIKU_ARRAY);
+  struct text walked = has_digits ? bytes_in(self) : key_in(self);
   struct vizhoniku_document_cursor next = {{0, 0}, 0, 0, 0};
-  uint32_t status = has_digits ? vizhoniku_document_begin(walked.at, walked.size, &next)
-                               : vizhoniku_key_begin(walked.at, walked.size, &next.parts);
-  if (status != VIZHONIKU_ACCEPTED) {
-    raise_status(state, status);
-    return NULL;
-  }
+  uint32_t status = has_digits ? vizhoniku_document_begin(IN(walked), &next)
+                               : vizhoniku_key_begin(IN(walked), &next.parts);
+  if (status != VIZHONIKU_ACCEPTED) return raise_status(state, status);
   allocfunc allocate = (allocfunc)PyType_GetSlot((PyTypeObject *)state->parts_type, Py_tp_alloc);
   struct parts *parts = (struct parts *)allocate((PyTypeObject *)state->parts_type, 0);
   if (!parts) return NULL;
@@ -954,12 +834,12 @@ static int document_has_item(PyObject *self, PyObject *item) {
 }
 
 static int key_contains(PyObject *self, PyObject *part) {
-  int is_document = what_is(self) == DOCUMENT;
+  int has_digits = is_document(self);
   uint32_t kind = need_kind(self, VIZHONIKU_ARRAY, VIZHONIKU_OBJECT);
   if (!kind) return -1;
   if (kind == VIZHONIKU_OBJECT) return has_member(self, part);
-  if (Py_TYPE(part) == Py_TYPE(self)) return is_document ? document_has_item(self, part) : key_has_item(self, part);
-  raise_type(is_document ? "an item is a Document, and not %U" : "an item is a Key, and not %U", part);
+  if (Py_TYPE(part) == Py_TYPE(self)) return has_digits ? document_has_item(self, part) : key_has_item(self, part);
+  raise_type(has_digits ? "an item is a Document, and not %U" : "an item is a Key, and not %U", part);
   return -1;
 }
 
@@ -970,26 +850,22 @@ static PyObject *parts_iterate(PyObject *self) {
 
 static PyObject *name_of(const struct state *state, const unsigned char *at, size_t size) {
   struct written name;
-  PyObject *result = NULL;
   begin_written(&name);
   if (!ensure_capacity(&name, size)) return NULL;
-  uint32_t status = vizhoniku_key_name(at, size, name.at, name.capacity, &name.size);
-  if (status == VIZHONIKU_ACCEPTED)
-    result = str_of(&name);
-  else
-    raise_status(state, status);
+  uint32_t status = vizhoniku_key_name(at, size, OUT(name));
+  PyObject *result = status == VIZHONIKU_ACCEPTED ? str_of(&name) : raise_status(state, status);
   free_written(&name);
   return result;
 }
 
 /* Moves on to the next part, whose document is written where the parts are documents. */
 static uint32_t walk(struct parts *parts, struct vizhoniku_key_entry *entry, struct written *document) {
-  struct text walked = key_text(parts->data);
+  struct text walked = text_in(parts->data);
   uint32_t status;
-  if (!parts->has_digits) return vizhoniku_key_next(walked.at, parts->size, &parts->next.parts, entry);
+  walked.size = parts->size;
+  if (!parts->has_digits) return vizhoniku_key_next(IN(walked), &parts->next.parts, entry);
   do {
-    status = vizhoniku_document_next(walked.at, parts->size, &parts->next, entry, document->at, document->capacity,
-                                     &document->size);
+    status = vizhoniku_document_next(IN(walked), &parts->next, entry, OUT(*document));
   } while (status == VIZHONIKU_TOO_SHORT && ensure_capacity(document, document->size));
   return status;
 }
@@ -998,7 +874,7 @@ static uint32_t walk(struct parts *parts, struct vizhoniku_key_entry *entry, str
 static PyObject *entry_of(PyObject *self, const struct vizhoniku_key_entry *entry, const struct written *document) {
   const struct state *state = state_of(self);
   const struct parts *parts = (const struct parts *)self;
-  struct text key = key_text(parts->data);
+  struct text key = text_in(parts->data);
   PyObject *name = NULL, *value;
   if (entry->name_size) {
     name = name_of(state, key.at + entry->name_offset, entry->name_size);
@@ -1020,7 +896,7 @@ static PyObject *parts_next(PyObject *self) {
   uint32_t status = walk((struct parts *)self, &entry, &document);
   if (status == VIZHONIKU_ACCEPTED)
     result = entry_of(self, &entry, &document);
-  else if (status != VIZHONIKU_NO_PART && status != VIZHONIKU_TOO_SHORT)
+  else if (status != VIZHONIKU_NO_PART)
     raise_status(state_of(self), status);
   free_written(&document);
   return result;
@@ -1139,17 +1015,19 @@ static int put_usual(const struct state *state, struct written *out, PyObject *v
 
 /* The bytes of the key or the document of a value of the usual types, or NULL, also where an exception is raised. */
 static PyObject *data_of_usual(const struct state *state, enum what what, PyObject *value) {
-  struct written text, key;
+  struct written text;
+  struct call call;
   PyObject *data = NULL;
   begin_written(&text);
-  begin_written(&key);
   if (put_usual(state, &text, value)) {
-    struct text read = {text.at, text.size, NULL};
-    if (call_library(state, what, DEFAULT_MODE, NULL, NULL, &read, NULL, &key, 1) == VIZHONIKU_ACCEPTED)
-      data = bytes_of(&key);
+    begin_call(&call, what);
+    call.mode = DEFAULT_MODE;
+    call.text.at = text.at;
+    call.text.size = text.size;
+    if (call_library(&call, text.size) == VIZHONIKU_ACCEPTED) data = bytes_of(&call.written);
+    end_call(&call);
   }
   free_written(&text);
-  free_written(&key);
   return data;
 }
 
@@ -1159,7 +1037,7 @@ static PyObject *data_of_stored(const struct state *state, enum what what, PyObj
   PyTypeObject *type = Py_TYPE(value);
   if (type != (PyTypeObject *)state->key_type && type != (PyTypeObject *)state->document_type) return NULL;
   PyObject *data = ((struct key *)value)->data;
-  struct text key = what == SORT_KEY ? key_in(value) : key_text(data);
+  struct text key = what == SORT_KEY ? key_in(value) : bytes_in(value);
   if (key.size < (size_t)PyBytes_Size(data))
     return PyBytes_FromStringAndSize((const char *)key.at, (Py_ssize_t)key.size);
   Py_INCREF(data);
@@ -1189,7 +1067,7 @@ static PyObject *data_of(const struct state *state, enum what what, PyObject *va
 static int read_value(const struct state *state, enum what what, PyObject *value, struct text *text) {
   PyObject *data = data_of(state, what, value);
   if (!data) return 0;
-  *text = key_text(data);
+  *text = text_in(data);
   text->holder = data;
   return 1;
 }
@@ -1210,174 +1088,53 @@ static PyObject *key_value(PyObject *self, PyObject *none) {
 }
 
 static PyObject *key_py_contains(PyObject *self, PyObject *const *given, Py_ssize_t count, PyObject *keywords) {
-  struct text key = key_in(self), other;
-  uint32_t status;
-  PyObject *value = read_one("contains", "other", given, count, keywords);
-  if (!value || !read_value(state_of(self), SORT_KEY, value, &other)) return NULL;
-  if (key.size >= RELEASED) {
-    Py_BEGIN_ALLOW_THREADS
-    status = vizhoniku_key_contains(key.at, key.size, other.at, other.size);
-    Py_END_ALLOW_THREADS
-  } else {
-    status = vizhoniku_key_contains(key.at, key.size, other.at, other.size);
+  PyObject *value = read_one("contains", "other", given, count, keywords), *result = NULL;
+  struct call call;
+  if (!value) return NULL;
+  begin_call(&call, KEY_CONTAINS);
+  call.text = key_in(self);
+  if (read_value(state_of(self), SORT_KEY, value, &call.part)) {
+    uint32_t status = call_library(&call, call.text.size);
+    int is_told = status == VIZHONIKU_ACCEPTED || status == VIZHONIKU_NO_PART;
+    result = is_told ? PyBool_FromLong(status == VIZHONIKU_ACCEPTED) : raise_status(state_of(self), status);
   }
-  free_text(&other);
-  if (status == VIZHONIKU_ACCEPTED || status == VIZHONIKU_NO_PART)
-    return PyBool_FromLong(status == VIZHONIKU_ACCEPTED);
-  raise_status(state_of(self), status);
+  end_call(&call);
+  return result;
+}
+
+/* A changed key or document, or the same where nothing changes. First of the parameters is the path or the name, where
+ * the change has one, and then comes the value. */
+static PyObject *changed(PyObject *self, const struct function *change, PyObject *const *given, Py_ssize_t count,
+                         PyObject *keywords) {
+  enum what what = change->what;
+  int has_step = what == KEY_SET || what == KEY_REMOVE || what == KEY_PUT, create = 1;
+  PyObject *arguments[MOST];
+  struct call call;
+  if (!sort_arguments(change, given, count, keywords, arguments)) return NULL;
+  if (what == KEY_PUT && !PyUnicode_Check(arguments[0])) return raise_type("a name is a str, and not %U", arguments[0]);
+  if (what == KEY_PUT && !need_kind(self, VIZHONIKU_OBJECT, VIZHONIKU_OBJECT)) return NULL;
+  if (what == KEY_PUSH && !need_kind(self, VIZHONIKU_ARRAY, VIZHONIKU_ARRAY)) return NULL;
+  if (what == KEY_SET && arguments[2] && (create = PyObject_IsTrue(arguments[2])) < 0) return NULL;
+  begin_call_of(&call, what, self);
+  call.create = (uint32_t)create;
+  if ((!has_step || read_text(arguments[0], A_TEXT, &call.step)) &&
+      (what == KEY_REMOVE || read_value(state_of(self), SORT_KEY + is_document(self), arguments[has_step], &call.part)))
+    return stored_by(self, &call, call.text.size, self);
+  end_call(&call);
   return NULL;
 }
 
-/* A change of a key or a document: what is done, where, and with the key or the document of what. */
-struct change {
-  enum { SET, REMOVE, PUT, PUSH, MERGE } what;
-  struct text step; /* a path or a name */
-  struct text part;
-  uint32_t create;
-};
-
-static void free_change(struct change *change) {
-  free_text(&change->step);
-  free_text(&change->part);
-}
-
-/* Calls the library once, of a key. */
-static uint32_t change_key(const struct change *change, const struct text *key, struct written *written) {
-  const struct text *step = &change->step, *part = &change->part;
-  switch (change->what) {
-  case SET:
-    return vizhoniku_key_set(key->at, key->size, step->at, step->size, part->at, part->size, change->create,
-                             written->at, written->capacity, &written->size);
-  case REMOVE:
-    return vizhoniku_key_remove(key->at, key->size, step->at, step->size, written->at, written->capacity,
-                                &written->size);
-  case PUT:
-    return vizhoniku_key_put(key->at, key->size, step->at, step->size, part->at, part->size, written->at,
-                             written->capacity, &written->size);
-  case PUSH:
-    return vizhoniku_key_push(key->at, key->size, part->at, part->size, written->at, written->capacity, &written->size);
-  default:
-    return vizhoniku_key_merge(key->at, key->size, part->at, part->size, written->at, written->capacity,
-                               &written->size);
+#define CHANGE(name, ...) \
+  static PyObject *key_##name(PyObject *self, PyObject *const *given, Py_ssize_t count, PyObject *keywords) { \
+    static const struct function change = {#name, __VA_ARGS__}; \
+    return changed(self, &change, given, count, keywords); \
   }
-}
 
-/* Calls the library once, of a document. */
-static uint32_t change_document(const struct change *change, const struct text *document, struct written *written) {
-  const struct text *step = &change->step, *part = &change->part;
-  switch (change->what) {
-  case SET:
-    return vizhoniku_document_set(document->at, document->size, step->at, step->size, part->at, part->size,
-                                  change->create, written->at, written->capacity, &written->size);
-  case REMOVE:
-    return vizhoniku_document_remove(document->at, document->size, step->at, step->size, written->at,
-                                     written->capacity, &written->size);
-  case PUT:
-    return vizhoniku_document_put(document->at, document->size, step->at, step->size, part->at, part->size,
-                                  written->at, written->capacity, &written->size);
-  case PUSH:
-    return vizhoniku_document_push(document->at, document->size, part->at, part->size, written->at, written->capacity,
-                                   &written->size);
-  default:
-    return vizhoniku_document_merge(document->at, document->size, part->at, part->size, written->at,
-                                    written->capacity, &written->size);
-  }
-}
-
-/* The changed key or document, or the same where nothing changes. */
-static PyObject *changed(PyObject *self, const struct change *change) {
-  uint32_t (*call)(const struct change *, const struct text *, struct written *) =
-      what_is(self) == DOCUMENT ? change_document : change_key;
-  const struct state *state = state_of(self);
-  struct text key = key_text(((struct key *)self)->data);
-  struct written written;
-  PyObject *result = NULL;
-  uint32_t status;
-  begin_written(&written);
-  if (!ensure_capacity(&written, key.size + 2 * change->step.size + change->part.size + 64)) return NULL;
-  for (;;) {
-    if (key.size >= RELEASED) {
-      Py_BEGIN_ALLOW_THREADS
-      status = call(change, &key, &written);
-      Py_END_ALLOW_THREADS
-    } else {
-      status = call(change, &key, &written);
-    }
-    if (status != VIZHONIKU_TOO_SHORT) break;
-    if (!ensure_capacity(&written, written.size)) return NULL;
-  }
-  if (status == VIZHONIKU_ACCEPTED) {
-    result = make_stored(Py_TYPE(self), bytes_of(&written));
-  } else if (status == VIZHONIKU_NO_PART) {
-    Py_INCREF(self);
-    result = self;
-  } else if (status == VIZHONIKU_NO_PATH && change->what == PUT) {
-    PyErr_SetObject(PyExc_ValueError, state->no_name);
-  } else {
-    raise_status(state, status);
-  }
-  free_written(&written);
-  return result;
-}
-
-static PyObject *key_set(PyObject *self, PyObject *const *given, Py_ssize_t count, PyObject *keywords) {
-  static const char *const names[] = {"path", "value", "create", NULL};
-  struct change change = {SET, {NULL, 0, NULL}, {NULL, 0, NULL}, 1};
-  PyObject *arguments[MOST], *result = NULL;
-  if (!sort_arguments("set", names, 2, given, count, keywords, arguments)) return NULL;
-  int create = arguments[2] ? PyObject_IsTrue(arguments[2]) : 1;
-  change.create = create != 0;
-  if (create >= 0 && read_text(arguments[0], A_TEXT, &change.step) &&
-      read_value(state_of(self), what_is(self), arguments[1], &change.part))
-    result = changed(self, &change);
-  free_change(&change);
-  return result;
-}
-
-static PyObject *key_remove(PyObject *self, PyObject *const *given, Py_ssize_t count, PyObject *keywords) {
-  struct change change = {REMOVE, {NULL, 0, NULL}, {NULL, 0, NULL}, 0};
-  PyObject *path = read_one("remove", "path", given, count, keywords);
-  if (!path || !read_text(path, A_TEXT, &change.step)) return NULL;
-  PyObject *result = changed(self, &change);
-  free_change(&change);
-  return result;
-}
-
-static PyObject *key_put(PyObject *self, PyObject *const *given, Py_ssize_t count, PyObject *keywords) {
-  static const char *const names[] = {"name", "value", NULL};
-  struct change change = {PUT, {NULL, 0, NULL}, {NULL, 0, NULL}, 0};
-  PyObject *arguments[MOST], *result = NULL;
-  if (!sort_arguments("put", names, 2, given, count, keywords, arguments)) return NULL;
-  if (!PyUnicode_Check(arguments[0])) {
-    raise_type("a name is a str, and not %U", arguments[0]);
-    return NULL;
-  }
-  if (need_kind(self, VIZHONIKU_OBJECT, VIZHONIKU_OBJECT) && read_text(arguments[0], A_TEXT, &change.step) &&
-      read_value(state_of(self), what_is(self), arguments[1], &change.part))
-    result = changed(self, &change);
-  free_change(&change);
-  return result;
-}
-
-static PyObject *key_push(PyObject *self, PyObject *const *given, Py_ssize_t count, PyObject *keywords) {
-  struct change change = {PUSH, {NULL, 0, NULL}, {NULL, 0, NULL}, 0};
-  PyObject *item = read_one("push", "item", given, count, keywords);
-  if (!item || !need_kind(self, VIZHONIKU_ARRAY, VIZHONIKU_ARRAY) ||
-      !read_value(state_of(self), what_is(self), item, &change.part))
-    return NULL;
-  PyObject *result = changed(self, &change);
-  free_change(&change);
-  return result;
-}
-
-static PyObject *key_merge(PyObject *self, PyObject *const *given, Py_ssize_t count, PyObject *keywords) {
-  struct change change = {MERGE, {NULL, 0, NULL}, {NULL, 0, NULL}, 0};
-  PyObject *other = read_one("merge", "other", given, count, keywords);
-  if (!other || !read_value(state_of(self), what_is(self), other, &change.part)) return NULL;
-  PyObject *result = changed(self, &change);
-  free_change(&change);
-  return result;
-}
+CHANGE(set, KEY_SET, 2, {"path", "value", "create", NULL})
+CHANGE(remove, KEY_REMOVE, 1, {"path", NULL})
+CHANGE(put, KEY_PUT, 2, {"name", "value", NULL})
+CHANGE(push, KEY_PUSH, 1, {"item", NULL})
+CHANGE(merge, KEY_MERGE, 1, {"other", NULL})
 
 /* ISO C has no pointer to void for a function; Python's slots ask for it, as POSIX does. */
 #define SLOT(call) ((void *)(uintptr_t)(call))
@@ -1387,7 +1144,7 @@ static PyObject *key_merge(PyObject *self, PyObject *const *given, Py_ssize_t co
 /* What help() says of a call: its parameters, as inspect.signature reads them, and words. */
 #define HELP(signature, words) signature "\n--\n\n" words
 
-/* What keys and documents have in common. */
+/* What keys and documents have in common: methods, and slots. */
 #define STORED_METHODS \
   {"__bytes__", key_bytes, METH_NOARGS, HELP("__bytes__($self)", "The bytes that from_bytes takes.")}, \
   {"__reduce__", key_reduce, METH_NOARGS, HELP("__reduce__($self)", "For pickle.")}, \
@@ -1399,6 +1156,12 @@ static PyObject *key_merge(PyObject *self, PyObject *const *given, Py_ssize_t co
    HELP("items($self)", \
         "The members of an object, in the order of their names' bytes: pairs of the name, a str, and the part.\n\n" \
         "Raises TypeError of another kind.")}
+
+#define STORED_SLOTS \
+  {Py_tp_new, SLOT(key_new)}, {Py_tp_dealloc, SLOT(key_free)}, {Py_tp_richcompare, SLOT(key_compare)}, \
+  {Py_tp_hash, SLOT(key_hash)}, {Py_tp_repr, SLOT(key_repr)}, {Py_tp_iter, SLOT(key_iterate)}, \
+  {Py_mp_subscript, SLOT(key_subscript)}, {Py_mp_length, SLOT(key_length)}, {Py_sq_contains, SLOT(key_contains)}, \
+  {Py_nb_bool, SLOT(key_truth)}, {Py_nb_float, SLOT(key_float)}, {Py_nb_int, SLOT(key_int)}
 
 static PyMethodDef key_methods[] = {
     {"from_bytes", CALL(key_from_bytes) | METH_CLASS,
@@ -1463,20 +1226,9 @@ static PyType_Slot key_slots[] = {
                 "is the key of a member, key[index] that of an item, and key[1:3] a list of those of items. float\n"
                 "takes a number, and int one without a fraction. A key is always true. RejectedText is raised where\n"
                 "the text is no document of the mode."},
-    {Py_tp_new, SLOT(key_new)},
-    {Py_tp_dealloc, SLOT(key_free)},
     {Py_tp_methods, key_methods},
     {Py_tp_getset, key_properties},
-    {Py_tp_richcompare, SLOT(key_compare)},
-    {Py_tp_hash, SLOT(key_hash)},
-    {Py_tp_repr, SLOT(key_repr)},
-    {Py_tp_iter, SLOT(key_iterate)},
-    {Py_mp_subscript, SLOT(key_subscript)},
-    {Py_mp_length, SLOT(key_length)},
-    {Py_sq_contains, SLOT(key_contains)},
-    {Py_nb_bool, SLOT(key_truth)},
-    {Py_nb_float, SLOT(key_float)},
-    {Py_nb_int, SLOT(key_int)},
+    STORED_SLOTS,
     {0, NULL},
 };
 
@@ -1504,7 +1256,7 @@ static PyMethodDef document_methods[] = {
     STORED_METHODS,
     {"text", key_py_text, METH_NOARGS,
      HELP("text($self)", "The text of the value, with all digits of each number.")},
-    {"get", CALL(document_get),
+    {"get", CALL(key_get),
      HELP("get($self, path, default=None)",
           "The part at the path, a JSON Pointer (RFC 6901), or the default where there is none.\n\n"
           "Raises PathError where the path is none.")},
@@ -1547,20 +1299,9 @@ static PyType_Slot document_slots[] = {
                 "of equal values in that of these zeros. Two are equal where their texts are. A key's bytes are the\n"
                 "document of a value without such zeros. Parts are found as in a key, and are documents. RejectedText\n"
                 "is raised where the text is no document of the mode."},
-    {Py_tp_new, SLOT(key_new)},
-    {Py_tp_dealloc, SLOT(key_free)},
     {Py_tp_methods, document_methods},
     {Py_tp_getset, document_properties},
-    {Py_tp_richcompare, SLOT(key_compare)},
-    {Py_tp_hash, SLOT(key_hash)},
-    {Py_tp_repr, SLOT(key_repr)},
-    {Py_tp_iter, SLOT(key_iterate)},
-    {Py_mp_subscript, SLOT(key_subscript)},
-    {Py_mp_length, SLOT(key_length)},
-    {Py_sq_contains, SLOT(key_contains)},
-    {Py_nb_bool, SLOT(key_truth)},
-    {Py_nb_float, SLOT(key_float)},
-    {Py_nb_int, SLOT(key_int)},
+    STORED_SLOTS,
     {0, NULL},
 };
 
@@ -1608,44 +1349,46 @@ static PyMethodDef functions[] = {
     {NULL, NULL, 0, NULL},
 };
 
-/* Takes what the module needs from its package. */
+#define COMMON(name, field) {"vizhoniku._common", name, offsetof(struct state, field)}
+#define VALUES(name, field) {"vizhoniku._values", name, offsetof(struct state, field)}
+
+/* What the module needs of its package: from where, and where it is kept. */
+static const struct { const char *module, *name; size_t field; } needed[] = {
+    COMMON("Mode", mode), COMMON("STANDARD", modes[VIZHONIKU_STANDARD]), COMMON("EXTENDED", modes[VIZHONIKU_EXTENDED]),
+    COMMON("JSON", modes[VIZHONIKU_JSON]), COMMON("EXTENDED_JSON", modes[VIZHONIKU_EXTENDED_JSON]),
+    COMMON("PathError", path_error), COMMON("rejection", rejection), COMMON("RejectedText", rejected),
+    COMMON("BAD_PATH", bad_path), COMMON("NO_KEY", no_key), COMMON("NO_DOCUMENT", no_document),
+    COMMON("NO_NAME", no_name), COMMON("TOO_DEEP", too_deep), VALUES("text_of", text_of),
+    VALUES("value_of", value_of), VALUES("float_of", float_of), VALUES("int_of", int_of),
+    VALUES("items_of", items_of), VALUES("Decimal", decimal),
+};
+
+/* The objects of the state, one after the other, and how many there are. */
+static PyObject **objects_in(struct state *state) { return (PyObject **)state; }
+
+#define OBJECTS (sizeof(struct state) / sizeof(PyObject *))
+
 static int fill_state(PyObject *module, struct state *state) {
   static const char *const kinds[] = {"", "null", "boolean", "number", "string", "array", "object"};
-  PyObject *common = PyImport_ImportModule("vizhoniku._common");
-  if (!common) return -1;
-  state->mode = PyObject_GetAttrString(common, "Mode");
-  for (uint32_t i = 0; i < MODES; i++) state->modes[i] = PyObject_GetAttrString(common, mode_names[i]);
-  state->path_error = PyObject_GetAttrString(common, "PathError");
-  state->rejection = PyObject_GetAttrString(common, "rejection");
-  state->rejected = PyObject_GetAttrString(common, "RejectedText");
-  state->bad_path = PyObject_GetAttrString(common, "BAD_PATH");
-  state->no_key = PyObject_GetAttrString(common, "NO_KEY");
-  state->no_document = PyObject_GetAttrString(common, "NO_DOCUMENT");
-  state->no_name = PyObject_GetAttrString(common, "NO_NAME");
-  state->too_deep = PyObject_GetAttrString(common, "TOO_DEEP");
-  Py_DECREF(common);
-  PyObject *values = PyImport_ImportModule("vizhoniku._values");
-  if (!values) return -1;
-  state->text_of = PyObject_GetAttrString(values, "text_of");
-  state->value_of = PyObject_GetAttrString(values, "value_of");
-  state->float_of = PyObject_GetAttrString(values, "float_of");
-  state->int_of = PyObject_GetAttrString(values, "int_of");
-  state->items_of = PyObject_GetAttrString(values, "items_of");
-  state->decimal = PyObject_GetAttrString(values, "Decimal");
-  Py_DECREF(values);
-  for (size_t i = 0; i < sizeof kinds / sizeof *kinds; i++) {
-    if (!(state->kinds[i] = PyUnicode_InternFromString(kinds[i]))) return -1;
+  for (size_t i = 0; i < sizeof needed / sizeof *needed; i++) {
+    PyObject *from = PyImport_ImportModule(needed[i].module);
+    PyObject *object = from ? PyObject_GetAttrString(from, needed[i].name) : NULL;
+    Py_XDECREF(from);
+    if (!object) return -1;
+    objects_in(state)[needed[i].field / sizeof(PyObject *)] = object;
   }
-  if (PyErr_Occurred()) return -1;
-  state->key_type = PyType_FromModuleAndSpec(module, &key_spec, NULL);
-  state->document_type = PyType_FromModuleAndSpec(module, &document_spec, NULL);
-  state->parts_type = PyType_FromModuleAndSpec(module, &parts_spec, NULL);
-  if (!state->key_type || !state->document_type || !state->parts_type) return -1;
-  if (!(state->stored = PyTuple_Pack(2, state->key_type, state->document_type))) return -1;
+  for (size_t i = 0; i < sizeof kinds / sizeof *kinds; i++)
+    if (!(state->kinds[i] = PyUnicode_InternFromString(kinds[i]))) return -1;
+  if (!(state->key_type = PyType_FromModuleAndSpec(module, &key_spec, NULL)) ||
+      !(state->document_type = PyType_FromModuleAndSpec(module, &document_spec, NULL)) ||
+      !(state->parts_type = PyType_FromModuleAndSpec(module, &parts_spec, NULL)) ||
+      !(state->stored = PyTuple_Pack(2, state->key_type, state->document_type)))
+    return -1;
   /* The default of a parameter is looked up by its name. */
-  if (PyModule_AddObjectRef(module, mode_names[DEFAULT_MODE], state->modes[DEFAULT_MODE]) < 0) return -1;
-  if (PyModule_AddIntConstant(module, "INTERFACE", (long)vizhoniku_version()) < 0) return -1;
-  if (PyModule_AddObjectRef(module, "Key", state->key_type) < 0) return -1;
+  if (PyModule_AddObjectRef(module, "EXTENDED_JSON", state->modes[DEFAULT_MODE]) < 0 ||
+      PyModule_AddIntConstant(module, "INTERFACE", (long)vizhoniku_version()) < 0 ||
+      PyModule_AddObjectRef(module, "Key", state->key_type) < 0)
+    return -1;
   return PyModule_AddObjectRef(module, "Document", state->document_type);
 }
 
@@ -1659,48 +1402,14 @@ static int execute(PyObject *module) {
 }
 
 static int traverse(PyObject *module, visitproc visit, void *arg) {
-  struct state *state = PyModule_GetState(module);
-  Py_VISIT(state->mode);
-  for (size_t i = 0; i < MODES; i++) Py_VISIT(state->modes[i]);
-  Py_VISIT(state->path_error);
-  Py_VISIT(state->rejection);
-  Py_VISIT(state->rejected);
-  Py_VISIT(state->text_of);
-  Py_VISIT(state->value_of);
-  Py_VISIT(state->float_of);
-  Py_VISIT(state->int_of);
-  Py_VISIT(state->items_of);
-  Py_VISIT(state->decimal);
-  Py_VISIT(state->key_type);
-  Py_VISIT(state->document_type);
-  Py_VISIT(state->stored);
-  Py_VISIT(state->parts_type);
+  PyObject **objects = objects_in(PyModule_GetState(module));
+  for (size_t i = 0; i < OBJECTS; i++) Py_VISIT(objects[i]);
   return 0;
 }
 
 static int clear(PyObject *module) {
-  struct state *state = PyModule_GetState(module);
-  Py_CLEAR(state->mode);
-  for (size_t i = 0; i < MODES; i++) Py_CLEAR(state->modes[i]);
-  Py_CLEAR(state->path_error);
-  Py_CLEAR(state->rejection);
-  Py_CLEAR(state->rejected);
-  Py_CLEAR(state->text_of);
-  Py_CLEAR(state->value_of);
-  Py_CLEAR(state->float_of);
-  Py_CLEAR(state->int_of);
-  Py_CLEAR(state->items_of);
-  Py_CLEAR(state->decimal);
-  Py_CLEAR(state->bad_path);
-  Py_CLEAR(state->no_key);
-  Py_CLEAR(state->no_document);
-  Py_CLEAR(state->no_name);
-  Py_CLEAR(state->too_deep);
-  Py_CLEAR(state->key_type);
-  Py_CLEAR(state->document_type);
-  Py_CLEAR(state->stored);
-  Py_CLEAR(state->parts_type);
-  for (size_t i = 0; i < sizeof state->kinds / sizeof *state->kinds; i++) Py_CLEAR(state->kinds[i]);
+  PyObject **objects = objects_in(PyModule_GetState(module));
+  for (size_t i = 0; i < OBJECTS; i++) Py_CLEAR(objects[i]);
   return 0;
 }
 
