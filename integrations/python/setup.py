@@ -27,8 +27,8 @@ LIBRARY = os.path.join(outcome("libdir"), "libvizhoniku.a")
 class Build(build_ext):
     def run(self) -> None:
         if not os.path.isabs(LIBRARY) or not os.path.exists(LIBRARY):
-            sys.exit("the library libvizhoniku.a isn't found by pkg-config: install it (make install PREFIX=FOLDER), and "
-                     "name its place by PKG_CONFIG_PATH (FOLDER/lib/pkgconfig)")
+            sys.exit("the library libvizhoniku.a isn't found by pkg-config: install it (make install PREFIX=FOLDER), "
+                     "and name its place by PKG_CONFIG_PATH (FOLDER/lib/pkgconfig)")
         super().run()
 
 
