@@ -571,7 +571,7 @@ uint32_t vizhoniku_table_check(const unsigned char *key, size_t key_size, const 
  * is the whole. Where a comma or the end of an array or an object is missing, it is that of the item or member before;
  * where a comment without an end begins there, that of the item that would come next, or of the object. Where a key is
  * wrong, or missing, it is that of the object, and of a repeated key that of the member.
- * The error is the one of this text and mode. The text is parsed once more.
+ * The error is the one of this text and mode. The text is parsed up to five times more.
  *
  *  - VIZHONIKU_ACCEPTED: *size bytes were written, with no zero byte after them, which are UTF-8. The rest of the buffer
  *    is as before. Zero bytes may be among them, where a key has some.

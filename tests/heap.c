@@ -516,15 +516,31 @@ static size_t levels_of(const struct text *text) {
   return deepest;
 }
 
+/* How many members begin. A string may lack its end. */
+static size_t members_of(const struct text *text) {
+  size_t members = 0;
+  for (size_t i = 0; i < text->size; i++) {
+    if (text->bytes[i] == '"') {
+      while (++i < text->size && text->bytes[i] != '"') i += text->bytes[i] == '\\';
+    } else if (text->bytes[i] == ':') {
+      members++;
+    }
+  }
+  return members;
+}
+
 /* What the key of each function may hold at most: nothing, or what is written of it. A text is at most six times as
  * long as its key, and the others twice. A path takes some bytes more. The key of an integer has at most 11 bytes. Zeros
- * take what is written of them alone, and so does a table. For the path of an error the text is copied into a vector. */
+ * take what is written of them alone, and so does a table. For the path of an error the text is copied into a vector, and
+ * what is made of it is checked. */
 static size_t bound_over_key(enum key_function function, const struct text *key, size_t written) {
   if (function < TAKES_MEMORY) return 0;
   if (function == KEY_ESCAPED_PART) return 256;
   if (function == KEY_OF_INTEGER) return 16;
   if (function == TABLE) return 512 + ROOM(written);
-  if (function == ERROR_PATH) return 512 + ROOM(key->size) + ROOM(written) + levels_of(key) * STEP;
+  if (function == ERROR_PATH)
+    return 512 + ROOM(key->size) + ROOM(written) + levels_of(key) * (STEP + LEVEL) +
+           ROOM(members_of(key)) * (ENTRY + RANK);
   if (function >= TEXT_WITH_ZEROS) return 512 + ROOM(written);
   return 512 + 3 * key->size / 2 + ROOM(written);
 }
@@ -554,7 +570,8 @@ static void measure_over_key(enum kind kind, int count, const struct text *key, 
     if (held) fault_over_key(function, kind, count, "kept memory");
     if (bound && most * 1000 / bound > nearest[function]) nearest[function] = most * 1000 / bound;
     if (most > bound) fault_over_key(function, kind, count, "held more than its bound");
-    if (asked > 3 * bound) fault_over_key(function, kind, count, "asked for more than its bound");
+    /* For the path of an error the text is copied three times. */
+    if (asked > (function == ERROR_PATH ? 9 : 3) * bound) fault_over_key(function, kind, count, "asked for more than its bound");
     int told = 0, met = 0;
     for (long run = 0; with_failures; run++) { /* each request fails alone, and with all behind it */
       memset(buffer, FILLED, room);

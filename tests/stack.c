@@ -217,7 +217,7 @@ static const size_t told[FUNCTIONS][2] = {
     [PART] = {22, 110},       [COMPARE] = {22, 110},   [MESSAGE] = {22, 0},        [KEY_CHECK] = {5, 0},
     [KEY_TEXT] = {2, 0},      [KEY_PART] = {2, 0},     [KEY_COUNT] = {2, 0},       [KEY_CONTAINS] = {25, 0},
     [KEY_SET] = {2, 0},       [KEY_REMOVE] = {2, 0},   [KEY_MERGE] = {2, 0},       [TEXT_WITH_ZEROS] = {2, 0},
-    [ERROR_PATH] = {2, 0},    [REASON] = {22, 0},
+    [ERROR_PATH] = {22, 0},   [REASON] = {22, 0},
     [LINES] = {22, 110},
     [DOCUMENT] = {22, 110},   [DOCUMENT_CHECK] = {5, 0}, [DOCUMENT_TEXT] = {3, 0}, [DOCUMENT_PART] = {2, 0},
     [DOCUMENT_NEXT] = {2, 0}, [DOCUMENT_SET] = {2, 0}, [DOCUMENT_INSERT] = {2, 0}, [DOCUMENT_REMOVE] = {2, 0},

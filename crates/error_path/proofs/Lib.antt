@@ -1,2 +1,4 @@
 pub mod Encoding
 pub mod Between
+pub mod Passing
+pub mod Wrong

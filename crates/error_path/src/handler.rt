@@ -1,8 +1,8 @@
-//! A handler that follows the text, so that the path is known where it is rejected.
+//! A handler that follows the text, so that it is known what is open where the text is rejected.
 ghost use Rattle.std.specs.Prelude.{◌≡◌, [], false, true};
 ghost use Rattle.error_path.specs.Handler.{IsAnyValue};
 
-use crate::steps::{Level, Steps};
+use crate::steps::{Passed, Steps};
 use jsonb_value::error::Error;
 use std::alloc::{AllocError, Global};
 use text_parse::{Failed, Handler, Mode, OpenObject, Scalar, Text, Wants};
@@ -71,11 +71,10 @@ impl<'a> Handler<'a> for PassedPart {
     }
 
     fn items(sink: &mut Steps, alloc: Global, at: usize) -> Result<(), AllocError> {
-        sink.open(Level::Array(0))
+        sink.open(Passed::Elements(0), at)
     }
 
     fn next_item(sink: &mut Steps, items: &mut ()) -> Result<(), AllocError> {
-        sink.begin_element();
         Ok(())
     }
 
@@ -86,8 +85,7 @@ impl<'a> Handler<'a> for PassedPart {
         from: usize,
         to: usize,
     ) -> Result<(), AllocError> {
-        sink.begin_element();
-        sink.end_part();
+        sink.end_part(to);
         Ok(())
     }
 
@@ -101,7 +99,7 @@ impl<'a> Handler<'a> for PassedPart {
     }
 
     fn end_items(sink: &mut Steps, items: &mut (), at: usize) -> Result<(), AllocError> {
-        sink.close();
+        sink.close(at);
         Ok(())
     }
 
@@ -114,7 +112,7 @@ impl<'a> Handler<'a> for PassedPart {
         alloc: Global,
         at: usize,
     ) -> Result<OpenObject<(), ()>, AllocError> {
-        sink.open(Level::Object(None))?;
+        sink.open(Passed::Members(None, false), at)?;
         Ok(OpenObject {
             members: (),
             key: (),
@@ -130,9 +128,9 @@ impl<'a> Handler<'a> for PassedPart {
         after: usize,
     ) -> Result<(), AllocError> {
         match text {
-            Text::Plain(text) => sink.begin_member(alloc, text),
-            Text::Borrowed(text) => sink.begin_member(alloc, text),
-            Text::Decoded(text) => sink.begin_member(alloc, text.as_str()),
+            Text::Plain(text) => sink.begin_member(alloc, text, after),
+            Text::Borrowed(text) => sink.begin_member(alloc, text, after),
+            Text::Decoded(text) => sink.begin_member(alloc, text.as_str(), after),
         }
     }
 
@@ -144,7 +142,7 @@ impl<'a> Handler<'a> for PassedPart {
         from: usize,
         to: usize,
     ) -> Result<bool, AllocError> {
-        sink.end_part();
+        sink.end_part(to);
         Ok(true)
     }
 
@@ -164,7 +162,7 @@ impl<'a> Handler<'a> for PassedPart {
         reported: &mut Option<Error>,
         at: usize,
     ) -> Result<(), Failed> {
-        sink.close();
+        sink.close(at);
         Ok(())
     }
 

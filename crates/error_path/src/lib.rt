@@ -4,6 +4,7 @@
 mod characters;
 mod handler;
 mod path;
+mod place;
 mod steps;
 
 pub use characters::character_at;
