@@ -15,8 +15,8 @@ use jsonb::{
     Grammar, JsonAst, Mode, append_part, append_sort_key, append_text, check, parse_value,
     parse_value_standard_mode,
 };
+use jsonb_core::error::Error;
 use jsonb_path::read_keys;
-use jsonb_value::error::Error;
 use std::alloc::Global;
 
 /// Reads the text as standard JSON `rounds` times, and drops each value. The answer is how many rounds went

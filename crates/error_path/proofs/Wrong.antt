@@ -5,8 +5,8 @@ use Rattle.jsonb_spec.specs.Code.Code.{unexpected_trailing_characters}
 use Rattle.jsonb_spec.specs.Grammar.{max_depth}
 use Rattle.jsonb_spec.specs.Mode.{IsLenient, Mode, Strictness, lenient, strict, strictness}
 use Rattle.jsonb_spec.specs.Tree.{Tree}
-use Rattle.jsonb_value.specs.Error.CodeView.{code_of}
-use Rattle.jsonb_value.specs.declared.error.ParseErrorCode.{ParseErrorCode}
+use Rattle.jsonb_core.specs.Error.CodeView.{code_of}
+use Rattle.jsonb_core.specs.declared.error.ParseErrorCode.{ParseErrorCode}
 use Rattle.text_scan.specs.Parsing.{Fault, begins, on_byte}
 use Rattle.text_scan.specs.Parsing.Document.{document_of}
 use Rattle.text_scan.specs.Parsing.Whitespace.{opens_comment, piece_length}

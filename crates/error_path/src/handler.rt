@@ -3,7 +3,7 @@ ghost use Rattle.std.specs.Prelude.{◌≡◌, [], false, true};
 ghost use Rattle.error_path.specs.Handler.{IsAnyValue};
 
 use crate::steps::{Passed, Steps};
-use jsonb_value::error::Error;
+use jsonb_core::error::Error;
 use std::alloc::{AllocError, Global};
 use text_parse::{Failed, Handler, Mode, OpenObject, Scalar, Text, Wants};
 use text_scan::util::check_contents;

@@ -8,7 +8,7 @@ ghost use Rattle.text_scan.specs.Answer.{grammar_of};
 use crate::handler::PassedPart;
 use crate::place::{Place, is_error_path};
 use crate::steps::Steps;
-use jsonb_value::error::{Error, ParseErrorCode};
+use jsonb_core::error::{Error, ParseErrorCode};
 use std::alloc::{AllocError, Global};
 use text_parse::{Grammar, parse_text};
 

@@ -5,13 +5,13 @@ ghost use Rattle.error_path.specs.ErrorPath.{IsClosing, IsErrorPath, IsWrong, No
 ghost use Rattle.error_path.specs.Placed.{AreLed, IsPut, ends_before, is_trailing, lacks, leaves_out};
 ghost use Rattle.jsonb_spec.specs.Ascii as ascii;
 ghost use Rattle.jsonb_spec.specs.Mode.{strictness};
-ghost use Rattle.jsonb_value.specs.Error.CodeView.{code_of};
+ghost use Rattle.jsonb_core.specs.Error.CodeView.{code_of};
 ghost use Rattle.text_scan.specs.Answer.{grammar_of};
 ghost use Rattle.text_scan.specs.Parsing.{begins};
 ghost use Rattle.text_scan.specs.Parsing.Whitespace.{opens_comment, piece_length};
 
 use jsonb::{append_part, check};
-use jsonb_value::error::{Error, ParseErrorCode};
+use jsonb_core::error::{Error, ParseErrorCode};
 use std::alloc::{AllocError, Global};
 use text_parse::{Grammar, Mode};
 use text_scan::parser::whitespace::piece_len;

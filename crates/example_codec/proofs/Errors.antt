@@ -3,10 +3,10 @@ use Rattle.std.proofs.Common.{◌≡◌, ◌≢◌, ◌⊎◌, inl, inr, ℕ, �
 use Rattle.jsonb_spec.specs.Grammar.{IsDocument}
 use Rattle.jsonb_spec.specs.Mode.{extended}
 use Rattle.jsonb_spec.specs.Tree.{Tree}
-use Rattle.jsonb_value.proofs.Trees.DocumentTexts.{document_has_text}
+use Rattle.jsonb_core.proofs.Trees.DocumentTexts.{document_has_text}
 use Rattle.jsonb_spec.specs.Text.{text_of}
-use Rattle.jsonb_value.specs.declared.error.Error.{Error}
-use Rattle.jsonb_value.specs.declared.error.Error.TheVariants as error
+use Rattle.jsonb_core.specs.declared.error.Error.{Error}
+use Rattle.jsonb_core.specs.declared.error.Error.TheVariants as error
 use Rattle.example_codec.specs.Frame.{frame_of}
 use Rattle.example_codec.specs.declared.values.FrameError.{FrameError}
 use Rattle.example_codec.specs.declared.values.FrameError.TheVariants.{TooLong, CutShort, Json}

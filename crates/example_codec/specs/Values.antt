@@ -2,7 +2,7 @@
 use Rattle.std.specs.Prelude.{◌≡◌, ◌≢◌, ◌⊎◌, ℕ, ◌<◌, ◌≤◌, ◌^◌, List, [], ◌∷◌, ◌++◌, length, map, codes, Some, None, Vec}
 use Rattle.std.specs.declared.alloc.Global.{Global}
 use Rattle.jsonb_spec.specs.Ascii as ascii
-use Rattle.jsonb_value.specs.Error.ErrorText.{error_text}
+use Rattle.jsonb_core.specs.Error.ErrorText.{error_text}
 use Rattle.jsonb_spec.specs.Grammar.{IsDocument, IsNoDocument}
 use Rattle.jsonb_spec.specs.Mode.{extended}
 use Rattle.text_scan.specs.Answer.{Fails, MayAllocate}
@@ -10,7 +10,7 @@ use Rattle.text_scan.specs.Parsing.Document.{document_of}
 use Rattle.jsonb_spec.specs.Tree.{Tree}
 use Rattle.jsonb_spec.specs.Order.{Same}
 use Rattle.jsonb_spec.specs.Text.{text_of}
-use Rattle.jsonb_value.specs.declared.error.Error.TheVariants as error
+use Rattle.jsonb_core.specs.declared.error.Error.TheVariants as error
 use Rattle.example_codec.specs.Frame.{frame_of, BeginsWith}
 use Rattle.example_codec.specs.declared.values.FrameError.{FrameError}
 use Rattle.example_codec.specs.declared.values.FrameError.TheVariants.{TooLong, CutShort, Json}

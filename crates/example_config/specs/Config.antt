@@ -2,7 +2,7 @@
 use Rattle.std.specs.Prelude.{◌≡◌, ◌≢◌, ◌⊎◌, ℕ, ◌<◌, ◌^◌, List, Bool, false, Option, Some, None, codes, string_bytes, pos}
 use Rattle.std.specs.Str.{bytes_eq}
 use Rattle.jsonb.specs.AstView.{Written, written_members}
-use Rattle.jsonb_value.specs.Error.CodeView.{code_of}
+use Rattle.jsonb_core.specs.Error.CodeView.{code_of}
 use Rattle.jsonb_spec.specs.Grammar.{IsDocument, IsNoDocument}
 use Rattle.jsonb_spec.specs.Mode.{extended}
 use Rattle.text_scan.specs.Answer.{Fails, MayAllocate}
@@ -13,8 +13,8 @@ use Rattle.text_scan.specs.Parsing.Document.{document_of}
 use Rattle.jsonb_spec.specs.Source.{object_source, SourceMembers, no_source_members, more_source_members}
 use Rattle.jsonb.specs.Source.{source_members_view}
 use Rattle.jsonb_spec.specs.Tree.{Mark, Tree, Members}
-use Rattle.jsonb_value.specs.declared.error.Error.{Error}
-use Rattle.jsonb_value.specs.declared.error.Error.TheVariants as error
+use Rattle.jsonb_core.specs.declared.error.Error.{Error}
+use Rattle.jsonb_core.specs.declared.error.Error.TheVariants as error
 use Rattle.example_config.specs.declared.config.Config.{Config}
 use Rattle.example_config.specs.declared.config.Setting.{Setting}
 use Rattle.example_config.specs.declared.config.Setting.TheVariants.{Host, Port, Workers, Verbose}

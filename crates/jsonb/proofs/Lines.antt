@@ -7,7 +7,7 @@ use Rattle.jsonb_spec.specs.Grammar.{IsDocument}
 use Rattle.jsonb_spec.specs.Mode.{Mode}
 use Rattle.jsonb_spec.specs.Text.{AppendsText, tree_text}
 use Rattle.jsonb_spec.specs.Tree.{Tree}
-use Rattle.jsonb_value.specs.declared.error.Error.{Error}
+use Rattle.jsonb_core.specs.declared.error.Error.{Error}
 use Rattle.jsonb.specs.Appends.{IsParsed, LacksCapacityForText}
 use Rattle.text_scan.specs.Answer.{MayAllocate}
 use Rattle.jsonb.proofs.Documents.Straight.{text_there}

@@ -5,7 +5,7 @@ use Rattle.std.proofs.lemmas.Bool.{cases_lt, le-leb, lt-leb}
 use Rattle.std.proofs.lemmas.List.{drop_all, take_more}
 use Rattle.std.specs.Cow.{cow_str_bytes}
 use Rattle.jsonb_spec.specs.Tree.{Mark}
-use Rattle.jsonb_value.specs.View.{mark_view}
+use Rattle.jsonb_core.specs.View.{mark_view}
 use Rattle.jsonb.specs.AstView.{Written}
 use Rattle.jsonb_spec.specs.Source.{Source, SourceMembers, no_source_members, more_source_members}
 use Rattle.jsonb.specs.Source.{source_view, sources_view, source_members_view, sources_eq, source_members_eq}

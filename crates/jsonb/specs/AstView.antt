@@ -4,7 +4,7 @@ use Rattle.std.specs.Cow.{cow_str_bytes}
 use Rattle.std.specs.declared.alloc.Global.{Global}
 use Rattle.std.specs.declared.borrow.CowStr.{CowStr}
 use Rattle.jsonb_spec.specs.Tree.{Tree, null, boolean, number, string, array, object, Trees, trees_of, Member, Members, no_members, put_all}
-use Rattle.jsonb_value.specs.View.{number_view, mark_view}
+use Rattle.jsonb_core.specs.View.{number_view, mark_view}
 use Rattle.jsonb.specs.declared.parser.ast.JsonAst.{JsonAst, fold-JsonAst}
 use Rattle.jsonb.specs.declared.parser.ast.JsonAst.TheOpen.{JsonAst-F}
 

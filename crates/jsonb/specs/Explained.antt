@@ -1,8 +1,8 @@
 -- What the error of a text says of the text.
 use Rattle.std.specs.Prelude.{ℕ, List}
-use Rattle.jsonb_value.specs.declared.error.Error.{Error}
-use Rattle.jsonb_value.specs.declared.error.Error.TheVariants.{Syntax}
-use Rattle.jsonb_value.specs.Error.CodeView.{code_of}
+use Rattle.jsonb_core.specs.declared.error.Error.{Error}
+use Rattle.jsonb_core.specs.declared.error.Error.TheVariants.{Syntax}
+use Rattle.jsonb_core.specs.Error.CodeView.{code_of}
 use Rattle.jsonb_spec.specs.Mode.{Mode}
 use Rattle.jsonb_spec.specs.Errors.{Applies}
 

@@ -2,7 +2,7 @@
 use Rattle.std.specs.Prelude.{ℕ, List, Result, IfErr}
 use Rattle.jsonb_spec.specs.Mode.{Mode}
 use Rattle.jsonb_spec.specs.Tree.{Tree}
-use Rattle.jsonb_value.specs.declared.error.Error.{Error}
+use Rattle.jsonb_core.specs.declared.error.Error.{Error}
 use Rattle.text_scan.specs.Answer.{Fails, Gives}
 use Rattle.text_scan.specs.Parsing.Document.{document_of}
 use Rattle.jsonb.specs.Explained.{IsExplained}

@@ -5,7 +5,7 @@ use Rattle.jsonb_spec.specs.Grammar.{IsDocument}
 use Rattle.jsonb_spec.specs.Mode.{Mode}
 use Rattle.jsonb_spec.specs.Text.{tree_text}
 use Rattle.jsonb_spec.specs.Tree.{Tree}
-use Rattle.jsonb_value.specs.declared.error.Error.{Error}
+use Rattle.jsonb_core.specs.declared.error.Error.{Error}
 use Rattle.jsonb.specs.Appends.{IsParsed}
 use Rattle.jsonb.specs.Follows.{FailsAsSpecified}
 use Rattle.jsonb.specs.Parses.{Rejects}

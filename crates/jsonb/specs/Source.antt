@@ -6,7 +6,7 @@ use Rattle.std.specs.declared.alloc.Global.{Global}
 use Rattle.std.specs.declared.borrow.CowStr.{CowStr}
 use Rattle.jsonb_spec.specs.Order.{num_cmp}
 use Rattle.jsonb_spec.specs.Tree.{escaped}
-use Rattle.jsonb_value.specs.View.{number_view, mark_view}
+use Rattle.jsonb_core.specs.View.{number_view, mark_view}
 use Rattle.jsonb.specs.AstView.{Written}
 use Rattle.jsonb.specs.declared.parser.ast.JsonAst.{JsonAst, fold-JsonAst}
 use Rattle.jsonb.specs.declared.parser.ast.JsonAst.TheOpen.{JsonAst-F}

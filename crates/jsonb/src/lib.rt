@@ -6,11 +6,12 @@ pub mod parser;
 pub mod part;
 pub mod util;
 
-pub use jsonb_value::error::{Error, ParseErrorCode, Result};
+pub use jsonb_core::error::{Error, ParseErrorCode, Result};
+pub use jsonb_core::number::{Decimal64, Decimal128, Number};
+pub use jsonb_core::{error, number};
 pub use jsonb_value::extension::{Date, ExtensionValue, Interval, Timestamp, TimestampTz};
-pub use jsonb_value::number::{Decimal64, Decimal128, Number};
 pub use jsonb_value::value::{Object, Value};
-pub use jsonb_value::{error, extension, number, value};
+pub use jsonb_value::{extension, value};
 pub use laws::{
     decoding_is_unambiguous, exponents_are_exact, extended_is_extended_json,
     grammar_is_unambiguous, json_is_extended_json, json_texts_are_those_of_its_productions,

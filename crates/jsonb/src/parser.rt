@@ -24,7 +24,7 @@ mod zeros;
 
 pub use ast::JsonAst;
 use handler::ValuePart;
-use jsonb_value::error::{Error, Result};
+use jsonb_core::error::{Error, Result};
 use jsonb_value::value::Value;
 pub use lines::{RejectedLine, append_text_lines};
 pub use part::append_part;

@@ -8,8 +8,8 @@ use Rattle.jsonb_spec.specs.SortKey.{key_of}
 use Rattle.jsonb_spec.specs.Text.{tree_text}
 use Rattle.jsonb_spec.specs.Text.Range.{HasFewDigits, IsIntegral}
 use Rattle.jsonb_spec.specs.Tree.{Tree}
-use Rattle.jsonb_value.proofs.Trees.RangeTexts.{document_in_range, text_in_range}
-use Rattle.jsonb_value.proofs.Trees.Ranges.{widened}
+use Rattle.jsonb_core.proofs.Trees.RangeTexts.{document_in_range, text_in_range}
+use Rattle.jsonb_core.proofs.Trees.Ranges.{widened}
 use Rattle.jsonb_c.specs.Interface.{IsTextOf}
 
 pub document_readable : (mode : Mode) (bytes : List ℕ) (t : Tree) → IsDocument mode bytes t → IsReadable t

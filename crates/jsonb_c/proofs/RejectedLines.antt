@@ -1,7 +1,7 @@
 -- What is said of the lines of a text, by the reason of the one that is rejected.
 use Rattle.std.proofs.Common.{◌≡◌, inl, inr, ℕ, suc, ◌≤◌, List, [], ◌∷◌, All, refl, subst, sym, arith}
 use Rattle.jsonb_spec.specs.Mode.{Mode}
-use Rattle.jsonb_value.specs.declared.error.Error.{Error}
+use Rattle.jsonb_core.specs.declared.error.Error.{Error}
 use Rattle.jsonb.specs.Lines.{IsFirstOfLines, LacksCapacityForLines, RejectsLine, lines_of}
 use Rattle.jsonb_c.specs.declared.Rejection.{Rejection}
 use Rattle.jsonb_c.specs.declared.Failure.{Failure}

@@ -5,7 +5,7 @@ use Rattle.jsonb_spec.specs.Text.{text_of, AppendsText}
 use Rattle.jsonb_spec.specs.Grammar.{IsDocument}
 use Rattle.jsonb_spec.specs.Mode.{Mode}
 use Rattle.jsonb_spec.specs.Tree.{Tree}
-use Rattle.jsonb_value.proofs.Trees.RangeTexts.{document_text_reads_back}
+use Rattle.jsonb_core.proofs.Trees.RangeTexts.{document_text_reads_back}
 use Rattle.jsonb.specs.Appends.{IsParsed}
 use Rattle.jsonb.proofs.Documents.Encodings.{document_complete, document_unique}
 use Rattle.jsonb_c.specs.declared.Failure.{Failure}

@@ -1,7 +1,7 @@
 -- What each status and each out parameter says of the key of a scalar, and of the reason of an error.
 use Rattle.std.specs.Prelude.{◌≡◌, ◌≢◌, ℕ, ℤ, List, Bool, true, false, Option, Some, None, Err, FitsSigned, if◌then◌else◌}
 use Rattle.std.specs.Int.{w64}
-use Rattle.jsonb_value.specs.Error.ErrorText.{code_text}
+use Rattle.jsonb_core.specs.Error.ErrorText.{code_text}
 use Rattle.key_walk.specs.declared.walk.Kind.{Kind}
 use Rattle.key_walk.specs.declared.walk.Kind.TheVariants as kinds
 use Rattle.text_scan.specs.Parsing.Document.{document_of}

@@ -8,8 +8,8 @@
 
 ghost use Rattle.std.specs.Prelude.{◌≡◌, ◌≢◌, ◌⊎◌, ℕ, List, [], ◌<◌, ◌≤◌, ◌++◌, min, length, drop, map, pos, string_bytes, MatchOption, MatchResult, IfOk, IfNone, IfSome, OnOk};
 ghost use Rattle.jsonb_spec.specs.Code.{Code};
-ghost use Rattle.jsonb_value.specs.Error.CodeView.{code_of};
-ghost use Rattle.jsonb_value.specs.Error.ErrorText.{error_text};
+ghost use Rattle.jsonb_core.specs.Error.CodeView.{code_of};
+ghost use Rattle.jsonb_core.specs.Error.ErrorText.{error_text};
 ghost use Rattle.jsonb_spec.specs.Order.{bytes_cmp};
 ghost use Rattle.jsonb_value.specs.View.{view};
 ghost use Rattle.jsonb_spec.specs.Line.{column_at, fault_index, line_at};

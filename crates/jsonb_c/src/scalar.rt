@@ -8,8 +8,8 @@ ghost use Rattle.text_scan.specs.Answer.{MayAllocate};
 ghost use Rattle.jsonb_spec.specs.Accessors.{as_boolean};
 ghost use Rattle.jsonb_spec.specs.SortKey.{key_of};
 ghost use Rattle.jsonb_spec.specs.Tree.{Tree, string, escaped};
-ghost use Rattle.jsonb_value.specs.Error.CodeView.{code_of};
-ghost use Rattle.jsonb_value.specs.Error.ErrorText.{code_text};
+ghost use Rattle.jsonb_core.specs.Error.CodeView.{code_of};
+ghost use Rattle.jsonb_core.specs.Error.ErrorText.{code_text};
 
 use crate::{
     ACCEPTED, Failure, NO_KEY, NO_PART, NO_PATH, OUT_OF_MEMORY, REJECTED, TOO_SHORT,
@@ -17,10 +17,10 @@ use crate::{
 };
 use error_path::append_step;
 use jsonb::check;
-use jsonb_value::error::{Error, ParseErrorCode};
-use jsonb_value::number::Number;
-use jsonb_value::parts::{append_number_key, append_text_key};
-use jsonb_value::sort_key::kind;
+use jsonb_core::error::{Error, ParseErrorCode};
+use jsonb_core::number::Number;
+use jsonb_core::parts::{append_number_key, append_text_key};
+use jsonb_core::sort_key::kind;
 use key_value::number::integer_of;
 use key_walk::{Kind, boolean_of, kind_of};
 use std::alloc::{AllocError, Global};

@@ -5,7 +5,7 @@ use Rattle.jsonb_spec.specs.Mode.{Mode}
 use Rattle.jsonb_spec.specs.Text.ReadsBack.{ReadsBackAs}
 use Rattle.jsonb_spec.specs.Text.{text_of}
 use Rattle.jsonb_spec.specs.Tree.{Tree}
-use Rattle.jsonb_value.proofs.Trees.RangeTexts.{document_text_reads_back}
+use Rattle.jsonb_core.proofs.Trees.RangeTexts.{document_text_reads_back}
 use Rattle.jsonb.proofs.Documents.Encodings.{document_unique}
 use Rattle.jsonb_spec.specs.Program.{IsLineOf}
 

@@ -9,7 +9,7 @@ use Rattle.jsonb_spec.specs.Text.Range.{IsWithin, AreWithin, HaveWithin, IsInteg
 use Rattle.jsonb_spec.specs.Text.ReadsBack.{ReadsBackAs}
 use Rattle.jsonb_spec.specs.Text.{text_of}
 use Rattle.jsonb_spec.specs.Tree.{Num, Tree, null, boolean, string, number, array, object, Trees, no_trees, more_trees, Members, no_members, more_members}
-use Rattle.jsonb_value.proofs.Trees.RangeTexts.{document_in_range, range_reads_back}
+use Rattle.jsonb_core.proofs.Trees.RangeTexts.{document_in_range, range_reads_back}
 use Rattle.jsonb_spec.specs.PartAt.{IsChild, IsAt}
 
 same_tree : (t u : Tree) → Some t ≡ Some u → t ≡ u

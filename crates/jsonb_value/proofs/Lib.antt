@@ -1,9 +1,5 @@
 pub mod Appending
-pub mod ErrorCodes
-pub mod Numbers
 pub mod Order
 pub mod Outcomes
 pub mod SortKeys
-pub mod Strings
-pub mod Trees
 pub mod Values

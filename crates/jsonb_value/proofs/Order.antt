@@ -1,4 +1,3 @@
 -- The order of values.
-pub mod ByContent
 pub mod Comparing
 pub mod FromBound

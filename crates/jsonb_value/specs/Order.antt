@@ -1,4 +1,2 @@
 -- The order of trees is total, and the bounds of what is compared.
 pub mod Bounds
-pub mod Laws
-pub mod NumberLaws

@@ -1,23 +1,13 @@
--- The tree of a `Value`, a `Number` or an `ExtensionValue`.
-use Rattle.std.specs.Prelude.{ℕ, List, [], ◌∷◌, map, String, string_bytes, pos}
+-- The tree of a `Value` or an `ExtensionValue`.
+use Rattle.std.specs.Prelude.{ℕ, List, [], ◌∷◌, map, String, string_bytes}
 use Rattle.std.specs.Cow.{cow_str_bytes}
 use Rattle.std.specs.declared.alloc.Global.{Global}
-use Rattle.std.specs.declared.borrow.CowStr.{CowStr}
-use Rattle.std.specs.declared.borrow.CowStr.TheVariants.{Borrowed, Owned}
-use Rattle.jsonb_spec.specs.Tree.{int64, uint64, decimal64, decimal128, Num, Mark, plain, escaped, Tree, null, boolean, number, string, array, object, binary, date, timestamp, timestamp_tz, interval, Trees, trees_of, Members, no_members, more_members}
+use Rattle.jsonb_spec.specs.Tree.{Tree, null, boolean, number, string, array, object, binary, date, timestamp, timestamp_tz, interval, Trees, trees_of, Members, no_members, more_members}
 use Rattle.jsonb_value.specs.declared.extension.ExtensionValue.{ExtensionValue}
 use Rattle.jsonb_value.specs.declared.extension.ExtensionValue.TheVariants as extension
-use Rattle.jsonb_value.specs.declared.number.Number.{Number}
-use Rattle.jsonb_value.specs.declared.number.Number.TheVariants as form
+use Rattle.jsonb_core.specs.View.{number_view, mark_view}
 use Rattle.jsonb_value.specs.declared.value.Value.{Value, fold-Value}
 use Rattle.jsonb_value.specs.declared.value.Value.TheOpen.{Value-F}
-
--- the number that a `Number` means
-abbrev pub number_view : Number → Num
-number_view (form.Int64 n) = record { form = int64; scale = 0; whole = n }
-number_view (form.UInt64 n) = record { form = uint64; scale = 0; whole = pos n }
-number_view (form.Decimal64 d) = record { form = decimal64; scale = d.scale; whole = d.value }
-number_view (form.Decimal128 d) = record { form = decimal128; scale = d.scale; whole = d.value }
 
 -- the tree that an `ExtensionValue` means
 abbrev pub extension_view : ExtensionValue → Tree
@@ -26,11 +16,6 @@ extension_view (extension.Date d) = date d.value
 extension_view (extension.Timestamp t) = timestamp t.value
 extension_view (extension.TimestampTz t) = timestamp_tz t.offset t.value
 extension_view (extension.Interval i) = interval i.months i.days i.micros
-
--- borrowed text is plain, and owned text is escaped
-abbrev pub mark_view : CowStr Global → Mark
-mark_view (Borrowed s) = plain
-mark_view (Owned s) = escaped
 
 -- the members of an object, from a list of keys and trees
 abbrev pub members_of : List (String Global × Tree) → Members

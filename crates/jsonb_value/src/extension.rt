@@ -6,7 +6,7 @@ ghost use Rattle.std.specs.Prelude.{◌≡◌, refl};
 ghost use Rattle.std.specs.Cmp.{on_equiv, on_per, on_po, partial_equiv_from_equiv, eq_by_cmp_equiv, po};
 ghost use Rattle.std.specs.Ordering.{on, eq_by_cmp, as_partial_cmp};
 ghost use Rattle.jsonb_spec.specs.Order.{rank, tree_cmp};
-ghost use Rattle.jsonb_value.specs.Order.Laws.{tree_cmp_total};
+ghost use Rattle.jsonb_core.specs.Order.Laws.{tree_cmp_total};
 ghost use Rattle.jsonb_value.specs.View.{extension_view};
 
 pub use laws::{

@@ -11,7 +11,7 @@ pub(crate) mod sort_key;
 pub(crate) mod text;
 
 use crate::extension::{Date, Interval, Timestamp, TimestampTz};
-use crate::number::Number;
+use jsonb_core::number::Number;
 pub use laws::{documents_are_in_range, value_texts_read_back};
 pub use order::order_is_total;
 pub use sort_key::{sort_key_sizes, sort_keys_order};

@@ -9,10 +9,10 @@ use Rattle.jsonb_spec.specs.SortKey.{key_of}
 use Rattle.jsonb_spec.specs.Text.{tree_text}
 use Rattle.jsonb_spec.specs.Text.Range.{HasFewDigits, IsInRange}
 use Rattle.jsonb_spec.specs.Tree.{Tree}
-use Rattle.jsonb_value.proofs.SortKeys.Trees.{keys_same}
-use Rattle.jsonb_value.proofs.Trees.OneText.{one_tree, IsShort}
-use Rattle.jsonb_value.proofs.Trees.Ranges.{widened}
-use Rattle.jsonb_value.proofs.Trees.Runs.{heads, tails}
+use Rattle.jsonb_core.proofs.SortKeys.Trees.{keys_same}
+use Rattle.jsonb_core.proofs.Trees.OneText.{one_tree, IsShort}
+use Rattle.jsonb_core.proofs.Trees.Ranges.{widened}
+use Rattle.jsonb_core.proofs.Trees.Runs.{heads, tails}
 use Rattle.key_document.specs.Document.{behind_key, document_of, zeros_at, EndsUnlike}
 use Rattle.key_document.proofs.Agreeing.{same_back}
 use Rattle.key_document.proofs.Backwards.{turned_back, turned_number}

@@ -13,7 +13,7 @@ use Rattle.jsonb_spec.specs.Tree.{Tree, null, boolean, string, number, array, ob
 use Rattle.std.proofs.lemmas.Slice.Eq.{bytes_eq-Decides}
 use Rattle.key_walk.proofs.Holding.{above_is_other, turned_back}
 use Rattle.key_walk.proofs.Occurrence.{equal_names}
-use Rattle.jsonb_value.proofs.SortKeys.Texts.{text_key-other}
+use Rattle.jsonb_core.proofs.SortKeys.Texts.{text_key-other}
 use Rattle.key_walk.specs.Passing.{joined_members}
 use Rattle.key_edit.specs.Merging.{AreFirst, AreReplaced, IsLast, keys_of_members}
 use Rattle.key_edit.specs.declared.merge.Step.{Step}

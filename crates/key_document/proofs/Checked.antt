@@ -14,7 +14,7 @@ use Rattle.key_walk.specs.Checked.{IsSortKey}
 use Rattle.key_walk.proofs.InRange.{readable_at}
 use Rattle.key_value.proofs.Texts.{none_some, some_same}
 use Rattle.std.proofs.Math.Nat.{pow-suc, pow-zero}
-use Rattle.jsonb_value.proofs.Trees.Runs.{heads, tails}
+use Rattle.jsonb_core.proofs.Trees.Runs.{heads, tails}
 use Rattle.key_zeros.specs.Zeros.{in_sevens, zeros_of}
 use Rattle.key_zeros.proofs.Sevens.{few, many, some_sevens}
 use Rattle.key_text.specs.Counts.{counts_at}

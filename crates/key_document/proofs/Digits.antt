@@ -15,11 +15,11 @@ use Rattle.jsonb_spec.specs.Proper.{FitsWhole, IsProperNumber}
 use Rattle.jsonb_spec.specs.SortKey.{number_key}
 use Rattle.jsonb_spec.specs.Text.NumberText.{number_text, text_of_parts, with_point, zero_padded}
 use Rattle.jsonb_spec.specs.Tree.{Form, int64, uint64, decimal64, decimal128, Num}
-use Rattle.jsonb_value.proofs.Numbers.DecimalTexts.{digits-take, digits-drop, digits-after_zeros, value-after_zeros}
-use Rattle.jsonb_value.proofs.Numbers.Nearest.{signed_parts}
-use Rattle.jsonb_value.proofs.Numbers.Pointed.{pointed_whole, pointed_inside, pointed_before}
-use Rattle.jsonb_value.proofs.SortKeys.Kinds.{is_small}
-use Rattle.jsonb_value.proofs.Trees.Runs.{heads}
+use Rattle.jsonb_core.proofs.Numbers.DecimalTexts.{digits-take, digits-drop, digits-after_zeros, value-after_zeros}
+use Rattle.jsonb_core.proofs.Numbers.Nearest.{signed_parts}
+use Rattle.jsonb_core.proofs.Numbers.Pointed.{pointed_whole, pointed_inside, pointed_before}
+use Rattle.jsonb_core.proofs.SortKeys.Kinds.{is_small}
+use Rattle.jsonb_core.proofs.Trees.Runs.{heads}
 use Rattle.key_text.specs.FewestDigits.{spare_zeros}
 use Rattle.key_zeros.specs.Scan.{is_number_byte, ending_of}
 use Rattle.key_zeros.proofs.Decimals.{text_passed}

@@ -6,7 +6,7 @@ use Rattle.std.proofs.Math.Seq.{drop-append_seam}
 use Rattle.jsonb_spec.specs.Proper.{IsProperNumber}
 use Rattle.jsonb_spec.specs.Text.NumberText.{number_text}
 use Rattle.jsonb_spec.specs.Tree.{Num}
-use Rattle.jsonb_value.proofs.Trees.Runs.{heads, tails}
+use Rattle.jsonb_core.proofs.Trees.Runs.{heads, tails}
 use Rattle.key_document.specs.DueZeros.{AreDue}
 use Rattle.key_document.specs.declared.due.ZerosDue.{ZerosDue}
 use Rattle.key_value.specs.declared.error.KeyError.{KeyError}

@@ -10,11 +10,11 @@ use Rattle.jsonb_spec.specs.Proper.{IsProper, AreProper, HaveProperParts}
 use Rattle.jsonb_spec.specs.SortKey.{key_of, items_key, members_key, text_key, byte_key, number_key, magnitude_key, exponent_key, digits_key, digit_count, invert_if}
 use Rattle.jsonb_spec.specs.Text.Range.{IsWithin, AreWithin, HaveWithin}
 use Rattle.jsonb_spec.specs.Tree.{Num, Tree, null, boolean, string, number, array, object, binary, date, timestamp, timestamp_tz, interval, Trees, no_trees, more_trees, Members, no_members, more_members}
-use Rattle.jsonb_value.proofs.SortKeys.Counts.{digits_counted}
-use Rattle.jsonb_value.proofs.SortKeys.Digits.{ten, last_pair, more_pairs}
-use Rattle.jsonb_value.proofs.SortKeys.Kinds.{is_small}
+use Rattle.jsonb_core.proofs.SortKeys.Counts.{digits_counted}
+use Rattle.jsonb_core.proofs.SortKeys.Digits.{ten, last_pair, more_pairs}
+use Rattle.jsonb_core.proofs.SortKeys.Kinds.{is_small}
 use Rattle.key_document.specs.Document.{EndsUnlike}
-use Rattle.jsonb_value.proofs.SortKeys.Numbers.{IsSmall, positive, negative, nothing_there, magnitude_split}
+use Rattle.jsonb_core.proofs.SortKeys.Numbers.{IsSmall, positive, negative, nothing_there, magnitude_split}
 
 -- the bytes end, and with one below 254
 pub record EndsBelow (bytes : List ℕ) : Type 0 where

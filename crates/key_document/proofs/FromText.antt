@@ -8,8 +8,8 @@ use Rattle.jsonb_spec.specs.Text.NumberText.{number_text}
 use Rattle.jsonb_spec.specs.Tree.{Tree}
 use Rattle.std.proofs.lemmas.Bool.{cases_lt}
 use Rattle.jsonb_spec.specs.Text.StringText.{quoted_text}
-use Rattle.jsonb_value.proofs.Appending.Appended.{IsUnderway, fits}
-use Rattle.jsonb_value.proofs.SortKeys.Kinds.{is_small, number_begins}
+use Rattle.jsonb_core.proofs.Appending.Appended.{IsUnderway, fits}
+use Rattle.jsonb_core.proofs.SortKeys.Kinds.{is_small, number_begins}
 use Rattle.key_text.specs.Counts.{counts_at}
 use Rattle.key_text.specs.FewestDigits.{spare_zeros}
 use Rattle.key_zeros.proofs.Decimals.{text_begins}

@@ -8,10 +8,10 @@ use Rattle.std.specs.Char.{digit_char}
 use Rattle.std.specs.List.{flat_map}
 use Rattle.jsonb_spec.specs.SortKey.{byte_key, text_key}
 use Rattle.jsonb_spec.specs.Text.StringText.{ArePlain, byte_text}
-use Rattle.jsonb_value.proofs.Appending.Appended.{IsUnderway, goes_on, fits}
-use Rattle.jsonb_value.proofs.SortKeys.Zeros.{plain_key}
-use Rattle.jsonb_value.proofs.Strings.PlainTexts.{no_marks, one_plain, rest_plain}
-use Rattle.jsonb_value.proofs.Trees.Runs.{heads, tails}
+use Rattle.jsonb_core.proofs.Appending.Appended.{IsUnderway, goes_on, fits}
+use Rattle.jsonb_core.proofs.SortKeys.Zeros.{plain_key}
+use Rattle.jsonb_core.proofs.Strings.PlainTexts.{no_marks, one_plain, rest_plain}
+use Rattle.jsonb_core.proofs.Trees.Runs.{heads, tails}
 use Rattle.std.specs.Prelude.{IsErrAnd, Vec, vec_len, vec_capacity}
 use Rattle.std.specs.declared.alloc.Global.{Global}
 use Rattle.key_document.specs.declared.error.DocumentError.{DocumentError}

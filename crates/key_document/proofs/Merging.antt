@@ -7,7 +7,7 @@ use Rattle.std.specs.declared.cmp.Ordering.TheVariants.{Less, Equal, Greater}
 use Rattle.jsonb_spec.specs.Keys.{IsBelowKeys}
 use Rattle.jsonb_spec.specs.Order.{bytes_cmp}
 use Rattle.jsonb_spec.specs.Tree.{Tree, Trees, no_trees, more_trees, Members, no_members, more_members, put}
-use Rattle.jsonb_value.proofs.Values.Members.{turned}
+use Rattle.jsonb_core.proofs.Trees.MembersInOrder.{turned}
 use Rattle.key_document.specs.Merging.{counts_of_items}
 use Rattle.key_edit.specs.Edit.{joined_items, merged_members}
 use Rattle.key_edit.proofs.ProperChanges.{below_rest}

@@ -5,8 +5,8 @@ use Rattle.std.proofs.lemmas.Bool.{cases_lt}
 use Rattle.std.proofs.lemmas.Nat.{pow-add}
 use Rattle.jsonb_spec.specs.SortKey.{digit_count, digits_key, invert_if}
 use Rattle.jsonb_spec.specs.Tree.{Num}
-use Rattle.jsonb_value.proofs.SortKeys.Counts.{power_le}
-use Rattle.jsonb_value.proofs.SortKeys.Digits.{ten}
+use Rattle.jsonb_core.proofs.SortKeys.Counts.{power_le}
+use Rattle.jsonb_core.proofs.SortKeys.Digits.{ten}
 use Rattle.key_document.specs.Check.{IsStripped, most_zeros}
 use Rattle.key_document.proofs.Trailing.{Fewest, fewest, no_digits}
 use Rattle.key_text.specs.FewestDigits.{spare_zeros}

@@ -5,7 +5,7 @@ use Rattle.key_value.proofs.Texts.{some_same}
 use Rattle.key_value.specs.Readable.{HasFewestDigits, IsAnyNumber, IsReadable}
 use Rattle.jsonb_spec.specs.Text.{tree_text, AppendsText}
 use Rattle.jsonb_spec.specs.Tree.{Tree}
-use Rattle.jsonb_value.proofs.Trees.RangeTexts.{text_in_range}
+use Rattle.jsonb_core.proofs.Trees.RangeTexts.{text_in_range}
 use Rattle.key_text.specs.FewestDigits.{with_fewest_digits, AppendsTextOf}
 use Rattle.key_document.specs.Changes.{of_key_error}
 use Rattle.key_value.specs.declared.error.KeyError.{KeyError}

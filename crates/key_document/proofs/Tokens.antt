@@ -10,8 +10,8 @@ use Rattle.jsonb_spec.specs.Text.NumberText.{number_text}
 use Rattle.jsonb_spec.specs.Text.Range.{IsWithin, AreWithin, HaveWithin}
 use Rattle.jsonb_spec.specs.Text.StringText.{byte_text, quoted_text}
 use Rattle.jsonb_spec.specs.Tree.{Num, Tree, null, boolean, string, number, array, object, binary, date, timestamp, timestamp_tz, interval, Trees, no_trees, more_trees, Members, no_members, more_members}
-use Rattle.jsonb_value.proofs.Appending.Pieces.{texts_left, texts_left-comma}
-use Rattle.jsonb_value.proofs.Trees.Runs.{heads, tails}
+use Rattle.jsonb_core.proofs.Appending.Pieces.{texts_left, texts_left-comma}
+use Rattle.jsonb_core.proofs.Trees.Runs.{heads, tails}
 use Rattle.key_zeros.specs.Scan.{is_number_byte}
 use Rattle.key_zeros.proofs.Decimals.{text_begins}
 use Rattle.key_document.specs.FromText.{closed, EndsNumber, is_name, mark_behind}

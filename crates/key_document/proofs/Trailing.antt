@@ -10,9 +10,9 @@ use Rattle.jsonb_spec.specs.Proper.{AreProper, HaveProperParts, IsProper, IsProp
 use Rattle.jsonb_spec.specs.SortKey.{digit_count, digits_within, items_key, key_of, members_key, number_key, text_key}
 use Rattle.jsonb_spec.specs.Text.Range.{AreWithin, HasFewDigits, HaveWithin, IsWithin}
 use Rattle.jsonb_spec.specs.Tree.{Num, decimal128, Tree, null, boolean, string, number, array, object, Trees, no_trees, more_trees, Members, no_members, more_members}
-use Rattle.jsonb_value.proofs.Numbers.Nearest.{unsigned_abs-signed}
-use Rattle.jsonb_value.proofs.SortKeys.Counts.{digits_counted, power_le}
-use Rattle.jsonb_value.proofs.SortKeys.Digits.{ten}
+use Rattle.jsonb_core.proofs.Numbers.Nearest.{unsigned_abs-signed}
+use Rattle.jsonb_core.proofs.SortKeys.Counts.{digits_counted, power_le}
+use Rattle.jsonb_core.proofs.SortKeys.Digits.{ten}
 use Rattle.key_document.specs.Check.{AreAtMost, most_at, most_at_items, most_at_members, most_zeros, zeros_within}
 use Rattle.key_text.specs.Counts.{counts_at, counts_at_items, counts_at_members}
 use Rattle.key_text.specs.FewestDigits.{spare_zeros}

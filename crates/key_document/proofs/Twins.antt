@@ -19,12 +19,12 @@ use Rattle.jsonb_spec.specs.Text.Appending.{comma_before}
 use Rattle.jsonb_spec.specs.Text.Range.{IsWithin, AreWithin, HaveWithin}
 use Rattle.jsonb_spec.specs.Text.StringText.{quoted_text}
 use Rattle.jsonb_spec.specs.Tree.{Mark, Num, Tree, null, boolean, string, number, array, object, Trees, no_trees, more_trees, Members, no_members, more_members}
-use Rattle.jsonb_value.specs.Order.NumberLaws.{int_cmp-scaled}
-use Rattle.jsonb_value.proofs.SortKeys.Comparing.{is_equal, nat_cmp-scaled}
-use Rattle.jsonb_value.proofs.SortKeys.Kinds.{begins, is_small, number_begins}
-use Rattle.jsonb_value.proofs.SortKeys.Texts.{text_compares}
-use Rattle.jsonb_value.proofs.SortKeys.Trees.{keys_same, tree_compares}
-use Rattle.jsonb_value.proofs.Trees.Runs.{heads, tails}
+use Rattle.jsonb_core.specs.Order.NumberLaws.{int_cmp-scaled}
+use Rattle.jsonb_core.proofs.SortKeys.Comparing.{is_equal, nat_cmp-scaled}
+use Rattle.jsonb_core.proofs.SortKeys.Kinds.{begins, is_small, number_begins}
+use Rattle.jsonb_core.proofs.SortKeys.Texts.{text_compares}
+use Rattle.jsonb_core.proofs.SortKeys.Trees.{keys_same, tree_compares}
+use Rattle.jsonb_core.proofs.Trees.Runs.{heads, tails}
 use Rattle.key_document.proofs.Agreeing.{same_back}
 use Rattle.key_text.specs.Counts.{counts_at, counts_at_items, counts_at_members}
 use Rattle.key_text.specs.FewestDigits.{fewest_digits, items_with_fewest_digits, members_with_fewest_digits, spare_zeros}

@@ -3,8 +3,8 @@ use Rattle.std.proofs.Common.{◌≡◌, ◌≢◌, ℕ, suc, ◌+◌, ◌-◌, 
 use Rattle.std.proofs.Math.Seq.{drop-append_seam}
 use Rattle.jsonb_spec.specs.SortKey.{number_key}
 use Rattle.jsonb_spec.specs.Text.NumberText.{number_text}
-use Rattle.jsonb_value.proofs.Appending.Appended.{IsUnderway, begun, goes_on, fits}
-use Rattle.jsonb_value.proofs.SortKeys.Kinds.{is_small, number_begins}
+use Rattle.jsonb_core.proofs.Appending.Appended.{IsUnderway, begun, goes_on, fits}
+use Rattle.jsonb_core.proofs.SortKeys.Kinds.{is_small, number_begins}
 use Rattle.key_text.specs.FewestDigits.{spare_zeros}
 use Rattle.key_zeros.proofs.Decimals.{text_begins}
 use Rattle.key_zeros.specs.Scan.{is_number_byte}

@@ -13,7 +13,7 @@ ghost use Rattle.key_zeros.specs.Zeros.{in_sevens};
 
 use crate::document::{ZEROS_MARK, split_document};
 use crate::due::ZerosDue;
-use jsonb_value::sort_key::kind;
+use jsonb_core::sort_key::kind;
 use key_value::number::{invert_if, read_exponent};
 use key_walk::is_sort_key;
 use key_walk::skip::opening;

@@ -20,7 +20,7 @@ use crate::document::{end_zeros, split_document};
 use crate::error::DocumentError;
 use crate::retain::{Output, Retaining, pass_bytes, write_rest};
 use crate::zeros::all_left;
-use jsonb_value::sort_key::kind;
+use jsonb_core::sort_key::kind;
 use key_edit::merge::{Step, merge_step};
 use key_walk::walk::{items_of, members_of, next_item, next_member};
 

@@ -17,7 +17,7 @@ use crate::document::{end_zeros, split_document};
 use crate::error::DocumentError;
 use crate::retain::{Output, Retaining, pass_bytes, write_rest};
 use crate::zeros::all_left;
-use jsonb_value::sort_key::kind;
+use jsonb_core::sort_key::kind;
 use key_walk::skip::opening;
 use key_walk::steps::{Step, Steps};
 

@@ -12,7 +12,7 @@ use Rattle.key_edit.specs.Spots.{SlotIn, SpotIn}
 use Rattle.key_edit.specs.declared.error.EditError.{EditError}
 use Rattle.key_edit.specs.declared.slot.Slot.{Slot}
 use Rattle.key_edit.specs.declared.spot.Spot.{Spot}
-use Rattle.jsonb_value.proofs.Trees.Runs.{heads}
+use Rattle.jsonb_core.proofs.Trees.Runs.{heads}
 use Rattle.key_edit.proofs.Lifting.{Lifts, lifted}
 use Rattle.key_edit.proofs.Located.{tree_fits}
 use Rattle.key_edit.proofs.Spotted.{fits_in, key_before}

@@ -18,7 +18,7 @@ use Rattle.jsonb_spec.specs.SortKey.{key_of, members_key, text_key}
 use Rattle.jsonb_spec.specs.Text.Appending.{Appends}
 use Rattle.jsonb_spec.specs.Text.Range.{IsWithin, HaveWithin}
 use Rattle.jsonb_spec.specs.Tree.{Tree, Members, no_members, more_members, put}
-use Rattle.jsonb_value.proofs.Values.Members.{turned}
+use Rattle.jsonb_core.proofs.Trees.MembersInOrder.{turned}
 use Rattle.key_edit.specs.Edit.{merged_members}
 use Rattle.key_edit.specs.Merging.{AreFirst, ComeFirst, IsLast, IsStep, StepsOn, keys_of_members}
 use Rattle.key_edit.specs.declared.merge.Step.{Step}

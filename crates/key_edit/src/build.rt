@@ -14,7 +14,7 @@ use crate::error::EditError;
 use crate::merge::{as_item, without_end};
 use crate::slot::member_slot;
 use crate::splice::splice;
-use jsonb_value::sort_key::kind;
+use jsonb_core::sort_key::kind;
 use key_walk::walk::{items_of, kind_of};
 
 /// The sort key of an object without members.

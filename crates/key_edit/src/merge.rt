@@ -17,7 +17,7 @@ ghost use Rattle.key_edit.specs.Merging.{keys_of_items, ComeFirst, IsStep};
 use crate::error::EditError;
 use crate::fit::fits;
 use crate::splice::{append, append_both, splice};
-use jsonb_value::sort_key::kind;
+use jsonb_core::sort_key::kind;
 use key_walk::find::NoKey;
 use key_walk::pass::pass_below;
 use key_walk::skip::{after_end, after_key};

@@ -4,7 +4,7 @@ ghost use Rattle.std.specs.Prelude.{◌++◌};
 ghost use Rattle.jsonb_spec.specs.SortKey.{text_key};
 ghost use Rattle.jsonb_spec.specs.Text.Appending.{Appends, AppendsAllOrNothing};
 
-use jsonb_value::parts::append_text_key;
+use jsonb_core::parts::append_text_key;
 use std::alloc::AllocError;
 
 /// Appends the bytes.

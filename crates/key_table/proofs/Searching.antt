@@ -11,7 +11,7 @@ use Rattle.jsonb_spec.specs.Keys.{IsBelowKeys, KeysAscend}
 use Rattle.jsonb_spec.specs.Order.{bytes_cmp}
 use Rattle.jsonb_spec.specs.SortKey.{key_of, members_key, text_key}
 use Rattle.jsonb_spec.specs.Tree.{Tree, object, Members, no_members, more_members}
-use Rattle.jsonb_value.proofs.Values.Members.{turned}
+use Rattle.jsonb_core.proofs.Trees.MembersInOrder.{turned}
 use Rattle.key_value.proofs.Texts.{none_some, some_same}
 use Rattle.key_walk.specs.AtKeys.{OfKey}
 use Rattle.key_walk.specs.Found.{members_len, IsRange}

@@ -4,8 +4,8 @@ use Rattle.std.proofs.lemmas.List.{length-replicate}
 use Rattle.jsonb_spec.specs.Proper.{IsProper, IsProperNumber, AreProper, HaveProperParts}
 use Rattle.jsonb_spec.specs.SortKey.{key_of, items_key, members_key, number_key, text_key}
 use Rattle.jsonb_spec.specs.Tree.{Num, Tree, null, boolean, string, number, array, object, binary, date, timestamp, timestamp_tz, interval, Trees, no_trees, more_trees, Members, no_members, more_members}
-use Rattle.jsonb_value.proofs.SortKeys.Kinds.{is_small, number_begins}
-use Rattle.jsonb_value.proofs.Trees.Runs.{heads, tails}
+use Rattle.jsonb_core.proofs.SortKeys.Kinds.{is_small, number_begins}
+use Rattle.jsonb_core.proofs.Trees.Runs.{heads, tails}
 use Rattle.key_text.specs.Counts.{counts_at, counts_at_items, counts_at_members, counts_open, AreZeros, IsDue}
 use Rattle.key_walk.specs.Open.{Open, items, members, open_key, IsOpen}
 use Rattle.key_walk.specs.Steps.{opens_key, AreOpen}

@@ -10,9 +10,9 @@ use Rattle.jsonb_spec.specs.Number.Signed.{signed_by}
 use Rattle.jsonb_spec.specs.Proper.{IsProperNumber}
 use Rattle.jsonb_spec.specs.Text.NumberText.{number_text, text_of_parts, with_point, zero_padded}
 use Rattle.jsonb_spec.specs.Tree.{Num}
-use Rattle.jsonb_value.proofs.Numbers.Nearest.{unsigned_abs-signed}
-use Rattle.jsonb_value.proofs.Numbers.Pointed.{is_negative-pos}
-use Rattle.jsonb_value.proofs.SortKeys.Kinds.{is_small}
+use Rattle.jsonb_core.proofs.Numbers.Nearest.{unsigned_abs-signed}
+use Rattle.jsonb_core.proofs.Numbers.Pointed.{is_negative-pos}
+use Rattle.jsonb_core.proofs.SortKeys.Kinds.{is_small}
 use Rattle.key_text.specs.Counts.{ending_text}
 use Rattle.key_text.specs.FewestDigits.{fewest_digits, spare_zeros}
 use Rattle.key_text.proofs.LastDigits.{zeros_behind}

@@ -7,9 +7,9 @@ use Rattle.jsonb_spec.specs.Mode.{extended}
 use Rattle.jsonb_spec.specs.Proper.{IsProper}
 use Rattle.jsonb_spec.specs.Text.Range.{HasFewDigits, IsWithin}
 use Rattle.jsonb_spec.specs.Tree.{Num}
-use Rattle.jsonb_value.proofs.Numbers.Nearest.{unsigned_abs-signed}
-use Rattle.jsonb_value.proofs.SortKeys.Trees.{keys_same}
-use Rattle.jsonb_value.proofs.Trees.RangeTexts.{text_in_range, range_reads_back, document_in_range}
+use Rattle.jsonb_core.proofs.Numbers.Nearest.{unsigned_abs-signed}
+use Rattle.jsonb_core.proofs.SortKeys.Trees.{keys_same}
+use Rattle.jsonb_core.proofs.Trees.RangeTexts.{text_in_range, range_reads_back, document_in_range}
 use Rattle.key_text.specs.FewestDigits.{spare_zeros, fewest_digits, with_fewest_digits, AppendsDocumentWithKey}
 use Rattle.key_text.specs.Writes.{value_text}
 use Rattle.key_text.proofs.Spares.{divided_less}

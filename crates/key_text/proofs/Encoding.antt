@@ -2,7 +2,7 @@
 use Rattle.std.proofs.Common.{◌≡◌, ◌≢◌, ℕ, suc, ◌+◌, ◌-◌, ◌*◌, ◌/◌, ◌%◌, ◌^◌, ◌<◌, ◌≤◌, ◌⊎◌, inl, inr, Bool, List, [], ◌∷◌, ◌++◌, map, set, length, replicate, refl, sym, ap, ap₂, subst, ◌∙◌, arith, append_assoc, length-append}
 use Rattle.std.proofs.Math.Seq.{set-append_seam}
 use Rattle.jsonb_spec.specs.SortKey.{digits_key, invert_if}
-use Rattle.jsonb_value.proofs.SortKeys.Digits.{ten, hundred}
+use Rattle.jsonb_core.proofs.SortKeys.Digits.{ten, hundred}
 use Rattle.key_value.specs.Reading.{DigitsLeft, IsLastPair}
 use Rattle.key_value.proofs.Numbers.{Ends, GoesOn, next_pair, all_digits as digits_ended, no_zeros, pair_below_all, no_bytes}
 use Rattle.key_text.specs.Writes.{IsEncoded, last_digits}

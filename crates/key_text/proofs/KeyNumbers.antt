@@ -4,9 +4,9 @@ use Rattle.std.specs.Bool.{nat_lt}
 use Rattle.jsonb_spec.specs.Proper.{IsProperNumber}
 use Rattle.jsonb_spec.specs.SortKey.{number_key, digits_key, invert_if}
 use Rattle.jsonb_spec.specs.Tree.{Num}
-use Rattle.jsonb_value.proofs.SortKeys.Kinds.{is_small}
-use Rattle.jsonb_value.proofs.SortKeys.Numbers.{positive, negative, head_of}
-use Rattle.jsonb_value.proofs.Trees.Runs.{heads}
+use Rattle.jsonb_core.proofs.SortKeys.Kinds.{is_small}
+use Rattle.jsonb_core.proofs.SortKeys.Numbers.{positive, negative, head_of}
+use Rattle.jsonb_core.proofs.Trees.Runs.{heads}
 use Rattle.key_value.specs.Reading.{exponent_of, read_as}
 use Rattle.key_value.proofs.Numbers.{exponent_read}
 use Rattle.key_value.proofs.Signs.{IsSigned, signed_read}

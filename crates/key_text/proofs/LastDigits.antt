@@ -4,7 +4,7 @@ use Rattle.std.proofs.Math.Nat.{pow-suc, pow-zero}
 use Rattle.std.proofs.lemmas.Fmt.{decimal_step_wide, decimal_digit}
 use Rattle.std.proofs.lemmas.List.{replicate_more}
 use Rattle.std.specs.Fmt.{decimal}
-use Rattle.jsonb_value.proofs.SortKeys.Digits.{ten, mul-pos}
+use Rattle.jsonb_core.proofs.SortKeys.Digits.{ten, mul-pos}
 use Rattle.key_text.specs.Writes.{last_digits}
 
 pub next_digits : (count n : ℕ) → last_digits (suc count) n ≡ last_digits count (n / 10) ++ (48 + n % 10) ∷ []

@@ -12,10 +12,10 @@ use Rattle.std.specs.Prelude.{slice_range}
 use Rattle.jsonb_spec.specs.Number.Signed.{signed_by}
 use Rattle.jsonb_spec.specs.Text.NumberText.{number_text, text_of_parts, with_point, zero_padded}
 use Rattle.jsonb_spec.specs.Tree.{Num}
-use Rattle.jsonb_value.proofs.Numbers.Nearest.{unsigned_abs-signed}
-use Rattle.jsonb_value.proofs.Numbers.Pointed.{is_negative-pos, pointed_whole, pointed_inside, pointed_before, unsigned_is_text}
-use Rattle.jsonb_value.proofs.SortKeys.Digits.{ten, mul-pos}
-use Rattle.jsonb_value.proofs.SortKeys.Counts.{power_le}
+use Rattle.jsonb_core.proofs.Numbers.Nearest.{unsigned_abs-signed}
+use Rattle.jsonb_core.proofs.Numbers.Pointed.{is_negative-pos, pointed_whole, pointed_inside, pointed_before, unsigned_is_text}
+use Rattle.jsonb_core.proofs.SortKeys.Digits.{ten, mul-pos}
+use Rattle.jsonb_core.proofs.SortKeys.Counts.{power_le}
 use Rattle.std.proofs.lemmas.Fmt.{decimal_digit}
 use Rattle.key_value.proofs.Numbers.{cancel}
 use Rattle.key_value.proofs.Signs.{IsSigned}

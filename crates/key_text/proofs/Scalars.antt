@@ -10,8 +10,8 @@ use Rattle.key_walk.proofs.Stepping.{opening_there}
 use Rattle.jsonb_spec.specs.Proper.{IsProperNumber}
 use Rattle.jsonb_spec.specs.SortKey.{key_of, items_key, members_key, text_key}
 use Rattle.jsonb_spec.specs.Tree.{Num, Tree, null, boolean, string, number, array, object}
-use Rattle.jsonb_value.proofs.SortKeys.Kinds.{is_small, number_begins}
-use Rattle.jsonb_value.proofs.Trees.Runs.{heads, tails}
+use Rattle.jsonb_core.proofs.SortKeys.Kinds.{is_small, number_begins}
+use Rattle.jsonb_core.proofs.Trees.Runs.{heads, tails}
 use Rattle.key_text.specs.Counts.{counts_at, counts_open, AreZeros}
 use Rattle.key_text.specs.Writes.{open_text, opening_text}
 use Rattle.key_text.proofs.Whole.{array_text, object_text}

@@ -8,8 +8,8 @@ use Rattle.jsonb_spec.specs.Number.Signed.{signed_by}
 use Rattle.jsonb_spec.specs.Proper.{IsProperNumber, FitsScale, FitsWhole}
 use Rattle.jsonb_spec.specs.SortKey.{number_key}
 use Rattle.jsonb_spec.specs.Tree.{Form, int64, uint64, decimal64, decimal128, Num}
-use Rattle.jsonb_value.proofs.Numbers.Nearest.{unsigned_abs-signed}
-use Rattle.jsonb_value.proofs.Numbers.Pointed.{is_negative-pos}
+use Rattle.jsonb_core.proofs.Numbers.Nearest.{unsigned_abs-signed}
+use Rattle.jsonb_core.proofs.Numbers.Pointed.{is_negative-pos}
 use Rattle.key_value.specs.Readable.{HasFewestDigits}
 use Rattle.key_value.proofs.Signs.{same_keys}
 use Rattle.key_value.proofs.Wholes.{same_number}

@@ -8,10 +8,10 @@ use Rattle.key_value.specs.Reading.{byte_of, read_as}
 use Rattle.key_value.proofs.Texts.{text_begun, byte_read, text_ended}
 use Rattle.jsonb_spec.specs.SortKey.{text_key}
 use Rattle.jsonb_spec.specs.Text.StringText.{ArePlain, byte_text}
-use Rattle.jsonb_value.proofs.Appending.Appended.{IsUnderway, goes_on, fits}
-use Rattle.jsonb_value.proofs.SortKeys.Texts.{text_key-other}
-use Rattle.jsonb_value.proofs.Trees.Runs.{heads, tails}
-use Rattle.jsonb_value.proofs.Strings.PlainTexts.{byte_some, no_shorter}
+use Rattle.jsonb_core.proofs.Appending.Appended.{IsUnderway, goes_on, fits}
+use Rattle.jsonb_core.proofs.SortKeys.Texts.{text_key-other}
+use Rattle.jsonb_core.proofs.Trees.Runs.{heads, tails}
+use Rattle.jsonb_core.proofs.Strings.PlainTexts.{byte_some, no_shorter}
 use Rattle.key_text.specs.Writes.{closing_quote}
 
 -- ---- runs without escapes

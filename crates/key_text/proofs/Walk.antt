@@ -8,7 +8,7 @@ use Rattle.jsonb_spec.specs.SortKey.{key_of, items_key, members_key, text_key}
 use Rattle.jsonb_spec.specs.Text.{tree_text}
 use Rattle.jsonb_spec.specs.Text.Appending.{comma_before}
 use Rattle.jsonb_spec.specs.Tree.{no_trees, more_trees, no_members, more_members}
-use Rattle.jsonb_value.proofs.Appending.Appended.{IsUnderway, goes_on, fits}
+use Rattle.jsonb_core.proofs.Appending.Appended.{IsUnderway, goes_on, fits}
 use Rattle.key_text.proofs.Counts.{due_as, due_behind, opens_counts, opens_each}
 use Rattle.key_text.specs.Counts.{counts_at, counts_at_items, counts_at_members, counts_open, IsDue}
 use Rattle.key_text.specs.Writes.{items_left, members_left, open_text, name_text, opening_text, closing_text}

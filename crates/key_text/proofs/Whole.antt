@@ -10,7 +10,7 @@ use Rattle.jsonb_spec.specs.Text.Appending.{comma_before}
 use Rattle.jsonb_spec.specs.Text.Range.{IsWithin, AreWithin, HaveWithin}
 use Rattle.jsonb_spec.specs.Text.StringText.{quoted_text}
 use Rattle.jsonb_spec.specs.Tree.{Num, Tree, null, boolean, string, number, array, object, binary, date, timestamp, timestamp_tz, interval, Trees, no_trees, more_trees, Members, no_members, more_members}
-use Rattle.jsonb_value.proofs.Appending.Pieces.{texts_left, texts_left-comma, key_split}
+use Rattle.jsonb_core.proofs.Appending.Pieces.{texts_left, texts_left-comma, key_split}
 use Rattle.key_text.specs.Counts.{counts_at, counts_at_items, counts_at_members, AreZeros}
 use Rattle.key_text.specs.FewestDigits.{fewest_digits, with_fewest_digits, items_with_fewest_digits, members_with_fewest_digits, AppendsTextOf}
 use Rattle.key_text.specs.Writes.{value_text, items_left, members_left, name_text}

@@ -11,7 +11,7 @@ ghost use Rattle.key_text.specs.FewestDigits.{fewest_digits};
 ghost use Rattle.key_text.specs.Writes.{IsEncoded, HasPairs, Preserves, AppendsLeaving, AppendsPair, Takes, TakesInteger, TakesSome, scaled_text};
 
 use crate::append::{append_chunk, append_within};
-use jsonb_value::sort_key::kind;
+use jsonb_core::sort_key::kind;
 use key_value::KeyError;
 use key_value::number::{invert_if, read_exponent};
 use std::alloc::AllocError;

@@ -8,8 +8,8 @@ ghost use Rattle.jsonb_spec.specs.Text.StringText.{ArePlain, quoted_text};
 ghost use Rattle.key_text.specs.Writes.{closing_quote, name_text, AppendsLeaving, AppendsOrNot, Preserves, Takes, TakesSome, WritesString};
 
 use crate::append::{append_first, append_within};
-use jsonb_value::plain::{append_byte, plain_len, run_of_sixteen};
-use jsonb_value::sort_key::kind;
+use jsonb_core::plain::{append_byte, plain_len, run_of_sixteen};
+use jsonb_core::sort_key::kind;
 use key_value::KeyError;
 use key_value::text::{read_byte, skip_pair};
 use std::alloc::AllocError;

@@ -7,16 +7,16 @@ use Rattle.std.proofs.lemmas.Nat.{div-add-mod', div-mul-add, mod-mul-add, div_be
 use Rattle.jsonb_spec.specs.Number.Signed.{signed_by}
 use Rattle.jsonb_spec.specs.SortKey.{number_key, exponent_key, digits_key, digit_count, magnitude_key, invert_if}
 use Rattle.jsonb_spec.specs.Tree.{Num}
-use Rattle.jsonb_value.proofs.SortKeys.Counts.{digit_count-is, power_le}
-use Rattle.jsonb_value.proofs.SortKeys.Digits.{ten, hundred, more_pairs, last_pair, digits_compare, mul-pos}
-use Rattle.jsonb_value.proofs.SortKeys.Numbers.{positive, negative, magnitude_split}
-use Rattle.jsonb_value.proofs.SortKeys.Pairs.{two_digits, single_digit}
-use Rattle.jsonb_value.proofs.SortKeys.Comparing.{is_equal}
+use Rattle.jsonb_core.proofs.SortKeys.Counts.{digit_count-is, power_le}
+use Rattle.jsonb_core.proofs.SortKeys.Digits.{ten, hundred, more_pairs, last_pair, digits_compare, mul-pos}
+use Rattle.jsonb_core.proofs.SortKeys.Numbers.{positive, negative, magnitude_split}
+use Rattle.jsonb_core.proofs.SortKeys.Pairs.{two_digits, single_digit}
+use Rattle.jsonb_core.proofs.SortKeys.Comparing.{is_equal}
 use Rattle.jsonb_spec.specs.Order.{bytes_cmp}
 use Rattle.std.specs.Ordering.{nat_cmp, ordering_then}
 use Rattle.std.specs.declared.cmp.Ordering.TheVariants.{Equal}
 use Rattle.std.proofs.lemmas.Map.Lookups.{exact_bytes}
-use Rattle.jsonb_value.proofs.Trees.Runs.{heads}
+use Rattle.jsonb_core.proofs.Trees.Runs.{heads}
 use Rattle.key_value.proofs.Numbers.{turned_twice, far_exponent, near_exponent}
 use Rattle.key_value.specs.Reading.{IsLastPair}
 

@@ -4,9 +4,9 @@ use Rattle.jsonb_spec.specs.Proper.{IsProper, IsProperNumber}
 use Rattle.jsonb_spec.specs.Text.Range.{IsWithin}
 use Rattle.jsonb_spec.specs.SortKey.{number_key, text_key, key_of, items_key, members_key}
 use Rattle.jsonb_spec.specs.Tree.{Num, Tree, null, boolean, string, number, array, object, Trees, Members}
-use Rattle.jsonb_value.proofs.SortKeys.Kinds.{begins, is_small, number_begins}
-use Rattle.jsonb_value.proofs.SortKeys.Texts.{text_key-other}
-use Rattle.jsonb_value.proofs.Trees.Runs.{heads, tails}
+use Rattle.jsonb_core.proofs.SortKeys.Kinds.{begins, is_small, number_begins}
+use Rattle.jsonb_core.proofs.SortKeys.Texts.{text_key-other}
+use Rattle.jsonb_core.proofs.Trees.Runs.{heads, tails}
 use Rattle.key_value.specs.Readable.{IsAnyNumber, IsReadableAt}
 
 -- what the first byte and the bytes after it are, by the kind

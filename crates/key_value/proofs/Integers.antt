@@ -16,14 +16,14 @@ use Rattle.jsonb_spec.specs.Number.Signed.{signed_by}
 use Rattle.jsonb_spec.specs.Proper.{IsProperNumber}
 use Rattle.jsonb_spec.specs.SortKey.{digits_key, invert_if, number_key}
 use Rattle.std.proofs.lemmas.Nat.{pow-add}
-use Rattle.jsonb_value.proofs.SortKeys.Digits.{ten}
-use Rattle.jsonb_value.proofs.Numbers.Nearest.{unsigned_abs-signed}
-use Rattle.jsonb_value.proofs.Numbers.Quotients.{ten_positive}
+use Rattle.jsonb_core.proofs.SortKeys.Digits.{ten}
+use Rattle.jsonb_core.proofs.Numbers.Nearest.{unsigned_abs-signed}
+use Rattle.jsonb_core.proofs.Numbers.Quotients.{ten_positive}
 use Rattle.key_value.specs.Reading.{exponent_of, read_as, IsDigits, ReadsDigits}
 use Rattle.key_value.proofs.Numbers.{all_with_last, cancel}
 use Rattle.key_value.proofs.Signs.{is_exponent, signed_read, some_exponent, IsSigned}
 use Rattle.key_value.proofs.Wholes.{most, same_number, HasParts}
-use Rattle.jsonb_value.specs.Order.NumberLaws.{int_cmp-scaled, scaled_swapped}
+use Rattle.jsonb_core.specs.Order.NumberLaws.{int_cmp-scaled, scaled_swapped}
 
 pub same_integer : (m n : Num) (v : ℤ) → num_cmp m n ≡ Equal → HasValue m v → HasValue n v
 same_integer m n v e is =

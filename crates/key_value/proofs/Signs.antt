@@ -7,12 +7,12 @@ use Rattle.jsonb_spec.specs.Order.{num_cmp}
 use Rattle.jsonb_spec.specs.Proper.{IsProperNumber}
 use Rattle.jsonb_spec.specs.SortKey.{number_key, magnitude_key, exponent_key, digits_key, digit_count, invert_if}
 use Rattle.jsonb_spec.specs.Tree.{Num, number}
-use Rattle.jsonb_value.proofs.Numbers.Pointed.{is_negative-pos}
-use Rattle.jsonb_value.proofs.SortKeys.Counts.{digits_counted, digit_count-le}
-use Rattle.jsonb_value.proofs.SortKeys.Kinds.{is_small, number_begins}
-use Rattle.jsonb_value.proofs.SortKeys.Numbers.{positive, negative, nothing_there, head_of, magnitude_split}
-use Rattle.jsonb_value.proofs.SortKeys.Trees.{keys_same}
-use Rattle.jsonb_value.proofs.Trees.Runs.{heads, tails}
+use Rattle.jsonb_core.proofs.Numbers.Pointed.{is_negative-pos}
+use Rattle.jsonb_core.proofs.SortKeys.Counts.{digits_counted, digit_count-le}
+use Rattle.jsonb_core.proofs.SortKeys.Kinds.{is_small, number_begins}
+use Rattle.jsonb_core.proofs.SortKeys.Numbers.{positive, negative, nothing_there, head_of, magnitude_split}
+use Rattle.jsonb_core.proofs.SortKeys.Trees.{keys_same}
+use Rattle.jsonb_core.proofs.Trees.Runs.{heads, tails}
 use Rattle.key_value.specs.Reading.{exponent_of, read_as}
 use Rattle.key_value.proofs.Numbers.{exponent_read}
 use Rattle.key_value.proofs.Texts.{none_some, some_pair}

@@ -7,14 +7,14 @@ use Rattle.std.proofs.lemmas.Nat.{pow-add}
 use Rattle.std.specs.Int.{is_negative}
 use Rattle.std.specs.Cmp.{int_cmp_is}
 use borrow.Author.Differences.{product_is}
-use Rattle.jsonb_value.proofs.Numbers.Pointed.{is_negative-pos}
+use Rattle.jsonb_core.proofs.Numbers.Pointed.{is_negative-pos}
 use Rattle.std.specs.Ordering.{int_cmp}
 use Rattle.jsonb_spec.specs.Number.Cast.{HasValue}
 use Rattle.jsonb_spec.specs.Number.Signed.{signed_by}
 use Rattle.jsonb_spec.specs.Order.{decimal_cmp, num_cmp}
 use Rattle.jsonb_spec.specs.Proper.{FitsWhole, IsProperNumber}
 use Rattle.jsonb_spec.specs.Tree.{Form, int64, uint64, decimal64, decimal128, Num}
-use Rattle.jsonb_value.proofs.SortKeys.Digits.{ten}
+use Rattle.jsonb_core.proofs.SortKeys.Digits.{ten}
 use Rattle.key_value.specs.Reading.{IsDigits}
 use Rattle.key_value.proofs.Numbers.{cancel}
 

@@ -9,7 +9,7 @@ ghost use Rattle.jsonb_spec.specs.SortKey.{number_key, digits_key, invert_if};
 ghost use Rattle.jsonb_spec.specs.Tree.{Num};
 ghost use Rattle.key_value.specs.Reading.{exponent_of, second_of, ExponentOccurs, IsDigits, IsLastPair, IsNoLastPair, ReadsDigits};
 
-use jsonb_value::sort_key::kind;
+use jsonb_core::sort_key::kind;
 
 /// A byte of a key, turned round where the number is negative.
 pub fn invert_if(negative: bool, byte: u8) -> u8

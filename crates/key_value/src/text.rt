@@ -3,7 +3,7 @@
 ghost use Rattle.std.specs.Prelude.{◌≡◌, ◌<◌, ◌∷◌, List, ℕ, length, IfSome, option_map, Some};
 ghost use Rattle.key_value.specs.Reading.{byte_of, escape_of};
 
-use jsonb_value::sort_key::kind;
+use jsonb_core::sort_key::kind;
 
 /// The byte of a text whose key the bytes begin with, and the bytes after it.
 pub fn read_byte(bytes: &[u8]) -> Option<(u8, &[u8])>

@@ -3,8 +3,8 @@ use Rattle.std.proofs.Common.{◌≡◌, ◌≢◌, ℕ, zero, suc, ◌+◌, ◌
 use Rattle.std.proofs.lemmas.Bool.{cases_eq, ne_eqb}
 use Rattle.memchr.specs.Find.{IsFirstByte, is_byte}
 use Rattle.jsonb_spec.specs.SortKey.{text_key}
-use Rattle.jsonb_value.proofs.SortKeys.Texts.{text_key-other}
-use Rattle.jsonb_value.proofs.Trees.Runs.{heads, tails}
+use Rattle.jsonb_core.proofs.SortKeys.Texts.{text_key-other}
+use Rattle.jsonb_core.proofs.Trees.Runs.{heads, tails}
 
 -- the key of a text that is left is first
 abbrev pub TextLeft : List ℕ → List ℕ → Type 0

@@ -12,8 +12,8 @@ use Rattle.jsonb_spec.specs.Accessors.{as_boolean}
 use Rattle.jsonb_spec.specs.Proper.{IsProperNumber}
 use Rattle.jsonb_spec.specs.SortKey.{key_of, number_key, digits_key, invert_if, items_key, members_key, text_key}
 use Rattle.jsonb_spec.specs.Tree.{Num, Tree, null, boolean, string, number, array, object}
-use Rattle.jsonb_value.proofs.SortKeys.Kinds.{is_small, number_begins}
-use Rattle.jsonb_value.proofs.Trees.Runs.{heads}
+use Rattle.jsonb_core.proofs.SortKeys.Kinds.{is_small, number_begins}
+use Rattle.jsonb_core.proofs.Trees.Runs.{heads}
 
 -- a byte of an exponent, inverted or not
 exponent_byte : (negative : Bool) (byte first : ℕ) → 0x81 ≤ byte → byte ≤ 0xC7 → first ≡ invert_if negative byte → IsNumberByte first

@@ -5,7 +5,7 @@ use Rattle.key_walk.specs.Frames.{ScalarFirst, NumberFirst, TextFirst}
 use Rattle.key_walk.proofs.InRange.{number_in_range, readable_at}
 use Rattle.key_walk.proofs.Scalars.{scalar_begins, word_skipped}
 use Rattle.jsonb_spec.specs.Tree.{null, boolean, string, number, plain, uint64}
-use Rattle.jsonb_value.proofs.SortKeys.Numbers.{nothing_there}
+use Rattle.jsonb_core.proofs.SortKeys.Numbers.{nothing_there}
 
 pub no_scalar : (bytes more : List ℕ) → length bytes ≡ 0 → ScalarFirst bytes more → ⊥
 no_scalar bytes more none s = no_key 0 s.value (readable_at 0 s.value (s.in_range 0)) bytes more s.occurs none

@@ -4,8 +4,8 @@ use Rattle.std.proofs.lemmas.List.{take-append-drop}
 use Rattle.std.proofs.lemmas.Str.{IsUtf8-append, IsUtf8-take, IsUtf8-drop, IsUtf8-from_ascii, IsCharBoundary-before_ascii, IsCharBoundary-after_ascii}
 use Rattle.std.proofs.Math.Seq.{drop-append-add}
 use Rattle.jsonb_spec.specs.SortKey.{text_key}
-use Rattle.jsonb_value.proofs.SortKeys.Texts.{text_key-other}
-use Rattle.jsonb_value.proofs.Trees.Runs.{heads, tails}
+use Rattle.jsonb_core.proofs.SortKeys.Texts.{text_key-other}
+use Rattle.jsonb_core.proofs.Trees.Runs.{heads, tails}
 use Rattle.key_walk.specs.Frames.{TextFirst, Utf8UpTo}
 
 -- ---- bytes before the first zero

@@ -10,8 +10,8 @@ use Rattle.key_walk.specs.Parts.{opened_tree}
 use Rattle.jsonb_spec.specs.Accessors.{item_at}
 use Rattle.jsonb_spec.specs.SortKey.{key_of, items_key, members_key, text_key}
 use Rattle.jsonb_spec.specs.Tree.{Tree, null, boolean, string, number, array, object, Trees}
-use Rattle.jsonb_value.proofs.SortKeys.Kinds.{is_small, number_begins}
-use Rattle.jsonb_value.proofs.Trees.Runs.{heads, tails}
+use Rattle.jsonb_core.proofs.SortKeys.Kinds.{is_small, number_begins}
+use Rattle.jsonb_core.proofs.Trees.Runs.{heads, tails}
 
 -- ---- children
 

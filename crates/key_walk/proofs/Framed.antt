@@ -22,8 +22,8 @@ use Rattle.jsonb_spec.specs.Order.{bytes_cmp}
 use Rattle.jsonb_spec.specs.SortKey.{key_of, items_key, members_key, text_key}
 use Rattle.jsonb_spec.specs.Text.Range.{HasFewDigits}
 use Rattle.jsonb_spec.specs.Tree.{Tree, null, boolean, string, number, array, object, no_trees, more_trees, Members, no_members, more_members}
-use Rattle.jsonb_value.proofs.SortKeys.Texts.{text_compares}
-use Rattle.jsonb_value.proofs.Trees.Runs.{tails}
+use Rattle.jsonb_core.proofs.SortKeys.Texts.{text_compares}
+use Rattle.jsonb_core.proofs.Trees.Runs.{tails}
 
 -- ---- what is left
 

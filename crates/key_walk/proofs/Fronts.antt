@@ -11,8 +11,8 @@ use Rattle.std.specs.Int.{w32, w64, from_be_bytes}
 use Rattle.std.specs.Ordering.{ordering_then, MatchOrdering}
 use Rattle.jsonb_spec.specs.Order.{bytes_cmp}
 use Rattle.jsonb_spec.specs.SortKey.{text_key}
-use Rattle.jsonb_value.proofs.SortKeys.Texts.{text_compares, text_key-other}
-use Rattle.jsonb_value.proofs.Values.Members.{turned}
+use Rattle.jsonb_core.proofs.SortKeys.Texts.{text_compares, text_key-other}
+use Rattle.jsonb_core.proofs.Trees.MembersInOrder.{turned}
 use Rattle.key_walk.specs.Frames.{AreNoZeros}
 use Rattle.key_walk.specs.Fronts.{number_of}
 

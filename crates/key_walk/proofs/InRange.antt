@@ -7,9 +7,9 @@ use Rattle.jsonb_spec.specs.Proper.{IsProperNumber}
 use Rattle.jsonb_spec.specs.SortKey.{key_of, number_key, items_key, members_key, text_key}
 use Rattle.jsonb_spec.specs.Text.Range.{HasFewDigits}
 use Rattle.jsonb_spec.specs.Tree.{Num, Tree, null, boolean, string, number, array, object, Trees, Members}
-use Rattle.jsonb_value.proofs.SortKeys.Kinds.{is_small, number_begins}
-use Rattle.jsonb_value.proofs.Trees.Ranges.{widened}
-use Rattle.jsonb_value.proofs.Trees.Runs.{heads, tails}
+use Rattle.jsonb_core.proofs.SortKeys.Kinds.{is_small, number_begins}
+use Rattle.jsonb_core.proofs.Trees.Ranges.{widened}
+use Rattle.jsonb_core.proofs.Trees.Runs.{heads, tails}
 
 pub readable_at : (depth : ℕ) (t : Tree) → IsInRangeAt depth t → IsReadableAt depth t
 readable_at depth t r = record { proper = r.proper; within = widened HasFewDigits IsAnyNumber (λ n proper few. tt) t depth r.proper r.within }

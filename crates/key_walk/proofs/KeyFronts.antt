@@ -8,7 +8,7 @@ use Rattle.std.specs.FinMap.{nat_cmp-IsAntisymmetric, slice_cmp-IsAntisymmetric}
 use Rattle.std.specs.Ordering.{nat_cmp, ordering_then}
 use Rattle.jsonb_spec.specs.Order.{bytes_cmp}
 use Rattle.jsonb_spec.specs.SortKey.{text_key}
-use Rattle.jsonb_value.proofs.SortKeys.Texts.{text_compares, text_key-other}
+use Rattle.jsonb_core.proofs.SortKeys.Texts.{text_compares, text_key-other}
 use Rattle.key_value.proofs.FirstBytes.{no_pair}
 use Rattle.key_walk.proofs.Fronts.{AreBytes}
 use Rattle.key_walk.specs.Fronts.{number_of}

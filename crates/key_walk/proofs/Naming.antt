@@ -9,8 +9,8 @@ use Rattle.std.specs.declared.cmp.Ordering.{Ordering}
 use Rattle.std.specs.Ordering.{nat_cmp, ordering_then}
 use Rattle.jsonb_spec.specs.Order.{bytes_cmp}
 use Rattle.jsonb_spec.specs.SortKey.{text_key}
-use Rattle.jsonb_value.proofs.SortKeys.Comparing.{then_assoc}
-use Rattle.jsonb_value.proofs.SortKeys.Texts.{text_compares}
+use Rattle.jsonb_core.proofs.SortKeys.Comparing.{then_assoc}
+use Rattle.jsonb_core.proofs.SortKeys.Texts.{text_compares}
 
 -- lists of one length compare first, and then what follows
 in_step : (a b x y : List ℕ) → length a ≡ length b → bytes_cmp (a ++ x) (b ++ y) ≡ ordering_then (bytes_cmp a b) (bytes_cmp x y)

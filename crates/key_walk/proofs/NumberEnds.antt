@@ -23,12 +23,12 @@ use Rattle.jsonb_spec.specs.Order.{bytes_cmp, num_cmp}
 use Rattle.jsonb_spec.specs.SortKey.{number_key, exponent_key, digits_key, invert_if}
 use Rattle.jsonb_spec.specs.Text.Range.{HasFewDigits}
 use Rattle.jsonb_spec.specs.Tree.{Num, decimal128}
-use Rattle.jsonb_value.proofs.Numbers.Nearest.{unsigned_abs-signed}
-use Rattle.jsonb_value.proofs.SortKeys.Counts.{power_le}
-use Rattle.jsonb_value.proofs.SortKeys.Digits.{ten}
-use Rattle.jsonb_value.proofs.SortKeys.Kinds.{is_small}
-use Rattle.jsonb_value.proofs.SortKeys.Numbers.{numbers_compare}
-use Rattle.jsonb_value.proofs.Trees.Runs.{heads}
+use Rattle.jsonb_core.proofs.Numbers.Nearest.{unsigned_abs-signed}
+use Rattle.jsonb_core.proofs.SortKeys.Counts.{power_le}
+use Rattle.jsonb_core.proofs.SortKeys.Digits.{ten}
+use Rattle.jsonb_core.proofs.SortKeys.Kinds.{is_small}
+use Rattle.jsonb_core.proofs.SortKeys.Numbers.{numbers_compare}
+use Rattle.jsonb_core.proofs.Trees.Runs.{heads}
 
 -- ---- digits
 

@@ -6,8 +6,8 @@ use Rattle.jsonb_spec.specs.SortKey.{key_of, items_key, members_key, text_key}
 use Rattle.jsonb_spec.specs.Tree.{Tree, null, boolean, string, number, array, object, Trees, Members}
 use Rattle.key_value.proofs.FirstBytes.{one_byte, number_there, array_there, object_there}
 use Rattle.key_value.proofs.Signs.{zero_read}
-use Rattle.jsonb_value.proofs.SortKeys.Kinds.{is_small, number_begins}
-use Rattle.jsonb_value.proofs.Trees.Runs.{heads}
+use Rattle.jsonb_core.proofs.SortKeys.Kinds.{is_small, number_begins}
+use Rattle.jsonb_core.proofs.Trees.Runs.{heads}
 
 -- what begins with another byte than those of arrays and objects is neither
 pub scalar_there : (depth : ℕ) (t : Tree) → IsReadableAt depth t → (first : ℕ) (rest bytes more : List ℕ) → bytes ≡ first ∷ rest → bytes ≡ key_of t ++ more → first ≢ 209 → first ≢ 210 → IsScalar t

@@ -15,8 +15,8 @@ use Rattle.key_walk.specs.declared.steps.Step.TheVariants as step
 use Rattle.key_walk.specs.declared.steps.Steps.{Steps}
 use Rattle.key_walk.proofs.Opens.{no_end, stack_retained}
 use Rattle.key_walk.proofs.Scalars.{array_open, object_open, scalar_there}
-use Rattle.jsonb_value.proofs.SortKeys.Kinds.{is_small, number_begins}
-use Rattle.jsonb_value.proofs.Trees.Runs.{heads, tails}
+use Rattle.jsonb_core.proofs.SortKeys.Kinds.{is_small, number_begins}
+use Rattle.jsonb_core.proofs.Trees.Runs.{heads, tails}
 
 -- the end of the innermost
 pub record EndFirst (o : Open) (under : List Open) (more : List ℕ) (objects : List Bool) (top : ℕ) (rest : List ℕ) : Type 0 where

@@ -6,7 +6,7 @@ use Rattle.key_value.specs.Reading.{byte_of}
 use Rattle.key_value.proofs.Texts.{ReadsText, text_ended}
 use Rattle.std.specs.List.{flat_map}
 use Rattle.jsonb_spec.specs.SortKey.{byte_key, text_key}
-use Rattle.jsonb_value.proofs.SortKeys.Texts.{text_key-other}
+use Rattle.jsonb_core.proofs.SortKeys.Texts.{text_key-other}
 
 -- one byte more is put behind those that were
 pub byte_put : (read old out : List ℕ) (at byte : ℕ) → length read ≡ at → at < length old → out ≡ read ++ drop at old → slice_set out at byte ≡ (read ++ byte ∷ []) ++ drop (at + 1) old

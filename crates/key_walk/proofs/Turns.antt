@@ -18,7 +18,7 @@ use Rattle.jsonb_spec.specs.Accessors.{find_member}
 use Rattle.jsonb_spec.specs.Keys.{IsBelowKeys}
 use Rattle.jsonb_spec.specs.SortKey.{key_of, items_key, members_key, text_key}
 use Rattle.jsonb_spec.specs.Tree.{Tree, array, object, Trees, no_trees, more_trees, Members, no_members, more_members}
-use Rattle.jsonb_value.proofs.Trees.Runs.{heads, tails}
+use Rattle.jsonb_core.proofs.Trees.Runs.{heads, tails}
 
 -- ---- an array or an object, by its first byte
 

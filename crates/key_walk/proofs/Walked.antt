@@ -15,7 +15,7 @@ use Rattle.key_walk.proofs.Occurrence.{over_or_first, regroup, true_false}
 use Rattle.jsonb_spec.specs.Order.{bytes_cmp, tree_cmp}
 use Rattle.jsonb_spec.specs.SortKey.{key_of}
 use Rattle.jsonb_spec.specs.Tree.{Tree, array, object}
-use Rattle.jsonb_value.proofs.SortKeys.Trees.{tree_compares, keys_same}
+use Rattle.jsonb_core.proofs.SortKeys.Trees.{tree_compares, keys_same}
 use Rattle.jsonb_spec.specs.Proper.{IsProper}
 
 -- ---- what is reported

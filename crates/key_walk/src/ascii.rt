@@ -5,7 +5,7 @@ ghost use Rattle.std.specs.Int.{trailing_zeros, w64};
 ghost use Rattle.memchr.specs.Find.{IsFirstByte, is_byte};
 ghost use Rattle.key_walk.specs.Frames.{AreNoZeros, ArePlain, PlainRun, RunBeforeZero, TextFirst, Utf8UpTo};
 
-use jsonb_value::plain::first_set;
+use jsonb_core::plain::first_set;
 use memchr::memchr;
 use std::simd::prelude::*;
 

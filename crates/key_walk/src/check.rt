@@ -10,7 +10,7 @@ use crate::ascii::utf8_run;
 use crate::digits::checked_number;
 use crate::skip::{MAX_DEPTH, after_end, after_text, is_word, opening};
 use crate::walk::front;
-use jsonb_value::sort_key::kind;
+use jsonb_core::sort_key::kind;
 
 // What is held of each open array and object: that it is an array, that it is an object with no name passed, or else
 // how many bytes there are from the last name on.

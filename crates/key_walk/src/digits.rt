@@ -6,7 +6,7 @@ ghost use Rattle.jsonb_spec.specs.SortKey.Kind as kind;
 ghost use Rattle.key_walk.specs.AtKeys.{Checks};
 ghost use Rattle.key_walk.specs.Frames.{NumberFirst, DigitsFirst};
 
-use jsonb_value::sort_key::kind;
+use jsonb_core::sort_key::kind;
 use key_value::number::{invert_if, read_exponent};
 
 // How many digits a number has at most, before the point and behind it.

@@ -11,7 +11,7 @@ ghost use Rattle.jsonb_spec.specs.SortKey.Kind as kind;
 ghost use Rattle.jsonb_spec.specs.Tree.{Tree, Num};
 
 use crate::ascii::run_before_zero;
-use jsonb_value::sort_key::kind;
+use jsonb_core::sort_key::kind;
 use key_value::number::invert_if;
 use key_value::text::skip_pair;
 use memchr::memchr;

@@ -5,7 +5,7 @@ ghost use Rattle.key_walk.specs.AtKeys.{Leaves};
 ghost use Rattle.jsonb_spec.specs.SortKey.{text_key};
 ghost use Rattle.jsonb_spec.specs.SortKey.Kind as kind;
 
-use jsonb_value::sort_key::kind;
+use jsonb_core::sort_key::kind;
 use key_value::text::{read_byte, skip_pair};
 use memchr::memchr;
 

@@ -10,7 +10,7 @@ ghost use Rattle.jsonb_spec.specs.SortKey.Kind as kind;
 ghost use Rattle.jsonb_spec.specs.Tree.{Tree, array, object, Trees, no_trees, more_trees, Members, no_members, more_members};
 
 use crate::skip::{after_end, after_key, after_text};
-use jsonb_value::sort_key::kind;
+use jsonb_core::sort_key::kind;
 
 /// What kind of value a key is of.
 #[derive(Clone, Copy, Debug, PartialEq, Eq, Drop)]

@@ -5,8 +5,8 @@ use Rattle.std.proofs.lemmas.Bool.{cond-false, lt-ltb, le-ltb}
 use Rattle.key_value.specs.Readable.{IsReadableAt}
 use Rattle.key_walk.specs.Open.{IsScalar}
 use Rattle.jsonb_spec.specs.SortKey.{key_of, text_key}
-use Rattle.jsonb_value.proofs.SortKeys.Kinds.{is_small, number_begins}
-use Rattle.jsonb_value.proofs.Trees.Runs.{heads}
+use Rattle.jsonb_core.proofs.SortKeys.Kinds.{is_small, number_begins}
+use Rattle.jsonb_core.proofs.Trees.Runs.{heads}
 use Rattle.jsonb_spec.specs.Tree.{Tree, null, boolean, string, number, array, object}
 use Rattle.key_zeros.specs.PartsOf.{numbers_in, number_count}
 

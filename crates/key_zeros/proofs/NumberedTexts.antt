@@ -9,7 +9,7 @@ use Rattle.jsonb_spec.specs.Text.NumberText.{number_text}
 use Rattle.jsonb_spec.specs.Text.Range.{IsWithin, AreWithin, HaveWithin}
 use Rattle.jsonb_spec.specs.Text.StringText.{quoted_text}
 use Rattle.jsonb_spec.specs.Tree.{Num, Tree, null, boolean, string, number, array, object, binary, date, timestamp, timestamp_tz, interval, Trees, no_trees, more_trees, Members, no_members, more_members}
-use Rattle.jsonb_value.proofs.Appending.Pieces.{texts_left, texts_left-comma, key_split}
+use Rattle.jsonb_core.proofs.Appending.Pieces.{texts_left, texts_left-comma, key_split}
 use Rattle.key_text.specs.FewestDigits.{spare_zeros, fewest_digits, with_fewest_digits, items_with_fewest_digits, members_with_fewest_digits}
 use Rattle.key_zeros.specs.Scan.{is_number_byte}
 use Rattle.key_zeros.specs.Zeros.{counts_in, counts_in_items, counts_in_members}

@@ -4,7 +4,7 @@ use Rattle.key_value.specs.Readable.{IsReadable}
 use Rattle.jsonb_spec.specs.Text.{tree_text}
 use Rattle.jsonb_spec.specs.Text.NumberText.{number_text}
 use Rattle.jsonb_spec.specs.Tree.{Tree}
-use Rattle.jsonb_value.proofs.Appending.Appended.{IsUnderway, goes_on, fits}
+use Rattle.jsonb_core.proofs.Appending.Appended.{IsUnderway, goes_on, fits}
 use Rattle.key_text.specs.FewestDigits.{with_fewest_digits}
 use Rattle.key_text.specs.Counts.{ending_text}
 use Rattle.key_zeros.specs.Scan.{after_numbers}

@@ -6,7 +6,7 @@ use Rattle.std.specs.Bool.{nat_lt}
 use Rattle.std.specs.Char.{digit_char}
 use Rattle.std.specs.List.{flat_map}
 use Rattle.jsonb_spec.specs.Text.StringText.{ArePlain, byte_text, control_text, quoted_text}
-use Rattle.jsonb_value.proofs.Strings.PlainTexts.{byte_some, no_shorter}
+use Rattle.jsonb_core.proofs.Strings.PlainTexts.{byte_some, no_shorter}
 use Rattle.key_zeros.specs.Scan.{from_number, from_number_behind}
 
 -- ---- inside of a string

@@ -3,8 +3,8 @@ use Rattle.std.proofs.Common.{◌≡◌, ℕ, zero, suc, ◌+◌, ◌-◌, ◌*�
 use Rattle.std.proofs.Math.Nat.{pow-suc, pow-zero, mul-le-mul_left}
 use Rattle.std.proofs.lemmas.Bool.{cond-true, cond-false, cases_lt, lt-ltb, le-ltb}
 use Rattle.std.specs.Bool.{nat_lt}
-use Rattle.jsonb_value.proofs.Appending.Appended.{IsUnderway, begun, goes_on, fits}
-use Rattle.jsonb_value.proofs.Trees.Runs.{heads, tails}
+use Rattle.jsonb_core.proofs.Appending.Appended.{IsUnderway, begun, goes_on, fits}
+use Rattle.jsonb_core.proofs.Trees.Runs.{heads, tails}
 use Rattle.key_zeros.specs.Zeros.{in_sevens}
 
 pub few : (more n : ℕ) → n < 128 → in_sevens more n ≡ n ∷ []

@@ -3,7 +3,7 @@
 ghost use Rattle.std.specs.Prelude.{◌≡◌, ◌≤◌};
 ghost use Rattle.key_zeros.specs.PartsOf.{number_count};
 
-use jsonb_value::sort_key::kind;
+use jsonb_core::sort_key::kind;
 
 /// One for the first byte of a number's key, and else none.
 pub fn number_count(first: u8) -> usize

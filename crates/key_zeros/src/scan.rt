@@ -3,7 +3,7 @@
 ghost use Rattle.std.specs.Prelude.{◌≡◌, ◌<◌, ◌≤◌, ◌+◌, length, ◌^◌, option_map, MatchOption, IfSome, None, false};
 ghost use Rattle.key_zeros.specs.Scan.{is_number_byte, from_number, from_number_behind, zeros_with, ending_of, after_numbers, next_number, BeginsNumber};
 
-use jsonb_value::plain::plain_len;
+use jsonb_core::plain::plain_len;
 
 /// The bytes from the next number on, or none where no number is left; `None` where a string doesn't end.
 pub(crate) fn from_number(text: &[u8]) -> Option<&[u8]>

@@ -1,5 +1,5 @@
 // Values beyond JSON: their texts and their sort keys.
-use jsonb_value::error::{Error, Result as Answer};
+use jsonb_core::error::{Error, Result as Answer};
 use jsonb_value::extension::{Date, ExtensionValue, Interval, Timestamp, TimestampTz};
 use jsonb_value::value::Value;
 use std::alloc::Global;

@@ -1,6 +1,6 @@
 // What is printed of errors that no text has, and of intervals.
 use crate::extension::interval;
-use jsonb_value::error::{Error, ParseErrorCode};
+use jsonb_core::error::{Error, ParseErrorCode};
 use std::alloc::{AllocError, Global};
 use std::fmt::Display;
 

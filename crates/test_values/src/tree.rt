@@ -1,6 +1,6 @@
 // Trees with a member out of order and again, and deep ones that are compared.
 use jsonb::{Grammar, JsonAst};
-use jsonb_value::number::Number;
+use jsonb_core::number::Number;
 use jsonb_value::value::Value;
 use std::alloc::{AllocError, Global};
 use std::borrow::CowStr;

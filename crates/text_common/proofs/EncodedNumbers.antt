@@ -9,11 +9,11 @@ use Rattle.std.proofs.lemmas.Int.{ints}
 use Rattle.jsonb_spec.specs.Grammar.StandardNumber.{IsStandardNumber}
 use Rattle.jsonb_spec.specs.Tree.{Num, int64, uint64}
 use Rattle.jsonb_spec.specs.Text.NumberText.{number_text, text_of_parts, with_point, zero_padded}
-use Rattle.jsonb_value.specs.View.{number_view}
-use Rattle.jsonb_value.specs.declared.number.Number.{Number}
-use Rattle.jsonb_value.specs.declared.number.Number.TheVariants as form
-use Rattle.jsonb_value.proofs.Numbers.InRange.{decimals}
-use Rattle.jsonb_value.proofs.Numbers.Pointed.{is_negative-pos, pointed_whole}
+use Rattle.jsonb_core.specs.View.{number_view}
+use Rattle.jsonb_core.specs.declared.number.Number.{Number}
+use Rattle.jsonb_core.specs.declared.number.Number.TheVariants as form
+use Rattle.jsonb_core.proofs.Numbers.InRange.{decimals}
+use Rattle.jsonb_core.proofs.Numbers.Pointed.{is_negative-pos, pointed_whole}
 use Rattle.text_common.specs.EncodedNumber.{StaysEncoded}
 
 -- digits with no zero first are the text of their value

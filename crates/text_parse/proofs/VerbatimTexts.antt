@@ -3,7 +3,7 @@ use Rattle.std.proofs.Common.{◌≡◌, ℕ, ◌<◌, pos, Bool, true, false, L
 use Rattle.std.specs.Prelude.{neg_ℤ}
 use Rattle.jsonb_spec.specs.Grammar.StandardNumber.{IsStandardNumber}
 use Rattle.jsonb_spec.specs.Text.NumberText.{number_text}
-use Rattle.jsonb_value.specs.declared.number.Number.TheVariants as form
+use Rattle.jsonb_core.specs.declared.number.Number.TheVariants as form
 use Rattle.text_scan.specs.ShortInteger.{short_view}
 use Rattle.text_common.proofs.EncodedNumbers.{below_zero, encoded_number}
 

@@ -1,7 +1,7 @@
 -- The open containers of the parser.
 use Rattle.std.specs.Prelude.{◌≡◌, ◌⊎◌, ℕ, suc, ◌-◌, Bool, true, false, List, [], ◌∷◌, length, Option, Result, Ok, reverse, not, if◌then◌else◌}
 use Rattle.jsonb_spec.specs.Ascii as ascii
-use Rattle.jsonb_value.specs.declared.error.Error.{Error}
+use Rattle.jsonb_core.specs.declared.error.Error.{Error}
 use Rattle.jsonb_spec.specs.Grammar.{max_depth}
 use Rattle.jsonb_spec.specs.Mode.{Mode, strictness}
 use Rattle.jsonb_spec.specs.Tree.{Tree}
@@ -17,7 +17,7 @@ use Rattle.text_scan.specs.Parsing.Scalar.{scalar_at}
 use Rattle.text_scan.specs.Parsing.Document.{value_at}
 use Rattle.jsonb_spec.specs.Source.{Source, null_source, source_alone}
 use Rattle.text_parse.specs.Stack.{array_end, finish_open, next_part_at, object_end, resume}
-use Rattle.text_scan.specs.Open.{Open, add_part, elements_so_far, members_so_far}
+use Rattle.text_common.specs.Open.{Open, add_part, elements_so_far, members_so_far}
 use Rattle.text_parse.specs.Slots.{Fits, is_due}
 
 -- an array or an object begins here

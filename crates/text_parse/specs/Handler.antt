@@ -1,15 +1,15 @@
 -- How parsing fails, and what a handler is asked to do.
 use Rattle.std.specs.Prelude.{◌≡◌, ℕ, ◌+◌, ◌-◌, Bool, true, false, List, [], ◌∷◌, ◌++◌, length, Option, Some, None, Result, Ok, Err}
-use Rattle.jsonb_value.specs.declared.error.Error.{Error}
-use Rattle.jsonb_value.specs.declared.error.Error.TheVariants.{Syntax, OutOfMemory}
+use Rattle.jsonb_core.specs.declared.error.Error.{Error}
+use Rattle.jsonb_core.specs.declared.error.Error.TheVariants.{Syntax, OutOfMemory}
 use Rattle.jsonb_spec.specs.Tree.{Mark, Num, Tree}
 use Rattle.jsonb_spec.specs.Tree.Mark.{plain}
-use Rattle.jsonb_value.specs.Error.CodeView.{code_of}
+use Rattle.jsonb_core.specs.Error.CodeView.{code_of}
 use Rattle.text_parse.specs.declared.parser.frame.Frame.{Frame}
 use Rattle.text_parse.specs.declared.parser.frame.Frame.TheVariants as variants
 use Rattle.text_parse.specs.declared.parser.frame.OpenObject.{OpenObject}
 use Rattle.text_scan.specs.Answer.{Fails}
-use Rattle.text_scan.specs.Open.{Open, elements_so_far, members_so_far}
+use Rattle.text_common.specs.Open.{Open, elements_so_far, members_so_far}
 use Rattle.text_scan.specs.Parsing.{Fault, Parse}
 use Rattle.text_scan.specs.Parsing.String.{Body}
 use Rattle.jsonb_spec.specs.Source.{Source, Found, array_source_of, found_member, number_source, string_source, source_alone}

@@ -9,8 +9,8 @@ use Rattle.jsonb_spec.specs.Source.{Source, number_source}
 use Rattle.text_common.specs.VerbatimScalar.{IsVerbatimAt}
 use Rattle.text_common.specs.declared.verbatim.Verbatim.{Verbatim}
 use Rattle.text_common.specs.declared.verbatim.Verbatim.TheVariants.{Integer, Decimal}
-use Rattle.jsonb_value.specs.declared.error.Error.{Error}
-use Rattle.jsonb_value.specs.declared.error.Error.TheVariants.{OutOfMemory}
+use Rattle.jsonb_core.specs.declared.error.Error.{Error}
+use Rattle.jsonb_core.specs.declared.error.Error.TheVariants.{OutOfMemory}
 use Rattle.text_parse.specs.declared.parser.Parser.{Parser}
 use Rattle.text_scan.specs.Decoding.{ReportsBackslash}
 use Rattle.text_scan.specs.Parsing.{Fault, Parse}

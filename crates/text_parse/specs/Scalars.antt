@@ -4,7 +4,7 @@ use Rattle.std.specs.Cow.{cow_str_bytes}
 use Rattle.jsonb_spec.specs.Source.{Source, null_source, boolean_source, string_source, number_source}
 use Rattle.jsonb_spec.specs.Tree.{Mark}
 use Rattle.jsonb_spec.specs.Tree.Mark.{plain}
-use Rattle.jsonb_value.specs.View.{mark_view, number_view}
+use Rattle.jsonb_core.specs.View.{mark_view, number_view}
 use Rattle.text_parse.specs.declared.parser.text.Scalar.{Scalar}
 use Rattle.text_parse.specs.declared.parser.text.Scalar.TheVariants as scalars
 use Rattle.text_parse.specs.declared.parser.text.Text.{Text}

@@ -5,7 +5,7 @@ use Rattle.jsonb_spec.specs.Code.{Code}
 use Rattle.jsonb_spec.specs.Code.Code.{expected_array_comma_or_end, expected_colon, expected_object_comma_or_end}
 use Rattle.jsonb_spec.specs.Mode.{Mode}
 use Rattle.jsonb_spec.specs.Tree.{Mark}
-use Rattle.text_scan.specs.Open.{Open, add_part, elements_so_far, members_so_far}
+use Rattle.text_common.specs.Open.{Open, add_part, elements_so_far, members_so_far}
 use Rattle.jsonb_spec.specs.Source.{Source, Found, spot_of, first_repeat, array_source_of}
 use Rattle.text_scan.specs.Parsing.{Parse, on_byte, reject, ◌>>=◌}
 use Rattle.text_scan.specs.Parsing.Whitespace.{skip_whitespace}

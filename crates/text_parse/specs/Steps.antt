@@ -6,9 +6,9 @@ use Rattle.jsonb_spec.specs.Grammar.{max_depth}
 use Rattle.jsonb_spec.specs.Mode.{Mode, strictness}
 use Rattle.jsonb_spec.specs.Tree.{Mark, Tree}
 use Rattle.jsonb_spec.specs.Source.{Source}
-use Rattle.jsonb_value.specs.declared.error.Error.TheVariants.{OutOfMemory}
+use Rattle.jsonb_core.specs.declared.error.Error.TheVariants.{OutOfMemory}
 use Rattle.text_scan.specs.Answer.{grammar_of}
-use Rattle.text_scan.specs.Open.{Open}
+use Rattle.text_common.specs.Open.{Open}
 use Rattle.text_scan.specs.Parsing.{Parse, begins}
 use Rattle.text_scan.specs.Parsing.Container.{is_left_out}
 use Rattle.text_scan.specs.Parsing.Whitespace.{skip_whitespace}

@@ -1,7 +1,7 @@
 //! The parser of JSON texts: from left to right, up to the first fault.
 
 ghost use Rattle.std.specs.Prelude.{◌≡◌, ◌≢◌, ◌+◌, ◌<◌, ◌≤◌, ℕ, List, [], ◌∷◌, drop, take, ◌⊎◌, MatchOption, IfOk, IfErr, IfSome, Err, None, Ok, Some, true, length};
-ghost use Rattle.jsonb_value.specs.Error.CodeView.{code_of};
+ghost use Rattle.jsonb_core.specs.Error.CodeView.{code_of};
 ghost use Rattle.text_scan.specs.Answer.{grammar_of, mode_of, NamesFault, Gives, MayAllocate};
 ghost use Rattle.text_scan.specs.Parsing.{begins, fault_at};
 ghost use Rattle.text_scan.specs.Parsing.Whitespace.{skip_closed_whitespace};
@@ -30,7 +30,7 @@ mod whitespace;
 use ascii::is_short_ascii;
 pub use frame::{Frame, OpenObject};
 use handler::{Failed, Handler};
-use jsonb_value::error::{Error, ParseErrorCode, Result};
+use jsonb_core::error::{Error, ParseErrorCode, Result};
 use std::alloc::{AllocError, Global};
 pub use text::{Scalar, Text};
 pub use text_scan::parser::{Grammar, Mode};

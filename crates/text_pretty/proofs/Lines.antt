@@ -7,8 +7,8 @@ use Rattle.jsonb_spec.specs.Text.{with_commas}
 use Rattle.jsonb_spec.specs.Tree.{array, object}
 use Rattle.jsonb_value.specs.View.{view, trees_view, members_view}
 use Rattle.jsonb_value.specs.declared.value.Value.{Value}
-use Rattle.jsonb_value.proofs.Appending.Appended.{IsUnderway, goes_on, fits}
-use Rattle.jsonb_value.proofs.Appending.Pieces.{texts_left}
+use Rattle.jsonb_core.proofs.Appending.Appended.{IsUnderway, goes_on, fits}
+use Rattle.jsonb_core.proofs.Appending.Pieces.{texts_left}
 use Rattle.jsonb_value.proofs.Values.Members.{Entry}
 use Rattle.jsonb_spec.specs.Indented.{new_line, enclose, indented_text, item_lines, member_lines}
 

@@ -16,14 +16,14 @@ use Rattle.jsonb_spec.specs.Text.NumberText.{number_text}
 use Rattle.jsonb_spec.specs.Text.StringText.{quoted_text}
 use Rattle.jsonb_spec.specs.Text.{tree_text, with_commas}
 use Rattle.jsonb_spec.specs.Tree.{Num, Tree, null, boolean, string, number, array, object, binary, date, timestamp, timestamp_tz, interval, Trees, no_trees, more_trees, trees_of, Members, no_members, more_members, Member}
-use Rattle.jsonb_value.proofs.Numbers.InRange.{in_texts_short, integral_short, integer_reads_back, extended_reads_back, json_reads_back, extended_json_reads_back}
-use Rattle.jsonb_value.proofs.Numbers.Texts.{Begins}
-use Rattle.jsonb_value.proofs.Strings.Writing.{reads_back}
-use Rattle.jsonb_value.proofs.Trees.MembersInOrder.{distinct_keys, put_all-ascending}
-use Rattle.jsonb_value.proofs.Trees.OneText.{same_bytes, both_equal, IsShort, IsTextByte, text_first}
-use Rattle.jsonb_value.proofs.Trees.Ranges.{widened}
-use Rattle.jsonb_value.proofs.Trees.Runs.{heads, tails}
-use Rattle.jsonb_value.proofs.Trees.TextsReadBack.{no_whitespace_alone, double_quote, EncodesSameNumber, HaveEncoded, same_ascent, read_tree}
+use Rattle.jsonb_core.proofs.Numbers.InRange.{in_texts_short, integral_short, integer_reads_back, extended_reads_back, json_reads_back, extended_json_reads_back}
+use Rattle.jsonb_core.proofs.Numbers.Texts.{Begins}
+use Rattle.jsonb_core.proofs.Strings.Writing.{reads_back}
+use Rattle.jsonb_core.proofs.Trees.MembersInOrder.{distinct_keys, put_all-ascending}
+use Rattle.jsonb_core.proofs.Trees.OneText.{same_bytes, both_equal, IsShort, IsTextByte, text_first}
+use Rattle.jsonb_core.proofs.Trees.Ranges.{widened}
+use Rattle.jsonb_core.proofs.Trees.Runs.{heads, tails}
+use Rattle.jsonb_core.proofs.Trees.TextsReadBack.{no_whitespace_alone, double_quote, EncodesSameNumber, HaveEncoded, same_ascent, read_tree}
 use Rattle.jsonb_spec.specs.Indented.{new_line, enclose, indented_text, item_lines, member_lines, Represents}
 
 -- ---- whitespace

@@ -16,7 +16,7 @@ ghost use Rattle.jsonb_value.specs.View.{view, trees_view, members_view};
 ghost use Rattle.text_pretty.specs.Lines.{AppendsLines};
 ghost use Rattle.jsonb_spec.specs.Indented.{new_line, indented_text, item_lines, member_lines, Represents};
 
-use jsonb_value::error::{Error, Result};
+use jsonb_core::error::{Error, Result};
 use jsonb_value::value::{Object, Value};
 use std::alloc::AllocError;
 

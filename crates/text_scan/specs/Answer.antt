@@ -2,9 +2,9 @@
 use Rattle.std.specs.Prelude.{◌≡◌, ◌⊎◌, ℕ, List, Contains, Result, Ok, Err}
 use Rattle.jsonb_spec.specs.Ascii as ascii
 use Rattle.jsonb_spec.specs.Mode.{Mode, standard, extended, json, extended_json}
-use Rattle.jsonb_value.specs.Error.CodeView.{code_of}
-use Rattle.jsonb_value.specs.declared.error.Error.{Error}
-use Rattle.jsonb_value.specs.declared.error.Error.TheVariants.{Syntax, OutOfMemory}
+use Rattle.jsonb_core.specs.Error.CodeView.{code_of}
+use Rattle.jsonb_core.specs.declared.error.Error.{Error}
+use Rattle.jsonb_core.specs.declared.error.Error.TheVariants.{Syntax, OutOfMemory}
 use Rattle.text_scan.specs.declared.parser.Grammar.{Grammar}
 use Rattle.text_scan.specs.declared.parser.Grammar.TheVariants as grammars
 use Rattle.text_scan.specs.declared.parser.Mode as parser

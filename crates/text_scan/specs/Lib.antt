@@ -1,6 +1,5 @@
 pub mod Answer
 pub mod Decoding
-pub mod Open
 pub mod QuotedString
 pub mod Parsing
 pub mod ScannedNumber

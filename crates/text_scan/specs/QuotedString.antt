@@ -9,10 +9,10 @@ use Rattle.jsonb_spec.specs.Tree.{Mark}
 use Rattle.jsonb_spec.specs.Tree.Mark.{escaped as escaped_mark}
 use Rattle.jsonb_spec.specs.Mode.{Mode}
 use Rattle.jsonb_spec.specs.Grammar.StringBody.{Item, meaning}
-use Rattle.jsonb_value.specs.Error.CodeView.{code_of}
-use Rattle.jsonb_value.specs.View.{mark_view}
-use Rattle.jsonb_value.specs.declared.error.Error.{Error}
-use Rattle.jsonb_value.specs.declared.error.Error.TheVariants.{Syntax, OutOfMemory}
+use Rattle.jsonb_core.specs.Error.CodeView.{code_of}
+use Rattle.jsonb_core.specs.View.{mark_view}
+use Rattle.jsonb_core.specs.declared.error.Error.{Error}
+use Rattle.jsonb_core.specs.declared.error.Error.TheVariants.{Syntax, OutOfMemory}
 use Rattle.text_scan.specs.declared.parser.string.StringEnd.{StringEnd}
 use Rattle.text_scan.specs.declared.parser.string.StringEnd.TheVariants.{Closed, Unclosed}
 use Rattle.text_scan.specs.declared.parser.key.KeyEnd.{KeyEnd}

@@ -1,10 +1,10 @@
 -- What the scan of an extended number guarantees.
 use Rattle.std.specs.Prelude.{◌≡◌, ◌≤◌, ℕ, List, length, Option, Some, None, Result, Ok, Err}
 use Rattle.jsonb_spec.specs.Code.{Code}
-use Rattle.jsonb_value.specs.Error.CodeView.{code_of}
+use Rattle.jsonb_core.specs.Error.CodeView.{code_of}
 use Rattle.jsonb_spec.specs.Tree.{Num}
-use Rattle.jsonb_value.specs.View.{number_view}
-use Rattle.jsonb_value.specs.declared.number.Number.{Number}
+use Rattle.jsonb_core.specs.View.{number_view}
+use Rattle.jsonb_core.specs.declared.number.Number.{Number}
 use Rattle.text_scan.specs.declared.parser.extended_number.decimal.DecimalEnds.{DecimalEnds}
 use Rattle.text_scan.specs.declared.parser.extended_number.NumberFault.{NumberFault}
 use Rattle.text_scan.specs.declared.parser.extended_number.NumberText.{NumberText}

@@ -1,10 +1,10 @@
 -- The errors of `parse_string`.
 use Rattle.std.specs.Prelude.{◌≡◌, ℕ, ◌+◌, List}
 use Rattle.jsonb_spec.specs.Mode.{Mode}
-use Rattle.jsonb_value.specs.Error.CodeView.{code_of}
+use Rattle.jsonb_core.specs.Error.CodeView.{code_of}
 use Rattle.jsonb_spec.specs.Grammar.StringFault.{IsFaultyBody}
-use Rattle.jsonb_value.specs.declared.error.Error.{Error}
-use Rattle.jsonb_value.specs.declared.error.Error.TheVariants.{Syntax, OutOfMemory}
+use Rattle.jsonb_core.specs.declared.error.Error.{Error}
+use Rattle.jsonb_core.specs.declared.error.Error.TheVariants.{Syntax, OutOfMemory}
 
 -- What a decoder may reject, whose index is `before` as it begins and `after` as it ends: a fault of the bytes, which
 -- names the index where the decoder is then; and want of memory, which leaves the index.

@@ -1,10 +1,10 @@
 //! Lines and columns of offsets, and the byte to show of an error.
 ghost use Rattle.std.specs.Prelude.{◌≡◌, ◌≤◌, length, not};
 ghost use Rattle.std.specs.List.{count_by, suffix_len};
-ghost use Rattle.jsonb_value.specs.Error.CodeView.{code_of};
+ghost use Rattle.jsonb_core.specs.Error.CodeView.{code_of};
 ghost use Rattle.jsonb_spec.specs.Line.{bytes_past, column_at, fault_index, is_line_feed, line_at};
 
-use jsonb_value::error::ParseErrorCode;
+use jsonb_core::error::ParseErrorCode;
 use memchr::{memchr_iter, memrchr};
 
 /// The line and the column of an offset, in bytes from the text's start. Lines are counted from 1, and each line feed

@@ -3,15 +3,15 @@ use Rattle.std.proofs.Common.{◌≡◌, ℕ, Bool, true, false, List, [], ◌�
 use Rattle.std.specs.Option.{is_some}
 use Rattle.std.specs.Str.{IsUtf8}
 use Rattle.jsonb_spec.specs.Tree.{Mark}
-use Rattle.text_scan.specs.Open.{Open, members_so_far}
+use Rattle.text_common.specs.Open.{Open, members_so_far}
 use Rattle.jsonb_spec.specs.Source.{Found, Source, found_member}
 use Rattle.text_write.specs.CheckSink.{CheckEnds, CheckHolds, unwritten}
 use Rattle.text_write.specs.KeySink.{Held}
 use Rattle.text_write.specs.KeySink.Held.{members}
-use Rattle.text_write.specs.OpenMembers.{AreSame, Begins, Closes, EndIn, FindsRepeat, ReportsRepeatOf, next_start}
-use Rattle.text_write.specs.declared.open_members.Repeat.{Repeat}
+use Rattle.text_members.specs.OpenMembers.{AreSame, Begins, Closes, EndIn, FindsRepeat, ReportsRepeatOf, next_start}
+use Rattle.text_members.specs.declared.open_members.Repeat.{Repeat}
 use Rattle.text_write.specs.declared.check.CheckSink.{CheckSink}
-use Rattle.text_write.proofs.OpenMembers as opened
+use Rattle.text_members.proofs.OpenMembers as opened
 
 pub object_begun : {text : List ℕ} {r : CheckSink} {held : List Held} {cs : List Open} (key : Mark × List ℕ) (offset : ℕ) → CheckHolds text r true held cs → CheckHolds text r false (members (length r.members.entries.items) ∷ held) (members_so_far [] key offset ∷ cs)
 object_begun {r = r} {cs = cs} key offset sink =

@@ -5,7 +5,7 @@ use Rattle.std.proofs.lemmas.List.{take-append-drop}
 use Rattle.std.specs.List.{flat_map}
 use Rattle.memchr.specs.Find.{IsFirstByte, is_byte}
 use Rattle.jsonb_spec.specs.SortKey.{byte_key, text_key}
-use Rattle.jsonb_value.proofs.SortKeys.Zeros.{before_zero}
+use Rattle.jsonb_core.proofs.SortKeys.Zeros.{before_zero}
 
 no_zeros : (bytes : List ℕ) → IsFirstByte (is_byte 0) bytes None → flat_map byte_key bytes ≡ bytes
 no_zeros bytes none = ap (flat_map byte_key) (sym (take-length bytes)) ∙ before_zero bytes None none ∙ take-length bytes

@@ -12,7 +12,7 @@ use Rattle.text_scan.specs.QuotedString.{decoded_text}
 use Rattle.text_scan.proofs.Strings.Checks.{decoded_text-is}
 use Rattle.text_scan.proofs.Strings.Decoding.{decoded_escape, decoded_run, decoded_then}
 use Rattle.text_write.specs.Escaped.{IsVerbatimLetter, WritesItems}
-use Rattle.jsonb_value.proofs.Strings.PlainTexts.{byte_some, no_shorter}
+use Rattle.jsonb_core.proofs.Strings.PlainTexts.{byte_some, no_shorter}
 
 pub writes_start : (mode : Mode) (bytes old : List ℕ) → WritesItems mode bytes bytes old old
 writes_start mode bytes old = record {

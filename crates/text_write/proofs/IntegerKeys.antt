@@ -11,21 +11,21 @@ use Rattle.std.proofs.lemmas.Str.{digit_value_digit}
 use Rattle.std.proofs.lemmas.Str.Parse.{digit_from_value}
 use Rattle.std.proofs.lemmas.Int.Digits.{digits_value-lt}
 use Rattle.jsonb_spec.specs.SortKey.{digits_key, digit_count, magnitude_key, number_key, invert_if}
-use Rattle.jsonb_value.proofs.SortKeys.Digits.{last_pair, more_pairs, mul-pos, ten}
-use Rattle.jsonb_value.proofs.SortKeys.Pairs.{single_digit}
-use Rattle.jsonb_value.proofs.SortKeys.Counts.{digit_count-is, far, power_le}
-use Rattle.jsonb_value.proofs.SortKeys.Numbers.{key_of_some, key_of_zero, magnitude_split}
-use Rattle.jsonb_value.proofs.Numbers.DecimalTexts.{digits-take}
+use Rattle.jsonb_core.proofs.SortKeys.Digits.{last_pair, more_pairs, mul-pos, ten}
+use Rattle.jsonb_core.proofs.SortKeys.Pairs.{single_digit}
+use Rattle.jsonb_core.proofs.SortKeys.Counts.{digit_count-is, far, power_le}
+use Rattle.jsonb_core.proofs.SortKeys.Numbers.{key_of_some, key_of_zero, magnitude_split}
+use Rattle.jsonb_core.proofs.Numbers.DecimalTexts.{digits-take}
 use Rattle.std.proofs.lemmas.Bool.{cases_eq, cases_lt, ne_eqb}
 use Rattle.std.proofs.lemmas.Int.{ints}
 use Rattle.jsonb_spec.specs.Grammar.StandardNumber.{IsStandardNumber}
 use Rattle.jsonb_spec.specs.Tree.{Num}
-use Rattle.jsonb_value.proofs.Numbers.Pointed.{is_negative-pos}
+use Rattle.jsonb_core.proofs.Numbers.Pointed.{is_negative-pos}
 use Rattle.std.proofs.lemmas.Bool.Decides.{eqb_tells}
 use Rattle.std.proofs.lemmas.List.{drop-take, drop_all, drop_more, get_or-drop, get_or-take, length-drop, length-take-le, take-append-drop, take-map, take-take, take_rest}
 use Rattle.jsonb_spec.specs.Source.{Source}
 use Rattle.text_write.specs.KeySink.{Writes}
-use Rattle.text_write.specs.Members.{source_key}
+use Rattle.text_members.specs.Members.{source_key}
 use Rattle.text_write.specs.declared.key.KeySink.{KeySink}
 use Rattle.text_common.specs.VerbatimScalar.{IsIntegerAt}
 use Rattle.text_write.specs.IntegerKey.{digit_bytes, last_byte, more_byte, more_bytes}

@@ -9,7 +9,7 @@ use Rattle.std.proofs.lemmas.Bool.Decides.{nat_tests}
 use Rattle.jsonb_spec.specs.Text.{tree_text}
 use Rattle.jsonb_spec.specs.Tree.{Mark, Tree}
 use Rattle.jsonb_spec.specs.Tree.Mark.{plain}
-use Rattle.text_scan.specs.Open.{Open, elements_so_far, members_so_far}
+use Rattle.text_common.specs.Open.{Open, elements_so_far, members_so_far}
 use Rattle.jsonb_spec.specs.Source.{Found, Source, array_source_of, first_repeat, found_member, object_source_of, spot_of, tree_of_source}
 use Rattle.text_common.specs.VerbatimScalar.{IsVerbatimAt}
 use Rattle.text_common.specs.SourceText.{source_text}
@@ -19,8 +19,8 @@ use Rattle.jsonb_spec.specs.PartAt.{index_named, part_at}
 use Rattle.text_write.specs.CheckSink as check
 use Rattle.text_write.specs.CheckSink.{CheckHolds, unwritten}
 use Rattle.text_write.specs.KeySink as key
-use Rattle.text_write.specs.OpenMembers.{EndsObject, ReportsRepeatOf, all_starts}
-use Rattle.text_write.specs.declared.open_members.Repeat.{Repeat}
+use Rattle.text_members.specs.OpenMembers.{EndsObject, ReportsRepeatOf, all_starts}
+use Rattle.text_members.specs.declared.open_members.Repeat.{Repeat}
 use Rattle.text_write.specs.PartSink.{EndsAt, FilledAt, HasNoParts, HeldFits, InnerEnds, IsAhead, IsAround, IsInPart, IsOutside, IsSeeking, IsWritten, Leads, PartFilled, PartHeld, PartHolds, HoldsAt, check_held, first_index, follow, follow_key, array_held, keys_of, path_behind, object_held, other_keys, part_inside, part_of, part_of_ended, part_with_value, less, rest_at, text_held, waits_at, within, ahead_of, level_of}
 use Rattle.text_write.specs.TextSink as text
 use Rattle.text_write.specs.TextSink.{SeesPart, TextFilled, TextHolds, base_of}
@@ -32,7 +32,7 @@ use Rattle.text_write.specs.declared.part.PartMembers.{PartMembers}
 use Rattle.text_write.specs.declared.part.PartSink.{PartSink}
 use Rattle.text_write.specs.declared.text.TextSink.{TextSink}
 use Rattle.text_write.proofs.Checks.{value_ended}
-use Rattle.text_write.proofs.OpenMembers as opened
+use Rattle.text_members.proofs.OpenMembers as opened
 use Rattle.text_write.proofs.PartPaths.{array-ended, object-ended, or_none, picked-alone, picked-ended, picked-more}
 
 -- ---- a value that ends

@@ -1,4 +1,5 @@
 -- Strings whose escapes are of one letter, written from the left.
+use Rattle.text_members.proofs.Rows.{put_some}
 use Rattle.std.proofs.Common.{◌≡◌, ◌≢◌, ℕ, zero, suc, ◌+◌, ◌-◌, ◌<◌, ◌≤◌, Bool, true, false, List, [], ◌∷◌, ◌++◌, length, take, drop, get_or, Option, Some, None, refl, sym, ap, ap₂, subst, ◌∙◌, arith, append_assoc, append-nil, drop-drop, length-drop, length-append, map, slice_range, ◌==◌}
 use Rattle.std.specs.List.{flat_map, AllByRecursion}
 use Rattle.std.proofs.lemmas.List.{get_or-take, get_or-drop, get_or-append-add, drop_more, drop-take, drop_all, length-take-le, take-append-drop, take-append-le, take-take, take_rest}
@@ -11,12 +12,12 @@ use Rattle.jsonb_spec.specs.SortKey.{byte_key}
 use Rattle.jsonb_spec.specs.Source.{Source}
 use Rattle.jsonb_spec.specs.Text.{in_quotes}
 use Rattle.jsonb_spec.specs.Text.StringText.{ArePlain, byte_text}
-use Rattle.text_write.specs.Members.{source_key}
+use Rattle.text_members.specs.Members.{source_key}
 use Rattle.text_common.specs.VerbatimScalar.{IsShortAt}
 use Rattle.text_common.specs.SourceText.{source_text}
 use Rattle.text_common.specs.ShortString.{IsShort, IsShortItem, short_byte}
 use Rattle.text_scan.specs.Decoding.{SeesNoBackslash}
-use Rattle.jsonb_value.proofs.Strings.PlainTexts.{fewer_plain, no_mark, one_plain, rest_plain}
+use Rattle.jsonb_core.proofs.Strings.PlainTexts.{fewer_plain, no_mark, one_plain, rest_plain}
 use Rattle.text_write.specs.ShortString.{WritesFront, written_byte, written_bytes}
 
 -- ---- the first item
@@ -226,17 +227,6 @@ some_all as_text bytes count at old new text inside over f short =
 pub front_of : (row put chunk : List ℕ) (end all n : ℕ) → take all put ≡ take end row ++ chunk → n ≤ end → end ≤ all → end ≤ length row → take n put ≡ take n row
 front_of row put chunk end all n is low high within =
     sym (take-take n all put (omega (arith, low, high))) ∙ ap (take n) is ∙ take-append-le n (take end row) chunk (omega (arith, low, length-take-le end row within)) ∙ take-take n end row low
-
--- so many bytes of what was put into a row
-pub put_some : (row put chunk : List ℕ) (end all run : ℕ) → run ≤ length chunk → end ≤ length row → all ≤ length put → take all put ≡ take end row ++ chunk
-    → (take (end + run) put ≡ take end row ++ take run chunk) × (end + run ≤ length put)
-put_some row put chunk end all run few within inside is =
-    let long = length-take-le end row within in
-    let size : all ≡ end + length chunk = omega (arith, length-take-le all put inside, ap length is, length-append (take end row) chunk, long) in (
-      sym (take-take (end + run) all put (omega (arith, size, few))) ∙ ap (take (end + run)) is
-          ∙ ap (λ n. take (n + run) (take end row ++ chunk)) (sym long) ∙ take-append-add (take end row) chunk run,
-      omega (arith, size, few, inside),
-    )
 
 -- some of 16 bytes that were put so
 pub run_put : (bytes row put : List ℕ) (at end run : ℕ) → at + 16 ≤ length bytes → end + 16 ≤ length row → length put ≡ length row → take (end + 16) put ≡ take end row ++ take 16 (take (length bytes - at) (drop at bytes)) → run ≤ 16

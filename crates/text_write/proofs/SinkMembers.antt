@@ -6,16 +6,16 @@ use Rattle.std.specs.Str.{IsUtf8}
 use Rattle.jsonb_spec.specs.Text.{in_quotes, with_commas}
 use Rattle.jsonb_spec.specs.Text.StringText.{ArePlain, quoted_text}
 use Rattle.jsonb_spec.specs.Tree.{Mark}
-use Rattle.text_scan.specs.Open.{Open, members_so_far}
+use Rattle.text_common.specs.Open.{Open, members_so_far}
 use Rattle.jsonb_spec.specs.Source.{Found, Source, found_member}
-use Rattle.text_write.specs.OpenMembers.{AreOf, all_starts, next_start, starts_in}
-use Rattle.text_write.specs.OpenMembers.{Begins as Begun}
+use Rattle.text_members.specs.OpenMembers.{AreOf, all_starts, next_start, starts_in}
+use Rattle.text_members.specs.OpenMembers.{Begins as Begun}
 use Rattle.text_write.specs.OpenText.{comma_after, comma_unless, key_text, member_text, open_text}
 use Rattle.text_common.specs.SourceText.{source_text}
 use Rattle.text_write.specs.TextSink.{Begins, Held, HeldFits, IsSinkWith, TextHolds, Writes, base_of, members, text_layout}
 use Rattle.text_write.specs.Written.{bytes_of}
 use Rattle.text_write.specs.declared.text.TextSink.{TextSink}
-use Rattle.text_write.proofs.OpenMembers as opened
+use Rattle.text_members.proofs.OpenMembers as opened
 use Rattle.text_write.proofs.OpenTexts.{led, part_joined}
 use Rattle.text_write.proofs.Sinks.{goes_on}
 

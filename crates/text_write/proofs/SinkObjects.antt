@@ -4,19 +4,19 @@ use Rattle.std.proofs.lemmas.List.{length-take-le}
 use Rattle.std.specs.Option.{is_some}
 use Rattle.jsonb_spec.specs.Text.{with_commas}
 use Rattle.jsonb_spec.specs.Tree.{Mark}
-use Rattle.text_scan.specs.Open.{Open, members_so_far}
+use Rattle.text_common.specs.Open.{Open, members_so_far}
 use Rattle.jsonb_spec.specs.Source.{Found, sort_by, spot_of}
-use Rattle.text_write.specs.Members.{join_pieces}
-use Rattle.text_write.specs.OpenMembers.{AreOf, AreSettled, EndIn, EndsObject, KeysAscendFrom, PutsInOrder, ReportsRepeatOf}
-use Rattle.text_write.specs.declared.open_members.Repeat.{Repeat}
+use Rattle.text_members.specs.Members.{join_pieces}
+use Rattle.text_members.specs.OpenMembers.{AreOf, AreSettled, EndIn, EndsObject, KeysAscendFrom, PutsInOrder, ReportsRepeatOf}
+use Rattle.text_members.specs.declared.open_members.Repeat.{Repeat}
 use Rattle.text_write.specs.OpenText.{member_text, open_text}
 use Rattle.text_write.specs.TextSink.{Closes, Held, HeldFits, IsSettled, PreservesMembers, TextFilled, TextHolds, base_of, members, text_layout}
 use Rattle.text_write.specs.Written.{bytes_of}
 use Rattle.text_write.specs.declared.text.TextSink.{TextSink}
 use Rattle.text_write.proofs.ObjectTexts.{object_ended, sort_ascends, stays}
-use Rattle.text_write.proofs.Objects.Ascending.{ascending_new}
-use Rattle.text_write.proofs.Objects.Closing.{with_commas_joined}
-use Rattle.text_write.proofs.OpenMembers as opened
+use Rattle.text_members.proofs.Objects.Ascending.{ascending_new}
+use Rattle.text_members.proofs.Objects.Closing.{with_commas_joined}
+use Rattle.text_members.proofs.OpenMembers as opened
 
 -- what is before the first member
 abbrev front : TextSink → List Open → List ℕ

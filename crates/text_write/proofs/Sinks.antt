@@ -1,12 +1,12 @@
 -- The sink after bytes were written.
 use Rattle.std.proofs.Common.{◌≡◌, ℕ, Bool, true, false, List, [], ◌∷◌, ◌++◌, Result, Ok, Err, OnOk, refl, sym, ap, ap₂, subst, ◌∙◌, append_assoc, append-nil}
-use Rattle.text_scan.specs.Open.{Open, elements_so_far}
+use Rattle.text_common.specs.Open.{Open, elements_so_far}
 use Rattle.jsonb_spec.specs.Source.{Source}
-use Rattle.text_write.specs.OpenMembers.{AreOf, all_starts}
+use Rattle.text_members.specs.OpenMembers.{AreOf, all_starts}
 use Rattle.text_write.specs.OpenText.{comma_unless, open_text}
 use Rattle.text_common.specs.SourceText.{source_text}
 use Rattle.text_write.specs.Written.{bytes_of}
-use Rattle.text_write.proofs.OpenMembers.{same, stay}
+use Rattle.text_members.proofs.OpenMembers.{same, stay}
 use Rattle.text_write.proofs.OpenTexts.{comma_is, led}
 use Rattle.text_write.specs.declared.text.Part.{Part}
 use Rattle.text_write.specs.declared.text.Part.TheVariants as part
@@ -54,10 +54,6 @@ part_written {r = r} {s = s} p v from to sink sees encoded wrote =
 -- a value where one was due
 pub value_written : {text : List ℕ} {r s : TextSink} {held : List Held} {cs : List Open} (v : Source) → TextHolds text r true held cs → Writes (source_text v) r s → TextFilled text s v held cs
 value_written v sink w = goes_on sink w refl refl sink.fits
-
-pub on_ok : {T E P Q : Type 0} (r : Result T E) → OnOk r P → (P → Q) → OnOk r Q
-on_ok (Ok x) p f = f p
-on_ok (Err e) p f = tt
 
 -- the only one of a list
 pub same_only : {xs ys : List ℕ} → (xs ∷ []) ≡ (ys ∷ []) → xs ≡ ys

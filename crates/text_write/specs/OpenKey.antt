@@ -2,8 +2,8 @@
 use Rattle.std.specs.Prelude.{ℕ, Bool, true, false, List, [], ◌∷◌, ◌++◌, map}
 use Rattle.jsonb_spec.specs.SortKey.{text_key}
 use Rattle.jsonb_spec.specs.SortKey.Kind as kind
-use Rattle.text_scan.specs.Open.{Open, elements_so_far, members_so_far}
-use Rattle.text_write.specs.Members.{join_pieces, member_key, source_key}
+use Rattle.text_common.specs.Open.{Open, elements_so_far, members_so_far}
+use Rattle.text_members.specs.Members.{join_pieces, member_key, source_key}
 
 -- the parts' keys one after the other
 abbrev pub keys_joined : List (List ℕ) → List ℕ

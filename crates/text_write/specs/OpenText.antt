@@ -3,7 +3,7 @@ use Rattle.std.specs.Prelude.{ℕ, Bool, true, false, List, [], ◌∷◌, ◌++
 use Rattle.jsonb_spec.specs.Ascii as ascii
 use Rattle.jsonb_spec.specs.Text.{with_commas}
 use Rattle.jsonb_spec.specs.Text.StringText.{quoted_text}
-use Rattle.text_scan.specs.Open.{Open, elements_so_far, members_so_far}
+use Rattle.text_common.specs.Open.{Open, elements_so_far, members_so_far}
 use Rattle.jsonb_spec.specs.Source.{Found}
 use Rattle.text_common.specs.SourceText.{source_text}
 

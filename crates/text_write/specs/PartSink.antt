@@ -4,7 +4,7 @@ use Rattle.std.specs.Option.{option_and_then, option_map, option_map_or, option_
 use Rattle.std.specs.Str.{bytes_eq}
 use Rattle.jsonb_spec.specs.Text.{tree_text}
 use Rattle.jsonb_spec.specs.Tree.{Tree}
-use Rattle.text_scan.specs.Open.{Open, elements_so_far, members_so_far}
+use Rattle.text_common.specs.Open.{Open, elements_so_far, members_so_far}
 use Rattle.jsonb_spec.specs.Source.{Found, Source, tree_of_source}
 use Rattle.jsonb_spec.specs.PartAt.{index_named, part_at}
 use Rattle.text_write.specs.CheckSink.{CheckHolds}
@@ -12,7 +12,7 @@ use Rattle.text_write.specs.KeySink as key
 use Rattle.text_write.specs.TextSink as text
 use Rattle.text_write.specs.TextSink.{TextFilled, TextHolds, base_of}
 use Rattle.text_write.specs.declared.check.CheckSink.{CheckSink}
-use Rattle.text_write.specs.declared.open_members.OpenMembers.{OpenMembers}
+use Rattle.text_members.specs.declared.open_members.OpenMembers.{OpenMembers}
 use Rattle.text_write.specs.declared.part.PartItems.{PartItems}
 use Rattle.text_write.specs.declared.part.PartMembers.{PartMembers}
 use Rattle.text_write.specs.declared.part.PartSink.{PartSink}

@@ -1,8 +1,8 @@
 //! What is held of a text that is only checked: the keys of the objects that are open.
 ghost use Rattle.std.specs.Prelude.{◌≡◌, ◌-◌, ◌<◌, ◌≤◌, ◌∷◌, [], ℕ, List, true, false, length, slice_range, IfOk, MatchBool, MatchOption, OnOk};
 
-use crate::open_members::{OpenMembers, Repeat};
 use std::alloc::{AllocError, Global};
+use text_members::open_members::{OpenMembers, Repeat};
 
 /// The members of the objects that are open, by their keys. Nothing is written.
 #[derive(Drop)]
@@ -11,8 +11,8 @@ pub struct CheckSink<'a> {
 }
 
 impl<'a> CheckSink<'a> {
-    ghost use Rattle.text_scan.specs.Open.{Open};
-    ghost use Rattle.text_scan.specs.Open.Open.{members_so_far};
+    ghost use Rattle.text_common.specs.Open.{Open};
+    ghost use Rattle.text_common.specs.Open.Open.{members_so_far};
     ghost use Rattle.jsonb_spec.specs.Source.{Found};
     ghost use Rattle.jsonb_spec.specs.Text.{in_quotes};
     ghost use Rattle.jsonb_spec.specs.Tree.{Mark};
@@ -20,7 +20,7 @@ impl<'a> CheckSink<'a> {
     ghost use Rattle.text_write.specs.CheckSink.{CheckEnds, CheckHolds};
     ghost use Rattle.text_write.specs.KeySink.{Held};
     ghost use Rattle.text_write.specs.KeySink.Held.{members};
-    ghost use Rattle.text_write.specs.OpenMembers.{ReportsRepeatOf};
+    ghost use Rattle.text_members.specs.OpenMembers.{ReportsRepeatOf};
 
     /// No object is open.
     pub fn new(alloc: Global, text: &'a [u8]) -> CheckSink<'a>

@@ -5,7 +5,7 @@ ghost use Rattle.text_scan.specs.Decoding.{AreContents};
 ghost use Rattle.text_write.specs.Escaped.{WritesItems};
 
 use crate::escaped::entry_len;
-use jsonb_value::error::Result;
+use jsonb_core::error::Result;
 use text_scan::parser::Mode;
 use text_scan::util::check_contents;
 

@@ -11,9 +11,10 @@ ghost use Rattle.text_write.specs.DecimalKey.{IsOnlyPoint, without_points};
 
 use crate::integer_key::{append_pairs, invert_if, significant_len};
 use crate::key::KeySink;
-use jsonb_value::sort_key::kind;
+use jsonb_core::bytes::byte_at;
+use jsonb_core::sort_key::kind;
 use std::alloc::AllocError;
-use text_scan::parser::number::{after_minus, byte_at};
+use text_scan::parser::number::after_minus;
 
 // The digits of a decimal from the first on that is no zero, how many they are, and how many are behind the point.
 #[derive(Drop)]

@@ -14,7 +14,7 @@ ghost use Rattle.text_write.specs.Escaped.{IsVerbatimLetter, WritesItems};
 
 use crate::contents::Contents;
 use crate::short::{append_first, append_part};
-use jsonb_value::plain::{append_byte, run_of_few, run_of_sixteen};
+use jsonb_core::plain::{append_byte, run_of_few, run_of_sixteen};
 use std::alloc::AllocError;
 use text_scan::parser::Mode;
 use text_scan::util::decode_escape;

@@ -9,8 +9,8 @@ ghost use Rattle.text_scan.specs.Decoding.{AreContents};
 ghost use Rattle.text_scan.specs.QuotedString.{decoded_text};
 
 use crate::key_text::append_end;
-use jsonb_value::parts::append_text_key;
-use jsonb_value::sort_key::kind;
+use jsonb_core::parts::append_text_key;
+use jsonb_core::sort_key::kind;
 use memchr::memchr;
 use std::alloc::AllocError;
 use text_scan::parser::Mode;

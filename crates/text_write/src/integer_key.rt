@@ -10,9 +10,9 @@ ghost use Rattle.text_write.specs.IntegerKey.{digit_bytes, last_byte, more_byte,
 
 use crate::key::KeySink;
 use crate::short::append_part;
-use jsonb_value::sort_key::kind;
+use jsonb_core::bytes::byte_at;
+use jsonb_core::sort_key::kind;
 use std::alloc::AllocError;
-use text_scan::parser::number::byte_at;
 
 // The byte of two digits behind which others are that aren't all zeros.
 #[inline(always)]

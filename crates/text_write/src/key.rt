@@ -5,17 +5,17 @@ ghost use Rattle.std.specs.Option.{is_some};
 use crate::contents::Contents;
 use crate::escaped_key::append_escaped_key;
 use crate::key_text::{append_key_text, append_with_kind};
-use crate::object::Site;
-use crate::open_members::{OpenMembers, Repeat, Unsettled};
 use crate::sink::Sink;
 use crate::text::Part;
-use jsonb_value::error::Error;
-use jsonb_value::number::Number;
-use jsonb_value::parts::{append_number_key, append_text_key};
-use jsonb_value::sort_key::kind;
+use jsonb_core::error::Error;
+use jsonb_core::number::Number;
+use jsonb_core::parts::{append_number_key, append_text_key};
+use jsonb_core::sort_key::kind;
 use std::alloc::{AllocError, Global};
 use std::borrow::CowStr;
 use text_common::verbatim::Verbatim;
+use text_members::object::Site;
+use text_members::open_members::{OpenMembers, Repeat, Unsettled};
 use text_scan::parser::Mode;
 
 /// What is written of a sort key, behind the bytes that a buffer held before.
@@ -28,20 +28,20 @@ pub struct KeySink<'a> {
 }
 
 impl<'a> KeySink<'a> {
-    ghost use Rattle.text_scan.specs.Open.{Open};
-    ghost use Rattle.text_scan.specs.Open.Open.{members_so_far};
+    ghost use Rattle.text_common.specs.Open.{Open};
+    ghost use Rattle.text_common.specs.Open.Open.{members_so_far};
     ghost use Rattle.jsonb_spec.specs.Source.{Found, Source};
     ghost use Rattle.jsonb_spec.specs.SortKey.Kind as kind;
     ghost use Rattle.jsonb_spec.specs.SortKey.{number_key, text_key};
     ghost use Rattle.jsonb_spec.specs.Text.{in_quotes};
     ghost use Rattle.jsonb_spec.specs.Tree.{Mark};
     ghost use Rattle.jsonb_spec.specs.Tree.Mark.{plain};
-    ghost use Rattle.jsonb_value.specs.View.{number_view};
+    ghost use Rattle.jsonb_core.specs.View.{number_view};
     ghost use Rattle.text_write.specs.Contents.{text_of_contents};
     ghost use Rattle.text_write.specs.KeySink.{Closes, Held, IsSettled, PreservesMembers, KeyFilled, KeyHolds, Writes, base_of, part_key};
     ghost use Rattle.text_write.specs.KeySink.Held.{items, members};
-    ghost use Rattle.text_write.specs.Members.{source_key};
-    ghost use Rattle.text_write.specs.OpenMembers.{ReportsRepeatOf};
+    ghost use Rattle.text_members.specs.Members.{source_key};
+    ghost use Rattle.text_members.specs.OpenMembers.{ReportsRepeatOf};
     ghost use Rattle.jsonb_spec.specs.Text.StringText.{ArePlain};
     ghost use Rattle.text_write.specs.TextSink.{IsEncoded};
 

@@ -4,7 +4,7 @@ ghost use Rattle.jsonb_spec.specs.SortKey.Kind as kind;
 ghost use Rattle.jsonb_spec.specs.Text.Appending.{Extends};
 
 use crate::short::{append_first, append_part};
-use jsonb_value::sort_key::kind;
+use jsonb_core::sort_key::kind;
 use std::alloc::AllocError;
 
 // Appends the first bytes of a row, and the end of a text.

@@ -4,13 +4,13 @@ ghost use Rattle.std.specs.Option.{option_and_then, option_map, unwrap_or};
 
 use crate::check::CheckSink;
 use crate::contents::Contents;
-use crate::open_members::{OpenMembers, Repeat, Unsettled};
 use crate::sink::Sink;
 use crate::text::{Part, TextSink};
+use jsonb_core::error::Error;
 use jsonb_path::index_of;
-use jsonb_value::error::Error;
 use std::alloc::{AllocError, Global};
 use text_common::verbatim::Verbatim;
+use text_members::open_members::{OpenMembers, Repeat, Unsettled};
 use text_scan::parser::Mode;
 
 /// What is held of an array: whether it has no items yet, whether the one on the path is still to come, and how many
@@ -108,8 +108,8 @@ pub struct PartSink<'a> {
 }
 
 impl<'a> PartSink<'a> {
-    ghost use Rattle.text_scan.specs.Open.{Open};
-    ghost use Rattle.text_scan.specs.Open.Open.{elements_so_far};
+    ghost use Rattle.text_common.specs.Open.{Open};
+    ghost use Rattle.text_common.specs.Open.Open.{elements_so_far};
     ghost use Rattle.jsonb_spec.specs.Source.{Source};
     ghost use Rattle.text_write.specs.PartSink.{InnerEnds, IsAhead, IsAround, IsWritten, Leads, PartFilled, PartHeld, PartHolds, ahead_of, base_and_keys, first_index, first_key, follow_key, keys_of, level_of, path_behind, other_keys, part_of, rest_at};
     ghost use Rattle.text_write.specs.PartSink.PartHeld.{array_held, object_held};

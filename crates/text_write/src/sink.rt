@@ -2,7 +2,7 @@
 ghost use Rattle.std.specs.Prelude.{◌≡◌, ◌+◌, ◌-◌, ◌^◌, ◌<◌, ◌++◌, ◌∷◌, [], ℕ, List, Bool, true, false, length, slice_range, IfOk, MatchBool, MatchOption, OnOk};
 ghost use Rattle.text_scan.specs.Answer.{mode_of};
 ghost use Rattle.text_scan.specs.Decoding.{ReportsBackslash};
-ghost use Rattle.text_scan.specs.Open.{Open, elements_so_far, members_so_far};
+ghost use Rattle.text_common.specs.Open.{Open, elements_so_far, members_so_far};
 ghost use Rattle.text_scan.specs.Parsing.String.{body_of};
 ghost use Rattle.jsonb_spec.specs.Source.{Found, Source, array_source_of, found_member};
 ghost use Rattle.jsonb_spec.specs.Text.{in_quotes};
@@ -10,18 +10,18 @@ ghost use Rattle.jsonb_spec.specs.Text.StringText.{ArePlain};
 ghost use Rattle.jsonb_spec.specs.Tree.{Mark};
 ghost use Rattle.jsonb_spec.specs.Tree.Mark.{plain};
 ghost use Rattle.text_write.specs.Contents.{ChecksAs};
-ghost use Rattle.text_write.specs.OpenMembers.{EndsObject, ReportsRepeatOf};
+ghost use Rattle.text_members.specs.OpenMembers.{EndsObject, ReportsRepeatOf};
 ghost use Rattle.text_write.specs.PartSink.{HasNoParts};
 ghost use Rattle.text_write.specs.TextSink.{IsEncoded, SeesPart};
-ghost use Rattle.text_write.specs.declared.open_members.OpenMembers.{OpenMembers};
+ghost use Rattle.text_members.specs.declared.open_members.OpenMembers.{OpenMembers};
 ghost use Rattle.text_common.specs.VerbatimScalar.{IsVerbatimAt};
 
 use crate::contents::Contents;
-use crate::open_members::{OpenMembers, Repeat, Unsettled};
 use crate::text::Part;
-use jsonb_value::error::Error;
+use jsonb_core::error::Error;
 use std::alloc::AllocError;
 use text_common::verbatim::Verbatim;
+use text_members::open_members::{OpenMembers, Repeat, Unsettled};
 use text_scan::parser::Mode;
 
 /// What a text's value is written to, part by part.

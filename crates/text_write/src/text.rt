@@ -4,15 +4,15 @@ ghost use Rattle.std.specs.Option.{is_some};
 ghost use Rattle.text_common.specs.EncodedNumber.{StaysEncoded};
 
 use crate::contents::Contents;
-use crate::open_members::{OpenMembers, Repeat, Unsettled};
 use crate::sink::Sink;
 use crate::written::Written;
-use jsonb_value::error::Error;
-use jsonb_value::number::Number;
-use jsonb_value::plain::is_plain;
+use jsonb_core::error::Error;
+use jsonb_core::number::Number;
+use jsonb_core::plain::is_plain;
 use std::alloc::{AllocError, Global};
 use std::borrow::CowStr;
 use text_common::verbatim::Verbatim;
+use text_members::open_members::{OpenMembers, Repeat, Unsettled};
 use text_scan::parser::Mode;
 
 /// A value that holds no others and is to be written, or one that is written.
@@ -51,8 +51,8 @@ fn is_verbatim(number: &Number) -> bool
 }
 
 impl<'a> TextSink<'a> {
-    ghost use Rattle.text_scan.specs.Open.{Open};
-    ghost use Rattle.text_scan.specs.Open.Open.{members_so_far};
+    ghost use Rattle.text_common.specs.Open.{Open};
+    ghost use Rattle.text_common.specs.Open.Open.{members_so_far};
     ghost use Rattle.jsonb_spec.specs.Source.{Found, Source};
     ghost use Rattle.jsonb_spec.specs.Grammar.StandardNumber.{IsStandardNumber};
     ghost use Rattle.jsonb_spec.specs.Text.{in_quotes};
@@ -60,10 +60,10 @@ impl<'a> TextSink<'a> {
     ghost use Rattle.jsonb_spec.specs.Text.StringText.{ArePlain, quoted_text};
     ghost use Rattle.jsonb_spec.specs.Tree.{Mark};
     ghost use Rattle.jsonb_spec.specs.Tree.Mark.{plain};
-    ghost use Rattle.jsonb_value.specs.View.{number_view};
+    ghost use Rattle.jsonb_core.specs.View.{number_view};
     ghost use Rattle.text_write.specs.OpenText.{comma_unless};
     ghost use Rattle.text_common.specs.SourceText.{source_text};
-    ghost use Rattle.text_write.specs.OpenMembers.{ReportsRepeatOf};
+    ghost use Rattle.text_members.specs.OpenMembers.{ReportsRepeatOf};
     ghost use Rattle.text_write.specs.TextSink.{Closes, Held, IsSettled, PreservesMembers, IsEncoded, TextFilled, TextHolds, Writes, base_of, part_text};
     ghost use Rattle.text_write.specs.TextSink.Held.{items, members};
 

@@ -35,7 +35,7 @@ impl<'a> TextSink<'a> {
 
 impl<'a> KeySink<'a> {
     ghost use Rattle.text_write.specs.KeySink.{Writes, base_of};
-    ghost use Rattle.text_write.specs.Members.{source_key};
+    ghost use Rattle.text_members.specs.Members.{source_key};
 
     // Writes a scalar that is there in the text.
     #[inline(always)]

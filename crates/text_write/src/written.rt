@@ -4,12 +4,12 @@ ghost use Rattle.std.specs.Prelude.{◌≡◌, ◌+◌, ◌<◌, ◌≤◌, ◌+
 
 use crate::contents::Contents;
 use crate::escaped::append_contents;
-use crate::object::Site;
-use crate::open_members::{OpenMembers, Repeat, Unsettled};
 use crate::short::append_first;
-use jsonb_value::number::Number;
-use jsonb_value::parts::{append_number, append_string};
+use jsonb_core::number::Number;
+use jsonb_core::parts::{append_number, append_string};
 use std::alloc::AllocError;
+use text_members::object::Site;
+use text_members::open_members::{OpenMembers, Repeat, Unsettled};
 
 /// What is written: the buffer, and the text from one index to another.
 #[derive(Drop)]
@@ -26,9 +26,9 @@ impl<'a> Written<'a> {
     ghost use Rattle.jsonb_spec.specs.Text.Appending.{Extends};
     ghost use Rattle.jsonb_spec.specs.Text.NumberText.{number_text};
     ghost use Rattle.jsonb_spec.specs.Text.StringText.{quoted_text};
-    ghost use Rattle.jsonb_value.specs.View.{number_view};
+    ghost use Rattle.jsonb_core.specs.View.{number_view};
     ghost use Rattle.text_write.specs.Contents.{text_of_contents};
-    ghost use Rattle.text_write.specs.OpenMembers.{AreSame, PutsInOrder};
+    ghost use Rattle.text_members.specs.OpenMembers.{AreSame, PutsInOrder};
     ghost use Rattle.text_write.specs.Written.{bytes_of};
 
     /// A buffer, and no part of the text.

@@ -4,7 +4,7 @@ use Rattle.jsonb_spec.specs.Order.{bytes_cmp, tree_cmp}
 use Rattle.jsonb_spec.specs.Proper.{IsProper}
 use Rattle.jsonb_spec.specs.Tree.{Tree}
 use Rattle.jsonb_spec.specs.SortKey.{key_of}
-use Rattle.jsonb_value.proofs.SortKeys.Trees.{keys_order}
+use Rattle.jsonb_core.proofs.SortKeys.Trees.{keys_order}
 use Rattle.jsonb.proofs.Documents.Bounds.{document_proper}
 use Rattle.vjson_text.specs.Texts.{IsTextOf}
 use Rattle.text_scan.specs.Answer.{grammar_of}

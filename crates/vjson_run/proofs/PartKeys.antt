@@ -11,8 +11,8 @@ use Rattle.jsonb_spec.specs.SortKey.{key_of}
 use Rattle.jsonb_spec.specs.Text.Range.{IsWithin, AreWithin, HaveWithin, HasFewDigits, IsInRangeOf}
 use Rattle.jsonb_spec.specs.Text.{text_of}
 use Rattle.jsonb_spec.specs.Tree.{Tree, null, boolean, string, number, array, object, Trees, no_trees, more_trees, Members, no_members, more_members}
-use Rattle.jsonb_value.proofs.SortKeys.Trees.{keys_same}
-use Rattle.jsonb_value.proofs.Trees.RangeTexts.{document_in_range, integer_range, range_reads_back}
+use Rattle.jsonb_core.proofs.SortKeys.Trees.{keys_same}
+use Rattle.jsonb_core.proofs.Trees.RangeTexts.{document_in_range, integer_range, range_reads_back}
 use Rattle.jsonb.proofs.Documents.Bounds.{document_proper}
 use Rattle.jsonb.proofs.Documents.Encodings.{document_unique}
 use Rattle.vjson_text.specs.Texts.{AppendsKeyOf, IsTextOf}

@@ -1,6 +1,6 @@
 -- What is laid out of a text is laid out of it again.
 use Rattle.std.proofs.Common.{ℕ, List, [], sym, subst, ◌∙◌}
-use Rattle.jsonb_value.proofs.Trees.RangeTexts.{document_in_range, document_text_reads_back}
+use Rattle.jsonb_core.proofs.Trees.RangeTexts.{document_in_range, document_text_reads_back}
 use Rattle.text_pretty.proofs.ReadsBack.{range_lines_again}
 use Rattle.text_scan.specs.Answer.{grammar_of}
 use Rattle.text_scan.specs.declared.parser.Grammar.{Grammar}

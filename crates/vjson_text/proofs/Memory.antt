@@ -5,8 +5,8 @@ use Rattle.jsonb.specs.Appends.{LacksCapacityForKey, LacksCapacityForText}
 use Rattle.jsonb_spec.specs.SortKey.{key_of}
 use Rattle.jsonb_spec.specs.Text.{text_of, tree_text}
 use Rattle.jsonb_spec.specs.Tree.{Tree}
-use Rattle.jsonb_value.specs.declared.error.Error.{Error}
-use Rattle.jsonb_value.specs.declared.error.Error.TheVariants.{OutOfMemory, UnexpectedType}
+use Rattle.jsonb_core.specs.declared.error.Error.{Error}
+use Rattle.jsonb_core.specs.declared.error.Error.TheVariants.{OutOfMemory, UnexpectedType}
 use Rattle.text_scan.specs.Answer.{grammar_of, MayAllocate}
 use Rattle.text_scan.specs.declared.parser.Grammar.{Grammar}
 use Rattle.vjson_text.specs.Memory.{LacksSpace}

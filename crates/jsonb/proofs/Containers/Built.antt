@@ -25,7 +25,7 @@ use Rattle.text_common.proofs.Repeats.{no_repeat}
 use Rattle.text_parse.proofs.Containers.Sources.{array_tree, object_tree}
 use Rattle.text_parse.proofs.Containers.Values.{same_keys}
 use Rattle.jsonb.proofs.Offsets.Views.{source-Array}
-use Rattle.jsonb_value.proofs.Trees.MembersInOrder.{IsNew}
+use Rattle.jsonb_core.proofs.Trees.MembersInOrder.{IsNew}
 
 -- ---- values in turn
 

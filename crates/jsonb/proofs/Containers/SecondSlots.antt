@@ -6,7 +6,7 @@ use Rattle.std.proofs.lemmas.Bool.{cond-false, cond-true}
 use Rattle.jsonb_spec.specs.Source.{Spot, adjacent_repeat, first_repeat, spot_cmp}
 use Rattle.text_scan.proofs.Steps.Tests.{chosen}
 use Rattle.text_common.proofs.Repeats.{AreSorted, IsLow, below, insert_spot, key_cmp, keys, new-below, other_key, same_key, sort_spots, sorted-sort}
-use Rattle.jsonb_value.proofs.Trees.MembersInOrder.{IsNew}
+use Rattle.jsonb_core.proofs.Trees.MembersInOrder.{IsNew}
 
 -- ---- how many spots pass a test
 

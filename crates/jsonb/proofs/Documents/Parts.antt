@@ -4,14 +4,14 @@ use Rattle.std.proofs.lemmas.Bool.{and_parts}
 use Rattle.std.specs.Option.{option_and_then, option_map, unwrap_or}
 use Rattle.std.specs.Prelude.{IsErrOf}
 use Rattle.std.specs.Str.{bytes_eq}
-use Rattle.jsonb_value.specs.declared.error.Error.{Error}
-use Rattle.jsonb_value.specs.declared.error.Error.TheVariants.{OutOfMemory, UnexpectedType}
+use Rattle.jsonb_core.specs.declared.error.Error.{Error}
+use Rattle.jsonb_core.specs.declared.error.Error.TheVariants.{OutOfMemory, UnexpectedType}
 use Rattle.jsonb_spec.specs.Accessors.{find_member, item_at}
 use Rattle.jsonb_spec.specs.Grammar.{IsDocument}
 use Rattle.jsonb_spec.specs.Mode.{Mode}
 use Rattle.jsonb_spec.specs.Text.{has_text, items_have_texts, members_have_texts, text_of, tree_text}
 use Rattle.jsonb_spec.specs.Tree.{Tree, array, object, Trees, no_trees, more_trees, Members, no_members, more_members}
-use Rattle.jsonb_value.proofs.Trees.DocumentTexts.{text_of-has_text}
+use Rattle.jsonb_core.proofs.Trees.DocumentTexts.{text_of-has_text}
 use Rattle.jsonb_spec.specs.PartAt.{child_at, index_named, part_at}
 use Rattle.jsonb.specs.Appends.{AppendsPart, AppendsPartOf, IsParsed, LacksCapacityForPart}
 use Rattle.jsonb.proofs.Documents.Straight.{text_there}

@@ -7,7 +7,7 @@ use Rattle.std.proofs.lemmas.Bool.{cases_lt, or_cases}
 use Rattle.std.proofs.lemmas.Nat.Bits.{bit_at-lt, bit_at_or}
 use Rattle.memchr.specs.Find.{IsFirstByte, is_byte2}
 use Rattle.jsonb_spec.specs.Grammar.StandardNumber.{IsExponentMark}
-use Rattle.jsonb_value.proofs.Trees.Runs.{heads, tails}
+use Rattle.jsonb_core.proofs.Trees.Runs.{heads, tails}
 use Rattle.jsonb.specs.EndZeros.{ends_in_zero, HasNoMark, IsMark, IsSplitAtMark, PassesMark}
 
 -- The bytes begin with an exponent that moves the point to the left.

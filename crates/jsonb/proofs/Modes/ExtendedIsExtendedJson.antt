@@ -18,7 +18,7 @@ use Rattle.jsonb_spec.specs.Grammar.StringBody.{Item, raw, escape, unit, IsItem}
 use Rattle.jsonb_spec.specs.Mode.{extended, extended_json}
 use Rattle.jsonb_spec.specs.Number.Signed.{signed_by}
 use Rattle.jsonb_spec.specs.Tree.{int64, uint64, decimal64, decimal128, Num, Tree}
-use Rattle.jsonb_value.proofs.Numbers.InRange.{digits-append}
+use Rattle.jsonb_core.proofs.Numbers.InRange.{digits-append}
 use Rattle.text_scan.proofs.Numbers.Forms.{size_is, below_power}
 use Rattle.text_scan.proofs.Numbers.Steps.{is_below, is_not_below}
 use Rattle.jsonb.proofs.Modes.LeafByLeaf.{HasLeaves, same_document}

@@ -28,7 +28,7 @@ use Rattle.text_scan.proofs.Text.Whitespace.{pass-whitespace, pass-stop, skip-sk
 use Rattle.text_parse.proofs.Containers.Values.{IsValueComplete, member_skip, value_is_complete}
 use Rattle.text_parse.proofs.Scalars.Encodings.{Follows, no_more, before, break_ends, key_complete, number_opens}
 use Rattle.text_parse.proofs.Scalars.FirstBytes.{number_here}
-use Rattle.jsonb_value.proofs.Trees.StandardInExtended.{standard_is_extended}
+use Rattle.jsonb_core.proofs.Trees.StandardInExtended.{standard_is_extended}
 use Rattle.jsonb.proofs.Documents.Encodings.{document_unique}
 use Rattle.jsonb.proofs.Modes.ExtendedIsExtendedJson.{extended_is_extended_json}
 use Rattle.jsonb.proofs.Modes.JsonIsExtendedJson.{json_is_extended_json}

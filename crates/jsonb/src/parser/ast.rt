@@ -12,8 +12,8 @@ mod equality;
 mod into_value;
 
 use super::{Grammar, Mode};
-use jsonb_value::error::{Error, Result};
-use jsonb_value::number::Number;
+use jsonb_core::error::{Error, Result};
+use jsonb_core::number::Number;
 use std::alloc::Global;
 use std::borrow::CowStr;
 use text_parse::parse_text;

@@ -9,7 +9,7 @@ ghost use Rattle.jsonb.specs.Parses.{AppendsParsed, Rejects};
 
 use super::Grammar;
 use super::straight::{may_allocate, write_form, write_form_of_value};
-use jsonb_value::error::{Error, Result};
+use jsonb_core::error::{Error, Result};
 use memchr::memchr;
 use std::alloc::Global;
 use std::mem;

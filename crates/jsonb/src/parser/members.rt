@@ -6,7 +6,7 @@ ghost use Rattle.jsonb_spec.specs.Source.{first_repeat, object_source, source_me
 ghost use Rattle.jsonb.specs.Source.{found_of};
 
 use super::JsonAst;
-use jsonb_value::error::{Error, ParseErrorCode, Result};
+use jsonb_core::error::{Error, ParseErrorCode, Result};
 use std::alloc::Global;
 use std::borrow::CowStr;
 use std::cmp::Ordering;

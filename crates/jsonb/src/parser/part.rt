@@ -10,7 +10,7 @@ use super::handler::SinkPart;
 use super::straight::may_allocate;
 use super::{Grammar, parse_value_in};
 use crate::part::part_at;
-use jsonb_value::error::{Error, Result};
+use jsonb_core::error::{Error, Result};
 use jsonb_value::value::Value;
 use std::alloc::Global;
 use std::mem;

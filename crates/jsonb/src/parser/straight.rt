@@ -10,7 +10,7 @@ ghost use Rattle.jsonb.specs.Parses.{AppendsParsed, Rejects};
 
 use super::handler::{CheckedPart, SinkPart};
 use super::{Grammar, parse_value_in};
-use jsonb_value::error::{Error, Result};
+use jsonb_core::error::{Error, Result};
 use memchr::memchr3;
 use std::alloc::Global;
 use std::mem;

@@ -14,10 +14,10 @@ use Rattle.jsonb_spec.specs.Proper.{FitsWhole, IsProperNumber}
 use Rattle.jsonb_spec.specs.SortKey.{byte_key, digit_count, digits_key, items_key, key_of, magnitude_key, members_key, number_key, exponent_key, text_key, invert_if}
 use Rattle.jsonb_spec.specs.SortKey.Size.{exponent_len, member_len, most_pairs, zero_count}
 use Rattle.jsonb_spec.specs.Tree.{Form, int64, uint64, decimal64, decimal128, Mark, Num, string, array, object, Trees, no_trees, more_trees, Members, no_members, more_members}
-use Rattle.jsonb_value.proofs.SortKeys.Counts.{HasDigits, digits_counted, far, near, power_le}
-use Rattle.jsonb_value.proofs.SortKeys.Digits.{last_pair, more_pairs, ten}
-use Rattle.jsonb_value.proofs.SortKeys.Kinds.{is_small}
-use Rattle.jsonb_value.proofs.SortKeys.Numbers.{key_of_zero}
+use Rattle.jsonb_core.proofs.SortKeys.Counts.{HasDigits, digits_counted, far, near, power_le}
+use Rattle.jsonb_core.proofs.SortKeys.Digits.{last_pair, more_pairs, ten}
+use Rattle.jsonb_core.proofs.SortKeys.Kinds.{is_small}
+use Rattle.jsonb_core.proofs.SortKeys.Numbers.{key_of_zero}
 
 -- ---- numbers
 

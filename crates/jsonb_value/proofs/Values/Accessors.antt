@@ -9,12 +9,13 @@ use Rattle.jsonb_spec.specs.Accessors.{trees_len, find_member, item_at, key_tree
 use Rattle.std.specs.Cow.{cow_str_bytes}
 use Rattle.std.specs.declared.borrow.CowStr.{CowStr}
 use Rattle.jsonb_spec.specs.Tree.{null, boolean, string, number, binary, date, timestamp, timestamp_tz, interval, array, object, escaped, more_trees, trees_of}
-use Rattle.jsonb_value.specs.View.{view, trees_view, members_view, mark_view, number_view}
+use Rattle.jsonb_core.specs.View.{mark_view, number_view}
+use Rattle.jsonb_value.specs.View.{view, trees_view, members_view}
 use Rattle.jsonb_value.specs.declared.extension.Date.{Date}
 use Rattle.jsonb_value.specs.declared.extension.Interval.{Interval}
 use Rattle.jsonb_value.specs.declared.extension.Timestamp.{Timestamp}
 use Rattle.jsonb_value.specs.declared.extension.TimestampTz.{TimestampTz}
-use Rattle.jsonb_value.specs.declared.number.Number.{Number}
+use Rattle.jsonb_core.specs.declared.number.Number.{Number}
 use Rattle.jsonb_value.specs.declared.value.Value.{Value, Null, Bool as Bool', String as String', Number as Number', Binary, Date as Date', Timestamp as Timestamp', TimestampTz as TimestampTz', Interval as Interval', Array, Object, the_lemmas}
 use Rattle.jsonb_value.proofs.Values.Members.{Entry}
 

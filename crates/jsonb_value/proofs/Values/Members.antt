@@ -1,13 +1,12 @@
 -- A map's entries beside the members that they mean.
-use Rattle.std.proofs.Common.{◌≡◌, ℕ, List, [], ◌∷◌, ◌++◌, String, Global, Ordering, Less, Equal, Greater, string_bytes, string_cmp, nat_cmp, refl, sym, ap, subst, append_assoc, append-nil, ◌∙◌}
-use Rattle.std.proofs.lemmas.Cmp.{nat_list_cmp_total}
+use Rattle.std.proofs.Common.{◌≡◌, ℕ, List, [], ◌∷◌, ◌++◌, String, Global, Ordering, Less, Equal, Greater, string_bytes, string_cmp, refl, sym, ap, subst, append_assoc, append-nil, ◌∙◌}
 use Rattle.std.specs.BTreeMap.{insert_entry}
-use Rattle.std.specs.Cmp.Lexicographic.{slice_cmp}
 use Rattle.std.specs.List.{AllByRecursion}
 use Rattle.std.specs.List.Sorted.{IsStrictlySortedBy}
 use Rattle.std.specs.Map.{keys_of}
-use Rattle.std.specs.Ordering.{match_ordering, ordering_reverse}
+use Rattle.std.specs.Ordering.{match_ordering}
 use Rattle.jsonb_spec.specs.Tree.{no_members, more_members, put, put_all}
+use Rattle.jsonb_core.proofs.Trees.MembersInOrder.{turned}
 use Rattle.jsonb_value.specs.View.{view, members_view, pairs_view}
 use Rattle.jsonb_value.specs.declared.value.Value.{Value}
 
@@ -28,9 +27,6 @@ members_view-insert_entry (e ∷ es) k v =
 at_middle : (P : String Global → Type 0) (es : List Entry) (e : Entry) (more : List Entry) → AllByRecursion P (keys_of (es ++ e ∷ more)) → P e.0
 at_middle P [] e more h = h.0
 at_middle P (x ∷ es) e more h = at_middle P es e more h.1
-
-pub turned : (xs ys : List ℕ) → slice_cmp nat_cmp xs ys ≡ Less → slice_cmp nat_cmp ys xs ≡ Greater
-turned xs ys e = nat_list_cmp_total.antisymm ys xs ∙ ap ordering_reverse e
 
 -- a key above all others goes last
 put_last : (done : List Entry) (e : Entry) (more : List Entry) → IsStrictlySortedBy string_cmp (keys_of (done ++ e ∷ more))

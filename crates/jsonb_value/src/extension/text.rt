@@ -12,9 +12,9 @@ ghost use Rattle.jsonb_spec.specs.Text.NumberText.{zero_padded};
 ghost use Rattle.jsonb_value.specs.View.{extension_view};
 
 use super::{ExtensionValue, Interval};
-use crate::error::{Error, Result};
-use crate::number::text::sign_of;
 use itoa::Buffer;
+use jsonb_core::error::{Error, Result};
+use jsonb_core::parts::sign_of;
 use std::alloc::AllocError;
 use std::fmt;
 use std::fmt::InlineText;

@@ -6,13 +6,14 @@ ghost use Rattle.jsonb_spec.specs.Order.{rank};
 ghost use Rattle.std.specs.Int.{w64};
 ghost use Rattle.jsonb_spec.specs.Accessors.{IsWholeNumber, as_null, as_boolean, as_number, as_string, as_array, as_object, as_binary, as_date, as_timestamp, as_timestamp_tz, as_interval, trees_len, find_member, get_by_name, get_by_index, get_ignore_case, key_trees};
 ghost use Rattle.jsonb_spec.specs.Tree.{array};
-ghost use Rattle.jsonb_value.specs.View.{view, trees_view, members_view, number_view, mark_view};
+ghost use Rattle.jsonb_core.specs.View.{number_view, mark_view};
+ghost use Rattle.jsonb_value.specs.View.{view, trees_view, members_view};
 
 use super::order::rank;
 use super::{Object, Value};
-use crate::error::{Error, Result};
 use crate::extension::{Date, Interval, Timestamp, TimestampTz};
-use crate::number::Number;
+use jsonb_core::error::{Error, Result};
+use jsonb_core::number::Number;
 use std::alloc::Global;
 use std::borrow::CowStr;
 

@@ -4,10 +4,11 @@ ghost use Rattle.jsonb_spec.specs.Accessors.{HoldsNoMemory};
 ghost use Rattle.jsonb_spec.specs.Tree.{escaped};
 ghost use Rattle.std.specs.Cow.{cow_str_bytes};
 ghost use Rattle.jsonb_spec.specs.Keys.{KeysAscend};
-ghost use Rattle.jsonb_value.specs.View.{view, trees_view, members_view, mark_view};
+ghost use Rattle.jsonb_core.specs.View.{mark_view};
+ghost use Rattle.jsonb_value.specs.View.{view, trees_view, members_view};
 
 use super::{Object, Value};
-use crate::number::Number;
+use jsonb_core::number::Number;
 use std::alloc::{AllocError, Global};
 use std::borrow::CowStr;
 use std::default::Emptied;

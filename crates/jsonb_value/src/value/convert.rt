@@ -1,7 +1,7 @@
 //! Values of Rust's own types, and of numbers, items and members. None allocates: what owns its memory is moved.
 
 use super::{Object, Value};
-use crate::number::Number;
+use jsonb_core::number::Number;
 use std::borrow::CowStr;
 
 impl From<bool> for Value<'_> {

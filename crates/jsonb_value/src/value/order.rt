@@ -8,7 +8,7 @@ ghost use Rattle.jsonb_spec.specs.Order.{rank, tree_cmp, trees_cmp, members_cmp,
 ghost use Rattle.jsonb_spec.specs.Order.ByContent.{IsByContent};
 ghost use Rattle.std.specs.declared.ops.Bound.TheVariants.{Excluded};
 ghost use Rattle.jsonb_value.specs.Order.Bounds.{from_bound};
-ghost use Rattle.jsonb_value.specs.Order.Laws.{tree_cmp_total};
+ghost use Rattle.jsonb_core.specs.Order.Laws.{tree_cmp_total};
 ghost use Rattle.jsonb_value.specs.View.{view, trees_view, members_view};
 
 use super::{Object, Value};

@@ -5,11 +5,12 @@ ghost use Rattle.std.specs.Result.{IsErrOf};
 ghost use Rattle.jsonb_spec.specs.Owned.{owned_tree, owned_items, owned_members, holds_binary, items_hold_binary, members_hold_binary};
 ghost use Rattle.jsonb_spec.specs.Accessors.{HoldsNoMemory};
 ghost use Rattle.jsonb_spec.specs.Tree.{escaped};
-ghost use Rattle.jsonb_value.specs.View.{view, trees_view, members_view, mark_view};
+ghost use Rattle.jsonb_core.specs.View.{mark_view};
+ghost use Rattle.jsonb_value.specs.View.{view, trees_view, members_view};
 
 use super::clone::build;
 use super::{Object, Value};
-use crate::error::{Error, Result};
+use jsonb_core::error::{Error, Result};
 use std::alloc::{AllocError, Global};
 use std::borrow::CowStr;
 

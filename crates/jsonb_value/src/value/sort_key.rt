@@ -1,13 +1,13 @@
 //! Sort keys: bytes that compare as the values do.
 ghost use Rattle.std.specs.Prelude.{ℕ, List, ◌≡◌, ◌↔◌, ◌+◌, ◌/◌, ◌^◌, ◌<◌, ◌≤◌, ◌++◌, ◌∷◌, [], length, take, unsigned_abs, IfErr, OnOk, string_bytes, IsTrue};
-ghost use Rattle.std.specs.List.{flat_map, sum_by};
+ghost use Rattle.std.specs.List.{sum_by};
 ghost use Rattle.std.specs.Ordering.{ordering_then};
 ghost use Rattle.std.specs.Str.{IsUtf8};
 ghost use Rattle.jsonb_spec.specs.Order.{bytes_cmp, tree_cmp, Same};
 ghost use Rattle.jsonb_spec.specs.Order.ByContent.{items_of, pairs_of};
 ghost use Rattle.jsonb_spec.specs.Keys.{KeysAscend};
 ghost use Rattle.jsonb_spec.specs.Proper.{IsProperNumber, IsProper, AreProper, HaveProperParts};
-ghost use Rattle.jsonb_spec.specs.SortKey.{byte_key, text_key, key_of_32_bits, key_of_64_bits, key_of, items_key, members_key};
+ghost use Rattle.jsonb_spec.specs.SortKey.{text_key, key_of_32_bits, key_of_64_bits, key_of, items_key, members_key};
 ghost use Rattle.jsonb_spec.specs.SortKey.Kind as kind;
 ghost use Rattle.jsonb_spec.specs.SortKey.Size.{exponent_len, member_len, most_pairs, zero_count};
 ghost use Rattle.jsonb_spec.specs.Text.Appending.{Appends, AppendsAllOrNothing};
@@ -15,10 +15,9 @@ ghost use Rattle.jsonb_spec.specs.Tree.{Mark, Num, Tree, Trees, Members, number,
 ghost use Rattle.jsonb_value.specs.View.{view, trees_view, members_view};
 
 use super::{Object, Value};
-use crate::error::{Error, Result};
-use crate::plain::run_len;
-use crate::sort_key::kind;
-use memchr::memchr;
+use jsonb_core::error::{Error, Result};
+use jsonb_core::parts::{append_bytes_key, append_number_key, append_text_key};
+use jsonb_core::sort_key::kind;
 use std::alloc::AllocError;
 
 /// Keys compare as the values do, byte by byte; they are equal exactly where the values are; none is a prefix of
@@ -103,7 +102,7 @@ fn append<'a>(value: &Value<'a>, buf: &mut Vec<u8>) -> Appended
         ),
         Value::Bool(false) => buf.extend_from_slice(&[kind::FALSE]),
         Value::Bool(true) => buf.extend_from_slice(&[kind::TRUE]),
-        Value::Number(number) => number.append_sort_key(buf),
+        Value::Number(number) => append_number_key(number, buf),
         Value::String(text) => append_text(kind::STRING, text.as_bytes(), buf),
         Value::Object(members) => append_members(members, buf),
         Value::Array(items) => append_items(items, buf),
@@ -142,15 +141,7 @@ fn append_text(kind: u8, bytes: &[u8], buf: &mut Vec<u8>) -> Appended
     ensures appends { Appends result buf.old buf.new (kind ∷ text_key bytes.now) }
 {
     buf.extend_from_slice(&[kind])?;
-    append_closed(bytes, buf)
-}
-
-// Appends a text and what closes it.
-pub(crate) fn append_closed(bytes: &[u8], buf: &mut Vec<u8>) -> Appended
-    ensures appends { Appends result buf.old buf.new (text_key bytes.now) }
-{
-    append_escaped(bytes, buf)?;
-    buf.extend_from_slice(&[kind::TERMINATOR, kind::TEXT_END])
+    append_bytes_key(bytes, buf)
 }
 
 // Appends a member's key.
@@ -159,61 +150,7 @@ fn append_key(key: &String, buf: &mut Vec<u8>) -> Appended
     ensures appends { Appends result buf.old buf.new (text_key (string_bytes key.now)) }
     ensures utf8 { IsUtf8 (string_bytes key.now) }
 {
-    append_closed(key.as_str().as_bytes(), buf)
-}
-
-// Appends a text's bytes. Most texts have no byte that their JSON text escapes, and so no zero.
-#[inline(always)]
-fn append_escaped(bytes: &[u8], buf: &mut Vec<u8>) -> Appended
-    ensures appends { Appends result buf.old buf.new (flat_map byte_key bytes.now) }
-{
-    if !is_plain(bytes) {
-        return append_runs(bytes, buf);
-    }
-    buf.extend_from_slice(bytes)
-}
-
-// Whether a JSON text has all bytes as they are. There is no zero among them then.
-#[inline(always)]
-fn is_plain(bytes: &[u8]) -> bool
-    ensures { IsTrue result → flat_map byte_key bytes.now ≡ bytes.now }
-{
-    run_len(bytes) == bytes.len()
-}
-
-// Appends the key of a text's bytes with zeros. Runs between zeros are copied whole.
-#[inline(never)]
-fn append_runs(bytes: &[u8], buf: &mut Vec<u8>) -> Appended
-    ensures appends { Appends result buf.old buf.new (flat_map byte_key bytes.now) }
-{
-    let mut rest = bytes;
-    'runs: loop {
-        let (run, others) = rest.split_at(first_zero(rest));
-        buf.extend_from_slice(run)?;
-        let Some((byte, more)) = others.split_first() else {
-            return Ok(());
-        };
-        append_byte(*byte, buf)?;
-        rest = more;
-    }
-}
-
-// The index of the first zero, or the number of bytes.
-fn first_zero(bytes: &[u8]) -> usize
-    ensures within { result ≤ length bytes.now }
-    ensures plain { flat_map byte_key (take result bytes.now) ≡ take result bytes.now }
-{
-    memchr(0, bytes).unwrap_or(bytes.len())
-}
-
-fn append_byte(byte: u8, buf: &mut Vec<u8>) -> Appended
-    ensures appends { Appends result buf.old buf.new (byte_key byte) }
-{
-    if byte == 0 {
-        buf.extend_from_slice(&[0, kind::ESCAPED])
-    } else {
-        buf.extend_from_slice(&[byte])
-    }
+    append_text_key(key.as_str(), buf)
 }
 
 // The bytes of an integer of 32 bits.

@@ -1,7 +1,6 @@
 //! The serialized form of a value: JSON without whitespace.
 ghost use Rattle.std.specs.Prelude.{ℕ, List, ◌≡◌, ◌≢◌, ◌↔◌, ◌⊎◌, ◌+◌, ◌<◌, ◌≤◌, ◌++◌, ◌∷◌, [], ◌==◌, if◌then◌else◌, length, take, Some, None, IfErr, IfSome, IsErrOf, OnOk, OnErr, vec_len, string_bytes, FitsSigned};
 ghost use Rattle.std.specs.Int.{w64, w32};
-ghost use Rattle.std.specs.List.{flat_map};
 ghost use Rattle.std.specs.Str.{IsUtf8};
 ghost use Rattle.std.specs.Vec.{vec_capacity};
 ghost use Rattle.jsonb_spec.specs.Ascii as ascii;
@@ -14,16 +13,16 @@ ghost use Rattle.jsonb_spec.specs.Order.{Same};
 ghost use Rattle.jsonb_spec.specs.Proper.{IsProper, AreProper, HaveProperParts};
 ghost use Rattle.jsonb_spec.specs.Text.Range.{IsIntegerRange, IsInRangeOf};
 ghost use Rattle.jsonb_spec.specs.Text.ReadsBack.{StringReadsBack, ReadsBackAs};
-ghost use Rattle.jsonb_spec.specs.Text.StringText.{byte_text, quoted_text};
+ghost use Rattle.jsonb_spec.specs.Text.StringText.{quoted_text};
 ghost use Rattle.jsonb_spec.specs.Text.{has_text, items_have_texts, members_have_texts, in_quotes, tree_text, with_commas, item_texts, member_texts, text_of, AppendsText};
 ghost use Rattle.jsonb_spec.specs.Tree.{Tree};
 ghost use Rattle.jsonb_value.specs.View.{view, trees_view, members_view};
 
 use super::{Object, Value};
-use crate::error::{Error, Result};
 use crate::extension::Interval;
 use crate::extension::text::append_binary;
-use crate::plain::{append_byte, run_len};
+use jsonb_core::error::{Error, Result};
+use jsonb_core::parts::{append_number, append_string};
 use std::alloc::AllocError;
 
 /// A law: a written string is parsed as the same string, in each mode.
@@ -157,7 +156,7 @@ fn append<'a>(value: &Value<'a>, buf: &mut Vec<u8>) -> Appended
         Value::Bool(true) => buf.extend_from_slice(b"true"),
         Value::Bool(false) => buf.extend_from_slice(b"false"),
         Value::String(text) => append_string(text.as_str(), buf),
-        Value::Number(number) => number.append_text(buf),
+        Value::Number(number) => append_number(number, buf),
         Value::Binary(bytes) => append_quoted_binary(*bytes, buf),
         Value::Interval(interval) => append_quoted_interval(interval, buf),
         Value::Array(items) => append_items(items, buf),
@@ -238,42 +237,4 @@ fn append_quoted_interval(interval: &Interval, buf: &mut Vec<u8>) -> Appended
     buf.extend_from_slice(b"\"")?;
     interval.append_text(buf)?;
     buf.extend_from_slice(b"\"")
-}
-
-// Appends a string or a key in double quotes.
-pub(crate) fn append_string(text: &str, buf: &mut Vec<u8>) -> Appended
-    ensures appends { Appends result buf.old buf.new (quoted_text text.now) }
-    ensures utf8 { IsUtf8 text.now }
-{
-    buf.extend_from_slice(b"\"")?;
-    append_escaped(text.as_bytes(), buf)?;
-    buf.extend_from_slice(b"\"")
-}
-
-// Appends a string's bytes, which mostly need no escape.
-#[inline(always)]
-fn append_escaped(bytes: &[u8], buf: &mut Vec<u8>) -> Appended
-    ensures appends { Appends result buf.old buf.new (flat_map byte_text bytes.now) }
-{
-    if run_len(bytes) < bytes.len() {
-        return append_runs(bytes, buf);
-    }
-    buf.extend_from_slice(bytes)
-}
-
-// Appends a string's bytes with their escapes. Runs between escapes are copied whole.
-#[inline(never)]
-fn append_runs(bytes: &[u8], buf: &mut Vec<u8>) -> Appended
-    ensures appends { Appends result buf.old buf.new (flat_map byte_text bytes.now) }
-{
-    let mut rest = bytes;
-    'runs: loop {
-        let (run, others) = rest.split_at(run_len(rest));
-        buf.extend_from_slice(run)?;
-        let Some((byte, more)) = others.split_first() else {
-            return Ok(());
-        };
-        append_byte(*byte, buf)?;
-        rest = more;
-    }
 }

@@ -5,10 +5,10 @@ ghost use Rattle.jsonb_spec.specs.Number.Signed.{signed_by};
 ghost use Rattle.jsonb_spec.specs.Proper.{IsProperNumber};
 ghost use Rattle.jsonb_spec.specs.Text.NumberText.{number_text};
 ghost use Rattle.jsonb_spec.specs.Tree.{Num};
-ghost use Rattle.jsonb_value.specs.View.{number_view};
+ghost use Rattle.jsonb_core.specs.View.{number_view};
 ghost use Rattle.key_document.specs.FromText.{AreDigitsOf, AreDigitsOfNumber, EndsNumber, is_digit, magnitude_from, scale_with, with_digit};
 
-use jsonb_value::number::{Decimal128, Number};
+use jsonb_core::number::{Decimal128, Number};
 use key_zeros::scan::{is_number_byte, zeros_with};
 
 // With one digit more a number above this has no 128 bits with a sign.

@@ -12,8 +12,8 @@ ghost use Rattle.key_text.specs.Writes.{Preserves};
 
 use super::item::{is_name, read_item};
 use crate::error::DocumentError;
-use jsonb_value::plain::plain_len;
-use jsonb_value::sort_key::kind;
+use jsonb_core::plain::plain_len;
+use jsonb_core::sort_key::kind;
 use std::alloc::AllocError;
 
 /// Appends the key of the string inside of which the bytes begin, or of the name where a colon is behind it. The bytes

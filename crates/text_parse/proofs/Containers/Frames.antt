@@ -9,7 +9,7 @@ use Rattle.jsonb_spec.specs.Mode.{Mode, Strictness, strict, lenient, strictness}
 use Rattle.jsonb_spec.specs.Tree.{Mark, Tree}
 use Rattle.jsonb_spec.specs.Tree.Mark.{plain}
 use Rattle.jsonb_spec.specs.Tree.Tree.{null}
-use Rattle.jsonb_value.specs.declared.error.Error.{Error}
+use Rattle.jsonb_core.specs.declared.error.Error.{Error}
 use Rattle.text_parse.specs.declared.parser.Parser.{Parser}
 use Rattle.text_parse.specs.declared.parser.frame.Frame.{Frame}
 use Rattle.text_parse.specs.declared.parser.frame.OpenObject.{OpenObject}
@@ -26,8 +26,8 @@ use Rattle.jsonb_spec.specs.Source.{Found, Source, array_source, found_member, n
 use Rattle.text_scan.specs.Parsing.Document.{alone_at, value_at}
 use Rattle.text_scan.specs.Parsing.Scalar.{scalar_at}
 use Rattle.text_parse.specs.Stack.{elements_from, finish_open, member_start, next_part_at, object_end, part_end, object_members_from, resume, resume_after_part}
-use Rattle.text_scan.specs.Open.{Open, add_part}
-use Rattle.text_scan.specs.Open.{elements_so_far, members_so_far}
+use Rattle.text_common.specs.Open.{Open, add_part}
+use Rattle.text_common.specs.Open.{elements_so_far, members_so_far}
 use Rattle.text_parse.proofs.Containers.OpenOnLists.{array-begun, array-value, element-due, elements-turn, members-turn, object-begun, object-value, on_byte-then, resume-none, resume-part, then-same, then-then, value_plain}
 use Rattle.text_common.proofs.Repeats.{no_repeat}
 use Rattle.text_parse.proofs.Steps.Advancing.{contains_next, goes_on, stays}

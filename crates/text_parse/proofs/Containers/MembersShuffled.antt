@@ -8,7 +8,7 @@ use Rattle.jsonb_spec.specs.Tree.Members.{more_members, no_members}
 use Rattle.text_common.proofs.Repeats.{chained, same_key}
 use Rattle.text_common.proofs.Shuffles.{IsShuffle, distinct-shuffle, shuffle-map}
 use Rattle.text_common.proofs.Shuffles.IsShuffle.{same, preserve, exchange, follow}
-use Rattle.jsonb_value.proofs.Trees.MembersInOrder.{HaveDistinctKeys}
+use Rattle.jsonb_core.proofs.Trees.MembersInOrder.{HaveDistinctKeys}
 
 -- the members with t at k, where k compares with the first key so
 unfoldable put_by : Ordering → List ℕ → Tree → List ℕ → Tree → Members → Members → Members

@@ -13,8 +13,8 @@ use Rattle.jsonb_spec.specs.Source.{Found, Source, array_source, no_source_membe
 use Rattle.text_scan.specs.Parsing.Document.{alone_at, too_deep, value_at, value_with}
 use Rattle.text_scan.specs.Parsing.Scalar.{key_at, scalar_at}
 use Rattle.text_parse.specs.Stack.{array_end, array_within, elements_from, finish_open, member_start, object_members_from, object_end, object_within, parts_after, parts_from, resume}
-use Rattle.text_scan.specs.Open.{Open}
-use Rattle.text_scan.specs.Open.{elements_so_far, members_so_far}
+use Rattle.text_common.specs.Open.{Open}
+use Rattle.text_common.specs.Open.{elements_so_far, members_so_far}
 use Rattle.text_scan.proofs.Containers.JoinedParts.{IsSoundBefore, on_byte-none}
 use Rattle.text_scan.proofs.Text.Whitespace.{length-skip}
 use Rattle.text_parse.proofs.Containers.Values.{IsFound, Seen, element_sound, member_sound, value_sound}

@@ -10,7 +10,7 @@ use Rattle.jsonb_spec.specs.Tree.Tree.{array, boolean, null, number, object, str
 use Rattle.jsonb_spec.specs.Source.{Found, Source, array_source_of, member_of, object_source_of, put_source_members, sort_by, source_alone, source_members_of, sources_of, spot_of, tree_of_source, trees_of_sources}
 use Rattle.text_parse.proofs.Containers.MembersShuffled.{put_all-shuffle}
 use Rattle.text_common.proofs.Shuffles.{shuffle-map, sort-shuffles}
-use Rattle.jsonb_value.proofs.Trees.MembersInOrder.{HaveDistinctKeys}
+use Rattle.jsonb_core.proofs.Trees.MembersInOrder.{HaveDistinctKeys}
 
 -- ---- values that hold no others
 

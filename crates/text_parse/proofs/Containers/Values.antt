@@ -28,7 +28,7 @@ use Rattle.text_parse.proofs.Scalars.Encodings.{Follows, IsNumberTree, key_compl
 use Rattle.text_parse.proofs.Scalars.Encodings.Follows.{before}
 use Rattle.text_scan.proofs.Text.Comments.{begins_found}
 use Rattle.text_scan.proofs.Text.Whitespace.{Passes, ends_all, ends_line, passes, skip-whitespace, skip-skip, skip-stop, skips}
-use Rattle.jsonb_value.proofs.Trees.MembersInOrder.{HaveDistinctKeys}
+use Rattle.jsonb_core.proofs.Trees.MembersInOrder.{HaveDistinctKeys}
 
 -- The bytes are an encoding of the source's tree.
 abbrev pub Seen : (List ℕ → Tree → Type 0) → List ℕ → Source → Type 0

@@ -3,8 +3,8 @@ use Rattle.std.proofs.Common.{◌≡◌, ◌≢◌, pos, neg_ℤ, ◌+◌, ◌-�
 use Rattle.std.specs.Prelude.{slice_index}
 use Rattle.std.proofs.Math.Seq.{take-append_seam}
 use Rattle.std.proofs.lemmas.Bool.{cases_Bool, cond-false, eqb-true}
-use Rattle.jsonb_value.specs.declared.error.Error.{Error}
-use Rattle.jsonb_value.specs.declared.error.Error.TheVariants.{Syntax, OutOfMemory}
+use Rattle.jsonb_core.specs.declared.error.Error.{Error}
+use Rattle.jsonb_core.specs.declared.error.Error.TheVariants.{Syntax, OutOfMemory}
 use Rattle.jsonb_spec.specs.Mode.{Mode, Strictness, strict, lenient, strictness, IsLenient}
 use Rattle.text_scan.specs.declared.parser.number.ShortInteger.{ShortInteger}
 use Rattle.jsonb_spec.specs.Tree.{Mark, Num, Tree, int64, uint64, null, boolean, number, string}
@@ -14,7 +14,7 @@ use Rattle.text_scan.specs.Parsing.{Fault, Parse, begins, ◌>>=◌}
 use Rattle.text_scan.specs.Parsing.Number.{is_number_start}
 use Rattle.text_scan.specs.Parsing.Scalar.{begins_number, letters_at, null_at, null_or, number_at, number_value_at, or_else, other_scalar_at, quoted_at, scalar_at}
 use Rattle.text_scan.specs.Parsing.String.{string_at}
-use Rattle.text_scan.specs.Open.{Open}
+use Rattle.text_common.specs.Open.{Open}
 use Rattle.jsonb_spec.specs.Source.{Source, number_source, source_alone}
 use Rattle.jsonb_spec.specs.Grammar.StandardNumber.{IsStandardNumber}
 use Rattle.text_scan.specs.Encoded.{IsEncoded, IsEncodedAt, KeyHoldsAt}

@@ -28,7 +28,7 @@ use Rattle.text_scan.proofs.Numbers.Read.{number_complete_of, number_sound_of, n
 use Rattle.text_scan.proofs.Numbers.Reading.{EndsNumber}
 use Rattle.text_scan.proofs.Containers.JoinedParts.{Ends, IsComplete, IsSound, Encoded, Starts, break_is, on_byte-found, on_byte-other, on_byte_cases}
 use Rattle.text_scan.proofs.Strings.Ends.{string_complete, string_sound}
-use Rattle.jsonb_value.proofs.Trees.TextsReadBack.{double_quote}
+use Rattle.jsonb_core.proofs.Trees.TextsReadBack.{double_quote}
 
 -- The text is empty, or begins with a byte that may follow a value.
 pub data Follows : List ℕ → Type 0 where

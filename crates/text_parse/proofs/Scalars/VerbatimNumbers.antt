@@ -12,8 +12,8 @@ use Rattle.std.proofs.lemmas.List.{take-append-drop}
 use Rattle.text_common.specs.VerbatimScalar.{IsShortDecimal}
 use Rattle.text_common.specs.declared.verbatim.Verbatim.TheVariants.{Integer, Decimal}
 use Rattle.text_scan.specs.VerbatimNumber.{IsVerbatimDecimal}
-use Rattle.jsonb_value.proofs.Numbers.InRange.{extended_reads_back, extended_json_reads_back, integer_reads_back, integral_in_texts, json_reads_back, small_signed, standard_number}
-use Rattle.jsonb_value.proofs.Trees.TextsReadBack.{EncodesSameNumber}
+use Rattle.jsonb_core.proofs.Numbers.InRange.{extended_reads_back, extended_json_reads_back, integer_reads_back, integral_in_texts, json_reads_back, small_signed, standard_number}
+use Rattle.jsonb_core.proofs.Trees.TextsReadBack.{EncodesSameNumber}
 use Rattle.text_scan.specs.Parsing.Whitespace.{is_break}
 use Rattle.text_scan.specs.Parsing.Number.{is_number_start}
 use Rattle.text_scan.specs.Parsing.Scalar.{number_at, scalar_at}

@@ -11,8 +11,8 @@ use Rattle.text_scan.proofs.Containers.JoinedParts.{on_byte-none}
 use Rattle.std.proofs.lemmas.List.{get_or-drop}
 use Rattle.std.proofs.lemmas.Bool.{cond-true}
 use Rattle.text_parse.specs.declared.parser.Parser.{Parser}
-use Rattle.jsonb_value.specs.declared.error.Error.{Error}
-use Rattle.jsonb_value.specs.declared.error.Error.TheVariants.{Syntax}
+use Rattle.jsonb_core.specs.declared.error.Error.{Error}
+use Rattle.jsonb_core.specs.declared.error.Error.TheVariants.{Syntax}
 
 -- ---- faults
 

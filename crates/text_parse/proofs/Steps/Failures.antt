@@ -1,10 +1,10 @@
 -- A failure that says its fault, or says nothing.
 use Rattle.std.proofs.Common.{◌≡◌, Bool, MatchBool, true, false, List, ℕ, Option, None, Some, Result, Ok, Err, IfOk, IfErr, OnOk, ◌⊎◌, inr, sym, subst, true≢false}
-use Rattle.jsonb_value.specs.declared.error.Error.{Error}
-use Rattle.jsonb_value.specs.declared.error.Error.TheVariants.{OutOfMemory}
+use Rattle.jsonb_core.specs.declared.error.Error.{Error}
+use Rattle.jsonb_core.specs.declared.error.Error.TheVariants.{OutOfMemory}
 use Rattle.text_scan.specs.Answer.{Fails}
 use Rattle.jsonb_spec.specs.Tree.{Tree}
-use Rattle.text_scan.specs.Open.{Open}
+use Rattle.text_common.specs.Open.{Open}
 use Rattle.text_scan.specs.Parsing.{Fault, Parse, ◌>>=◌}
 use Rattle.jsonb_spec.specs.Source.{Source}
 use Rattle.text_parse.specs.Handler.{Builds, ElseFails, IsUnreported, IsWritten, Misses}

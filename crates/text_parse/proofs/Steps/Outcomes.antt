@@ -2,11 +2,10 @@
 use Rattle.std.proofs.Common.{◌≡◌, ℕ, true, false, List, ◌∷◌, length, drop, codes, Result, sym, ap, ap₂, subst, ◌∙◌, Ok, Err, IfOk, IfErr}
 use Rattle.std.proofs.lemmas.Bool.{cond-false}
 use Rattle.text_parse.specs.declared.parser.Parser.{Parser}
-use Rattle.jsonb_value.specs.declared.error.Error.{Error}
-use Rattle.jsonb_value.specs.declared.error.Error.TheVariants.{Syntax, OutOfMemory}
+use Rattle.jsonb_core.specs.declared.error.Error.{Error}
+use Rattle.jsonb_core.specs.declared.error.Error.TheVariants.{Syntax, OutOfMemory}
 use Rattle.jsonb_spec.specs.Mode.{Mode, strictness}
 use Rattle.jsonb_spec.specs.Tree.Tree.{boolean}
-use Rattle.jsonb_value.specs.declared.value.Value.{Value}
 use Rattle.text_scan.specs.Answer.{Fails, grammar_of}
 use Rattle.text_parse.specs.Parser.{Advances, rest_of, size_of}
 use Rattle.text_scan.specs.Parsing.{Fault, begins, ◌>>=◌}
@@ -91,6 +90,6 @@ rejected_container Q (Ok x) h is = cc
 rejected_container Q (Err e) h is = h.1
 
 -- what follows for each value follows for the one that is returned
-pub value_has : {E : Type 0} (P Q : Value → Type 0) (r : Result Value E) → ((v : Value) → P v → Q v) → IfOk r P → IfOk r Q
+pub value_has : {V E : Type 0} (P Q : V → Type 0) (r : Result V E) → ((v : V) → P v → Q v) → IfOk r P → IfOk r Q
 value_has P Q (Ok v) then p = then v p
 value_has P Q (Err e) then p = tt

@@ -2,7 +2,7 @@
 ghost use Rattle.std.specs.Prelude.{◌≡◌, ◌+◌, ◌≤◌, true, Ok, Err, IfErr, IfOk, IfSome, MatchOption, length};
 ghost use Rattle.jsonb_spec.specs.Code.{invalid_number_value};
 ghost use Rattle.jsonb_spec.specs.Mode.{strict, strictness};
-ghost use Rattle.jsonb_value.specs.View.{number_view};
+ghost use Rattle.jsonb_core.specs.View.{number_view};
 ghost use Rattle.text_scan.specs.Answer.{grammar_of, mode_of};
 ghost use Rattle.text_scan.specs.Parsing.Number.{digits_from, whole_from, whole_start};
 ghost use Rattle.text_scan.specs.Parsing.Scalar.{number_at};
@@ -11,8 +11,8 @@ ghost use Rattle.text_parse.specs.Grammars.{exact_scan, takes_exponents};
 ghost use Rattle.text_parse.specs.Parser.{ParsesAtOffset, rest_of};
 
 use super::{Mode, Parser};
-use jsonb_value::error::{Error, ParseErrorCode, Result};
-use jsonb_value::number::Number;
+use jsonb_core::error::{Error, ParseErrorCode, Result};
+use jsonb_core::number::Number;
 use text_scan::parser::exact::{lacks_whole, scan_extended_json, scan_json, short_exact};
 use text_scan::parser::extended_number::{NumberFault, NumberText};
 

@@ -1,6 +1,6 @@
 //! The numbers of extended texts: decimals, hexadecimals, `nan` and `infinity`.
 ghost use Rattle.std.specs.Prelude.{◌≡◌, ◌+◌, ◌-◌, ◌<◌, true, Err, Some, None};
-ghost use Rattle.jsonb_value.specs.View.{number_view};
+ghost use Rattle.jsonb_core.specs.View.{number_view};
 ghost use Rattle.text_scan.specs.Answer.{grammar_of};
 ghost use Rattle.text_parse.specs.Grammars.{takes_decimals};
 ghost use Rattle.text_parse.specs.Parser.{PreservesDecimal, PreservesNumber, ParsesAtOffset, rest_of};
@@ -8,8 +8,8 @@ ghost use Rattle.text_scan.specs.Parsing.ExtendedNumber.{extended_number_at};
 ghost use Rattle.text_scan.specs.VerbatimNumber.{IsBeforePoint};
 
 use super::Parser;
-use jsonb_value::error::{Error, ParseErrorCode, Result};
-use jsonb_value::number::Number;
+use jsonb_core::error::{Error, ParseErrorCode, Result};
+use jsonb_core::number::Number;
 use text_common::verbatim::Verbatim;
 use text_scan::parser::extended_number::{scan_number, short_number};
 use text_scan::parser::verbatim::{verbatim_decimal, verbatim_number};

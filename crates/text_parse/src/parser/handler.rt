@@ -1,6 +1,6 @@
 //! What is made of a text while it is parsed: the parser sends the events of the text's value to a handler.
 ghost use Rattle.std.specs.Prelude.{◌≡◌, ◌+◌, ◌^◌, ◌<◌, ℕ, Bool, List, [], ◌∷◌, length, MatchBool, Ok, IfOk, IfErr, OnOk, Option, true, false};
-ghost use Rattle.jsonb_value.specs.declared.error.Error.{Error};
+ghost use Rattle.jsonb_core.specs.declared.error.Error.{Error};
 ghost use Rattle.jsonb_spec.specs.Tree.{Mark};
 ghost use Rattle.text_parse.specs.Handler.{AwaitsElement, Begins, ElseFails, EndsArray, OpensArray, OpensObject, SeesContents, TakesElement, TakesInner, TakesInnerMember, TakesMember};
 ghost use Rattle.text_parse.specs.Scalars.{IsGiven, IsKeyAt, SeesScalar, text_view};
@@ -9,7 +9,7 @@ ghost use Rattle.text_parse.specs.declared.parser.frame.Frame.{Frame};
 ghost use Rattle.text_parse.specs.declared.parser.frame.Frame.TheVariants.{Array, Object};
 ghost use Rattle.text_scan.specs.Answer.{mode_of};
 ghost use Rattle.text_scan.specs.Decoding.{ReportsBackslash};
-ghost use Rattle.text_scan.specs.Open.{Open, members_so_far};
+ghost use Rattle.text_common.specs.Open.{Open, members_so_far};
 ghost use Rattle.text_scan.specs.Parsing.String.{body_of};
 ghost use Rattle.jsonb_spec.specs.Source.{Source, Found};
 ghost use Rattle.text_scan.specs.Encoded.{IsEncodedAt};
@@ -18,7 +18,7 @@ ghost use Rattle.text_common.specs.declared.verbatim.Verbatim.{Verbatim};
 use super::Mode;
 use super::frame::{Frame, OpenObject};
 use super::text::{Scalar, Text};
-use jsonb_value::error::Error;
+use jsonb_core::error::Error;
 use std::alloc::{AllocError, Global};
 
 /// Parsing failed. The error is held by the parser, unless the handler is silent about it.

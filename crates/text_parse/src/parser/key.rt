@@ -3,7 +3,7 @@ ghost use Rattle.std.specs.Prelude.{◌≡◌, ◌<◌, ◌≢◌, true, Err, �
 ghost use Rattle.std.specs.Cow.{cow_str_bytes};
 ghost use Rattle.jsonb_spec.specs.Ascii as ascii;
 ghost use Rattle.jsonb_spec.specs.Code.Code.{expected_colon};
-ghost use Rattle.jsonb_value.specs.View.{mark_view};
+ghost use Rattle.jsonb_core.specs.View.{mark_view};
 ghost use Rattle.text_scan.specs.Answer.{grammar_of, NamesFault};
 ghost use Rattle.text_scan.specs.Parsing.{fault_at};
 ghost use Rattle.text_parse.specs.Handler.{AsNamed, Begins, Builds};
@@ -20,7 +20,7 @@ use super::frame::OpenObject;
 use super::handler::{Failed, Handler};
 use super::text::Text;
 use super::{Mode, Parser};
-use jsonb_value::error::{Error, ParseErrorCode, Result};
+use jsonb_core::error::{Error, ParseErrorCode, Result};
 use std::borrow::CowStr;
 use text_scan::parser::key::{KeyEnd, find_key_end};
 

@@ -1,8 +1,8 @@
 //! The numbers of standard texts.
 ghost use Rattle.std.specs.Prelude.{◌≡◌, ◌≢◌, ℕ, List, ◌++◌, ◌+◌, ◌≤◌, ◌<◌, length, slice_index, Err, Some, None, IfSome, true, ◌^◌};
-ghost use Rattle.jsonb_value.specs.View.{number_view};
-ghost use Rattle.jsonb_value.specs.declared.error.Error.TheVariants.{Syntax, OutOfMemory};
-ghost use Rattle.jsonb_value.specs.declared.error.ParseErrorCode.TheVariants.{InvalidNumberValue};
+ghost use Rattle.jsonb_core.specs.View.{number_view};
+ghost use Rattle.jsonb_core.specs.declared.error.Error.TheVariants.{Syntax, OutOfMemory};
+ghost use Rattle.jsonb_core.specs.declared.error.ParseErrorCode.TheVariants.{InvalidNumberValue};
 ghost use Rattle.text_scan.specs.Answer.{Fails, grammar_of};
 ghost use Rattle.jsonb_spec.specs.Mode.{standard, strict, strictness};
 ghost use Rattle.jsonb_spec.specs.Grammar.StandardNumber.{IsStandardNumber};
@@ -13,12 +13,13 @@ ghost use Rattle.text_scan.specs.ShortInteger.{short_view};
 ghost use Rattle.text_scan.specs.Parsing.Number.{ContinuesAfterInteger, digits_from, exponent_from, fraction_from, whole_start, then_from, number_to, standard_number_at};
 
 use super::Parser;
-use jsonb_value::error::{Error, ParseErrorCode, Result};
-use jsonb_value::number::Number;
+use jsonb_core::bytes::byte_at;
+use jsonb_core::error::{Error, ParseErrorCode, Result};
+use jsonb_core::number::Number;
 use text_scan::parser::integer::{StrictFront, strict_front};
 use text_scan::parser::number::{
-    ShortInteger, after_minus, byte_at, continues_after_integer, integer, leading_digits,
-    number_end, short_integer,
+    ShortInteger, after_minus, continues_after_integer, integer, leading_digits, number_end,
+    short_integer,
 };
 
 impl Parser<'_> {

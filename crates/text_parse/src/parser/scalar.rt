@@ -2,7 +2,7 @@
 ghost use Rattle.std.specs.Prelude.{◌≡◌, ◌≢◌, ◌<◌, ◌≤◌, ◌∷◌, ◌++◌, drop, length, MatchBool, Err, IfSome, Some, true, false, ◌^◌, pos, neg_ℤ};
 ghost use Rattle.jsonb_spec.specs.Ascii as ascii;
 ghost use Rattle.jsonb_spec.specs.Mode.{strict, strictness};
-ghost use Rattle.jsonb_value.specs.View.{number_view};
+ghost use Rattle.jsonb_core.specs.View.{number_view};
 ghost use Rattle.text_scan.specs.Answer.{mode_of, grammar_of, Gives};
 ghost use Rattle.text_parse.specs.Scalars.{IsGiven};
 ghost use Rattle.text_parse.specs.Literals.{literal_text, literal_tree};
@@ -20,8 +20,8 @@ use super::slot::Slot;
 use super::start::Start;
 use super::text::{Scalar, Text};
 use super::{Grammar, Mode, Parser};
-use jsonb_value::error::{Error, ParseErrorCode};
-use jsonb_value::number::Number;
+use jsonb_core::error::{Error, ParseErrorCode};
+use jsonb_core::number::Number;
 use text_common::verbatim::Verbatim;
 use text_scan::parser::integer::StrictFront;
 

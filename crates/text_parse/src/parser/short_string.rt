@@ -7,7 +7,7 @@ ghost use Rattle.text_parse.specs.Parser.{Advances, IsBehind, IsTextOf};
 ghost use Rattle.text_parse.specs.ShortString.{IsShortEnd, PassesShort};
 
 use super::Parser;
-use jsonb_value::plain::run_of_sixteen;
+use jsonb_core::plain::run_of_sixteen;
 use text_common::verbatim::{Verbatim, short_byte};
 
 // Where such a string ends, and whether it is serialized as it is.

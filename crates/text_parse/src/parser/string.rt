@@ -2,7 +2,7 @@
 ghost use Rattle.std.specs.Prelude.{◌≡◌, ◌≢◌, ◌+◌, ◌<◌, ◌^◌, true, false, IfErr, IfNone, IfSome, OnOk, length, slice_index};
 ghost use Rattle.std.specs.Cow.{cow_str_bytes};
 ghost use Rattle.jsonb_spec.specs.Ascii as ascii;
-ghost use Rattle.jsonb_value.specs.View.{mark_view};
+ghost use Rattle.jsonb_core.specs.View.{mark_view};
 ghost use Rattle.jsonb_spec.specs.Tree.Mark.{plain};
 ghost use Rattle.text_parse.specs.Grammars.{is_json, may_cut};
 ghost use Rattle.text_parse.specs.Parser.{Advances, CutsString, CutsTo, IsAfterQuote, IsBehind, IsTextOf, PassesContents, ParsesString, rest_of};
@@ -13,8 +13,8 @@ ghost use Rattle.text_scan.specs.StrictString.{RejectsContents};
 
 use super::text::Text;
 use super::{Grammar, Parser};
-use jsonb_value::error::{Error, ParseErrorCode, Result};
-use jsonb_value::plain::first_escaped;
+use jsonb_core::error::{Error, ParseErrorCode, Result};
+use jsonb_core::plain::first_escaped;
 use std::borrow::CowStr;
 use text_scan::parser::string::{StringEnd, decode_contents, find_end, near_mark};
 use text_scan::util::check_strict;

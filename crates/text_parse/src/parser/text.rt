@@ -1,6 +1,6 @@
 //! Scalars and keys, as a handler is given them.
 
-use jsonb_value::number::Number;
+use jsonb_core::number::Number;
 use std::borrow::CowStr;
 use text_common::verbatim::Verbatim;
 

@@ -3,7 +3,7 @@ ghost use Rattle.std.specs.Prelude.{◌≡◌, ◌+◌, ◌<◌, ◌≤◌, ℕ,
 ghost use Rattle.jsonb_spec.specs.Ascii as ascii;
 ghost use Rattle.jsonb_spec.specs.Grammar.{max_depth};
 ghost use Rattle.jsonb_spec.specs.Mode.{strictness};
-ghost use Rattle.jsonb_value.specs.Error.CodeView.{code_of};
+ghost use Rattle.jsonb_core.specs.Error.CodeView.{code_of};
 ghost use Rattle.text_parse.specs.declared.parser.frame.Frame.{Frame};
 ghost use Rattle.text_parse.specs.declared.parser.frame.Frame.TheVariants.{Array, Object};
 ghost use Rattle.text_parse.specs.Handler.{ElseFails, Builds};
@@ -17,7 +17,7 @@ ghost use Rattle.text_scan.specs.Parsing.Container.{is_left_out};
 ghost use Rattle.text_scan.specs.Parsing.Document.{value_at};
 ghost use Rattle.text_scan.specs.Parsing.Scalar.{scalar_at};
 ghost use Rattle.jsonb_spec.specs.Source.{Source};
-ghost use Rattle.text_scan.specs.Open.{Open};
+ghost use Rattle.text_common.specs.Open.{Open};
 ghost use Rattle.text_parse.specs.Slots.{Fits};
 ghost use Rattle.text_parse.specs.Steps.{EndsPart, FillsFrame, Puts, PutsNext, PutsOrStops, Turns};
 
@@ -26,7 +26,7 @@ use super::handler::{Failed, Handler};
 use super::slot::{Element, Member};
 use super::text::Scalar;
 use super::{Mode, Parser};
-use jsonb_value::error::{Error, ParseErrorCode};
+use jsonb_core::error::{Error, ParseErrorCode};
 use std::alloc::{AllocError, Global};
 
 // How many arrays and objects may be open at once.

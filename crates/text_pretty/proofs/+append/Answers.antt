@@ -3,8 +3,9 @@ use Rattle.jsonb_spec.specs.Proper.{HaveProperParts}
 use Rattle.jsonb_spec.specs.Text.StringText.{quoted_text}
 use Rattle.jsonb_spec.specs.Text.{with_commas, members_have_texts}
 use Rattle.jsonb_value.specs.View.{view, trees_view, members_view}
-use Rattle.jsonb_value.proofs.Appending.Appended.{begun, goes_on, fits, on_ok, on_err, retained_on, appends_then, lacks_first, extended, appends_if}
-use Rattle.jsonb_value.proofs.Appending.Pieces.{texts_left, comma_done, comma_fits, next_text, next_member_text, texts_left_have, first_has_text, next_proper, next_proper_member}
+use Rattle.jsonb_core.proofs.Appending.Appended.{begun, goes_on, fits, on_ok, on_err, retained_on, appends_then, lacks_first, extended, appends_if}
+use Rattle.jsonb_core.proofs.Appending.Pieces.{texts_left, comma_done, comma_fits, texts_left_have, first_has_text}
+use Rattle.jsonb_value.proofs.Appending.NextParts.{next_text, next_member_text, next_proper, next_proper_member}
 use Rattle.jsonb_value.proofs.Values.Accessors.{view-Array, view-Object}
 use Rattle.jsonb_value.proofs.Values.Keys.{KeysAscend-members_view}
 use Rattle.jsonb_value.proofs.Values.Members.{Entry}

@@ -4,8 +4,8 @@ use Rattle.jsonb_spec.specs.Keys.{KeysAscend}
 use Rattle.jsonb_spec.specs.Proper.{AreProper, HaveProperParts}
 use Rattle.jsonb_spec.specs.Text.{with_commas, items_have_texts, members_have_texts}
 use Rattle.jsonb_value.specs.View.{trees_view, members_view}
-use Rattle.jsonb_value.proofs.Appending.Appended.{IsUnderway}
-use Rattle.jsonb_value.proofs.Appending.Pieces.{texts_left}
+use Rattle.jsonb_core.proofs.Appending.Appended.{IsUnderway}
+use Rattle.jsonb_core.proofs.Appending.Pieces.{texts_left}
 use Rattle.jsonb_spec.specs.Indented.{item_lines, member_lines}
 use Rattle.text_pretty.proofs.+append.Given as goal
 

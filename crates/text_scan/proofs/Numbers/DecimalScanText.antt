@@ -7,7 +7,7 @@ use Rattle.std.proofs.lemmas.Bool.Decides.{nat_tests}
 use Rattle.std.proofs.lemmas.List.{append_assoc}
 use Rattle.std.proofs.lemmas.Slice.{between_from_start}
 use Rattle.std.proofs.lemmas.List.Edits.{length-between, get_or-between}
-use Rattle.jsonb_value.proofs.Numbers.DecimalTexts.{value-after_zeros}
+use Rattle.jsonb_core.proofs.Numbers.DecimalTexts.{value-after_zeros}
 use Rattle.jsonb_spec.specs.Grammar.ExtendedNumber.{decimal_number, IsDecimalNumber}
 use Rattle.jsonb_spec.specs.Number.Signed.{signed_by}
 use Rattle.text_scan.specs.Parsing.Number.{sign_end}
@@ -18,7 +18,7 @@ use Rattle.text_scan.proofs.Numbers.ScanStates.{exponent_stop}
 use Rattle.text_scan.proofs.Numbers.ScanText.{range_split, range_cons, range_none, run_digits, sign_part, exponent_text, exponent_within}
 use Rattle.text_scan.proofs.Numbers.DecimalScan.{IsZeroRun, IsPointEnd, DecimalParts, IsDecimalScan, parts_to, point_ordered, core_zeros, counted_digits, decimal_scanned}
 use Rattle.text_scan.proofs.Numbers.DecimalStates.{IsLongestDecimal, IsLongestDecimal-from_stop, decimal_due, zeros_and_digits, decimal_done}
-use Rattle.jsonb_value.proofs.Numbers.Fractions.{fraction_digits, fraction_text, precision_of, value_of}
+use Rattle.jsonb_core.proofs.Numbers.Fractions.{fraction_digits, fraction_text, precision_of, value_of}
 use Rattle.text_scan.proofs.Numbers.TextParts.{IsUnrepresentableDecimal, HasTextParts, decimal_parts_of}
 
 zeros_from_offsets : (ds : List ℕ) → ((k : ℕ) → k < length ds → get_or ds k 0 ≡ 48) → ds ≡ replicate (length ds) 48

@@ -6,7 +6,7 @@ use Rattle.std.specs.Str.Parse.{AllDigits}
 use Rattle.std.proofs.lemmas.Str.Parse.{digit_from_value}
 use Rattle.std.proofs.lemmas.Bool.{cases_lt, cases_Bool, false≢true}
 use Rattle.std.proofs.lemmas.List.{append-nil, append_assoc, length-append}
-use Rattle.jsonb_value.proofs.Numbers.DecimalTexts.{digits-after_zeros}
+use Rattle.jsonb_core.proofs.Numbers.DecimalTexts.{digits-after_zeros}
 use Rattle.jsonb_spec.specs.Grammar.StandardNumber.{IsSign}
 use Rattle.jsonb_spec.specs.Grammar.ExtendedNumber.{IsDecimalText}
 use Rattle.text_scan.specs.Parsing.Number.{sign_end, ContinuesNumber}
@@ -15,7 +15,7 @@ use Rattle.text_scan.proofs.Numbers.Scan.{IsDigitRun, IsBareMark}
 use Rattle.text_scan.proofs.Numbers.DecimalScan.{IsZeroRun, IsPointEnd}
 use Rattle.text_scan.proofs.Numbers.Automaton.{State, Fraction, DecimalStart, Signed, Digits, BarePoint, Dead, next, run, is_accepting, run-append, run_digits, state_at, state_at-next, state_over_digits, fraction_stays, EndsFraction, exponent_accepted, StopsAt, accepted_ends}
 use Rattle.text_scan.proofs.Numbers.ScanStates.{FractionDone, alive_by, bare_mark_stop}
-use Rattle.jsonb_value.proofs.Numbers.Fractions.{fraction_digits, fraction_text}
+use Rattle.jsonb_core.proofs.Numbers.Fractions.{fraction_digits, fraction_text}
 use Rattle.text_scan.proofs.Numbers.TextParts.{HasDecimalText, text_parts}
 
 -- of the decimal number texts that the bytes begin with none is longer than len, and after each shorter one a byte goes

@@ -17,7 +17,7 @@ use Rattle.text_scan.proofs.Numbers.Scan.{IsExponentEnd}
 use Rattle.text_scan.proofs.Numbers.ScanText.{range_cons, range_none, run_numeral}
 use Rattle.text_scan.proofs.Numbers.DecimalScanText.{DecimalText, digits_value_same, sign_value}
 use Rattle.text_scan.proofs.Numbers.ExtendedParts.{same_decimal}
-use Rattle.jsonb_value.proofs.Numbers.Fractions.{fraction_digits, fraction_text}
+use Rattle.jsonb_core.proofs.Numbers.Fractions.{fraction_digits, fraction_text}
 use Rattle.text_scan.proofs.Numbers.TextParts.{HasTextParts, front_parts, parts_with, regrouped, decimal_text_of}
 
 -- ---- how far an exponent moves a point

@@ -24,7 +24,7 @@ use Rattle.text_scan.proofs.Numbers.HexadecimalMeaning.{IsHexadecimalFront, read
 use Rattle.text_scan.proofs.Scalars.WordMeaning.{reads_word}
 use Rattle.text_scan.proofs.Numbers.ExtendedParts.{decimal_representable, decimal_is_text, unrepresentable_decimal_is_text, IsLenientNumber, decimal_without_number, other_without_number}
 use Rattle.text_scan.proofs.Numbers.Reading.{IsLongestText, FindsNumber, found_at, IsScanned}
-use Rattle.jsonb_value.proofs.Numbers.Fractions.{fraction_digits, fraction_text}
+use Rattle.jsonb_core.proofs.Numbers.Fractions.{fraction_digits, fraction_text}
 use Rattle.text_scan.proofs.Numbers.TextParts.{IsUnrepresentableDecimal, HasTextParts, decimal_text_of, plain_parts}
 use Rattle.jsonb_spec.specs.Grammar.Scalar.{IsNumber}
 use Rattle.jsonb_spec.specs.Mode.{extended, lenient}

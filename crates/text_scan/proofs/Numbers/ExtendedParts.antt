@@ -14,7 +14,7 @@ use Rattle.text_scan.proofs.Numbers.DecimalScan.{core_within}
 use Rattle.text_scan.proofs.Numbers.HexadecimalTexts.{runs_end, same_front}
 use Rattle.text_scan.proofs.Numbers.Reading.{IsWithout}
 use Rattle.text_scan.proofs.Numbers.ExtendedTexts.{letter_is, word_found, found_letter, hexadecimal_core, decimals_before_mark, decimals_before_letter}
-use Rattle.jsonb_value.proofs.Numbers.Fractions.{fraction_digits, fraction_text, precision_of, value_of}
+use Rattle.jsonb_core.proofs.Numbers.Fractions.{fraction_digits, fraction_text, precision_of, value_of}
 use Rattle.text_scan.proofs.Numbers.TextParts.{IsUnrepresentableDecimal, IsUnrepresentableHexadecimal, HasTextParts, plain_parts, decimal_text_of}
 
 -- ---- parts of a list

@@ -16,7 +16,7 @@ use Rattle.text_scan.proofs.Numbers.Automaton.{DecimalStart, Digits, Dead, next,
 use Rattle.text_scan.proofs.Numbers.ScanStates.{alive_by}
 use Rattle.text_scan.proofs.Numbers.DecimalStates.{decimal_accepted, decimal_due, before_alive, before_rejects}
 use Rattle.std.specs.Str.Parse.{starts_with_minus}
-use Rattle.jsonb_value.proofs.Numbers.Fractions.{fraction_text}
+use Rattle.jsonb_core.proofs.Numbers.Fractions.{fraction_text}
 use Rattle.text_scan.proofs.Numbers.TextParts.{IsUnrepresentableHexadecimal, IsExtendedUnrepresentable}
 use Rattle.text_scan.proofs.Scalars.WordLetters.{Encodes}
 

@@ -13,7 +13,7 @@ use Rattle.text_scan.proofs.Numbers.HexadecimalAnswers.{without_number, taken_di
 use Rattle.text_scan.proofs.Numbers.HexadecimalTexts.{IsHexadecimalScan, AreGood, scan_length, hexadecimal_ends}
 use Rattle.text_scan.proofs.Numbers.ExtendedTexts.{IsWordStart, IsLongestExtended, NoExtendedEnds, ScansOther, core_of, letter_is, word_found, found_letter, decimals_before_mark}
 use Rattle.text_scan.proofs.Numbers.Steps.{is_below, is_not_below}
-use Rattle.jsonb_value.proofs.Numbers.Fractions.{fraction_text}
+use Rattle.jsonb_core.proofs.Numbers.Fractions.{fraction_text}
 
 -- ---- what can end where a hexadecimal begins
 

@@ -21,7 +21,7 @@ use Rattle.text_scan.proofs.Numbers.Extended.{is_letter, decimal_by_kind}
 use Rattle.text_scan.proofs.Numbers.ExtendedTexts.{letter_is, mark_is}
 use Rattle.text_scan.proofs.Numbers.Steps.{differs, no_exponent, is_not_below}
 use Rattle.text_scan.proofs.Numbers.ScanText.{range_none, run_digits}
-use Rattle.jsonb_value.proofs.Numbers.InRange.{digits-append}
+use Rattle.jsonb_core.proofs.Numbers.InRange.{digits-append}
 
 -- ---- how large the digits' number is
 

@@ -7,7 +7,7 @@ use Rattle.std.proofs.lemmas.List.{append_assoc, append-nil}
 use Rattle.jsonb_spec.specs.Grammar.StandardNumber.{IsWhole, IsFraction, IsSign, IsExponent, IsInteger, IsStandardText}
 use Rattle.jsonb_spec.specs.Grammar.ExtendedNumber.{HasDecimalParts, IsDecimalText, HasHexadecimalParts, hexadecimal_number, IsWordText}
 use Rattle.jsonb_spec.specs.Tree.{Num}
-use Rattle.jsonb_value.proofs.Numbers.Fractions.{fraction_digits, fraction_text, precision_of}
+use Rattle.jsonb_core.proofs.Numbers.Fractions.{fraction_digits, fraction_text, precision_of}
 
 -- ---- standard texts
 

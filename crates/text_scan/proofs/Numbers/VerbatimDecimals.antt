@@ -13,10 +13,10 @@ use Rattle.std.proofs.lemmas.List.{length-take-le, length-drop, get_or-take, tak
 use Rattle.jsonb_spec.specs.Number.Signed.{signed_by}
 use Rattle.jsonb_spec.specs.Text.NumberText.{text_of_parts, with_point, zero_padded}
 use Rattle.jsonb_spec.specs.Tree.{decimal64}
-use Rattle.jsonb_value.proofs.Numbers.DecimalTexts.{digits-take}
-use Rattle.jsonb_value.proofs.Numbers.InRange.{decimals, digits-append}
-use Rattle.jsonb_value.proofs.Numbers.Nearest.{unsigned_abs-signed}
-use Rattle.jsonb_value.proofs.Numbers.Pointed.{is_negative-pos, pointed_inside, pointed_before}
+use Rattle.jsonb_core.proofs.Numbers.DecimalTexts.{digits-take}
+use Rattle.jsonb_core.proofs.Numbers.InRange.{decimals, digits-append}
+use Rattle.jsonb_core.proofs.Numbers.Nearest.{unsigned_abs-signed}
+use Rattle.jsonb_core.proofs.Numbers.Pointed.{is_negative-pos, pointed_inside, pointed_before}
 use Rattle.text_scan.specs.Parsing.Number.{digits_length, has_minus, whole_start}
 use Rattle.text_scan.specs.VerbatimNumber.{IsBeforePoint, IsDecimalBody, IsVerbatimDecimal}
 use Rattle.text_scan.proofs.Numbers.Forms.{below_power}

@@ -7,14 +7,14 @@ use Rattle.std.specs.Str.{IsUtf8}
 use Rattle.std.specs.List.{flat_map, AllByRecursion}
 use Rattle.jsonb_spec.specs.Mode.{Mode, GoesBeyondJson}
 use Rattle.jsonb_spec.specs.Tree.{Mark, plain, escaped}
-use Rattle.jsonb_value.specs.Error.CodeView.{code_of}
+use Rattle.jsonb_core.specs.Error.CodeView.{code_of}
 use Rattle.jsonb_spec.specs.Code.{invalid_eof, invalid_string_value}
 use Rattle.jsonb_spec.specs.Grammar.StringBody.{Item, raw, escape, unit, encoding, IsItem, IsBody, Decodes, meaning}
-use Rattle.jsonb_value.specs.StringStep.{escape_step, item_step}
+use Rattle.jsonb_core.specs.StringStep.{escape_step, item_step}
 use Rattle.jsonb_spec.specs.Grammar.Quoted.{mark_of}
 use Rattle.text_scan.specs.Decoding.{SeesBackslash, SeesNoBackslash, ReportsBackslash}
-use Rattle.jsonb_value.specs.declared.error.Error.{Error}
-use Rattle.jsonb_value.specs.declared.error.Error.TheVariants.{Syntax, OutOfMemory}
+use Rattle.jsonb_core.specs.declared.error.Error.{Error}
+use Rattle.jsonb_core.specs.declared.error.Error.TheVariants.{Syntax, OutOfMemory}
 use Rattle.text_scan.specs.StringError.{IsDecodingError}
 use Rattle.text_scan.specs.QuotedString.{DecodesContents}
 use Rattle.text_scan.specs.Answer.{Fails}

@@ -13,8 +13,8 @@ use Rattle.jsonb_spec.specs.Code.{Code, control_character_while_parsing_string, 
 use Rattle.jsonb_spec.specs.Grammar.StringBody.{Item, raw, escape, unit, after_u, encoding, IsItem, IsHexDigit, IsBody, MayBeRaw, MayHaveBraces, escaped_byte, meaning}
 use Rattle.jsonb_spec.specs.Grammar.StringFault.{IsUnitCut, BadUnit, cut_unit, bad_digit, BadItem, cut_escape, unknown_escape, bad_unit, control_character, IsCutShort, IsNoText, IsFaultyBody}
 use Rattle.jsonb_spec.specs.Grammar.Quoted.{mark_of}
-use Rattle.jsonb_value.proofs.Strings.Encoding.{escape_is_not_u, encoding_not_empty}
-use Rattle.jsonb_value.proofs.Strings.Writing.{high_may_be_raw}
+use Rattle.jsonb_core.proofs.Strings.Encoding.{escape_is_not_u, encoding_not_empty}
+use Rattle.jsonb_core.proofs.Strings.Writing.{high_may_be_raw}
 use Rattle.text_scan.specs.Decoding.{AreContents}
 use Rattle.text_scan.specs.Parsing.{goes_beyond_json}
 use Rattle.text_scan.specs.Parsing.String.{Body, non_digit, checked_unit, unit_of, unit_at, known_escape, escape_at, may_be_raw, raw_at, item_at, onto, then_items, items_within, meaning_of, body_of}

@@ -10,7 +10,7 @@ use Rattle.jsonb_spec.specs.Code.{Code, control_character_while_parsing_string, 
 use Rattle.jsonb_spec.specs.Grammar.StringBody.{Item, raw, escape, unit, encoding, IsItem, IsHexDigit, escaped_byte}
 use Rattle.jsonb_spec.specs.Grammar.StringFault.{cut_unit, bad_digit, cut_escape, unknown_escape, bad_unit, control_character}
 use Rattle.jsonb_spec.specs.Mode.{Mode, standard, json, strict}
-use Rattle.jsonb_value.proofs.Strings.Meaning.{each-append}
+use Rattle.jsonb_core.proofs.Strings.Meaning.{each-append}
 use Rattle.text_scan.specs.Decoding.{ParsesUnit, StopsInUnit}
 use Rattle.text_scan.specs.Parsing.String.{Body, unit_at, escape_at, item_at, onto, then_items, items_within, meaning_of, body_of}
 use Rattle.text_scan.specs.StrictString.{AreClean, ParsesItem, ParsesNoItem}

@@ -11,7 +11,7 @@ use Rattle.std.specs.List.{flat_map, AllByRecursion}
 use Rattle.std.specs.Str.{IsAscii, IsUtf8}
 use Rattle.jsonb_spec.specs.Mode.{Mode, Strictness, strict, lenient, strictness}
 use Rattle.jsonb_spec.specs.Grammar.StringBody.{Item, raw, escape, unit, after_u, encoding, IsItem, IsHexDigit, escaped_byte, alone, together, meaning}
-use Rattle.jsonb_value.proofs.Strings.Units.{alone-retained, alone-character, together-retained, together-character, unit_digits}
+use Rattle.jsonb_core.proofs.Strings.Units.{alone-retained, alone-character, together-retained, together-character, unit_digits}
 use Rattle.std.specs.Char.Utf16.{is_high_surrogate, is_low_surrogate, surrogate_pair_char}
 use Rattle.std.specs.Str.Parse.{digits_value}
 

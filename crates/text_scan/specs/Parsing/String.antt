@@ -7,7 +7,7 @@ use Rattle.jsonb_spec.specs.Mode.{Mode, standard, extended, json, extended_json,
 use Rattle.jsonb_spec.specs.Tree.{Mark}
 use Rattle.jsonb_spec.specs.Code.{Code, control_character_while_parsing_string, invalid_eof, invalid_string_value, invalid_escaped, invalid_hex, unexpected_end_of_hex_escape}
 use Rattle.jsonb_spec.specs.Grammar.StringBody.{Item, raw, escape, unit, after_u, encoding, escaped_byte, meaning}
-use Rattle.jsonb_value.specs.StringStep.{item_step}
+use Rattle.jsonb_core.specs.StringStep.{item_step}
 use Rattle.jsonb_spec.specs.Grammar.Quoted.{mark_of}
 use Rattle.text_scan.specs.Parsing.{Parse, fault, goes_beyond_json}
 

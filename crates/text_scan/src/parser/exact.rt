@@ -4,7 +4,7 @@ ghost use Rattle.std.specs.Prelude.{◌≡◌, ℕ, ◌+◌, ◌*◌, ◌≤◌,
 ghost use Rattle.std.specs.Option.{SomeIff};
 ghost use Rattle.jsonb_spec.specs.Grammar.ExactNumber.{exact_number, moved_number};
 ghost use Rattle.jsonb_spec.specs.Number.Signed.{signed_by};
-ghost use Rattle.jsonb_value.specs.View.{number_view};
+ghost use Rattle.jsonb_core.specs.View.{number_view};
 ghost use Rattle.text_scan.specs.ExactRead.{IsClamped, IsDecimalRead, Shifts};
 ghost use Rattle.text_scan.specs.Parsing.ExactNumber.{exact_at, exact_to, extended_json_scan, few_digits, left_at, right_at};
 ghost use Rattle.text_scan.specs.Parsing.Number.{digits_from, exponent_from, standard_end, whole_from, whole_start};
@@ -16,8 +16,9 @@ use super::extended_number::short::{FewDigits, digits_behind};
 use super::extended_number::{
     NumberFault, NumberText, PAST_38_DIGITS, ReadNumber, invalid, scan_other,
 };
-use super::number::{byte_at, digits_end, number_after, number_end, sign_end};
-use jsonb_value::number::{Number, power_of_ten};
+use super::number::{digits_end, number_after, number_end, sign_end};
+use jsonb_core::bytes::byte_at;
+use jsonb_core::number::{Number, power_of_ten};
 
 // The most digits of a number that is representable, before and behind its point.
 const MOST_DIGITS: u64 = 38;

@@ -9,11 +9,12 @@ pub(super) mod form;
 mod hexadecimal;
 pub(super) mod short;
 
-use super::number::{byte_at, sign_end};
+use super::number::sign_end;
 use decimal::scan_decimal;
 use hexadecimal::{begins_hexadecimal, scan_hexadecimal};
-use jsonb_value::error::{ParseErrorCode, Result};
-use jsonb_value::number::Number;
+use jsonb_core::bytes::byte_at;
+use jsonb_core::error::{ParseErrorCode, Result};
+use jsonb_core::number::Number;
 pub use short::{ReadNumber, short_number};
 
 /// A number text: its number, where a form holds it, and the index after it.

@@ -7,8 +7,9 @@ ghost use Rattle.text_scan.specs.Parsing.Number.{digits_length, is_number_start}
 ghost use Rattle.text_scan.specs.StrictFront.{IsFrontOf, front_len};
 ghost use Rattle.jsonb_spec.specs.Ascii as ascii;
 
-use super::number::{after_minus, byte_at, continues_number, digits_within, short_digits};
-use jsonb_value::plain::first_set;
+use super::number::{after_minus, continues_number, digits_within, short_digits};
+use jsonb_core::bytes::byte_at;
+use jsonb_core::plain::first_set;
 use std::simd::prelude::*;
 
 // How many of the first 16 bytes, up to the first that is none, are digits.

@@ -5,13 +5,14 @@ ghost use Rattle.std.specs.Bool.{MatchBool};
 ghost use Rattle.std.specs.Option.{SomeIff};
 ghost use Rattle.std.specs.Str.Parse.{AllDigits, digits_value, digits_value_after};
 ghost use Rattle.jsonb_spec.specs.Ascii as ascii;
-ghost use Rattle.jsonb_value.specs.View.{number_view};
+ghost use Rattle.jsonb_core.specs.View.{number_view};
 ghost use Rattle.text_scan.specs.ShortInteger.{short_view};
 ghost use Rattle.text_scan.specs.Parsing.Number.{ContinuesAfterInteger, ContinuesNumber, is_number_start, standard_number_at, digits_length, digits_from, sign_end, exponent_from, fraction_from, whole_start, then_from, integer_of};
 
 use crate::util::digit;
-use jsonb_value::error::Result;
-use jsonb_value::number::Number;
+use jsonb_core::bytes::byte_at;
+use jsonb_core::error::Result;
+use jsonb_core::number::Number;
 
 // 64 bits hold each number of so many digits.
 pub(super) const SAFE_DIGITS: usize = 19;
@@ -21,13 +22,6 @@ pub(super) const SAFE_DIGITS: usize = 19;
 pub struct Digits {
     pub len: usize,
     pub value: Option<u128>,
-}
-
-/// The byte at an index, or 0 past the end.
-pub fn byte_at(bytes: &[u8], index: usize) -> u8
-    ensures { result ≡ slice_index bytes.now index }
-{
-    if index < bytes.len() { bytes[index] } else { 0 }
 }
 
 // The index after the digits from `start` on.

@@ -1,7 +1,7 @@
 //! Quoted strings.
 ghost use Rattle.std.specs.Prelude.{◌≡◌, ◌≢◌, ◌==◌, IfSome, IfNone, ℕ, ◌+◌, ◌<◌, ◌≤◌, ◌^◌, length, slice_index, Err, true};
 ghost use Rattle.jsonb_spec.specs.Ascii as ascii;
-ghost use Rattle.jsonb_value.specs.StringStep.{escape_step};
+ghost use Rattle.jsonb_core.specs.StringStep.{escape_step};
 ghost use Rattle.text_scan.specs.Decoding.{ReportsBackslash};
 ghost use Rattle.text_scan.specs.Answer.{mode_of};
 ghost use Rattle.text_scan.specs.QuotedString.{EndsString, IsClear, IsQuoteOrBackslash, KnowsMarks, DecodesContents, ReportsMarks};
@@ -10,7 +10,7 @@ ghost use Rattle.text_scan.specs.Parsing.String.{body_of};
 use super::Mode;
 use super::vector::{equal_bits, lowest, near_bits, shifted_down};
 use crate::util::unescape;
-use jsonb_value::error::{Error, ParseErrorCode, Result};
+use jsonb_core::error::{Error, ParseErrorCode, Result};
 use memchr::memchr2;
 use std::alloc::Global;
 use std::borrow::CowStr;

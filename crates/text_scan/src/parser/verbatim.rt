@@ -8,7 +8,8 @@ ghost use Rattle.text_scan.specs.VerbatimNumber.{IsBeforePoint, IsDecimalBody, I
 ghost use Rattle.jsonb_spec.specs.Ascii as ascii;
 
 use super::integer::{digits_and_next, digits_by_bytes, may_begin};
-use super::number::{after_minus, byte_at};
+use super::number::after_minus;
+use jsonb_core::bytes::byte_at;
 
 /// A number that is written by the same bytes again: the index after it, and whether it has a point.
 #[derive(Clone, Copy)]

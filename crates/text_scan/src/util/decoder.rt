@@ -2,7 +2,7 @@
 ghost use Rattle.std.specs.Prelude.{◌≡◌, ◌≢◌, ◌+◌, ◌*◌, ◌^◌, ◌≤◌, ◌<◌, ◌∷◌, ◌++◌, [], length, take, min, IfOk, IfErr, IfSome, IfNone, OnErr, OnOk, Some, None, Err, string_bytes};
 ghost use Rattle.jsonb_spec.specs.Ascii as ascii;
 ghost use Rattle.jsonb_spec.specs.Mode.{standard, strictness};
-ghost use Rattle.jsonb_value.specs.Error.CodeView.{code_of};
+ghost use Rattle.jsonb_core.specs.Error.CodeView.{code_of};
 ghost use Rattle.jsonb_spec.specs.Grammar.StringBody.{escaped_byte, Decodes};
 ghost use Rattle.text_scan.specs.Answer.{mode_of};
 ghost use Rattle.text_scan.specs.StringError.{IsDecodingError};
@@ -17,7 +17,7 @@ mod unit;
 
 use crate::parser::Mode;
 pub use check::check_contents;
-use jsonb_value::error::{Error, ParseErrorCode, Result};
+use jsonb_core::error::{Error, ParseErrorCode, Result};
 use run::copy_run;
 pub use run::{near_backslash, write_sixteen};
 use space::{give_back, write_byte};

@@ -3,18 +3,18 @@ use Rattle.std.proofs.Common.{◌≡◌, ℕ, ◌+◌, ◌-◌, ◌<◌, ◌≤�
 use Rattle.std.proofs.lemmas.List.{take-append-le}
 use Rattle.jsonb_spec.specs.SortKey.{text_key}
 use Rattle.jsonb_spec.specs.Text.{in_quotes}
-use Rattle.jsonb_value.proofs.SortKeys.Zeros.{plain_key}
-use Rattle.text_scan.specs.Open.{Open}
+use Rattle.jsonb_core.proofs.SortKeys.Zeros.{plain_key}
+use Rattle.text_common.specs.Open.{Open}
 use Rattle.jsonb_spec.specs.Source.{Source}
 use Rattle.text_write.specs.KeySink.{Held, HeldFits, IsSinkWith, KeyFilled, KeyHolds, Writes, base_of, key_layout, part_key}
-use Rattle.text_write.specs.Members.{source_key}
-use Rattle.text_write.specs.OpenMembers.{AreOf, AreSame, all_starts}
+use Rattle.text_members.specs.Members.{source_key}
+use Rattle.text_members.specs.OpenMembers.{AreOf, AreSame, all_starts}
 use Rattle.jsonb_spec.specs.Text.StringText.{ArePlain}
 use Rattle.text_write.specs.TextSink.{IsEncoded, SeesPart}
 use Rattle.text_write.specs.declared.key.KeySink.{KeySink}
 use Rattle.text_write.specs.declared.text.Part.{Part}
 use Rattle.text_write.specs.declared.text.Part.TheVariants as part
-use Rattle.text_write.proofs.OpenMembers.{key_there, same, stay}
+use Rattle.text_members.proofs.OpenMembers.{key_there, same, stay}
 use Rattle.text_write.proofs.FirstBytes.{behind_first}
 
 -- More bytes are written, and what is open holds the members that it held.

@@ -1,6 +1,6 @@
 use Rattle.std.proofs.Common.{◌≡◌, Err, subst, sym, ◌∙◌}
-use Rattle.jsonb_value.specs.declared.error.Error.{Error}
-use Rattle.jsonb_value.specs.Error.CodeView.{code_of}
+use Rattle.jsonb_core.specs.declared.error.Error.{Error}
+use Rattle.jsonb_core.specs.Error.CodeView.{code_of}
 use Rattle.text_scan.specs.Answer.{Fails, grammar_of}
 use Rattle.text_scan.specs.Parsing.Document.{document_of}
 use Rattle.error_path.proofs.Passing.{none_if}

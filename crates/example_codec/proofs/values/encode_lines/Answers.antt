@@ -3,7 +3,7 @@ use Rattle.jsonb_spec.specs.Grammar.{IsDocument}
 use Rattle.jsonb_spec.specs.Mode.{extended}
 use Rattle.text_scan.specs.Answer.{MayAllocate}
 use Rattle.jsonb_value.specs.View.{view}
-use Rattle.jsonb_value.specs.declared.error.Error.TheVariants.{OutOfMemory}
+use Rattle.jsonb_core.specs.declared.error.Error.TheVariants.{OutOfMemory}
 use Rattle.example_codec.proofs.Lines.{next_encoded, all_encoded}
 use Rattle.std.proofs.lemmas.Result.{err_from_is_err_and}
 use Rattle.example_codec.proofs.Errors.{first_rejected, unframed}

@@ -1,4 +1,4 @@
-use Rattle.jsonb_value.proofs.Strings.Exclusion.{decodes_one, fault_excludes}
+use Rattle.jsonb_core.proofs.Strings.Exclusion.{decodes_one, fault_excludes}
 use Rattle.jsonb.proofs.laws.decoding_is_unambiguous.Goals as goal
 
 pub returns-clause-text : goal.returns-clause-text

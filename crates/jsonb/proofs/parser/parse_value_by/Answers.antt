@@ -3,7 +3,7 @@ use Rattle.jsonb_spec.specs.Grammar.{IsDocument}
 use Rattle.jsonb_spec.specs.Proper.{IsProper}
 use Rattle.jsonb_spec.specs.Text.Range.{IsInRangeOf}
 use Rattle.jsonb_value.specs.View.{view}
-use Rattle.jsonb_value.proofs.Trees.RangeTexts.{document_in_range}
+use Rattle.jsonb_core.proofs.Trees.RangeTexts.{document_in_range}
 use Rattle.text_scan.specs.Answer.{grammar_of}
 use Rattle.jsonb.proofs.Documents.Agreement.{document_built, gives_all, gives_as_specified}
 use Rattle.text_parse.proofs.Steps.Outcomes.{value_has}

@@ -3,7 +3,7 @@ use Rattle.jsonb_spec.specs.Mode.{standard, extended}
 use Rattle.jsonb_spec.specs.Order.{Same}
 use Rattle.jsonb_spec.specs.Tree.{Tree}
 use Rattle.jsonb_value.specs.View.{view}
-use Rattle.jsonb_value.proofs.Trees.StandardInExtended.{standard_is_extended}
+use Rattle.jsonb_core.proofs.Trees.StandardInExtended.{standard_is_extended}
 use Rattle.text_parse.proofs.Steps.Outcomes.{value_has}
 use Rattle.jsonb.proofs.parser.parse_value_standard_mode.Goals as goal
 

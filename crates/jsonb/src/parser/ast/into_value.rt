@@ -6,7 +6,7 @@ ghost use Rattle.jsonb.specs.AstView.{ast_view, asts_view, written_members, IsCo
 
 use super::JsonAst;
 use crate::parser::handler::put_member;
-use jsonb_value::error::{Error, Result};
+use jsonb_core::error::{Error, Result};
 use jsonb_value::value::{Object, Value};
 use std::alloc::Global;
 use std::borrow::CowStr;

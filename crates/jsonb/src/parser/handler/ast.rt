@@ -1,7 +1,7 @@
 //! A `JsonAst` reports each fault, and holds its members in a vector until the object ends.
 ghost use Rattle.std.specs.Prelude.{◌≡◌, List, [], map, true, false};
 ghost use Rattle.std.specs.Cow.{cow_str_bytes};
-ghost use Rattle.jsonb_value.specs.View.{mark_view};
+ghost use Rattle.jsonb_core.specs.View.{mark_view};
 ghost use Rattle.jsonb.specs.FrameContents.{Completes, FramesHold};
 ghost use Rattle.jsonb.specs.Source.{found_of, source_view};
 ghost use Rattle.jsonb_spec.specs.Source.{object_source, source_members_of};
@@ -9,7 +9,7 @@ ghost use Rattle.jsonb_spec.specs.Source.{object_source, source_members_of};
 use super::value::{grow, push_scalar};
 use crate::parser::members::{Member, settle_members};
 use crate::parser::{JsonAst, Mode};
-use jsonb_value::error::Error;
+use jsonb_core::error::Error;
 use std::alloc::{AllocError, Global};
 use std::borrow::CowStr;
 use std::mem;

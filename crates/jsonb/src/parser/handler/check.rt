@@ -1,14 +1,14 @@
 //! Nothing is made of a text that is only checked. The keys of the objects that are open are held, so that one that
 //! comes twice is reported.
 ghost use Rattle.std.specs.Prelude.{◌≡◌, ℕ, List, [], false, map, true};
-ghost use Rattle.jsonb_value.specs.View.{number_view};
+ghost use Rattle.jsonb_core.specs.View.{number_view};
 ghost use Rattle.jsonb.specs.Held.{IsAnyValue, key_held};
 ghost use Rattle.jsonb_spec.specs.Source.{boolean_source, null_source, number_source};
 ghost use Rattle.text_write.specs.CheckSink.{CheckFilled, CheckHolds};
 
 use super::repeat::report_repeat;
 use crate::parser::Mode;
-use jsonb_value::error::Error;
+use jsonb_core::error::Error;
 use std::alloc::{AllocError, Global};
 use text_parse::{Failed, Handler, OpenObject, Scalar, Text, Wants};
 use text_scan::util::check_contents;

@@ -3,11 +3,11 @@ ghost use Rattle.std.specs.Prelude.{ℕ, List, false};
 ghost use Rattle.text_parse.specs.Handler.{Misses};
 ghost use Rattle.text_parse.specs.Stack.{object_end};
 ghost use Rattle.jsonb_spec.specs.Source.{Found};
-ghost use Rattle.text_write.specs.OpenMembers.{ReportsRepeatOf};
+ghost use Rattle.text_members.specs.OpenMembers.{ReportsRepeatOf};
 
-use jsonb_value::error::{Error, ParseErrorCode};
+use jsonb_core::error::{Error, ParseErrorCode};
 use std::alloc::Global;
-use text_write::open_members::{OpenMembers, Repeat};
+use text_members::open_members::{OpenMembers, Repeat};
 
 // Reports the least key that comes twice, and where it comes the second time.
 #[cold]

@@ -2,18 +2,18 @@
 //! text of a part.
 ghost use Rattle.std.specs.Prelude.{◌≡◌, ℕ, List, None, OnOk, Some, map, true};
 ghost use Rattle.jsonb.specs.Held.{IsScalarAt, held_by};
-ghost use Rattle.text_scan.specs.Open.{Open};
+ghost use Rattle.text_common.specs.Open.{Open};
 ghost use Rattle.jsonb_spec.specs.Source.{Source};
 ghost use Rattle.text_write.specs.TextSink.{SeesPart};
 
 use super::repeat::report_repeat;
 use crate::parser::Mode;
-use jsonb_value::error::Error;
+use jsonb_core::error::Error;
 use std::alloc::{AllocError, Global};
 use std::borrow::CowStr;
 use std::marker::PhantomData;
+use text_members::open_members::Unsettled;
 use text_parse::{Failed, Handler, OpenObject, Scalar, Text, Verbatim, Wants};
-use text_write::open_members::Unsettled;
 use text_write::sink::Sink;
 use text_write::text::Part;
 

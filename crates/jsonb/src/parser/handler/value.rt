@@ -10,7 +10,7 @@ ghost use Rattle.jsonb.specs.FrameContents.{Completes, FramesHold, MapHolds};
 ghost use Rattle.jsonb_spec.specs.Source.{tree_of_source};
 
 use crate::parser::Mode;
-use jsonb_value::error::Error;
+use jsonb_core::error::Error;
 use jsonb_value::value::{Object, Value};
 use std::alloc::{AllocError, AllocFailed, Global};
 use std::borrow::CowStr;

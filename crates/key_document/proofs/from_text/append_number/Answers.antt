@@ -1,6 +1,6 @@
 use Rattle.std.proofs.Common.{◌++◌, length, ap, ◌∙◌, arith}
 use Rattle.key_document.proofs.Digits.{digits_of_number, number_small, same_key}
-use Rattle.jsonb_value.specs.View.{number_view}
+use Rattle.jsonb_core.specs.View.{number_view}
 use Rattle.key_document.proofs.Items.{part_lacks}
 use Rattle.key_document.proofs.from_text.append_number.Goals as goal
 

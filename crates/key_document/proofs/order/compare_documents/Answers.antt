@@ -1,7 +1,7 @@
 use Rattle.std.proofs.Common.{◌∙◌}
 use Rattle.std.specs.Cmp.Lexicographic.{slice_cmp}
 use Rattle.std.specs.Ordering.{nat_cmp}
-use Rattle.jsonb_value.proofs.SortKeys.Trees.{keys_order}
+use Rattle.jsonb_core.proofs.SortKeys.Trees.{keys_order}
 use Rattle.key_document.proofs.order.compare_documents.Goals as goal
 
 pub returns : goal.returns

@@ -1,6 +1,6 @@
 use Rattle.std.proofs.Common.{arith}
 use Rattle.std.proofs.lemmas.List.{take-replicate}
-use Rattle.jsonb_value.proofs.Appending.Appended.{extended}
+use Rattle.jsonb_core.proofs.Appending.Appended.{extended}
 use Rattle.key_text.proofs.number.append_zeros.Goals as goal
 
 pub returns : goal.returns

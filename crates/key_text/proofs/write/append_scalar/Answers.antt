@@ -2,7 +2,7 @@ use Rattle.std.proofs.Common.{◌-◌, ◌++◌, length, sym, ap, ◌∙◌, ari
 use Rattle.jsonb_spec.specs.SortKey.{key_of, number_key}
 use Rattle.jsonb_spec.specs.Text.{tree_text}
 use Rattle.jsonb_spec.specs.Text.NumberText.{number_text}
-use Rattle.jsonb_value.proofs.Appending.Appended.{on_ok}
+use Rattle.jsonb_core.proofs.Appending.Appended.{on_ok}
 use Rattle.key_value.proofs.FirstBytes.{no_key}
 use Rattle.key_text.specs.Counts.{counts_at}
 use Rattle.key_text.proofs.Appending.{out_of_memory, passed_on, as_text, not_ok}

@@ -1,7 +1,7 @@
 use Rattle.std.proofs.Common.{◌+◌, ◌*◌, ◌/◌, ◌^◌, ◌≤◌, arith, refl}
 use Rattle.std.proofs.Math.Nat.{pow-zero}
 use Rattle.std.proofs.lemmas.Nat.{pow-add}
-use Rattle.jsonb_value.proofs.SortKeys.Counts.{power_le}
+use Rattle.jsonb_core.proofs.SortKeys.Counts.{power_le}
 use Rattle.key_value.proofs.Numbers.{digits_begun, pair_read}
 use Rattle.key_value.proofs.number.read_front.Goals as goal
 

@@ -1,6 +1,6 @@
 use Rattle.std.proofs.Common.{◌≡◌, ◌+◌, ◌-◌, ◌*◌, ◌/◌, ◌^◌, ◌<◌, ◌≤◌, rules, ap, ◌∙◌, arith}
 use Rattle.std.specs.Bool.{nat_lt}
-use Rattle.jsonb_value.proofs.SortKeys.Counts.{power_le}
+use Rattle.jsonb_core.proofs.SortKeys.Counts.{power_le}
 use Rattle.key_value.proofs.Exact.{if_some}
 use Rattle.key_value.proofs.Integers.{few_digits, same_sign, signed_value}
 use Rattle.key_value.proofs.number.short_integer.Goals as goal

@@ -1,6 +1,6 @@
 use Rattle.std.proofs.Common.{sym, ◌∙◌, arith}
 use Rattle.key_text.proofs.Appending.{retained, preserves_on}
-use Rattle.jsonb_value.proofs.Appending.Appended.{extended, appends_rest, lacks}
+use Rattle.jsonb_core.proofs.Appending.Appended.{extended, appends_rest, lacks}
 use Rattle.key_zeros.proofs.Sevens.{sevens_begun, seven_written, seven_fits, few}
 use Rattle.key_zeros.proofs.entry.append_sevens.Goals as goal
 

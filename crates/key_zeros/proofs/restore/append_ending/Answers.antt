@@ -1,6 +1,6 @@
 use Rattle.std.proofs.Common.{replicate, ap, ◌∙◌, arith}
 use Rattle.std.proofs.lemmas.List.{take-replicate}
-use Rattle.jsonb_value.proofs.Appending.Appended.{extended, appends_then}
+use Rattle.jsonb_core.proofs.Appending.Appended.{extended, appends_then}
 use Rattle.key_zeros.proofs.Restoring.{ending_split}
 use Rattle.key_zeros.proofs.restore.append_ending.Goals as goal
 

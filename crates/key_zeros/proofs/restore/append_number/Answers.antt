@@ -1,5 +1,5 @@
 use Rattle.std.proofs.Common.{refl}
-use Rattle.jsonb_value.proofs.Appending.Appended.{appends_then}
+use Rattle.jsonb_core.proofs.Appending.Appended.{appends_then}
 use Rattle.key_zeros.proofs.restore.append_number.Goals as goal
 
 pub returns : goal.returns

@@ -8,9 +8,10 @@ ghost use Rattle.text_scan.specs.ScannedNumber.{AreEnds, number_views, scanned_v
 
 use super::form::decimal;
 use super::{MOST_DIGITS, NumberFault, NumberText};
-use crate::parser::number::{byte_at, digits_end, exponent_end, sign_end};
-use jsonb_value::error::ParseErrorCode;
-use jsonb_value::number::Number;
+use crate::parser::number::{digits_end, exponent_end, sign_end};
+use jsonb_core::bytes::byte_at;
+use jsonb_core::error::ParseErrorCode;
+use jsonb_core::number::Number;
 
 // Where the parts of a decimal end: its zeros, all digits before the point, the point, and the
 // digits behind it.

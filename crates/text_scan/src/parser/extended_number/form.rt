@@ -3,9 +3,9 @@ ghost use Rattle.std.specs.Prelude.{◌≡◌, ℕ, ◌-◌, ◌≤◌, ◌<◌,
 ghost use Rattle.jsonb_spec.specs.Grammar.ExactNumber.{exact_number};
 ghost use Rattle.jsonb_spec.specs.Grammar.ExtendedNumber.{decimal_number};
 ghost use Rattle.jsonb_spec.specs.Number.Signed.{signed_by};
-ghost use Rattle.jsonb_value.specs.View.{number_view};
+ghost use Rattle.jsonb_core.specs.View.{number_view};
 
-use jsonb_value::number::{Decimal64, Decimal128, Number};
+use jsonb_core::number::{Decimal64, Decimal128, Number};
 
 // The most digits of a number that 64 bits carry with a scale.
 pub(super) const DECIMAL64_DIGITS: usize = 18;

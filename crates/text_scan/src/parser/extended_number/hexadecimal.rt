@@ -9,9 +9,10 @@ ghost use Rattle.text_scan.specs.ScannedNumber.{number_views, scanned_view};
 
 use super::form::with_sign;
 use super::{NumberFault, NumberText, PAST_38_DIGITS, invalid};
-use crate::parser::number::{byte_at, number_after};
+use crate::parser::number::number_after;
 use crate::util::digit;
-use jsonb_value::number::{Decimal128, Number};
+use jsonb_core::bytes::byte_at;
+use jsonb_core::number::{Decimal128, Number};
 
 // The number of hexadecimal digits that the bytes begin with.
 fn hexadecimal_length(bytes: &[u8]) -> usize

@@ -2,13 +2,14 @@
 ghost use Rattle.std.specs.Prelude.{◌≡◌, ◌+◌, ◌-◌, ◌*◌, ◌≤◌, ◌<◌, ◌^◌, length, take, Some, None, IfSome};
 ghost use Rattle.std.specs.Bool.{MatchBool};
 ghost use Rattle.std.specs.Str.Parse.{digits_value_after};
-ghost use Rattle.jsonb_value.specs.View.{number_view};
+ghost use Rattle.jsonb_core.specs.View.{number_view};
 ghost use Rattle.text_scan.specs.Parsing.Number.{digits_length, sign_end};
 ghost use Rattle.text_scan.specs.Parsing.ExtendedNumber.{front_end, extended_scan, FollowsDigits};
 
 use super::form::{DECIMAL64_DIGITS, short_decimal, short_integer};
-use crate::parser::number::{SAFE_DIGITS, byte_at, continues_after_integer, sign_end};
-use jsonb_value::number::Number;
+use crate::parser::number::{SAFE_DIGITS, continues_after_integer, sign_end};
+use jsonb_core::bytes::byte_at;
+use jsonb_core::number::Number;
 
 /// A number and the index after its text.
 #[derive(Drop)]

@@ -2,7 +2,7 @@
 ghost use Rattle.std.specs.Prelude.{◌≡◌, ◌≢◌, ◌+◌, ◌^◌, ◌≤◌, ◌<◌, ◌∷◌, [], drop, length, slice_index, IfErr, IfOk, MatchBool, OnOk, true};
 ghost use Rattle.jsonb_spec.specs.Ascii as ascii;
 ghost use Rattle.jsonb_spec.specs.Mode.{Mode as GrammarMode, GoesBeyondJson};
-ghost use Rattle.jsonb_value.specs.Error.CodeView.{code_of};
+ghost use Rattle.jsonb_core.specs.Error.CodeView.{code_of};
 ghost use Rattle.text_scan.specs.Answer.{mode_of};
 ghost use Rattle.text_scan.specs.Decoding.{IsDecodedUpTo, IsShortLetter, SeesNoBackslash, StopsAtEscape, ReportsBackslash};
 ghost use Rattle.text_scan.specs.QuotedString.{ChecksContents, decoded_text};
@@ -12,7 +12,7 @@ use super::run::near_backslash;
 use super::unit::{after_unit_mark, pass_units};
 use super::{DecodingFault, escaped_byte};
 use crate::parser::Mode;
-use jsonb_value::error::{Error, ParseErrorCode, Result};
+use jsonb_core::error::{Error, ParseErrorCode, Result};
 use memchr::memchr;
 
 // The index of the first backslash, or how many bytes there are. It is often near.

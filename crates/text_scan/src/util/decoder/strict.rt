@@ -2,7 +2,7 @@
 ghost use Rattle.std.specs.Prelude.{◌≡◌, ◌≢◌, ℕ, List, ◌∷◌, ◌+◌, ◌^◌, ◌<◌, ◌≤◌, ◌-◌, drop, length, Err, IfErr, IfNone, IfSome, MatchBool, OnOk};
 ghost use Rattle.jsonb_spec.specs.Ascii as ascii;
 ghost use Rattle.jsonb_spec.specs.Mode.{json, standard};
-ghost use Rattle.jsonb_value.specs.Error.CodeView.{code_of};
+ghost use Rattle.jsonb_core.specs.Error.CodeView.{code_of};
 ghost use Rattle.text_scan.specs.Parsing.String.{body_of, item_at};
 ghost use Rattle.text_scan.specs.StrictString.{AreClean, ParsesItem, ParsesNoItem, RejectsContents};
 
@@ -10,7 +10,7 @@ use super::escaped_byte;
 use super::unit::read_unit;
 use crate::parser::Mode;
 use crate::parser::vector::{low_bits, near_bits};
-use jsonb_value::error::{Error, ParseErrorCode, Result};
+use jsonb_core::error::{Error, ParseErrorCode, Result};
 
 // What is wrong with an item, and how many of its bytes are read then.
 #[derive(Drop)]

@@ -5,14 +5,14 @@ ghost use Rattle.std.specs.Char.Utf16.{is_high_surrogate, is_low_surrogate};
 ghost use Rattle.std.specs.Str.Parse.{digits_value};
 ghost use Rattle.jsonb_spec.specs.Ascii as ascii;
 ghost use Rattle.jsonb_spec.specs.Mode.{Mode as GrammarMode, GoesBeyondJson};
-ghost use Rattle.jsonb_value.specs.Error.CodeView.{code_of};
+ghost use Rattle.jsonb_core.specs.Error.CodeView.{code_of};
 ghost use Rattle.jsonb_spec.specs.Grammar.StringBody.{IsHexDigit, unit, encoding, alone, together};
 ghost use Rattle.jsonb_spec.specs.Grammar.StringFault.{IsUnitCut, IsFirstNonDigit};
 ghost use Rattle.text_scan.specs.Decoding.{SplitsUnit, ParsesUnit, Adds, IsDecodedUpTo, StopsInUnit, StopsAtEscape};
 
 use super::space::{write_all, write_byte};
 use super::{Decoded, DecodingFault};
-use jsonb_value::error::ParseErrorCode;
+use jsonb_core::error::ParseErrorCode;
 
 // The four digits of a unit, their value, and what follows the unit.
 #[derive(Clone, Copy)]

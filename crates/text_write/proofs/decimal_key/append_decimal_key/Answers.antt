@@ -2,7 +2,7 @@ use Rattle.std.proofs.Common.{◌≡◌, ◌≤◌, ◌++◌, ◌∙◌, ◌==�
 use Rattle.std.specs.Str.Parse.{AllDigits, digits_value}
 use Rattle.jsonb_spec.specs.SortKey.{invert_if, magnitude_key}
 use Rattle.text_write.proofs.DecimalKeys.{decimal_of, some_written, zero_written}
-use Rattle.text_write.proofs.Sinks.{on_ok}
+use Rattle.text_members.proofs.Outcomes.{on_ok}
 use Rattle.text_write.proofs.decimal_key.append_decimal_key.Goals as goal
 
 pub returns-then-digits-ge32-clause-bytes : goal.returns-then-digits-ge32-clause-bytes

@@ -1,6 +1,6 @@
 use Rattle.std.proofs.Common.{◌++◌, ◌∷◌, [], ◌∙◌, ap, arith}
 use Rattle.text_write.proofs.IntegerKeys.{scaled_appended}
-use Rattle.text_write.proofs.Sinks.{on_ok}
+use Rattle.text_members.proofs.Outcomes.{on_ok}
 use Rattle.text_write.proofs.decimal_key.append_pointed.Goals as goal
 
 pub returns-clause-bytes : goal.returns-clause-bytes

@@ -1,6 +1,6 @@
 use Rattle.std.proofs.Common.{◌≡◌, ◌++◌, List, ℕ, subst, sym}
 use Rattle.std.specs.Prelude.{OnOk}
-use Rattle.jsonb_value.proofs.Strings.PlainTexts.{fewer_plain}
+use Rattle.jsonb_core.proofs.Strings.PlainTexts.{fewer_plain}
 use Rattle.text_write.proofs.escaped.append_bytes.Goals as goal
 
 pub returns-then-run_of_sixteen-len-clause-ok : goal.returns-then-run_of_sixteen-len-clause-ok

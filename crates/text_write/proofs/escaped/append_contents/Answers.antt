@@ -9,7 +9,7 @@ use Rattle.text_scan.specs.Decoding.{AreContents}
 use Rattle.text_scan.proofs.Strings.Decoding.{contents_left}
 use Rattle.text_write.specs.Escaped.{WritesItems}
 use Rattle.text_write.proofs.EscapedTexts.{writes_behind}
-use Rattle.text_write.proofs.Sinks.{on_ok}
+use Rattle.text_members.proofs.Outcomes.{on_ok}
 use Rattle.text_write.proofs.escaped.append_contents.Goals as goal
 
 pub append_rest-requires-clause-left : goal.append_rest-requires-clause-left

@@ -6,7 +6,7 @@ use Rattle.text_scan.proofs.Steps.Modes.{code_goes_beyond}
 use Rattle.text_scan.proofs.Strings.Decoding.{contents_left}
 use Rattle.text_write.specs.Escaped.{WritesItems}
 use Rattle.text_write.proofs.EscapedTexts.{writes_all, writes_behind, writes_then}
-use Rattle.text_write.proofs.Fronts.{extends_on}
+use Rattle.text_members.proofs.Fronts.{extends_on}
 use Rattle.text_write.proofs.escaped.append_rest.Goals as goal
 use Rattle.text_write.proofs.escaped.append_rest.Goals.{then-count-gt0+in_ok-append_first, else-count-gt0}
 

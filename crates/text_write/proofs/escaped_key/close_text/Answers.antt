@@ -3,8 +3,8 @@ use Rattle.std.specs.Result.{OnOk}
 use Rattle.std.proofs.lemmas.List.{take_rest}
 use Rattle.memchr.specs.Find.{IsFirstByte, is_byte}
 use Rattle.text_write.proofs.EscapedKeys.{ends_text}
-use Rattle.text_write.proofs.Fronts.{extends_on}
-use Rattle.text_write.proofs.Objects.Pieces.{front_verbatim}
+use Rattle.text_members.proofs.Fronts.{extends_on}
+use Rattle.text_members.proofs.Objects.Pieces.{front_verbatim}
 use Rattle.text_write.proofs.escaped_key.close_text.Goals as goal
 
 pub returns-clause-bytes : goal.returns-clause-bytes

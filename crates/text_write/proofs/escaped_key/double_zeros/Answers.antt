@@ -1,4 +1,4 @@
-use Rattle.text_write.proofs.Objects.Pieces.{front_verbatim}
+use Rattle.text_members.proofs.Objects.Pieces.{front_verbatim}
 use Rattle.text_write.proofs.escaped_key.double_zeros.Goals as goal
 
 pub returns-in_err-extend_from_slice-clause-retained :

@@ -1,6 +1,6 @@
 use Rattle.std.proofs.Common.{◌++◌, ◌∙◌, ap, sym, arith, ◌==◌}
 use Rattle.text_write.proofs.IntegerKeys.{behind_first, behind_len, digits_behind, never_long, some_key, zero_key}
-use Rattle.text_write.proofs.Sinks.{on_ok}
+use Rattle.text_members.proofs.Outcomes.{on_ok}
 use Rattle.text_write.proofs.integer_key.append_integer_key.Goals as goal
 
 pub returns-then-count-ge32-clause-bytes : goal.returns-then-count-ge32-clause-bytes

@@ -2,7 +2,7 @@ use Rattle.std.proofs.Common.{◌++◌, ◌∙◌, ap, map, take, arith}
 use Rattle.std.proofs.lemmas.List.{take-take}
 use Rattle.jsonb_spec.specs.SortKey.{invert_if}
 use Rattle.text_write.specs.IntegerKey.{digit_bytes}
-use Rattle.text_write.proofs.Sinks.{on_ok}
+use Rattle.text_members.proofs.Outcomes.{on_ok}
 use Rattle.text_write.proofs.integer_key.append_pairs.Goals as goal
 
 pub returns-in-Some-clause-bytes : goal.returns-in-Some-clause-bytes

@@ -1,6 +1,6 @@
 use Rattle.std.proofs.Common.{◌++◌, ◌∷◌, [], ◌∙◌, ap}
 use Rattle.text_write.proofs.IntegerKeys.{appended}
-use Rattle.text_write.proofs.Sinks.{on_ok}
+use Rattle.text_members.proofs.Outcomes.{on_ok}
 use Rattle.text_write.proofs.integer_key.append_several.Goals as goal
 
 pub returns-clause-bytes : goal.returns-clause-bytes

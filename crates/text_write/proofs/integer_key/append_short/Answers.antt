@@ -2,7 +2,7 @@ use Rattle.std.proofs.Common.{◌++◌, ◌-◌, ◌/◌, ◌+◌, ap, ◌∙◌
 use Rattle.std.specs.Prelude.{slice_set}
 use Rattle.jsonb_spec.specs.SortKey.{invert_if}
 use Rattle.text_write.proofs.IntegerKeys.{row_written}
-use Rattle.text_write.proofs.Sinks.{on_ok}
+use Rattle.text_members.proofs.Outcomes.{on_ok}
 use Rattle.text_write.proofs.integer_key.append_short.Goals as goal
 use Rattle.text_write.proofs.integer_key.append_short.Goals.{then-len-eq0, else-len-eq0}
 

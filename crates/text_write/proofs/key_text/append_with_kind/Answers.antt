@@ -1,7 +1,7 @@
 use Rattle.std.proofs.Common.{ℕ, List, ◌++◌, ◌∷◌, ◌-◌, ◌<◌, [], ap, append_assoc, length, take, drop, ◌∙◌, arith}
 use Rattle.std.proofs.lemmas.List.{length-take-le, take-take, take_rest}
 use Rattle.text_write.proofs.FirstBytes.{behind_first, replaced}
-use Rattle.text_write.proofs.Sinks.{on_ok}
+use Rattle.text_members.proofs.Outcomes.{on_ok}
 use Rattle.text_write.proofs.key_text.append_with_kind.Goals as goal
 
 pub returns-in-Some-clause-bytes : goal.returns-in-Some-clause-bytes

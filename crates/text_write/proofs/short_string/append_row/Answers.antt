@@ -1,5 +1,5 @@
 use Rattle.std.proofs.Common.{◌≡◌, ◌++◌, ◌∙◌, refl, ap, take, length, append-nil, arith}
-use Rattle.text_write.proofs.Sinks.{on_ok}
+use Rattle.text_members.proofs.Outcomes.{on_ok}
 use Rattle.text_write.specs.ShortString.{written_bytes}
 use Rattle.text_write.proofs.ShortStrings.{row_taken}
 use Rattle.text_write.proofs.short_string.append_row.Goals as goal

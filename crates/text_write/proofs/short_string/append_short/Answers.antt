@@ -1,7 +1,7 @@
 use Rattle.std.proofs.Common.{◌+◌, ◌-◌, ◌≤◌, ◌++◌, ap, subst, take, drop, ◌∙◌, arith, refl, length-drop}
 use Rattle.std.proofs.lemmas.List.{length-take-le, take_rest}
 use Rattle.jsonb_spec.specs.Text.StringText.{ArePlain}
-use Rattle.text_write.proofs.Fronts.{extends_on}
+use Rattle.text_members.proofs.Fronts.{extends_on}
 use Rattle.text_write.proofs.ShortStrings.{some_all, some_item, some_run}
 use Rattle.text_write.proofs.short_string.append_short.Goals as goal
 

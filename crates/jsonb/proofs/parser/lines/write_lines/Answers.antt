@@ -3,7 +3,7 @@ use Rattle.jsonb_spec.specs.Text.{tree_text}
 use Rattle.std.specs.Vec.{vec_capacity, vec_len}
 use Rattle.text_scan.specs.Answer.{grammar_of}
 use Rattle.jsonb.proofs.Lines.{capacity_stays, line_fits, line_grows, line_passed, line_rejected, line_written, memory_lacks}
-use Rattle.text_write.proofs.Fronts.{extends_on}
+use Rattle.text_members.proofs.Fronts.{extends_on}
 use Rattle.jsonb.proofs.parser.lines.write_lines.Goals as goal
 
 pub returns-in-Err-clause-rejects : goal.returns-in-Err-clause-rejects

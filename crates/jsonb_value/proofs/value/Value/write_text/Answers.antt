@@ -4,7 +4,7 @@ use Rattle.jsonb_spec.specs.Proper.{IsProper}
 use Rattle.jsonb_spec.specs.Text.{tree_text}
 use Rattle.jsonb_value.specs.View.{view}
 use Rattle.jsonb_spec.specs.Text.Range.{IsIntegral}
-use Rattle.jsonb_value.proofs.Trees.RangeTexts.{text_in_range, range_reads_back, mode_range_text, text_of_integers}
+use Rattle.jsonb_core.proofs.Trees.RangeTexts.{text_in_range, range_reads_back, mode_range_text, text_of_integers}
 use Rattle.jsonb_value.proofs.value.Value.write_text.Goals as goal
 use Rattle.jsonb_value.proofs.value.Value.write_text.Goals.{Then-is_ok}
 

@@ -1,5 +1,5 @@
-use Rattle.jsonb_value.proofs.Trees.RangeTexts.{document_in_range}
-use Rattle.jsonb_value.proofs.Trees.StandardInExtended.{standard_is_extended}
+use Rattle.jsonb_core.proofs.Trees.RangeTexts.{document_in_range}
+use Rattle.jsonb_core.proofs.Trees.StandardInExtended.{standard_is_extended}
 use Rattle.jsonb_value.proofs.value.laws.documents_are_in_range.Goals as goal
 
 pub returns-clause-range : goal.returns-clause-range

@@ -1,4 +1,4 @@
-use Rattle.jsonb_value.proofs.Trees.RangeTexts.{range_has_text, range_reads_back, one_text_in_range, one_text_of_integers}
+use Rattle.jsonb_core.proofs.Trees.RangeTexts.{range_has_text, range_reads_back, one_text_in_range, one_text_of_integers}
 use Rattle.jsonb_value.proofs.value.laws.value_texts_read_back.Goals as goal
 
 pub returns-clause-written : goal.returns-clause-written

@@ -1,5 +1,5 @@
-use Rattle.jsonb_value.specs.Order.Laws.{trees_one_order}
-use Rattle.jsonb_value.proofs.Order.ByContent.{by_content}
+use Rattle.jsonb_core.specs.Order.Laws.{trees_one_order}
+use Rattle.jsonb_core.proofs.Order.ByContent.{by_content}
 use Rattle.jsonb_value.proofs.value.order.order_is_total.Goals as goal
 
 pub returns : goal.returns

@@ -3,14 +3,14 @@ use Rattle.jsonb_spec.specs.SortKey.Kind as kind
 use Rattle.jsonb_spec.specs.Tree.{boolean}
 use Rattle.jsonb_spec.specs.SortKey.{text_key, key_of, items_key, members_key}
 use Rattle.jsonb_value.specs.View.{view, trees_view, members_view}
-use Rattle.jsonb_value.proofs.Appending.Appended.{begun, goes_on, fits, on_err, retained_on, appends_rest, appends_as, extended}
+use Rattle.jsonb_core.proofs.Appending.Appended.{begun, goes_on, fits, on_err, retained_on, appends_rest, appends_as, extended}
 use Rattle.jsonb_value.proofs.Values.Accessors.{view-Null, view-Bool, view-String, view-Number, view-Binary, view-Array, view-Object}
 use Rattle.jsonb_value.proofs.SortKeys.Parts.{next_item, next_member}
 use Rattle.jsonb_value.proofs.Values.Members.{Entry}
 use Rattle.jsonb_value.proofs.value.sort_key.+append.Goals as goal
 use Rattle.jsonb_spec.specs.Proper.{HaveProperParts}
 use Rattle.jsonb_value.proofs.Values.Keys.{KeysAscend-members_view}
-use Rattle.jsonb_value.proofs.Appending.Pieces.{next_proper, next_proper_member}
+use Rattle.jsonb_value.proofs.Appending.NextParts.{next_proper, next_proper_member}
 
 pub append_items-items-preserved : goal.append_items-items-preserved
 append_items-items-preserved t c =
@@ -84,7 +84,7 @@ pub append-returns-in-Binary-clause-appends : goal.append-returns-in-Binary-clau
 append-returns-in-Binary-clause-appends t c = rw (ap view c.in-Binary.is ∙ view-Binary c.in-Binary.bytes) c.append_text.ensures.appends
 
 pub append-returns-in-Number-clause-appends : goal.append-returns-in-Number-clause-appends
-append-returns-in-Number-clause-appends t c = rw (ap view c.in-Number.is ∙ view-Number c.in-Number.number) c.append_sort_key.ensures.appends
+append-returns-in-Number-clause-appends t c = rw (ap view c.in-Number.is ∙ view-Number c.in-Number.number) c.append_number_key.ensures.appends
 
 pub append-returns-in-String-clause-appends : goal.append-returns-in-String-clause-appends
 append-returns-in-String-clause-appends t c = rw (ap view c.in-String.is ∙ view-String c.in-String.text) (appends_as _ _ _ _ _ (ap (λ t. kind.string ∷ text_key t) (c.as_bytes.ensures.value ∙ c.deref.ensures.value)) c.append_text-in-String.ensures.appends)

@@ -2,7 +2,7 @@ use Rattle.std.proofs.Common.{◌≤◌, ◌∷◌, drop}
 use Rattle.std.specs.Vec.{vec_capacity}
 use Rattle.jsonb_spec.specs.SortKey.{items_key, members_key}
 use Rattle.jsonb_value.specs.View.{trees_view, members_view}
-use Rattle.jsonb_value.proofs.Appending.Appended.{IsUnderway}
+use Rattle.jsonb_core.proofs.Appending.Appended.{IsUnderway}
 use Rattle.jsonb_value.proofs.value.sort_key.+append.Given as goal
 use Rattle.jsonb_spec.specs.Proper.{AreProper, HaveProperParts}
 use Rattle.jsonb_spec.specs.Keys.{KeysAscend}

@@ -1,5 +1,5 @@
 use Rattle.std.proofs.Common.{refl, rules}
-use Rattle.jsonb_value.proofs.Appending.Appended.{appends_as, appends_then, extended}
+use Rattle.jsonb_core.proofs.Appending.Appended.{appends_as, appends_then, extended}
 use Rattle.jsonb_value.proofs.value.sort_key.append_zoned.Goals as goal
 
 pub returns : goal.returns

@@ -1,4 +1,4 @@
-use Rattle.jsonb_value.proofs.SortKeys.Trees.{tree_compares, keys_order, keys_same, keys_no_front}
+use Rattle.jsonb_core.proofs.SortKeys.Trees.{tree_compares, keys_order, keys_same, keys_no_front}
 use Rattle.jsonb_value.proofs.value.sort_key.sort_keys_order.Goals as goal
 
 pub returns : goal.returns

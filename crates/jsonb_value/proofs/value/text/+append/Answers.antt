@@ -4,11 +4,12 @@ use Rattle.jsonb_spec.specs.Text.StringText.{quoted_text}
 use Rattle.jsonb_spec.specs.Text.{with_commas, item_texts, member_texts, tree_text, members_have_texts}
 use Rattle.jsonb_spec.specs.Tree.{boolean}
 use Rattle.jsonb_value.specs.View.{view, trees_view, members_view}
-use Rattle.jsonb_value.proofs.Appending.Appended.{begun, goes_on, fits, on_err, retained_on, extended_if, appends_as_if, whole_if}
+use Rattle.jsonb_core.proofs.Appending.Appended.{begun, goes_on, fits, on_err, retained_on, extended_if, appends_as_if, whole_if}
 use Rattle.jsonb_value.proofs.Values.Accessors.{view-Null, view-Bool, view-String, view-Number, view-Binary, view-Interval, view-Array, view-Object}
 use Rattle.jsonb_value.proofs.Values.Keys.{KeysAscend-members_view}
 use Rattle.jsonb_value.proofs.Values.Members.{Entry}
-use Rattle.jsonb_value.proofs.Appending.Pieces.{texts_left, comma_done, comma_fits, key_split, key_done, next_item, next_member, next_text, next_member_text, texts_left_have, first_has_text, next_proper, next_proper_member}
+use Rattle.jsonb_core.proofs.Appending.Pieces.{texts_left, comma_done, comma_fits, key_split, key_done, texts_left_have, first_has_text}
+use Rattle.jsonb_value.proofs.Appending.NextParts.{next_item, next_member, next_text, next_member_text, next_proper, next_proper_member}
 use Rattle.jsonb_value.proofs.value.text.+append.Goals as goal
 
 pub append-returns-in-Array-clause-appends : goal.append-returns-in-Array-clause-appends
@@ -119,7 +120,7 @@ pub append-returns-in-String-clause-appends : goal.append-returns-in-String-clau
 append-returns-in-String-clause-appends t c = rw (ap view c.in-String.is ∙ view-String c.in-String.text) (appends_as_if _ _ _ _ _ _ refl (ap quoted_text c.as_str.ensures.value) c.append_string.ensures.appends)
 
 pub append-returns-in-Number-clause-appends : goal.append-returns-in-Number-clause-appends
-append-returns-in-Number-clause-appends t c = rw (ap view c.in-Number.is ∙ view-Number c.in-Number.number) (whole_if _ _ _ _ _ refl c.append_text.ensures.appends)
+append-returns-in-Number-clause-appends t c = rw (ap view c.in-Number.is ∙ view-Number c.in-Number.number) (whole_if _ _ _ _ _ refl c.append_number.ensures.appends)
 
 pub append-returns-in-Binary-clause-appends : goal.append-returns-in-Binary-clause-appends
 append-returns-in-Binary-clause-appends t c = rw (ap view c.in-Binary.is ∙ view-Binary c.in-Binary.bytes) (appends_as_if _ _ _ _ _ _ refl refl c.append_quoted_binary.ensures.appends)

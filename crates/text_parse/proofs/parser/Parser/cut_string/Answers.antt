@@ -1,7 +1,7 @@
 use Rattle.std.proofs.Common.{◌≢◌, ◌<◌, ap, subst, sym, ◌∙◌, arith, get_or, length, take, rules}
 use Rattle.std.proofs.lemmas.List.{get_or-take, length-take-le}
 use Rattle.jsonb_spec.specs.Text.StringText.{ArePlain}
-use Rattle.jsonb_value.proofs.Strings.PlainTexts.{no_marks}
+use Rattle.jsonb_core.proofs.Strings.PlainTexts.{no_marks}
 use Rattle.text_parse.specs.Parser.{rest_of}
 use Rattle.text_scan.specs.QuotedString.{IsClear}
 use Rattle.text_parse.proofs.Scalars.Contents.{cut_encoded, cut_plain}

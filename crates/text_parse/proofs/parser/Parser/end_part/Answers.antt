@@ -1,5 +1,5 @@
 use Rattle.std.proofs.Common.{true, false, refl, ap, sym, ◌∙◌, rules}
-use Rattle.jsonb_value.specs.Error.CodeView.{code_of}
+use Rattle.jsonb_core.specs.Error.CodeView.{code_of}
 use Rattle.text_scan.specs.Answer.{grammar_of}
 use Rattle.text_parse.specs.Parser.{rest_of, size_of}
 use Rattle.text_parse.proofs.Steps.Ends.{close_ends, comma_ends}

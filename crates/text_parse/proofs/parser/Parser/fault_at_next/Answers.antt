@@ -1,4 +1,4 @@
-use Rattle.jsonb_value.specs.Error.CodeView.{code_of}
+use Rattle.jsonb_core.specs.Error.CodeView.{code_of}
 use Rattle.text_parse.proofs.Steps.Cursors.{fault_at-inside}
 use Rattle.text_parse.proofs.parser.Parser.fault_at_next.Goals as goal
 

@@ -1,7 +1,7 @@
 use Rattle.std.proofs.Common.{◌+◌, Err, ap, sym, subst, ◌∙◌, rules}
 use Rattle.std.specs.Cow.{cow_str_bytes}
 use Rattle.jsonb_spec.specs.Tree.{string}
-use Rattle.jsonb_value.specs.View.{mark_view}
+use Rattle.jsonb_core.specs.View.{mark_view}
 use Rattle.text_scan.specs.Answer.{mode_of, grammar_of}
 use Rattle.text_scan.specs.Parsing.Scalar.{quoted_at}
 use Rattle.text_scan.specs.Parsing.String.{body_of}

@@ -1,5 +1,5 @@
 use Rattle.std.proofs.Common.{sym, ap, ◌∙◌, Ok, rules}
-use Rattle.jsonb_value.specs.Error.CodeView.{code_of}
+use Rattle.jsonb_core.specs.Error.CodeView.{code_of}
 use Rattle.text_scan.specs.Answer.{grammar_of}
 use Rattle.text_scan.specs.ScannedNumber.{number_views}
 use Rattle.text_parse.specs.Grammars.{exact_scan}

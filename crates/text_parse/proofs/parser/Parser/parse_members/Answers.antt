@@ -15,8 +15,8 @@ use Rattle.text_scan.specs.Parsing.Scalar.{scalar_at}
 use Rattle.jsonb_spec.specs.Source.{Found, found_member, source_alone}
 use Rattle.text_parse.specs.Parser.{parse_at, rest_of, size_of}
 use Rattle.text_parse.specs.Stack.{member_start, next_part_at, part_end, object_members_from}
-use Rattle.text_scan.specs.Open.{Open}
-use Rattle.text_scan.specs.Open.{elements_so_far, members_so_far}
+use Rattle.text_common.specs.Open.{Open}
+use Rattle.text_common.specs.Open.{elements_so_far, members_so_far}
 use Rattle.text_parse.proofs.Containers.Frames.{after_member, member_due, member_turn, same_end, waits}
 use Rattle.text_parse.proofs.Steps.Advancing.{goes_on, stays}
 use Rattle.text_parse.proofs.Steps.Failures.{misses_same, misses_through, puts_if, stops_if, reports_always}

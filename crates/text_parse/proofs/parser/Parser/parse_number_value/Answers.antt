@@ -1,5 +1,5 @@
 use Rattle.std.proofs.Common.{Ok, ap, rules}
-use Rattle.jsonb_value.specs.View.{number_view}
+use Rattle.jsonb_core.specs.View.{number_view}
 use Rattle.jsonb_spec.specs.Tree.{Num, number}
 use Rattle.text_scan.specs.Parsing.{Parse, ◌>>=◌}
 use Rattle.text_parse.proofs.parser.Parser.parse_number_value.Goals as goal

@@ -1,7 +1,7 @@
 use Rattle.std.proofs.Common.{ap, sym, ◌∙◌, subst, ◌+◌, Some, rules}
 use Rattle.std.specs.Prelude.{◌==◌}
 use Rattle.std.specs.Str.Parse.{digits_value}
-use Rattle.jsonb_value.specs.View.{number_view}
+use Rattle.jsonb_core.specs.View.{number_view}
 use Rattle.text_scan.specs.Answer.{Fails}
 use Rattle.text_parse.specs.Parser.{rest_of, size_of}
 use Rattle.text_scan.specs.Parsing.Number.{ContinuesAfterInteger, integer_of, whole_digits}

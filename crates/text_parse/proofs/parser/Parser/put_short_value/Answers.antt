@@ -1,7 +1,7 @@
 use Rattle.std.proofs.Common.{◌≡◌, Bool, cond, ap, inl, subst, sym, ◌∙◌, rules}
 use Rattle.text_scan.specs.ShortInteger.{short_view}
 use Rattle.jsonb_spec.specs.Source.{number_source}
-use Rattle.jsonb_value.specs.View.{number_view}
+use Rattle.jsonb_core.specs.View.{number_view}
 use Rattle.jsonb_spec.specs.Tree.{number}
 use Rattle.text_parse.proofs.Scalars.Built.{integer_holds, negative_of, positive_of, put_so, scalar_still}
 use Rattle.text_parse.proofs.Steps.Failures.{puts_same}

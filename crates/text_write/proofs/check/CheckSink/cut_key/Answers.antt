@@ -1,8 +1,8 @@
 use Rattle.std.proofs.Common.{◌<◌, ◌≤◌, length, rules, subst}
 use Rattle.jsonb_spec.specs.Tree.{plain}
 use Rattle.text_write.proofs.Checks.{key_begun}
-use Rattle.text_write.proofs.OpenMembers.{begun_there}
-use Rattle.text_write.proofs.Sinks.{on_ok}
+use Rattle.text_members.proofs.OpenMembers.{begun_there}
+use Rattle.text_members.proofs.Outcomes.{on_ok}
 use Rattle.text_write.proofs.check.CheckSink.cut_key.Goals as goal
 
 pub returns-then-from-eq0 : goal.returns-then-from-eq0

@@ -1,5 +1,5 @@
 use Rattle.text_write.proofs.Checks.{key_begun}
-use Rattle.text_write.proofs.Sinks.{on_ok}
+use Rattle.text_members.proofs.Outcomes.{on_ok}
 use Rattle.text_write.proofs.check.CheckSink.key.Goals as goal
 
 pub returns : goal.returns

@@ -1,8 +1,8 @@
 use Rattle.std.proofs.Common.{◌-◌, ◌++◌, ◌∷◌, [], take, drop, refl, sym, ap, ◌∙◌, arith}
 use Rattle.std.proofs.lemmas.List.{take_rest}
 use Rattle.text_write.proofs.Keys.KeySinks.{plain_text_key, string_there, wrote}
-use Rattle.text_write.proofs.OpenMembers.{same}
-use Rattle.text_write.proofs.Sinks.{on_ok}
+use Rattle.text_members.proofs.OpenMembers.{same}
+use Rattle.text_members.proofs.Outcomes.{on_ok}
 use Rattle.text_write.proofs.key.KeySink.plain.Goals as goal
 
 pub returns-then-to-from-gt1-clause-bytes : goal.returns-then-to-from-gt1-clause-bytes

@@ -1,8 +1,8 @@
 use Rattle.std.proofs.Common.{◌-◌, ◌++◌, ◌∷◌, [], slice_range, take, refl, sym, ap, ◌∙◌}
 use Rattle.std.proofs.lemmas.List.{take_rest}
 use Rattle.text_write.proofs.Keys.KeySinks.{plain_text_key, wrote}
-use Rattle.text_write.proofs.OpenMembers.{same}
-use Rattle.text_write.proofs.Sinks.{on_ok}
+use Rattle.text_members.proofs.OpenMembers.{same}
+use Rattle.text_members.proofs.Outcomes.{on_ok}
 use Rattle.text_write.proofs.key.KeySink.preserve_text.Goals as goal
 
 pub returns-clause-bytes : goal.returns-clause-bytes

@@ -2,7 +2,7 @@ use Rattle.std.proofs.Common.{◌+◌, ◌++◌, ◌∷◌, [], ap, sym, refl, s
 use Rattle.std.proofs.lemmas.List.{take_rest}
 use Rattle.text_common.specs.ShortString.{IsShort}
 use Rattle.text_write.proofs.Keys.KeySinks.{wrote}
-use Rattle.text_write.proofs.OpenMembers as opened
+use Rattle.text_members.proofs.OpenMembers as opened
 use Rattle.text_write.proofs.ShortStrings.{key_written, short_key, short_there}
 use Rattle.text_write.proofs.key.KeySink.short_string.Goals as goal
 

@@ -1,8 +1,8 @@
 use Rattle.std.proofs.Common.{◌-◌, ◌<◌, ◌≤◌, arith, ap, length, refl, rules, slice_range, subst, sym, ◌∙◌}
 use Rattle.jsonb_spec.specs.Tree.{plain}
 use Rattle.text_write.proofs.Keys.KeyMembers.{begins, begins_wrote, key_holds, text_verbatim}
-use Rattle.text_write.proofs.OpenMembers.{begun_there, key_there}
-use Rattle.text_write.proofs.Sinks.{on_ok}
+use Rattle.text_members.proofs.OpenMembers.{begun_there, key_there}
+use Rattle.text_members.proofs.Outcomes.{on_ok}
 use Rattle.text_write.proofs.key.KeySinkSink.cut_key.Goals as goal
 
 pub returns-then-from-eq0-clause-holds : goal.returns-then-from-eq0-clause-holds

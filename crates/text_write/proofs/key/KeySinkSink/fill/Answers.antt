@@ -1,5 +1,5 @@
 use Rattle.text_write.proofs.Keys.KeySinks.{part_written, value_written}
-use Rattle.text_write.proofs.Sinks.{on_ok}
+use Rattle.text_members.proofs.Outcomes.{on_ok}
 use Rattle.text_write.proofs.key.KeySinkSink.fill.Goals as goal
 
 pub returns-clause-holds : goal.returns-clause-holds

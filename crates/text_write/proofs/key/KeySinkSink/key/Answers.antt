@@ -1,6 +1,6 @@
 use Rattle.std.proofs.Common.{arith, refl}
 use Rattle.text_write.proofs.Keys.KeyMembers.{begins, begins_wrote, key_holds}
-use Rattle.text_write.proofs.Sinks.{on_ok}
+use Rattle.text_members.proofs.Outcomes.{on_ok}
 use Rattle.text_write.proofs.key.KeySinkSink.key.Goals as goal
 
 pub returns-clause-holds : goal.returns-clause-holds

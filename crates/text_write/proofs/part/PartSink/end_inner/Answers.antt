@@ -1,6 +1,6 @@
 use Rattle.std.proofs.Common.{◌≡◌, ◌-◌, refl, rules}
 use Rattle.text_write.proofs.PartSinks.{inner_ends}
-use Rattle.text_write.proofs.Sinks.{on_ok}
+use Rattle.text_members.proofs.Outcomes.{on_ok}
 use Rattle.text_write.proofs.part.PartSink.end_inner.Goals as goal
 
 pub returns-then-self-eq1-clause-holds : goal.returns-then-self-eq1-clause-holds

@@ -1,9 +1,9 @@
 use Rattle.std.proofs.Common.{◌≡◌, ◌<◌, rules}
-use Rattle.text_scan.specs.Open.{elements_so_far}
+use Rattle.text_common.specs.Open.{elements_so_far}
 use Rattle.jsonb_spec.specs.Source.{array_source_of}
 use Rattle.text_write.specs.PartSink.{array_held}
 use Rattle.text_write.proofs.PartSinks.{array_ended, ends_in}
-use Rattle.text_write.proofs.Sinks.{on_ok}
+use Rattle.text_members.proofs.Outcomes.{on_ok}
 use Rattle.text_write.proofs.part.PartSinkSink.end_array.Goals as goal
 
 pub returns-then-self-eq0-clause-holds : goal.returns-then-self-eq0-clause-holds

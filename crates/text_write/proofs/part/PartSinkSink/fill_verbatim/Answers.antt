@@ -1,5 +1,5 @@
 use Rattle.text_write.proofs.PartSinks.{alone_around, alone_in, verbatim_alone}
-use Rattle.text_write.proofs.Sinks.{on_ok}
+use Rattle.text_members.proofs.Outcomes.{on_ok}
 use Rattle.text_write.proofs.part.PartSinkSink.fill_verbatim.Goals as goal
 
 pub returns-then-not-is_written-clause-holds : goal.returns-then-not-is_written-clause-holds

@@ -1,8 +1,8 @@
 use Rattle.std.proofs.Common.{◌≡◌, ◌<◌, true, false, map, rules}
-use Rattle.text_scan.specs.Open.{members_so_far}
+use Rattle.text_common.specs.Open.{members_so_far}
 use Rattle.text_write.specs.PartSink.{check_held, object_held}
 use Rattle.text_write.proofs.PartSinks.{goes_on_in, member_due}
-use Rattle.text_write.proofs.Sinks.{on_ok}
+use Rattle.text_members.proofs.Outcomes.{on_ok}
 use Rattle.text_write.proofs.part.PartSinkSink.key.Goals as goal
 
 pub returns-then-self-gt0-clause-holds : goal.returns-then-self-gt0-clause-holds

@@ -1,8 +1,8 @@
 use Rattle.std.proofs.Common.{◌≡◌, ◌<◌, true, false, rules}
-use Rattle.text_scan.specs.Open.{elements_so_far}
+use Rattle.text_common.specs.Open.{elements_so_far}
 use Rattle.text_write.specs.PartSink.{array_held}
 use Rattle.text_write.proofs.PartSinks.{goes_on_in, item_due}
-use Rattle.text_write.proofs.Sinks.{on_ok}
+use Rattle.text_members.proofs.Outcomes.{on_ok}
 use Rattle.text_write.proofs.part.PartSinkSink.next_item.Goals as goal
 
 pub returns-then-self-gt0-clause-holds : goal.returns-then-self-gt0-clause-holds

@@ -1,6 +1,6 @@
 use Rattle.std.proofs.Common.{subst}
 use Rattle.text_write.specs.TextSink.{Writes}
-use Rattle.text_write.proofs.Sinks.{on_ok}
+use Rattle.text_members.proofs.Outcomes.{on_ok}
 use Rattle.text_common.proofs.EncodedNumbers.{encoded_number}
 use Rattle.text_write.proofs.text.TextSink.number.Goals as goal
 

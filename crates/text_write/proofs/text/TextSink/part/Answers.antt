@@ -1,7 +1,7 @@
 use Rattle.std.proofs.Common.{sym, subst}
 use Rattle.std.specs.Result.{OnOk}
 use Rattle.text_write.specs.TextSink.{IsEncoded, Writes, part_text}
-use Rattle.text_write.proofs.Sinks.{on_ok}
+use Rattle.text_members.proofs.Outcomes.{on_ok}
 use Rattle.text_write.proofs.text.TextSink.part.Goals as goal
 
 pub returns-in-Number-clause-bytes : goal.returns-in-Number-clause-bytes

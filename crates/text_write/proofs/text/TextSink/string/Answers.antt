@@ -1,7 +1,7 @@
 use Rattle.std.proofs.Common.{◌+◌, length, subst, take}
 use Rattle.std.proofs.lemmas.List.{take_rest}
 use Rattle.jsonb_spec.specs.Text.StringText.{ArePlain}
-use Rattle.text_write.proofs.Sinks.{on_ok}
+use Rattle.text_members.proofs.Outcomes.{on_ok}
 use Rattle.text_write.proofs.Encoded.{string_verbatim}
 use Rattle.text_write.proofs.text.TextSink.string.Goals as goal
 

@@ -1,7 +1,7 @@
 use Rattle.std.proofs.Common.{◌-◌, ◌<◌, ◌≤◌, ap, length, length-append, refl, rules, slice_range, subst, sym, ◌∙◌}
 use Rattle.jsonb_spec.specs.Tree.{plain}
-use Rattle.text_write.proofs.OpenMembers.{begun_there}
-use Rattle.text_write.proofs.Sinks.{on_ok}
+use Rattle.text_members.proofs.OpenMembers.{begun_there}
+use Rattle.text_members.proofs.Outcomes.{on_ok}
 use Rattle.text_write.proofs.SinkMembers.{begins, begins_wrote, comma_led, counted, key_holds, quoted_verbatim, wrote_begins}
 use Rattle.text_write.proofs.text.TextSinkSink.cut_key.Goals as goal
 

@@ -1,6 +1,7 @@
 use Rattle.std.proofs.Common.{append-nil}
 use Rattle.text_write.proofs.OpenTexts.{array_ended}
-use Rattle.text_write.proofs.Sinks.{goes_on, on_ok}
+use Rattle.text_members.proofs.Outcomes.{on_ok}
+use Rattle.text_write.proofs.Sinks.{goes_on}
 use Rattle.text_write.proofs.text.TextSinkSink.end_array.Goals as goal
 
 pub returns-clause-holds : goal.returns-clause-holds

@@ -1,4 +1,5 @@
-use Rattle.text_write.proofs.Sinks.{on_ok, part_written, value_written}
+use Rattle.text_members.proofs.Outcomes.{on_ok}
+use Rattle.text_write.proofs.Sinks.{part_written, value_written}
 use Rattle.text_write.proofs.text.TextSinkSink.fill.Goals as goal
 
 pub returns-clause-holds : goal.returns-clause-holds

@@ -1,6 +1,7 @@
 use Rattle.std.proofs.Common.{subst, sym}
 use Rattle.text_common.specs.VerbatimScalar.{IsVerbatimAt}
-use Rattle.text_write.proofs.Sinks.{on_ok, value_written}
+use Rattle.text_members.proofs.Outcomes.{on_ok}
+use Rattle.text_write.proofs.Sinks.{value_written}
 use Rattle.text_write.proofs.text.TextSinkSink.fill_verbatim.Goals as goal
 
 pub returns-clause-holds : goal.returns-clause-holds

@@ -1,5 +1,5 @@
 use Rattle.std.proofs.Common.{ap, arith, length, length-append, refl, ◌∙◌}
-use Rattle.text_write.proofs.Sinks.{on_ok}
+use Rattle.text_members.proofs.Outcomes.{on_ok}
 use Rattle.text_write.proofs.SinkMembers.{begins, begins_wrote, comma_led, counted, key_holds, wrote_begins}
 use Rattle.text_write.proofs.text.TextSinkSink.key.Goals as goal
 

@@ -5,7 +5,7 @@ use Rattle.jsonb_spec.specs.Text.StringText.{byte_text}
 use Rattle.text_write.specs.Contents.{text_of_contents}
 use Rattle.text_write.specs.Written.{bytes_of}
 use Rattle.text_write.proofs.EscapedTexts.{quoted_bytes}
-use Rattle.text_write.proofs.Sinks.{on_ok}
+use Rattle.text_members.proofs.Outcomes.{on_ok}
 use Rattle.text_write.proofs.written.Written.append_escaped.Goals as goal
 
 pub returns-clause-bytes : goal.returns-clause-bytes

@@ -1,7 +1,7 @@
 use Rattle.std.proofs.Common.{◌≡◌, ◌++◌, List, ℕ, sym, ap, ◌∙◌}
 use Rattle.std.proofs.lemmas.List.{append-nil}
 use Rattle.jsonb_spec.specs.Text.NumberText.{number_text}
-use Rattle.jsonb_value.specs.View.{number_view}
+use Rattle.jsonb_core.specs.View.{number_view}
 use Rattle.text_write.specs.Written.{bytes_of}
 use Rattle.text_write.proofs.written.Written.append_number.Goals as goal
 

@@ -4,7 +4,7 @@ use Rattle.text_common.specs.ShortString.{IsShort}
 use Rattle.text_write.specs.ShortString.{written_bytes}
 use Rattle.text_write.specs.Written.{bytes_of}
 use Rattle.text_write.proofs.EscapedTexts.{quoted_bytes}
-use Rattle.text_write.proofs.Sinks.{on_ok}
+use Rattle.text_members.proofs.Outcomes.{on_ok}
 use Rattle.text_write.proofs.ShortStrings.{short_text, short_there}
 use Rattle.text_write.proofs.written.Written.append_short.Goals as goal
 

@@ -1,4 +1,4 @@
-use Rattle.text_write.proofs.Fronts.{extends_on, first_of_both, first_stay}
+use Rattle.text_members.proofs.Fronts.{extends_on, first_of_both, first_stay}
 use Rattle.text_write.proofs.written.Written.settle.Goals as goal
 
 pub returns-in_err-flush-clause-retained : goal.returns-in_err-flush-clause-retained

@@ -6,7 +6,7 @@ use Rattle.jsonb_spec.specs.Number.Signed.{signed_by}
 use Rattle.jsonb_spec.specs.Tree.{decimal64}
 use Rattle.text_scan.proofs.Numbers.Forms.{form_scaled}
 use Rattle.text_scan.proofs.parser.extended_number.form.short_decimal.Goals as goal
-use Rattle.jsonb_value.proofs.Numbers.InRange.{small_signed}
+use Rattle.jsonb_core.proofs.Numbers.InRange.{small_signed}
 
 pub overflow_cast-result : goal.overflow_cast-result
 overflow_cast-result c = omega (arith, c.requires)

@@ -1,5 +1,5 @@
 use Rattle.std.proofs.Common.{[], List, ℕ, length, ap, inl, subst, arith}
-use Rattle.jsonb_value.specs.Error.CodeView.{code_of}
+use Rattle.jsonb_core.specs.Error.CodeView.{code_of}
 use Rattle.text_scan.specs.Answer.{mode_of}
 use Rattle.text_scan.specs.Decoding.{IsDecodedUpTo, StopsAtEscape}
 use Rattle.text_scan.proofs.Strings.Checks.{body_checked}

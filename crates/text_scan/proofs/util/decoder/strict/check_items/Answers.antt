@@ -1,6 +1,6 @@
 use Rattle.std.proofs.Common.{length, ap, sym, subst, arith, eqb-true}
 use Rattle.std.proofs.lemmas.List.{nil_from_length}
-use Rattle.jsonb_value.specs.Error.CodeView.{code_of}
+use Rattle.jsonb_core.specs.Error.CodeView.{code_of}
 use Rattle.text_scan.proofs.Strings.Strict.{LeadsTo, leads_start, leads_on, all_passed, both_reject, json_rejects, leads_within}
 use Rattle.text_scan.proofs.util.decoder.strict.check_items.Goals as goal
 

@@ -2,7 +2,7 @@ use Rattle.std.proofs.Common.{◌<◌, ap, get_or, inl, inr, subst, arith}
 use Rattle.std.specs.Char.{digit_value}
 use Rattle.std.proofs.lemmas.Bool.{cases_eq}
 use Rattle.std.proofs.lemmas.List.{get_or_default}
-use Rattle.jsonb_value.proofs.Strings.Units.{first_non_digit_at}
+use Rattle.jsonb_core.proofs.Strings.Units.{first_non_digit_at}
 use Rattle.text_scan.proofs.util.decoder.unit.first_non_digit.Goals as goal
 
 pub returns-then-digit-ge16 : goal.returns-then-digit-ge16

@@ -1,6 +1,6 @@
 use Rattle.std.proofs.Common.{take, ◌≡◌, true, false, sym, ap, ◌∙◌, ◌++◌, ◌||◌}
 use Rattle.std.specs.Char.{encode_utf8}
-use Rattle.jsonb_value.proofs.Strings.Units.{alone-retained, alone-character}
+use Rattle.jsonb_core.proofs.Strings.Units.{alone-retained, alone-character}
 use Rattle.text_scan.proofs.util.decoder.unit.push_alone.Goals as goal
 use Rattle.std.specs.Char.Utf16.{is_high_surrogate, is_low_surrogate}
 use Rattle.std.specs.Str.Parse.{digits_value}

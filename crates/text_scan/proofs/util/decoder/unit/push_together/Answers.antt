@@ -1,7 +1,7 @@
 use Rattle.std.proofs.Common.{take, ◌≡◌, true, false, sym, ap, ◌∙◌, ◌++◌}
 use Rattle.std.proofs.lemmas.List.{append_assoc}
 use Rattle.std.specs.Char.{encode_utf8}
-use Rattle.jsonb_value.proofs.Strings.Units.{together-retained, together-character}
+use Rattle.jsonb_core.proofs.Strings.Units.{together-retained, together-character}
 use Rattle.text_scan.proofs.util.decoder.unit.push_together.Goals as goal
 use Rattle.std.specs.Char.Utf16.{is_low_surrogate, surrogate_pair_char}
 use Rattle.std.specs.Str.Parse.{digits_value}

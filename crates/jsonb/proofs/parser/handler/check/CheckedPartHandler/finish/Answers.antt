@@ -3,7 +3,7 @@ use Rattle.std.specs.Prelude.{MatchOption}
 use Rattle.jsonb.specs.Held.{key_held}
 use Rattle.text_scan.specs.Parsing.Container.{object_or_fault}
 use Rattle.jsonb_spec.specs.Source.{object_source_of}
-use Rattle.text_write.specs.OpenMembers.{ReportsRepeatOf}
+use Rattle.text_members.specs.OpenMembers.{ReportsRepeatOf}
 use Rattle.text_write.specs.CheckSink.{CheckEnds}
 use Rattle.jsonb.proofs.parser.handler.check.CheckedPartHandler.finish.Goals as goal
 

@@ -3,7 +3,7 @@ use Rattle.std.specs.Prelude.{MatchOption}
 use Rattle.jsonb.specs.Held.{held_by}
 use Rattle.text_scan.specs.Parsing.Container.{object_or_fault}
 use Rattle.jsonb_spec.specs.Source.{first_repeat, object_source_of, spot_of}
-use Rattle.text_write.specs.OpenMembers.{EndsObject, ReportsRepeatOf}
+use Rattle.text_members.specs.OpenMembers.{EndsObject, ReportsRepeatOf}
 use Rattle.text_parse.proofs.Steps.Failures.{reports_always}
 use Rattle.jsonb.proofs.parser.handler.sink.SinkPartHandler.finish.Goals as goal
 

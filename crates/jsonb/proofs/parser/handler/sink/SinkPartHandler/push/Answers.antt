@@ -1,7 +1,7 @@
 use Rattle.std.proofs.Common.{◌∷◌, ℕ, List, Option, None, Some, map}
 use Rattle.jsonb.specs.Held.{IsScalarAt, held_by}
 use Rattle.jsonb_spec.specs.Source.{Source}
-use Rattle.text_scan.specs.Open.{elements_so_far}
+use Rattle.text_common.specs.Open.{elements_so_far}
 use Rattle.text_common.specs.declared.verbatim.Verbatim.{Verbatim}
 use Rattle.text_write.specs.PartSink.{HasNoParts}
 use Rattle.text_write.specs.declared.text.Part.{Part}

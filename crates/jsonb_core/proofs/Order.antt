@@ -1,0 +1,2 @@
+-- The order of values.
+pub mod ByContent

@@ -1,0 +1,3 @@
+-- The order of trees is total, and the bounds of what is compared.
+pub mod Laws
+pub mod NumberLaws

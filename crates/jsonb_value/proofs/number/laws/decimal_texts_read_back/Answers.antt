@@ -1,5 +1,0 @@
-use Rattle.jsonb_value.proofs.Numbers.DecimalTexts.{reads_back_as_decimal}
-use Rattle.jsonb_value.proofs.number.laws.decimal_texts_read_back.Goals as goal
-
-pub returns : goal.returns
-returns c = reads_back_as_decimal

@@ -1,0 +1,6 @@
+pub mod Bytes
+pub mod Fingerprints
+pub mod MemberStarts
+pub mod Members
+pub mod OpenMembers
+pub mod Slots
