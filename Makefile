@@ -39,7 +39,7 @@ $(BUILT): $(SOURCES)
 	@mkdir -p build
 	@echo "proving and building the library, which takes minutes the first time. To follow it: tail -f $(CURDIR)/build/log"
 	@touch build/start
-	@packaging/follow library build/log packaging/from_below jsonb_c rt lib || { cat build/log >&2; exit 1; }
+	@packaging/follow library build/log packaging/prove jsonb_c || { cat build/log >&2; exit 1; }
 	@touch -r build/start $@
 
 build/proved.o: $(BUILT) Makefile

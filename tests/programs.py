@@ -44,7 +44,8 @@ def build(name):
         return
     program.unlink(missing_ok=True)
     print(f"building {name}, which can take minutes", file=sys.stderr, flush=True)
-    log = subprocess.run(["rt", "run"], cwd=CRATES / name, stdin=subprocess.DEVNULL, capture_output=True, check=False)
+    prove = [TOP / "packaging" / "prove", name]
+    log = subprocess.run(prove, stdin=subprocess.DEVNULL, capture_output=True, check=False)
     if not program.exists():
         sys.stderr.buffer.write(log.stdout + log.stderr)
         sys.exit(f"{name} could not be built")
