@@ -7,5 +7,4 @@ pub mod members;
 pub mod object;
 pub mod open_members;
 mod orders;
-mod spread;
 pub mod wide;
