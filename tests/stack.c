@@ -213,13 +213,13 @@ static const char *const functions[] = {
 
 /* What docs/C.md says that each takes, in KB: where no value is made, and where one is. */
 static const size_t told[FUNCTIONS][2] = {
-    [CHECK] = {22, 0},        [TEXT] = {22, 110},      [SORT_KEY] = {22, 110},     [TEXT_AND_KEY] = {22, 110},
-    [PART] = {22, 110},       [COMPARE] = {22, 110},   [MESSAGE] = {22, 0},        [KEY_CHECK] = {5, 0},
+    [CHECK] = {3, 0},         [TEXT] = {18, 110},      [SORT_KEY] = {18, 110},     [TEXT_AND_KEY] = {18, 110},
+    [PART] = {4, 110},        [COMPARE] = {18, 110},   [MESSAGE] = {3, 0},         [KEY_CHECK] = {5, 0},
     [KEY_TEXT] = {2, 0},      [KEY_PART] = {2, 0},     [KEY_COUNT] = {2, 0},       [KEY_CONTAINS] = {25, 0},
     [KEY_SET] = {2, 0},       [KEY_REMOVE] = {2, 0},   [KEY_MERGE] = {2, 0},       [TEXT_WITH_ZEROS] = {2, 0},
-    [ERROR_PATH] = {22, 0},   [REASON] = {22, 0},
-    [LINES] = {22, 110},
-    [DOCUMENT] = {22, 110},   [DOCUMENT_CHECK] = {5, 0}, [DOCUMENT_TEXT] = {3, 0}, [DOCUMENT_PART] = {2, 0},
+    [ERROR_PATH] = {4, 0},    [REASON] = {3, 0},
+    [LINES] = {18, 110},
+    [DOCUMENT] = {18, 110},   [DOCUMENT_CHECK] = {5, 0}, [DOCUMENT_TEXT] = {3, 0}, [DOCUMENT_PART] = {2, 0},
     [DOCUMENT_NEXT] = {2, 0}, [DOCUMENT_SET] = {2, 0}, [DOCUMENT_INSERT] = {2, 0}, [DOCUMENT_REMOVE] = {2, 0},
     [DOCUMENT_MERGE] = {3, 0}, [DOCUMENT_STRIP] = {2, 0}, [TABLE] = {2, 0},        [TABLE_CHECK] = {2, 0},
 };
