@@ -5,7 +5,7 @@
 #   make install [PREFIX=/usr/local] [DESTDIR=]
 #   make uninstall [PREFIX=/usr/local] [DESTDIR=]
 #
-# Needs the Rattle kit, cc, ld and objcopy. What is built is proved first, which takes half an hour and more. With
+# Needs the Rattle kit, cc, ld and objcopy. What is built is proved first, which takes a quarter of an hour and more. With
 # PROVED=FILE no kit is needed: the file is the build/proved.o of a folder where the library was proved.
 PREFIX ?= /usr/local
 INCLUDEDIR ?= $(PREFIX)/include
