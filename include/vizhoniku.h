@@ -406,9 +406,8 @@ uint32_t vizhoniku_text_with_zeros(const unsigned char *text, size_t text_size, 
  * decimals, these behind it. So
  *
  *  - a sort key is the document of a value without such zeros: what was stored as a key is a document;
- *  - documents compare, as memcmp does and the shorter first, as their values do; of equal values, by their zeros. The
- *    key of a value is not above any document of that value or of one above it, and above all those of values below it:
- *    so keys bound a range of documents;
+ *  - documents compare, as memcmp does and the shorter first, as their values do; of equal values, by their zeros.
+ *    Documents of values from a up to, but not with, b are those from the key of a up to that of b;
  *  - two values are equal exactly where the keys of their documents are equal, and have one text exactly where the
  *    documents are. An index by value is one over the keys, whose size vizhoniku_document_key returns.
  *
