@@ -2,7 +2,8 @@
 _vjson() {
     local word=${COMP_WORDS[COMP_CWORD]} before=${COMP_WORDS[COMP_CWORD - 1]} words
     if [ "$COMP_CWORD" -eq 1 ]; then
-        mapfile -t COMPREPLY < <(compgen -W 'check format get sort equal keys --help --version' -- "$word")
+        mapfile -t COMPREPLY < <(compgen -W 'check format get sort equal keys --help --version' -- "$word"
+            compgen -f -- "$word")
         return
     fi
     case $before in

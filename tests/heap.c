@@ -1,7 +1,6 @@
 /* Counts the heap that each function of the library asks for and holds, over documents of several kinds and sizes, and
- * compares both with bounds that are worked out from the document alone. Of the functions over sort keys and zeros, of
- * those over numbers with exponents and of the path of an error it also lets each request for memory fail in turn: then
- * they report it, and have written nothing.
+ * compares both with bounds that are worked out from the document alone. It also lets each request for memory fail in
+ * turn, of the functions over texts in each mode: then they report it, and have written nothing.
  *
  * The linker puts the three functions below in the place of the C library's (--wrap). What counts is what was asked
  * for, not what the C library spends on it. A block that grows counts with its new size among what was asked for, and
@@ -232,9 +231,8 @@ static const char *const functions[] = {
 
 /* Calls the function, with buffers of so much room. *written is the size of all that it writes, and *status what it
  * answers. */
-static void call(enum function function, const struct text *text, unsigned char *buffer, unsigned char *key_buffer,
-                 size_t room, size_t *written, uint32_t *status) {
-  const uint32_t mode = VIZHONIKU_STANDARD;
+static void call(enum function function, uint32_t mode, const struct text *text, unsigned char *buffer,
+                 unsigned char *key_buffer, size_t room, size_t *written, uint32_t *status) {
   struct vizhoniku_error error;
   size_t size = 0, key_size = 0, start;
   int32_t order;
@@ -292,7 +290,7 @@ static void measure(enum kind kind, int count, const struct text *text, uint32_t
   for (int i = 0; i < 2 * FUNCTIONS; i++) {
     enum function function = (enum function)(i / 2);
     asked = held = most = 0;
-    call(function, text, buffer, key_buffer, i % 2 ? 0 : room, &written, &status);
+    call(function, VIZHONIKU_STANDARD, text, buffer, key_buffer, i % 2 ? 0 : room, &written, &status);
     calls++;
     int writes = function == TEXT || function == LINES || function == SORT_KEY || function == TEXT_AND_KEY ||
                  function == DOCUMENT || function == PART;
@@ -320,6 +318,74 @@ static void measure(enum kind kind, int count, const struct text *text, uint32_t
   __real_free(buffer);
 }
 
+/* Whether nothing was written to a buffer that was filled. */
+static int is_filled(const unsigned char *buffer, size_t size) {
+  for (size_t i = 0; i < size; i++)
+    if (buffer[i] != FILLED) return 0;
+  return 1;
+}
+
+static void fault_over_text(enum function function, uint32_t mode, const struct text *text, const char *what) {
+  faults++;
+  int size = text->size < 60 ? (int)text->size : 60;
+  printf("%s in mode %u %s: %.*s\n", functions[function], (unsigned)mode, what, size, (const char *)text->bytes);
+}
+
+/* The function over one text, with each request for memory failing in turn, alone and with all behind it. */
+static void refuse_memory(enum function function, uint32_t mode, const struct text *text, unsigned char *buffer,
+                          unsigned char *key_buffer, size_t room) {
+  size_t wanted_size, size;
+  uint32_t wanted, status;
+  int told = 0;
+  call(function, mode, text, buffer, key_buffer, room, &wanted_size, &wanted);
+  for (long run = 0;; run++) {
+    memset(buffer, FILLED, room);
+    memset(key_buffer, FILLED, room);
+    granted = run / 2;
+    lasting = run % 2;
+    failed = 0;
+    held = 0;
+    call(function, mode, text, buffer, key_buffer, room, &size, &status);
+    granted = -1;
+    calls++;
+    if (held) fault_over_text(function, mode, text, "kept memory where some was missing");
+    if (!failed) break;
+    if (status == VIZHONIKU_OUT_OF_MEMORY) {
+      told = 1;
+      if (size || !is_filled(buffer, room) || !is_filled(key_buffer, room))
+        fault_over_text(function, mode, text, "wrote where memory was missing");
+    } else if (status != wanted || size != wanted_size) {
+      fault_over_text(function, mode, text, "has another result where memory was missing");
+    }
+  }
+  int is_container = *text->bytes == '[' || *text->bytes == '{';
+  if (is_container && !told) fault_over_text(function, mode, text, "never tells that memory was missing");
+  if (!is_container && told && function == CHECK) fault_over_text(function, mode, text, "asked for memory");
+}
+
+/* Each function over a text in each mode. */
+static void refuse_memory_over(const struct text *text) {
+  static const uint32_t modes[] = {VIZHONIKU_STANDARD, VIZHONIKU_EXTENDED, VIZHONIKU_JSON, VIZHONIKU_EXTENDED_JSON};
+  size_t room = 2 * text->size + 64;
+  unsigned char *buffer = __real_malloc(room), *key_buffer = __real_malloc(room);
+  if (!buffer || !key_buffer) exit(2);
+  for (size_t i = 0; i < FUNCTIONS * (sizeof modes / sizeof *modes); i++)
+    refuse_memory((enum function)(i % FUNCTIONS), modes[i / FUNCTIONS], text, buffer, key_buffer, room);
+  __real_free(key_buffer);
+  __real_free(buffer);
+}
+
+/* Texts of one scalar, of which a check takes no memory. */
+static void refuse_memory_over_scalars(void) {
+  static const char *const scalars[] = {"null", "true", "-12", "1.50", "1e5", "\"abc\"", "nul", "\"a"};
+  for (size_t i = 0; i < sizeof scalars / sizeof *scalars; i++) {
+    struct text text = {0};
+    add(&text, scalars[i]);
+    refuse_memory_over(&text);
+    __real_free(text.bytes);
+  }
+}
+
 #define LINE_COUNT 50
 
 /* One document on each line of a text: what is taken for one is held for the next, and no more. */
@@ -335,7 +401,7 @@ static void measure_lines(enum kind kind, int count) {
   unsigned char *buffer = __real_malloc(room);
   if (!buffer) exit(2);
   asked = held = most = 0;
-  call(LINES, &text, buffer, NULL, room, &written, &status);
+  call(LINES, VIZHONIKU_STANDARD, &text, buffer, NULL, room, &written, &status);
   calls++;
   if (status != VIZHONIKU_ACCEPTED || held) {
     faults++;
@@ -545,13 +611,6 @@ static size_t bound_over_key(enum key_function function, const struct text *key,
   return 512 + 3 * key->size / 2 + ROOM(written);
 }
 
-/* Whether nothing was written to a buffer that was filled. */
-static int is_filled(const unsigned char *buffer, size_t size) {
-  for (size_t i = 0; i < size; i++)
-    if (buffer[i] != FILLED) return 0;
-  return 1;
-}
-
 /* Each function over one key, with room enough, and then with each request for memory failing in turn. */
 static void measure_over_key(enum kind kind, int count, const struct text *key, enum key_function first,
                              enum key_function end, int with_failures) {
@@ -646,15 +705,18 @@ int main(void) {
       if (kind >= DEEP_ARRAYS && counts[i] < 1) continue;
       struct text text = make((enum kind)kind, counts[i]);
       measure((enum kind)kind, counts[i], &text, VIZHONIKU_ACCEPTED);
+      if (counts[i] <= 70) refuse_memory_over(&text);
       struct text key = key_of(&text);
       measure_over_key((enum kind)kind, counts[i], &key, KEY_CHECK, TEXT_WITH_ZEROS, 1);
       __real_free(key.bytes);
       add(&text, "?"); /* a byte too much */
       measure((enum kind)kind, counts[i], &text, VIZHONIKU_REJECTED);
+      if (counts[i] <= 14) refuse_memory_over(&text);
       __real_free(text.bytes);
       if (counts[i] <= 700) measure_lines((enum kind)kind, counts[i]);
     }
   }
+  refuse_memory_over_scalars();
   for (size_t i = 0; i < sizeof counts / sizeof *counts; i++) measure_zeros(counts[i]);
   for (int kind = NUMBERS; kind < ALL_KINDS; kind++)
     for (size_t i = 0; i < sizeof counts / sizeof *counts && counts[i] <= 7001; i++)

@@ -94,26 +94,40 @@ def with_edits(mutants, crate):
 
 # ---- a check
 
+def rows():
+    """What stands before and behind the colon of each line of crates.txt, by the crate, each after those that it uses."""
+    lines = (TOP / "crates.txt").read_text(encoding="utf-8").splitlines()
+    split = [line.partition("#")[0].partition(":") for line in lines]
+    return {head.split()[0]: (head, uses) for head, colon, uses in split if colon}
+
+
+def crates():
+    """The crates, each after those that it uses."""
+    return [*rows()]
+
+
 def row_of(crate):
     """What stands before and behind the colon of the crate's line of crates.txt."""
-    lines = (TOP / "crates.txt").read_text(encoding="utf-8").splitlines()
-    head, _, uses = next(line for line in lines if re.match(rf"{crate}\b", line)).partition(":")
-    return head, uses
+    return rows()[crate]
+
+
+def below(crate):
+    """The crates that the crate stands on."""
+    said = subprocess.run([TOP / "packaging/crates", crate], stdout=subprocess.PIPE, check=True, text=True)
+    return set(said.stdout.split()) - {crate}
 
 
 def words_of(crate, jobs):
     """The words of `rattle check` for the crate over the libraries that stand in crates/*/out."""
     kit = programs.kit()
     head, uses = row_of(crate)
-    said = subprocess.run([TOP / "packaging/crates", crate], stdout=subprocess.PIPE, check=True, text=True)
-    below = said.stdout.split()
-    below.remove(crate)
+    under = below(crate)
     root = "src/main.rt" if (TOP / "crates" / crate / "src/main.rt").exists() else "src/lib.rt"
     words = ["--crate-name", crate, root, "--extern", f"std={kit}/rlibs/std.rlib"]
     for name in uses.split():
-        place = TOP / "crates" / name / "out/rlib" if name in below else kit / "rlibs"
+        place = TOP / "crates" / name / "out/rlib" if name in under else kit / "rlibs"
         words += ["--extern", f"{name}={place}/{name}.rlib"]
-    for name in below:
+    for name in under:
         words += ["-L", f"dependency={TOP}/crates/{name}/out/rlib"]
     words += ["-L", f"dependency={kit}/rlibs", "--antt-project", f"{kit}/rattle/logic/antt-project.json"]
     words += ["--logic-built", f"{kit}/logic_built", "--links", f"{crate}=", "--jobs", str(jobs)]

@@ -1,7 +1,7 @@
 //! What the program does, over any streams.
 
 ghost use Rattle.std.specs.Prelude.{◌≡◌, ◌↔◌, ◌⊎◌, ℕ, ◌+◌, ◌≤◌, List, [], ◌∷◌, ◌++◌, take, map, vec_len, vec_capacity, string_bytes, MatchOption, OnOk, OnErr, IfOk, IfErr, IfSome, Err};
-ghost use Rattle.std.specs.Io.KnownBytes.{Appends, IsAtEnd};
+ghost use Rattle.std.specs.Io.KnownBytes.{IsAtEnd};
 ghost use Rattle.jsonb_spec.specs.Ascii as ascii;
 ghost use Rattle.jsonb_spec.specs.Mode.{Mode as GrammarMode};
 ghost use Rattle.text_scan.specs.Answer.{mode_of, MayAllocate};
@@ -111,14 +111,6 @@ fn line_of<R: Read>(alloc: Global, mode: Mode, input: &mut R) -> Result<Vec<u8>>
     Ok(line)
 }
 
-// Writes all the bytes, past any buffer of the writer.
-fn put<W: Write>(out: &mut W, bytes: &[u8]) -> io::Result<()>
-    ensures { OnOk result (Appends (W.contents out.old) (W.contents out.new) bytes.now) }
-{
-    out.write_all(bytes)?;
-    out.flush()
-}
-
 /// Runs the program with these arguments, without its own name, over these streams, and returns its exit status: 0
 /// where the value was written, 1 where the input was rejected or a stream failed, 2 where the arguments are wrong.
 pub fn run<R: Read, W: Write, E: Write>(
@@ -141,7 +133,7 @@ pub fn run<R: Read, W: Write, E: Write>(
         return 2;
     };
     match line_of(alloc, mode, input) {
-        Ok(line) => match put(out, &line) {
+        Ok(line) => match out.write_all(&line) {
             Ok(()) => 0,
             Err(_) => 1,
         },
@@ -151,6 +143,3 @@ pub fn run<R: Read, W: Write, E: Write>(
         }
     }
 }
-
-#[cfg(test)]
-mod tests;

@@ -2,11 +2,7 @@
 //! extended JSON), a space, and the text in hexadecimal. Each call has a line of its own: its name, a space, and the
 //! text of its answer or what is printed of the error.
 
-use crate::{documents, numbers};
-use jsonb::{Error, Grammar, JsonAst, Result, Value, append_part};
-use jsonb_path::read_keys;
-use key_text::write_text_of_key;
-use key_value::KeyError;
+use jsonb::{Error, Grammar, JsonAst, Result, Value};
 use std::alloc::Global;
 use std::borrow::CowStr;
 use std::io;
@@ -49,26 +45,17 @@ pub fn report<W: Write>(alloc: Global, line: &str, out: &mut W) -> io::Result<()
 // Writes a line for each call on the text.
 fn report_text<W: Write>(alloc: Global, mode: Grammar, text: &[u8], out: &mut W) -> io::Result<()> {
     say(out, "reads", reads(alloc, mode, text))?;
-    say(out, "checks", checks(alloc, mode, text))?;
     say(out, "value", value(alloc, mode, text))?;
     say(out, "tree", tree(alloc, mode, text))?;
     say(out, "clone", clone(alloc, mode, text))?;
     say(out, "owned", text_of_owned(alloc, mode, text))?;
     say(out, "tree_clone", tree_clone(alloc, mode, text))?;
-    say(out, "straight", straight(alloc, mode, text))?;
-    say(out, "straight_key", straight_key(alloc, mode, text))?;
-    say(out, "key_text", text_from_key(alloc, mode, text))?;
-    say(out, "cut_key", cut_key(alloc, mode, text))?;
+    say(out, "key", key(alloc, mode, text))?;
     say(out, "indented", indented_text(alloc, mode, text))?;
-    say(out, "part", part(alloc, mode, text, b"/1/a"))?;
-    say(out, "other_part", part(alloc, mode, text, b"/c~1/0"))?;
-    say(out, "no_path", part(alloc, mode, text, b"/~"))?;
     say(out, "keys", keys(alloc, mode, text))?;
     say(out, "without_room", without_capacity(alloc, mode, text))?;
     say(out, "with_room", with_capacity(alloc, mode, text))?;
-    say(out, "body", body(alloc, text))?;
-    documents::report(alloc, mode, text, out)?;
-    numbers::report(alloc, mode, text, out)
+    say(out, "body", body(alloc, text))
 }
 
 fn read(alloc: Global, mode: Grammar, text: &[u8]) -> Result<Value<'_>> {
@@ -84,12 +71,6 @@ fn text_of(alloc: Global, value: &Value) -> Result<Vec<u8>> {
 // Nothing but reading.
 fn reads(alloc: Global, mode: Grammar, text: &[u8]) -> Result<Vec<u8>> {
     read(alloc, mode, text)?;
-    Ok(Vec::new(alloc))
-}
-
-// Nothing but checking.
-fn checks(alloc: Global, mode: Grammar, text: &[u8]) -> Result<Vec<u8>> {
-    jsonb::check(alloc, text, mode)?;
     Ok(Vec::new(alloc))
 }
 
@@ -117,24 +98,16 @@ fn tree_clone(alloc: Global, mode: Grammar, text: &[u8]) -> Result<Vec<u8>> {
     text_of(alloc, &tree.into_value(alloc)?)
 }
 
-// A text's serialized form, appended straight behind what the buffer held.
-fn straight(alloc: Global, mode: Grammar, text: &[u8]) -> Result<Vec<u8>> {
-    let mut buffer = Vec::from_slice(alloc, b"x")?;
-    let done = jsonb::append_text(alloc, text, mode, &mut buffer);
-    bytes_or_error(alloc, done, buffer)
-}
-
-// Its sort key, in hexadecimal.
-fn straight_key(alloc: Global, mode: Grammar, text: &[u8]) -> Result<Vec<u8>> {
-    let mut buffer = Vec::from_slice(alloc, b"x")?;
-    let done = jsonb::append_sort_key(alloc, text, mode, &mut buffer);
-    let key = bytes_or_error(alloc, done, buffer)?;
+// The sort key, in hexadecimal.
+fn key(alloc: Global, mode: Grammar, text: &[u8]) -> Result<Vec<u8>> {
+    let mut key = Vec::new(alloc);
+    read(alloc, mode, text)?.write_sort_key(&mut key)?;
     let key = hex::encode(alloc, &key[..])?;
     Ok(Vec::from_slice(alloc, key.as_bytes())?)
 }
 
-/// The bytes, or the error. Then the buffer holds what it held.
-pub fn bytes_or_error(alloc: Global, done: Result<()>, buffer: Vec<u8>) -> Result<Vec<u8>> {
+// The bytes, or the error. Then the buffer holds what it held.
+fn bytes_or_error(alloc: Global, done: Result<()>, buffer: Vec<u8>) -> Result<Vec<u8>> {
     match done {
         Err(_) if &buffer[..] != b"x".as_slice() => Ok(Vec::from_slice(
             alloc,
@@ -142,33 +115,6 @@ pub fn bytes_or_error(alloc: Global, done: Result<()>, buffer: Vec<u8>) -> Resul
         )?),
         Err(e) => Err(e),
         Ok(()) => Ok(buffer),
-    }
-}
-
-// The text of the sort key, behind what the buffer held.
-fn text_from_key(alloc: Global, mode: Grammar, text: &[u8]) -> Result<Vec<u8>> {
-    let mut key = Vec::new(alloc);
-    read(alloc, mode, text)?.write_sort_key(&mut key)?;
-    text_of_key(alloc, &key)
-}
-
-// The text of a sort key without its last byte.
-fn cut_key(alloc: Global, mode: Grammar, text: &[u8]) -> Result<Vec<u8>> {
-    let mut key = Vec::new(alloc);
-    read(alloc, mode, text)?.write_sort_key(&mut key)?;
-    let _last = key.pop();
-    text_of_key(alloc, &key)
-}
-
-fn text_of_key(alloc: Global, key: &[u8]) -> Result<Vec<u8>> {
-    let mut buffer = Vec::from_slice(alloc, b"x")?;
-    match write_text_of_key(key, &mut buffer) {
-        Ok(()) => Ok(buffer),
-        Err(KeyError::Invalid) if &buffer[..] == b"x".as_slice() => {
-            Ok(Vec::from_slice(alloc, b"no key")?)
-        }
-        Err(KeyError::Invalid) => Ok(Vec::from_slice(alloc, b"the buffer has changed")?),
-        Err(KeyError::OutOfMemory) => bytes_or_error(alloc, Err(Error::OutOfMemory), buffer),
     }
 }
 
@@ -180,21 +126,6 @@ fn indented_text(alloc: Global, mode: Grammar, text: &[u8]) -> Result<Vec<u8>> {
     let lines = bytes_or_error(alloc, done, buffer)?;
     let lines = hex::encode(alloc, &lines[..])?;
     Ok(Vec::from_slice(alloc, lines.as_bytes())?)
-}
-
-// The text of the part at a path, behind what the buffer held, or what there is instead of it.
-fn part(alloc: Global, mode: Grammar, text: &[u8], path: &[u8]) -> Result<Vec<u8>> {
-    let Some(keys) = read_keys(alloc, path)? else {
-        return Ok(Vec::from_slice(alloc, b"no path")?);
-    };
-    let mut buffer = Vec::from_slice(alloc, b"x")?;
-    let done = append_part(alloc, text, mode, &keys, &mut buffer);
-    match done {
-        Ok(true) => bytes_or_error(alloc, Ok(()), buffer),
-        Ok(false) if &buffer[..] == b"x".as_slice() => Ok(Vec::from_slice(alloc, b"no part")?),
-        Ok(false) => Ok(Vec::from_slice(alloc, b"the buffer has changed")?),
-        Err(error) => bytes_or_error(alloc, Err(error), buffer),
-    }
 }
 
 fn keys(alloc: Global, mode: Grammar, text: &[u8]) -> Result<Vec<u8>> {

@@ -1,11 +1,9 @@
-//! Parses the JSON texts of standard input, one a line, and prints what each call of the library that allocates
+//! Parses the JSON texts of standard input, one a line, and prints what each call over values and trees that allocates
 //! returns. `tests/oom` makes its allocations fail, one after the other.
 #![tactic(auto)]
 
 mod calls;
-mod documents;
 mod messages;
-mod numbers;
 
 use std::io;
 use std::io::{BufRead, BufReader, BufWriter, Write};

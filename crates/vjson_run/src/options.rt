@@ -12,7 +12,7 @@ Check, format, sort and compare JSON by value. With no FILE, or where FILE is -,
 standard input is read.
 
   check                  print nothing, or FILE:LINE:COLUMN: and what is wrong
-  format                 print each text laid out, keys in order
+  format                 print each text laid out, keys in order (vjson FILE too)
   get POINTER            print the part at a JSON Pointer, as /items/0/name
   sort                   sort JSON Lines by value
   equal A B              status 0 where the values of two files are equal, else 1
@@ -99,9 +99,10 @@ pub enum Asked {
 #[derive(Debug, Drop)]
 pub enum UsageError {
     NoCommand,
-    UnknownCommand(String),
-    UnknownOption(String),
-    NotHere(String),
+    /// Such a word, and what there is instead of it.
+    UnknownCommand(String, &'static str),
+    UnknownOption(String, &'static str),
+    NotHere(String, &'static str),
     NoValue(String),
     Twice(String),
     NoPointer(String),
@@ -127,9 +128,15 @@ impl fmt::Display for UsageError {
     fn fmt<W: fmt::Write>(&self, f: &mut fmt::Formatter<W>) -> fmt::Result {
         match self {
             UsageError::NoCommand => f.write_str("no command given"),
-            UsageError::UnknownCommand(word) => write!(f, "no such command: {word}"),
-            UsageError::UnknownOption(word) => write!(f, "no such option: {word}"),
-            UsageError::NotHere(word) => write!(f, "this command doesn't take {word}"),
+            UsageError::UnknownCommand(word, instead) => {
+                write!(f, "no such command: {word}{instead}")
+            }
+            UsageError::UnknownOption(word, instead) => {
+                write!(f, "no such option: {word}{instead}")
+            }
+            UsageError::NotHere(word, instead) => {
+                write!(f, "this command doesn't take {word}{instead}")
+            }
             UsageError::NoValue(word) => write!(f, "option {word} needs a value"),
             UsageError::Twice(word) => write!(f, "option {word} is there twice"),
             UsageError::NoPointer(word) => write!(
@@ -148,6 +155,32 @@ fn copy(alloc: Global, text: &str) -> Result<String, UsageError> {
     Ok(String::from_str(alloc, text)?)
 }
 
+// What there is instead of a command of jq and other programs.
+fn instead_of_command(word: &str) -> &'static str {
+    match word {
+        "." | "cat" | "pretty" => " (format lays a text out, as jq . does)",
+        "lint" | "validate" => " (check prints what is wrong)",
+        "cmp" | "diff" => " (equal says whether two values are the same)",
+        "pick" | "select" => " (get prints a part)",
+        "uniq" => " (sort --unique prints one of equal values)",
+        _ => "",
+    }
+}
+
+// What there is instead of an option of sort(1) or jq.
+fn instead_of_option(command: Command, word: &str) -> &'static str {
+    match (command, word) {
+        (Command::Sort, "-r") => " (--reverse sorts downwards)",
+        (Command::Sort, "-c" | "-C") => " (--check says whether lines are in order)",
+        (Command::Sort | Command::Keys, "-k" | "--key") => " (--by POINTER sorts by a part)",
+        (Command::Sort, "-n" | "-g") => " (numbers are in the order of their values)",
+        (_, "-o" | "--output") => " (write > FILE)",
+        (_, "-S" | "--sort-keys") => " (members are in the order of their keys)",
+        (_, "--tab") => " (--indent N)",
+        _ => "",
+    }
+}
+
 fn command_of(alloc: Global, word: &str) -> Result<Command, UsageError> {
     match word {
         "check" => Ok(Command::Check),
@@ -156,7 +189,7 @@ fn command_of(alloc: Global, word: &str) -> Result<Command, UsageError> {
         "sort" => Ok(Command::Sort),
         "equal" => Ok(Command::Equal),
         "keys" => Ok(Command::Keys),
-        _ => Err(UsageError::UnknownCommand(copy(alloc, word)?)),
+        _ => Err(UsageError::UnknownCommand(copy(alloc, word)?, instead_of_command(word))),
     }
 }
 
@@ -316,10 +349,11 @@ impl Options {
     ) -> Result<(), UsageError> {
         'letters: for letter in letters {
             let Some(name) = name_of_letter(*letter) else {
-                return Err(UsageError::UnknownOption(copy(alloc, word)?));
+                let instead = instead_of_option(self.command, word.get(..2).unwrap_or(word));
+                return Err(UsageError::UnknownOption(copy(alloc, word)?, instead));
             };
             if !takes(self.command, name) {
-                return Err(UsageError::NotHere(copy(alloc, name)?));
+                return Err(UsageError::NotHere(copy(alloc, name)?, ""));
             }
             self.set_flag(name);
         }
@@ -342,8 +376,9 @@ impl Options {
             Some((name, value)) => (name, Some(value)),
             None => (long_name(word), None),
         };
+        let instead = instead_of_option(self.command, word);
         if !takes(self.command, name) {
-            return Err(UsageError::NotHere(copy(alloc, name)?));
+            return Err(UsageError::NotHere(copy(alloc, name)?, instead));
         }
         if has_value(name) {
             let value = match value {
@@ -352,7 +387,7 @@ impl Options {
             };
             self.set_value(alloc, name, value)?;
         } else if value.is_some() || !self.set_flag(name) {
-            return Err(UsageError::UnknownOption(copy(alloc, word)?));
+            return Err(UsageError::UnknownOption(copy(alloc, word)?, instead));
         }
         Ok(())
     }
@@ -378,13 +413,18 @@ fn next_value<'w>(alloc: Global, name: &str, words: &mut Words<'w>) -> Result<&'
     Ok(value.as_str())
 }
 
+// Whether the first word is no command but an option or a file. Then texts are formatted.
+fn is_file(word: &str) -> bool {
+    word.starts_with("-") || (word != "." && (word.contains(".") || word.contains("/")))
+}
+
 /// What the words ask for.
 ///
 /// # Errors
 ///
 /// Why they ask for nothing: no command, a word that is none of its options, or a value that is missing.
 pub fn read_words(alloc: Global, words: &[String]) -> Result<Asked, UsageError> {
-    let Some((first, others)) = words.split_first() else {
+    let Some((first, behind)) = words.split_first() else {
         return Err(UsageError::NoCommand);
     };
     match long_name(first.as_str()) {
@@ -392,12 +432,17 @@ pub fn read_words(alloc: Global, words: &[String]) -> Result<Asked, UsageError> 
         "--version" => return Ok(Asked::Version),
         _ => {}
     }
-    let mut options = new_options(alloc, command_of(alloc, first.as_str())?);
+    let (command, rest) = if is_file(first.as_str()) {
+        (Command::Format, words)
+    } else {
+        (command_of(alloc, first.as_str())?, behind)
+    };
+    let mut options = new_options(alloc, command);
     let mut words = Words {
-        rest: others,
+        rest,
         only_files: false,
     };
-    'words: for _ in 0..others.len() {
+    'words: for _ in 0..rest.len() {
         let Some((word, behind)) = words.rest.split_first() else {
             break;
         };

@@ -1,4 +1,0 @@
-pub mod Encoded
-pub mod Frames
-pub mod Lines
-pub mod Errors
