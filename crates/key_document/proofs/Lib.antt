@@ -38,3 +38,4 @@ pub mod Digits
 pub mod Tokens
 pub mod FromText
 pub mod ZerosOfText
+pub mod Walks

@@ -1,12 +1,12 @@
 -- What is left of the zeros behind the first bytes of a key.
-use Rattle.std.proofs.Common.{◌≡◌, ℕ, suc, ◌+◌, ◌-◌, ◌≤◌, ◌==◌, List, ◌∷◌, ◌++◌, length, take, drop, sym, ap, subst, ◌∙◌, arith, append_assoc, length-append}
+use Rattle.std.proofs.Common.{◌≡◌, ℕ, zero, suc, ◌+◌, ◌-◌, ◌<◌, ◌≤◌, ◌==◌, ◌⊎◌, inl, inr, List, ◌∷◌, ◌++◌, length, take, drop, get_or, replicate, refl, sym, ap, subst, ◌∙◌, arith, append_assoc, length-append}
 use Rattle.std.proofs.lemmas.Bool.{cond-false, ne_eqb}
-use Rattle.std.proofs.lemmas.List.{drop-append-le, drop_at, length-drop, take-append-drop, take_at}
+use Rattle.std.proofs.lemmas.List.{drop-append-le, drop-drop, drop_at, length-drop, take-append-drop, take_at}
 use Rattle.jsonb_spec.specs.Proper.{IsProper}
 use Rattle.jsonb_spec.specs.SortKey.{key_of}
 use Rattle.jsonb_spec.specs.Tree.{Tree}
 use Rattle.key_document.specs.Changes.{IsPartAt}
-use Rattle.key_document.specs.Cursor.{IsLeftOf, IsLeftAt}
+use Rattle.key_document.specs.Cursor.{IsLeftAt, IsLeftBehind, IsLeftOf}
 use Rattle.key_document.specs.Document.{zeros_at}
 use Rattle.key_document.specs.declared.cursor.ZerosLeft.{ZerosLeft}
 use Rattle.key_text.proofs.Counts.{one_each}
@@ -87,3 +87,35 @@ next_counts t part left offset size p q h at s =
       rest = behind_part (offset + size) (counts_at t) b.counts_before (counts_at part) b.counts_behind b.counts_are (omega (arith, long, each));
       within = omega (arith, one, enough, more, sum, long, each);
     }
+
+-- ---- the count of one byte
+
+-- before the first count above 0 each is 0
+pub zero_before : (gap before : ℕ) (rest : List ℕ) → gap < before → get_or (drop gap (replicate before 0 ++ rest)) 0 0 ≡ 0
+zero_before gap zero rest h = absurd (omega (arith, h))
+zero_before zero (suc before) rest h = refl
+zero_before (suc gap) (suc before) rest h = zero_before gap before rest (omega (arith, h))
+
+same_zero : ◌≡◌ {A = ℕ} 0 0
+same_zero = refl
+
+pub zero_among : (gap size : ℕ) → get_or (drop gap (replicate {A = ℕ} size 0)) 0 0 ≡ 0
+zero_among zero zero = same_zero
+zero_among (suc gap) zero = same_zero
+zero_among zero (suc size) = same_zero
+zero_among (suc gap) (suc size) = zero_among gap size
+
+-- where nothing is left or more bytes come before it, this byte has none
+pub no_zeros : (t : Tree) (left : ZerosLeft) (offset : ℕ) → IsLeftBehind t left → left.passed ≤ offset → (left.count ≡ 0) ⊎ (offset - left.passed < left.before) → get_or (drop offset (counts_at t)) 0 0 ≡ 0
+no_zeros t left offset l h none =
+    let gap = offset - left.passed in
+    let counts = drop left.passed (counts_at t) in
+    let sum : left.passed + gap ≡ offset = omega (arith, h) in
+    let here : drop gap counts ≡ drop offset (counts_at t) = drop-drop gap left.passed (counts_at t) ∙ ap (λ n. drop n (counts_at t)) sum in
+    ap (λ cs. get_or cs 0 0) (sym here) ∙ elim l.rest [
+      | inl x ↦ ap (λ cs. get_or (drop gap cs) 0 0) x.1 ∙ zero_among gap (length counts)
+      | inr p ↦ elim none [
+        | inl z ↦ absurd (omega (arith, z, p.some))
+        | inr few ↦ ap (λ cs. get_or (drop gap cs) 0 0) p.is ∙ zero_before gap left.before (left.count ∷ p.later) few
+      ]
+    ]

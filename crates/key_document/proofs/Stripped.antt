@@ -19,11 +19,11 @@ use Rattle.key_document.specs.Retaining.{AreAhead, IsBegun, Retains, unless}
 use Rattle.key_document.specs.declared.retain.Output.{Output}
 use Rattle.key_document.specs.declared.retain.Retaining.{Retaining}
 use Rattle.key_document.proofs.Beside.{push_counts, push_key}
-use Rattle.key_text.proofs.Counts.{one_each, opens_counts}
+use Rattle.key_text.proofs.Counts.{one_each}
 use Rattle.key_document.proofs.OpenCounts.{opened_bytes, over_bytes, part_bytes}
 use Rattle.key_document.proofs.Retained.{PassedNext, retains_begun}
 use Rattle.key_walk.specs.Steps.{IsOver, IsPart}
-use Rattle.key_text.specs.Counts.{counts_at, counts_at_items, counts_at_members, counts_open}
+use Rattle.key_text.specs.Counts.{counts_at, counts_at_items, counts_at_members, counts_open, opens_counts}
 
 -- ---- what stays
 

@@ -1,5 +1,5 @@
 -- What is left of a document's zeros behind the first bytes of its key, and the document of the part that comes next.
-use Rattle.std.specs.Prelude.{◌≡◌, ◌⊎◌, ℕ, ◌≤◌, IfOk, List, length, drop, replicate, Result}
+use Rattle.std.specs.Prelude.{◌≡◌, ◌⊎◌, ℕ, ◌≤◌, ◌+◌, IfOk, List, length, drop, get_or, replicate, Result, Ok, Err}
 use Rattle.jsonb_spec.specs.SortKey.{key_of}
 use Rattle.jsonb_spec.specs.Tree.{Tree}
 use Rattle.key_document.specs.Changes.{OfPartAt}
@@ -33,3 +33,9 @@ OfNextPart document left offset size Is =
 -- It is reported what is left behind the part, which ends at this offset.
 abbrev pub ReportsLeft : Tree → ℕ → Result ZerosLeft DocumentError → Type 0
 ReportsLeft t end result = IfOk result (IsLeftAt t end)
+
+-- The count of the byte at this offset is reported, and this is left behind no more bytes than up to that.
+abbrev pub ReportsZeros : Tree → ℕ → Result ℕ DocumentError → ZerosLeft → Type 0
+ReportsZeros t offset (Ok count) left =
+    (count ≡ get_or (drop offset (counts_at t)) 0 0) × IsLeftBehind t left × (left.passed ≤ offset + 1)
+ReportsZeros t offset (Err e) left = ⊥

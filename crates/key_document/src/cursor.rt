@@ -1,9 +1,9 @@
 //! The parts of a document one after the other, each as a document: all of them in time linear in the document.
 
-ghost use Rattle.std.specs.Prelude.{◌≡◌, ◌<◌, ◌≤◌, ◌+◌, ◌^◌, ◌++◌, ℕ, List, IfOk, MatchResult, drop, length};
+ghost use Rattle.std.specs.Prelude.{◌≡◌, ◌<◌, ◌≤◌, ◌+◌, ◌^◌, ◌++◌, ℕ, List, IfErr, IfOk, MatchResult, Ok, drop, get_or, length};
 ghost use Rattle.jsonb_spec.specs.SortKey.{key_of};
 ghost use Rattle.key_document.specs.Changes.{AppendsDocument, PreservesOnError};
-ghost use Rattle.key_document.specs.Cursor.{IsLeftAt, IsLeftOf, OfNextPart, ReportsLeft};
+ghost use Rattle.key_document.specs.Cursor.{IsLeftAt, IsLeftBehind, IsLeftOf, OfNextPart, ReportsLeft, ReportsZeros};
 ghost use Rattle.key_document.specs.Document.{OfDocument};
 ghost use Rattle.key_zeros.specs.Numbers.{Pends};
 ghost use Rattle.key_zeros.specs.Zeros.{zeros_of};
@@ -14,6 +14,7 @@ use crate::splice::take_zeros;
 use crate::zeros::{all_left, pass};
 
 /// What is left of a document's zeros behind the first bytes of its key.
+#[repr(C)]
 #[derive(Clone, Copy)]
 pub struct ZerosLeft {
     /// How many bytes of the key are passed.
@@ -79,6 +80,66 @@ pub fn append_next_range(
             out.truncate(start);
             Err(error)
         }
+    }
+}
+
+/// How many zeros end the number whose key begins at this offset, where what is left is left before it. What is left is
+/// then that behind the first byte of the number's key, or as before.
+///
+/// # Errors
+///
+/// `NoDocument` only where the bytes are no document, or this isn't left before a number of it. What is left stays as it
+/// is then.
+#[inline(always)]
+pub(crate) fn zeros_of_number(
+    document: &[u8],
+    left: &mut ZerosLeft,
+    offset: usize,
+) -> Result<u8, DocumentError>
+    ensures zeros { OfDocument document.now (λ t. IsLeftBehind t left.old → left.old.passed ≤ offset
+        → offset < length (key_of t) → ReportsZeros t offset result left.new) }
+    ensures still { IfErr result (λ _. left.new ≡ left.old) }
+{
+    let Some(gap) = offset.checked_sub(left.passed) else {
+        return Err(DocumentError::NoDocument);
+    };
+    if left.count == 0 || gap < left.before {
+        return Ok(0);
+    }
+    let (count, rest) = pass_number(document, *left, offset)?;
+    *left = rest;
+    Ok(count)
+}
+
+// The same, and what is left behind the first byte of the number's key.
+#[inline(never)]
+fn pass_number(
+    document: &[u8],
+    left: ZerosLeft,
+    offset: usize,
+) -> Result<(u8, ZerosLeft), DocumentError>
+    ensures zeros { OfDocument document.now (λ t. IsLeftBehind t left → left.passed ≤ offset
+        → offset < length (key_of t) → MatchResult result (λ r. ReportsZeros t offset (Ok r.0) r.1) (λ e. ⊥)) }
+{
+    let Some(gap) = offset.checked_sub(left.passed) else {
+        return Err(DocumentError::NoDocument);
+    };
+    let (_, zeros) = split_document(document);
+    let here = pass(next_of(zeros, left), gap)?;
+    let behind = pass(here, 1)?;
+    Ok((
+        first_count(here),
+        left_as(zeros, offset.saturating_add(1), behind),
+    ))
+}
+
+// The first of the counts of which this is left.
+fn first_count(left: Option<(usize, u8, &[u8])>) -> u8
+    ensures { (counts : List ℕ) → Pends counts left.entry → result ≡ get_or counts 0 0 }
+{
+    match left {
+        Some((0, count, _)) => count,
+        _ => 0,
     }
 }
 

@@ -19,6 +19,7 @@ pub mod part;
 mod retain;
 mod splice;
 pub mod text;
+pub mod walk;
 mod zeros;
 
 pub use build::{append_with_item, append_with_member};
@@ -35,3 +36,4 @@ pub use nulls::append_without_nulls;
 pub use order::compare_documents;
 pub use part::{append_part, append_range};
 pub use text::append_text_of_document;
+pub use walk::{Met, Walk, begin_walk, next_event, skip_open};

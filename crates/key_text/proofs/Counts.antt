@@ -6,7 +6,7 @@ use Rattle.jsonb_spec.specs.SortKey.{key_of, items_key, members_key, number_key,
 use Rattle.jsonb_spec.specs.Tree.{Num, Tree, null, boolean, string, number, array, object, binary, date, timestamp, timestamp_tz, interval, Trees, no_trees, more_trees, Members, no_members, more_members}
 use Rattle.jsonb_core.proofs.SortKeys.Kinds.{is_small, number_begins}
 use Rattle.jsonb_core.proofs.Trees.Runs.{heads, tails}
-use Rattle.key_text.specs.Counts.{counts_at, counts_at_items, counts_at_members, counts_open, AreZeros, IsDue}
+use Rattle.key_text.specs.Counts.{counts_at, counts_at_items, counts_at_members, counts_open, opens_counts, AreZeros, IsDue}
 use Rattle.key_walk.specs.Open.{Open, items, members, open_key, IsOpen}
 use Rattle.key_walk.specs.Steps.{opens_key, AreOpen}
 
@@ -46,11 +46,6 @@ mutual
       )
 
 -- ---- what is left of them
-
--- the counts of the bytes that are left of those that are open
-abbrev pub opens_counts : List Open → List ℕ
-opens_counts [] = []
-opens_counts (o ∷ os) = counts_open o ++ opens_counts os
 
 open_each : (o : Open) (left : ℕ) → IsOpen o left → length (counts_open o) ≡ length (open_key o)
 open_each (items ts) left h = items_each ts h.0

@@ -9,8 +9,8 @@ use Rattle.jsonb_spec.specs.Text.{tree_text}
 use Rattle.jsonb_spec.specs.Text.Appending.{comma_before}
 use Rattle.jsonb_spec.specs.Tree.{no_trees, more_trees, no_members, more_members}
 use Rattle.jsonb_core.proofs.Appending.Appended.{IsUnderway, goes_on, fits}
-use Rattle.key_text.proofs.Counts.{due_as, due_behind, opens_counts, opens_each}
-use Rattle.key_text.specs.Counts.{counts_at, counts_at_items, counts_at_members, counts_open, IsDue}
+use Rattle.key_text.proofs.Counts.{due_as, due_behind, opens_each}
+use Rattle.key_text.specs.Counts.{counts_at, counts_at_items, counts_at_members, counts_open, opens_counts, IsDue}
 use Rattle.key_text.specs.Writes.{items_left, members_left, open_text, name_text, opening_text, closing_text}
 
 -- what is left of the texts of those that are open

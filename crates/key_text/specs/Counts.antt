@@ -42,6 +42,11 @@ abbrev pub counts_open : Open → List ℕ
 counts_open (items ts) = counts_at_items ts
 counts_open (members ms) = counts_at_members ms
 
+-- those of the bytes that are left of all that are open, the innermost first
+abbrev pub opens_counts : List Open → List ℕ
+opens_counts [] = []
+opens_counts (o ∷ os) = counts_open o ++ opens_counts os
+
 -- No number ends in zeros.
 pub record AreZeros (counts : List ℕ) : Type 0 where
   pub size : ℕ

@@ -5,3 +5,4 @@ pub mod Signs
 pub mod FirstBytes
 pub mod Exact
 pub mod Integers
+pub mod Decimals

@@ -1,7 +1,8 @@
 -- Digits with an exponent are the number that they were made of, and whether that is whole.
-use Rattle.std.proofs.Common.{◌≡◌, ◌≢◌, ℕ, zero, suc, ◌+◌, ◌-◌, ◌*◌, ◌%◌, ◌^◌, ◌<◌, ◌≤◌, Bool, true, false, Equal, ℤ, pos, negsuc, unsigned_abs, refl, sym, ap, ◌∙◌, arith}
+use Rattle.std.proofs.Common.{◌≡◌, ◌≢◌, ℕ, zero, suc, ◌+◌, ◌-◌, ◌*◌, ◌%◌, ◌^◌, ◌<◌, ◌≤◌, inl, inr, Bool, true, false, Equal, ℤ, pos, negsuc, unsigned_abs, refl, sym, ap, ◌∙◌, arith}
 use Rattle.std.specs.Prelude.{◌*ℤ◌}
 use Rattle.std.proofs.Math.Nat.{mul-le-mul_left, mul-le-mul_right}
+use Rattle.std.proofs.lemmas.Bool.{cases_lt}
 use Rattle.std.proofs.lemmas.Int.{ints, unsigned_abs-mul}
 use Rattle.std.proofs.lemmas.Nat.{pow-add}
 use Rattle.std.specs.Int.{is_negative}
@@ -15,7 +16,7 @@ use Rattle.jsonb_spec.specs.Order.{decimal_cmp, num_cmp}
 use Rattle.jsonb_spec.specs.Proper.{FitsWhole, IsProperNumber}
 use Rattle.jsonb_spec.specs.Tree.{Form, int64, uint64, decimal64, decimal128, Num}
 use Rattle.jsonb_core.proofs.SortKeys.Digits.{ten}
-use Rattle.key_value.specs.Reading.{IsDigits}
+use Rattle.key_value.specs.Reading.{IsDigits, IsPointed}
 use Rattle.key_value.proofs.Numbers.{cancel}
 
 -- ---- how large a number is
@@ -80,6 +81,24 @@ module _ (n : Num) (exponent digits read : ℕ) (parts : HasParts n exponent dig
       let before : s ≡ (s - 1) + 1 = omega (arith, h) in
       let tenfold : 10 ^ s ≡ 10 ^ (s - 1) * 10 = ap (λ i. 10 ^ i) before ∙ pow-add 10 (s - 1) 1 in
       last (omega (arith, same, ap (λ p. m * p) tenfold))
+
+  -- with the point among them or behind zeros they are the number
+  pub with_point : (whole scale : ℕ) → IsPointed digits read exponent whole scale → unsigned_abs n.whole * 10 ^ scale ≡ whole * 10 ^ n.scale
+  with_point whole scale p = elim (cases_lt exponent (255 + read)) [
+    | inl below ↦ (
+        let is = p.behind below in
+        let k = parts.count - read in
+        let s = 255 + read - exponent in
+        let sum : n.scale ≡ k + s = omega (arith, parts.is_exponent_key, parts.is_digits.fewer, below) in
+        let power : 10 ^ n.scale ≡ 10 ^ k * 10 ^ s = ap (λ i. 10 ^ i) sum ∙ pow-add 10 k s in
+        omega (arith, ap (λ x. x * 10 ^ s) exact, ap (λ i. unsigned_abs n.whole * 10 ^ i) is.1, ap (λ x. x * 10 ^ n.scale) is.0, ap (λ x. digits * x) power)
+        )
+    | inr most ↦ (
+        let is = p.before most in
+        let one : 10 ^ scale ≡ 1 = ap (λ i. 10 ^ i) is.1 in
+        omega (arith, with_zeros (exponent - (255 + read)) refl most, ap (λ x. x * 10 ^ n.scale) is.0, ap (λ x. unsigned_abs n.whole * x) one)
+        )
+  ]
 
 -- ---- signs
 

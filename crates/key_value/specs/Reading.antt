@@ -1,5 +1,5 @@
 -- Parts of keys, parsed from left to right.
-use Rattle.std.specs.Prelude.{◌≡◌, ◌≢◌, ℕ, ◌+◌, ◌*◌, ◌/◌, ◌%◌, ◌^◌, ◌<◌, ◌≤◌, ◌⊎◌, Bool, List, [], ◌∷◌, ◌++◌, length, map, Option, Some, None, if◌then◌else◌, ◌==◌, nat_lt}
+use Rattle.std.specs.Prelude.{◌≡◌, ◌≢◌, ℕ, ◌+◌, ◌-◌, ◌*◌, ◌/◌, ◌%◌, ◌^◌, ◌<◌, ◌≤◌, ◌⊎◌, Bool, List, [], ◌∷◌, ◌++◌, length, map, Option, Some, None, if◌then◌else◌, ◌==◌, nat_lt}
 use Rattle.jsonb_spec.specs.SortKey.{digits_key, exponent_key, invert_if}
 use Rattle.jsonb_spec.specs.SortKey.Kind as kind
 
@@ -24,6 +24,12 @@ pub record IsDigits (count magnitude digits read : ℕ) : Type 0 where
   pub some : 0 < digits
   pub whole : digits * 10 ^ count ≡ magnitude * 10 ^ read
   pub fewer : read ≤ count
+
+-- Digits whose first has this exponent, with 255 added, are this number without its point, behind which so many of its
+-- digits are.
+pub record IsPointed (digits count exponent whole scale : ℕ) : Type 0 where
+  pub behind : exponent < 255 + count → (whole ≡ digits) × (scale ≡ 255 + count - exponent)
+  pub before : 255 + count ≤ exponent → (whole ≡ digits * 10 ^ (exponent - (255 + count))) × (scale ≡ 0)
 
 -- what was read, and the bytes after it
 abbrev pub read_as : ℕ → List ℕ → Option (ℕ × List ℕ)

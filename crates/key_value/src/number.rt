@@ -1,13 +1,14 @@
-//! The exponents, the digits and the integers of sort keys.
+//! The exponents, the digits, the integers and the decimals of sort keys.
 
-ghost use Rattle.std.specs.Prelude.{◌≡◌, ◌≢◌, ◌*◌, ◌%◌, ◌^◌, ◌<◌, ◌≤◌, ◌++◌, ◌∷◌, ◌↔◌, List, ℕ, ℤ, length, map, ◌⊎◌, false, Some, FitsSigned, IfSome, MatchOption, option_map};
+ghost use Rattle.std.specs.Prelude.{◌≡◌, ◌≢◌, ◌*◌, ◌%◌, ◌^◌, ◌<◌, ◌≤◌, ◌++◌, ◌∷◌, ◌↔◌, List, ℕ, ℤ, length, map, ◌⊎◌, false, None, Some, FitsSigned, IfSome, MatchOption, option_map};
 ghost use Rattle.std.specs.Int.{w64};
 ghost use Rattle.jsonb_spec.specs.Number.Cast.{HasValue};
 ghost use Rattle.jsonb_spec.specs.Number.Signed.{signed_by};
 ghost use Rattle.jsonb_spec.specs.Proper.{IsProperNumber};
 ghost use Rattle.jsonb_spec.specs.SortKey.{number_key, digits_key, invert_if};
 ghost use Rattle.jsonb_spec.specs.Tree.{Num};
-ghost use Rattle.key_value.specs.Reading.{exponent_of, second_of, ExponentOccurs, IsDigits, IsLastPair, IsNoLastPair, ReadsDigits};
+ghost use Rattle.key_value.specs.Decimals.{HasFewDigits, HasManyDigits};
+ghost use Rattle.key_value.specs.Reading.{exponent_of, second_of, ExponentOccurs, IsDigits, IsLastPair, IsNoLastPair, IsPointed, ReadsDigits};
 
 use jsonb_core::sort_key::kind;
 
@@ -47,6 +48,9 @@ fn read_second(negative: bool, bytes: &[u8]) -> Option<(u32, &[u8])>
     }
     Some((u32::from(exponent), rest))
 }
+
+// The least number of more than 18 digits.
+const FEW: u128 = 1_000_000_000_000_000_000;
 
 // How many digits `read_front` reads at most.
 const MAX_FRONT: u32 = 16;
@@ -153,6 +157,62 @@ fn any_integer(bytes: &[u8]) -> Option<i64>
     Some(integer)
 }
 
+/// A number with the fewest digits: `digits / 10^scale`.
+#[derive(Clone, Copy, Debug, PartialEq, Eq, Drop)]
+pub struct Decimal {
+    pub digits: i64,
+    pub scale: u32,
+}
+
+/// The decimal that a number is, from the bytes that its key begins, or `None` where it has more than 18 digits. Of
+/// other bytes it may be any.
+pub fn decimal_of(bytes: &[u8]) -> Option<Decimal>
+    ensures { (n : Num) → IsProperNumber n → (more : List ℕ) → bytes.now ≡ number_key n ++ more
+        → MatchOption result (HasManyDigits n) (λ d. HasFewDigits n d.digits d.scale) }
+{
+    let (first, _) = bytes.split_first()?;
+    if *first == kind::ZERO {
+        return Some(Decimal {
+            digits: 0,
+            scale: 0,
+        });
+    }
+    let negative = *first < kind::ZERO;
+    let (exponent, rest) = read_exponent(negative, bytes)?;
+    let (digits, count) = read_digits(negative, rest)?;
+    let (magnitude, scale) = put_point(digits, count, exponent)?;
+    let digits = with_short_sign(negative, magnitude)?;
+    Some(Decimal { digits, scale })
+}
+
+// The number of these digits, the first of which has this exponent, without the point, and how many of its digits are
+// behind that. The last of the digits isn't 0, so none of those can be left out. `None` where it has more than 18.
+fn put_point(digits: u128, count: u32, exponent: u32) -> Option<(u64, u32)>
+    requires last { digits % 10 ≢ 0 }
+    requires few { count ≤ 42 }
+    ensures { MatchOption result ((whole scale : ℕ) → IsPointed digits count exponent whole scale → 10 ^ 18 ≤ whole)
+        (λ r. IsPointed digits count exponent r.0 r.1 × (r.0 < 10 ^ 18)) }
+{
+    let digits = few(digits)?;
+    if exponent < 255 + count {
+        return Some((digits, 255 + count - exponent));
+    }
+    let power = 10u64.checked_pow(exponent - (255 + count))?;
+    let whole = digits.checked_mul(power)?;
+    let whole = few(u128::from(whole))?;
+    Some((whole, 0))
+}
+
+// A number of at most 18 digits.
+fn few(magnitude: u128) -> Option<u64>
+    ensures { MatchOption result (10 ^ 18 ≤ magnitude) (λ few. (few ≡ magnitude) × (few < 10 ^ 18)) }
+{
+    if magnitude >= FEW {
+        return None;
+    }
+    u64::try_from(magnitude).ok()
+}
+
 // The integer of this sign.
 fn with_sign(negative: bool, magnitude: u128) -> Option<i64>
     ensures { MatchOption result ((2 ^ 63 < magnitude) ⊎ ((negative ≡ false) × (2 ^ 63 ≤ magnitude)))
@@ -219,7 +279,8 @@ fn whole_of(digits: u64, count: u32, before: u32) -> Option<u64>
 // The integer of this sign, of fewer than 64 bits.
 #[inline(always)]
 fn with_short_sign(negative: bool, magnitude: u64) -> Option<i64>
-    ensures { IfSome result (λ v. v ≡ signed_by negative magnitude) }
+    ensures signed { IfSome result (λ v. v ≡ signed_by negative magnitude) }
+    ensures large { (result ≡ None) → 2 ^ 63 ≤ magnitude }
 {
     let whole = i64::try_from(magnitude).ok()?;
     if negative {

@@ -26,3 +26,4 @@ pub mod LesserBytes
 pub mod Fronts
 pub mod KeyFronts
 pub mod Passing
+pub mod NextPart

@@ -1,100 +1,24 @@
 -- What is first where a walk over all that is in an array or an object is.
-use Rattle.std.proofs.Common.{◌≡◌, Err, length, ◌≢◌, ℕ, zero, suc, ◌+◌, ◌<◌, ◌≤◌, ◌⊎◌, inl, inr, Bool, true, false, List, [], ◌∷◌, ◌++◌, Some, None, get_or, set, refl, sym, ap, subst, ◌∙◌, arith, append_assoc, Option, Result, Ok}
+use Rattle.std.proofs.Common.{◌≡◌, Err, length, ℕ, zero, suc, ◌+◌, ◌<◌, ◌≤◌, inl, inr, Bool, true, false, List, [], ◌∷◌, ◌++◌, Some, None, get_or, set, refl, sym, ap, subst, ◌∙◌, arith, append_assoc, Option, Result, Ok}
 use Rattle.std.proofs.lemmas.List.{get_or-set_same}
 use Rattle.key_value.specs.Readable.{IsReadableAt}
-use Rattle.key_value.proofs.Texts.{none_some, some_same}
 use Rattle.jsonb_spec.specs.SortKey.{key_of, items_key, members_key, text_key}
 use Rattle.jsonb_spec.specs.Tree.{Tree, null, boolean, string, number, array, object, no_trees, more_trees, no_members, more_members}
-use Rattle.key_walk.specs.Open.{Open, items, members, is_object, open_key, opening_byte, IsOpen, IsScalar, end_key, name_key}
+use Rattle.key_walk.specs.Open.{Open, items, members, is_object, open_key, opening_byte, IsOpen, end_key, name_key}
+use Rattle.key_walk.specs.NextPart.{BeginsWithEnd, BeginsWithOpening, BeginsWithPart, BeginsWithScalar}
 use Rattle.key_walk.specs.Parts.{opened_tree}
-use Rattle.key_walk.specs.Steps.{AreOpen, IsAmid, IsOver, IsPart, IsWithin, PassesEnd, PassesOpening, PassesScalar, Stacks, StepsOver, opens_key}
+use Rattle.key_walk.specs.Steps.{AreOpen, IsAmid, IsPart, IsWithin, PassesEnd, PassesOpening, PassesScalar, Stacks, StepsOver, opens_key}
 use Rattle.key_walk.specs.declared.find.NoKey.{NoKey}
-use Rattle.key_walk.specs.declared.steps.ScalarPart.{ScalarPart}
+use Rattle.key_walk.specs.declared.part.Opened.{Opened}
+use Rattle.key_walk.specs.declared.part.Part.{Part}
+use Rattle.key_walk.specs.declared.part.ScalarPart.{ScalarPart}
 use Rattle.key_walk.specs.declared.steps.Step.{Step}
 use Rattle.key_walk.specs.declared.steps.Step.TheVariants as step
 use Rattle.key_walk.specs.declared.steps.Steps.{Steps}
-use Rattle.key_walk.proofs.Opens.{no_end, stack_retained}
-use Rattle.key_walk.proofs.Scalars.{array_open, object_open, scalar_there}
+use Rattle.key_walk.proofs.Opens.{stack_retained}
+use Rattle.key_walk.proofs.Scalars.{array_open, object_open}
 use Rattle.jsonb_core.proofs.SortKeys.Kinds.{is_small, number_begins}
 use Rattle.jsonb_core.proofs.Trees.Runs.{heads, tails}
-
--- the end of the innermost
-pub record EndFirst (o : Open) (under : List Open) (more : List ℕ) (objects : List Bool) (top : ℕ) (rest : List ℕ) : Type 0 where
-  pub is_over : IsOver o
-  pub left : ℕ
-  pub levels : left + top ≡ 512
-  pub are_open : AreOpen under left
-  pub stacked : Stacks under objects top
-  pub occurs : rest ≡ end_key (is_object o) ++ (opens_key under ++ more)
-
--- a part of the innermost
-pub record PartFirst (o : Open) (under : List Open) (more : List ℕ) (objects : List Bool) (depth : ℕ) (rest : List ℕ) : Type 0 where
-  pub name : List ℕ
-  pub value : Tree
-  pub others : Open
-  pub left : ℕ
-  pub is_part : IsPart o name value others
-  pub readable : IsReadableAt left value
-  pub levels : left + depth ≡ 512
-  pub are_open : AreOpen (others ∷ under) left
-  pub stacked : Stacks (others ∷ under) objects depth
-  pub occurs : rest ≡ name_key (is_object o) name ++ (key_of value ++ (opens_key (others ∷ under) ++ more))
-
-regroup : (n k o u more : List ℕ) → ((n ++ (k ++ o)) ++ u) ++ more ≡ n ++ (k ++ ((o ++ u) ++ more))
-regroup n k o u more = simp append_assoc
-
-module _ (under : List Open) (more : List ℕ) (objects : List Bool) (top : ℕ) (rest : List ℕ) where
-  -- which of the two
-  abbrev pub First : Open → ℕ → Type 0
-  First o depth = EndFirst o under more objects top rest ⊎ PartFirst o under more objects depth rest
-
-  by_open : (o : Open) (left d : ℕ) → top ≡ d → left + suc d ≡ 512 → AreOpen (o ∷ under) left → Stacks (o ∷ under) objects (suc d) → rest ≡ opens_key (o ∷ under) ++ more → First o (suc d)
-  by_open (items no_trees) left d same levels a s st = inl (record { is_over = tt; left = suc left; levels = omega (arith, levels, same); are_open = a.1; stacked = subst (λ i. Stacks under objects i) (sym same) s.1; occurs = st })
-  by_open (items (more_trees t ts)) left d same levels a s st = inr (record {
-    name = [];
-    value = t;
-    others = items ts;
-    left = left;
-    is_part = (refl, refl, refl);
-    readable = record { proper = a.0.0.0; within = a.0.1.0 };
-    levels = levels;
-    are_open = ((a.0.0.1, a.0.1.1), a.1);
-    stacked = s;
-    occurs = st ∙ regroup [] (key_of t) (items_key ts) (opens_key under) more;
-  })
-  by_open (members no_members) left d same levels a s st = inl (record { is_over = tt; left = suc left; levels = omega (arith, levels, same); are_open = a.1; stacked = subst (λ i. Stacks under objects i) (sym same) s.1; occurs = st })
-  by_open (members (more_members k t ms)) left d same levels a s st = inr (record {
-    name = k;
-    value = t;
-    others = members ms;
-    left = left;
-    is_part = (refl, refl, refl);
-    readable = record { proper = a.0.0.1; within = a.0.1.0 };
-    levels = levels;
-    are_open = ((a.0.0.2, a.0.1.1), a.1);
-    stacked = s;
-    occurs = st ∙ regroup (text_key k) (key_of t) (members_key ms) (opens_key under) more;
-  })
-
-  pub first_of : (o : Open) (left depth : ℕ) → top + 1 ≡ depth → left + depth ≡ 512 → AreOpen (o ∷ under) left → Stacks (o ∷ under) objects depth → rest ≡ opens_key (o ∷ under) ++ more → First o depth × (get_or objects top false ≡ is_object o)
-  first_of o left zero below levels a s st = absurd (omega (arith, below))
-  first_of o left (suc d) below levels a s st =
-      let same : top ≡ d = omega (arith, below) in
-      (by_open o left d same levels a s st, ap (λ i. get_or objects i false) same ∙ s.0)
-
--- where an end was read, it is there
-pub end_there : (o : Open) (under : List Open) (more : List ℕ) (objects : List Bool) (top depth : ℕ) (rest tail : List ℕ) → First under more objects top rest o depth → rest ≡ end_key (is_object o) ++ tail → EndFirst o under more objects top rest
-end_there o under more objects top depth rest tail first read = elim first [
-  | inl x ↦ x
-  | inr n ↦ absurd (no_end (is_object o) n.name n.value n.left n.readable rest tail (opens_key (n.others ∷ under) ++ more) read n.occurs)
-]
-
--- where none was read, a part is there
-pub part_there : (o : Open) (under : List Open) (more : List ℕ) (objects : List Bool) (top depth : ℕ) (rest : List ℕ) → First under more objects top rest o depth → ((tail : List ℕ) → rest ≡ end_key (is_object o) ++ tail → None ≡ Some tail) → PartFirst o under more objects depth rest
-part_there o under more objects top depth rest first none = elim first [
-  | inl x ↦ absurd (none_some (opens_key under ++ more) (none (opens_key under ++ more) x.occurs))
-  | inr n ↦ n
-]
 
 -- the array or the object that a value is
 pub record Opening (left : ℕ) (value : Tree) (b : Bool) (rest tail : List ℕ) : Type 0 where
@@ -138,128 +62,100 @@ none_open objects zero top below s = omega (arith, below)
 none_open objects (suc d) top below s = s
 
 module _ (more : List ℕ) (old : Steps) (top : ℕ) (below : top + 1 ≡ old.depth) (object : Bool) (is : object ≡ get_or old.objects top false) where
-  abbrev Part : Open → List Open → Type 0
-  Part o under = PartFirst o under more old.objects old.depth old.rest.now
+  -- what begins here, of what is open
+  abbrev pub AtTop : Result Part NoKey → Type 0
+  AtTop r = (o : Open) → is_object o ≡ object → (left : ℕ) → IsOpen o left → (behind : List ℕ) → old.rest.now ≡ open_key o ++ behind → BeginsWithPart o left behind old.rest.now r
 
-  which : (o : Open) (under : List Open) → IsAmid (o ∷ under) more old → First under more old.objects top old.rest.now o old.depth × (object ≡ is_object o)
-  which o under w =
-      let f = first_of under more old.objects top old.rest.now o w.left old.depth below w.levels w.are_open w.stacked w.occurs in
-      (f.0, is ∙ f.1)
+  top_is : (o : Open) (under : List Open) (depth : ℕ) → top + 1 ≡ depth → Stacks (o ∷ under) old.objects depth → (is_object o ≡ object) × Stacks under old.objects top
+  top_is o under zero at s = absurd (omega (arith, at))
+  top_is o under (suc d) at s =
+      let same : top ≡ d = omega (arith, at) in
+      (sym (is ∙ ap (λ i. get_or old.objects i false) same ∙ s.0), subst (λ i. Stacks under old.objects i) (sym same) s.1)
 
-  pub end_passed : (opens : List Open) → IsAmid opens more old → (new : Steps) → new.objects ≡ old.objects → new.depth ≡ top → old.rest.now ≡ end_key object ++ new.rest.now → ((tail : List ℕ) → old.rest.now ≡ end_key object ++ tail → Some new.rest.now ≡ Some tail)
-      → StepsOver opens more old (Ok (Some step.Edge)) new
-  end_passed [] w new same at read found = absurd (none_open old.objects old.depth top below w.stacked)
-  end_passed (o ∷ under) w new same at read found =
-      let f = which o under w in
-      let passed : old.rest.now ≡ end_key (is_object o) ++ new.rest.now = read ∙ ap (λ b. end_key b ++ new.rest.now) f.1 in
-      let x = end_there o under more old.objects top old.depth old.rest.now new.rest.now f.0 passed in
-      let behind = opens_key under ++ more in
-      inl (record {
-        is_over = x.is_over;
-        passed = passed;
-        amid = record {
-          left = x.left;
-          levels = omega (arith, x.levels, at);
-          are_open = x.are_open;
-          stacked = stacked_as under old.objects new.objects top new.depth same at x.stacked;
-          occurs = some_same new.rest.now behind (found behind (x.occurs ∙ ap (λ b. end_key b ++ behind) (sym f.1)));
-        };
-      })
+  module _ (o : Open) (under : List Open) (w : IsAmid (o ∷ under) more old) where
+    pub kind_is : is_object o ≡ object
+    kind_is = (top_is o under old.depth below w.stacked).0
 
-  module _ (opens : List Open) (w : IsAmid opens more old) (none : (tail : List ℕ) → old.rest.now ≡ end_key object ++ tail → None ≡ Some tail) where
-    -- the part that is first
-    part_of : (o : Open) (under : List Open) → IsAmid (o ∷ under) more old → Part o under × (object ≡ is_object o)
-    part_of o under w =
-        let f = which o under w in
-        (part_there o under more old.objects top old.depth old.rest.now f.0 (λ tail e. none tail (e ∙ ap (λ b. end_key b ++ tail) (sym f.1))), f.1)
+    pub begins_here : (r : Result Part NoKey) → AtTop r → BeginsWithPart o w.left (opens_key under ++ more) old.rest.now r
+    begins_here r at = at o kind_is w.left w.are_open.0 (opens_key under ++ more) (w.occurs ∙ append_assoc (open_key o) (opens_key under) more)
 
-    pub never : ((o : Open) (under : List Open) → Part o under → object ≡ is_object o → ⊥) → (r : Result (Option Step) NoKey) (new : Steps) → StepsOver opens more old r new
-    never not r new = go opens w
-      where
-        go : (os : List Open) → IsAmid os more old → StepsOver os more old r new
-        go [] w = absurd (none_open old.objects old.depth top below w.stacked)
-        go (o ∷ under) w = let n = part_of o under w in absurd (not o under n.0 n.1)
+    pub end_passed : (after : List ℕ) → BeginsWithEnd o (opens_key under ++ more) old.rest.now after → (new : Steps) → new.objects ≡ old.objects → new.depth ≡ top → new.rest.now ≡ after → PassesEnd o under more old new
+    end_passed after x new same at rest = record {
+      is_over = x.is_over;
+      passed = x.passed ∙ ap (λ v. end_key (is_object o) ++ v) (sym rest);
+      amid = record {
+        left = suc w.left;
+        levels = omega (arith, w.levels, below, at);
+        are_open = w.are_open.1;
+        stacked = stacked_as under old.objects new.objects top new.depth same at (top_is o under old.depth below w.stacked).1;
+        occurs = rest ∙ x.behind;
+      };
+    }
 
-    pub part_occurs : (o : Open) (under : List Open) → (n : Part o under) → object ≡ is_object o → old.rest.now ≡ name_key object n.name ++ (key_of n.value ++ (opens_key (n.others ∷ under) ++ more))
-    part_occurs o under n kind = n.occurs ∙ ap (λ b. name_key b n.name ++ (key_of n.value ++ (opens_key (n.others ∷ under) ++ more))) (sym kind)
+    -- the others of its parts are open in its stead
+    others_stacked : (depth : ℕ) → top + 1 ≡ depth → Stacks (o ∷ under) old.objects depth → (others : Open) → is_object others ≡ is_object o → Stacks (others ∷ under) old.objects depth
+    others_stacked zero at s others same = absurd (omega (arith, at))
+    others_stacked (suc d) at s others same = (s.0 ∙ sym same, s.1)
 
-    -- behind the name of the part
-    pub value_there : (value : List ℕ) → ((name others : List ℕ) → old.rest.now ≡ name_key object name ++ others → Some value ≡ Some others) → (o : Open) (under : List Open) → (n : Part o under) → object ≡ is_object o → value ≡ key_of n.value ++ (opens_key (n.others ∷ under) ++ more)
-    value_there value found o under n kind = some_same value _ (found n.name _ (part_occurs o under n kind))
+    same_kind : (p : Open) (name : List ℕ) (value : Tree) (others : Open) → IsPart p name value others → is_object others ≡ is_object p
+    same_kind (items no_trees) name value others p = absurd p
+    same_kind (items (more_trees t ts)) name value others p = ap is_object p.2
+    same_kind (members no_members) name value others p = absurd p
+    same_kind (members (more_members k t ms)) name value others p = ap is_object p.2
 
-    module _ (value : List ℕ) (found : (name others : List ℕ) → old.rest.now ≡ name_key object name ++ others → Some value ≡ Some others) (first : ℕ) (parts : List ℕ) (begins : value ≡ first ∷ parts) where
-      named : (o : Open) (under : List Open) (n : Part o under) → object ≡ is_object o → old.rest.now ≡ name_key (is_object o) n.name ++ value
-      named o under n kind = n.occurs ∙ ap (λ v. name_key (is_object o) n.name ++ v) (sym (value_there value found o under n kind))
+    pub opened : (b : Opened) → (x : BeginsWithOpening o w.left (opens_key under ++ more) old.rest.now b) → (new : Steps) → IsWithin b.object b.parts.now old new → old.depth < 512 → PassesOpening o under more old new
+    opened b x new within space =
+        let one_more : new.depth ≡ suc old.depth = omega (arith, within.space) in
+        let others : Stacks (x.others ∷ under) old.objects old.depth = others_stacked old.depth below w.stacked x.others (same_kind o x.name (opened_tree x.inside) x.others x.is_part) in
+        let there : Stacks (x.inside ∷ x.others ∷ under) (set old.objects old.depth b.object) (suc old.depth) =
+        (get_or-set_same old.objects old.depth b.object false (omega (arith, space, old.sized)) ∙ x.kind_is, stack_retained (x.others ∷ under) old.objects old.depth b.object old.depth (omega arith) others) in
+        record {
+          name = x.name;
+          value = opened_tree x.inside;
+          others = x.others;
+          inside = x.inside;
+          is_part = x.is_part;
+          whole = refl;
+          passed = x.named ∙ ap (λ v. name_key (is_object o) x.name ++ v) (x.begins ∙ ap (λ v. opening_byte (is_object x.inside) ∷ v) (sym within.rest));
+          amid = record {
+            left = x.inner;
+            levels = omega (arith, w.levels, x.deeper, one_more);
+            are_open = (x.fits, subst (λ d. AreOpen (x.others ∷ under) d) x.deeper (x.others_fit, w.are_open.1));
+            stacked = stacked_as (x.inside ∷ x.others ∷ under) (set old.objects old.depth b.object) new.objects (suc old.depth) new.depth within.objects one_more there;
+            occurs = within.rest ∙ x.behind ∙ ap (λ v. open_key x.inside ++ v) (sym (append_assoc (open_key x.others) (opens_key under) more)) ∙ sym (append_assoc (open_key x.inside) (opens_key (x.others ∷ under)) more);
+          };
+        }
 
-      pub entered : (inner : Bool) → first ≡ opening_byte inner → (new : Steps) → IsWithin inner parts old new → old.depth < 512 → StepsOver opens more old (Ok (Some step.Edge)) new
-      entered inner opens_it new within space = go opens w
-        where
-          go : (os : List Open) → IsAmid os more old → StepsOver os more old (Ok (Some step.Edge)) new
-          go [] w = absurd (none_open old.objects old.depth top below w.stacked)
-          go (o ∷ under) w =
-              let f = part_of o under w in
-              let n = f.0 in
-              let x = opening_there n.left n.value n.readable first parts value (opens_key (n.others ∷ under) ++ more) begins (value_there value found o under n f.1) inner opens_it in
-              let there : Stacks (x.inside ∷ n.others ∷ under) (set old.objects old.depth inner) (suc old.depth) =
-              (get_or-set_same old.objects old.depth inner false (omega (arith, space, old.sized)) ∙ sym x.is, stack_retained (n.others ∷ under) old.objects old.depth inner old.depth (omega arith) n.stacked) in
-              let one_more : new.depth ≡ suc old.depth = omega (arith, within.space) in
-              inr (record {
-                name = n.name;
-                value = n.value;
-                others = n.others;
-                inside = x.inside;
-                is_part = n.is_part;
-                whole = x.whole;
-                passed = named o under n f.1 ∙ ap (λ v. name_key (is_object o) n.name ++ v) (begins ∙ ap (λ b. b ∷ parts) (opens_it ∙ ap opening_byte (sym x.is)) ∙ ap (λ v. opening_byte (is_object x.inside) ∷ v) (sym within.rest));
-                amid = record {
-                  left = x.inner;
-                  levels = omega (arith, n.levels, x.deeper, one_more);
-                  are_open = (x.fits, subst (λ d. AreOpen (n.others ∷ under) d) x.deeper n.are_open);
-                  stacked = stacked_as (x.inside ∷ n.others ∷ under) (set old.objects old.depth inner) new.objects (suc old.depth) new.depth within.objects one_more there;
-                  occurs = within.rest ∙ x.occurs ∙ sym (append_assoc (open_key x.inside) (opens_key (n.others ∷ under)) more);
-                };
-              })
+    pub scalar_passed : (p : ScalarPart) → (x : BeginsWithScalar o w.left (opens_key under ++ more) old.rest.now p) → (new : Steps) → new.objects ≡ old.objects → new.depth ≡ old.depth → new.rest.now ≡ p.after.now → PassesScalar o under more p old new
+    scalar_passed p x new same at rest = record {
+      name = x.name;
+      value = x.value;
+      others = x.others;
+      left = w.left;
+      is_part = x.is_part;
+      is_scalar = x.is_scalar;
+      readable = x.readable;
+      member = x.member;
+      tail = x.tail;
+      begins = x.begins;
+      from = x.from;
+      named = x.from ∙ x.named;
+      occurs = x.occurs;
+      behind = rest;
+      amid = record {
+        left = w.left;
+        levels = omega (arith, w.levels, at);
+        are_open = (x.others_fit, w.are_open.1);
+        stacked = stacked_as (x.others ∷ under) old.objects new.objects old.depth new.depth same at
+            (others_stacked old.depth below w.stacked x.others (same_kind o x.name x.value x.others x.is_part));
+        occurs = rest ∙ x.behind ∙ sym (append_assoc (open_key x.others) (opens_key under) more);
+      };
+    }
 
-      module _ (no_object : first ≢ 209) (no_array : first ≢ 210) where
-        pub scalar_at : (o : Open) (under : List Open) (n : Part o under) → object ≡ is_object o → IsScalar n.value
-        scalar_at o under n kind = scalar_there n.left n.value n.readable first parts value (opens_key (n.others ∷ under) ++ more) begins (value_there value found o under n kind) no_object no_array
-
-        pub scalar_passed : (after : List ℕ) → ((depth : ℕ) (t : Tree) → IsReadableAt depth t → IsScalar t → (behind : List ℕ) → value ≡ key_of t ++ behind → Some after ≡ Some behind)
-            → (p : ScalarPart) → p.is_member ≡ object → p.first ≡ first → p.part.now ≡ old.rest.now → p.value.now ≡ value → p.after.now ≡ after
-            → (new : Steps) → new.objects ≡ old.objects → new.depth ≡ old.depth → new.rest.now ≡ after → StepsOver opens more old (Ok (Some (step.Scalar p))) new
-        scalar_passed after left p member at_first part of behind new same at rest = go opens w
-          where
-            go : (os : List Open) → IsAmid os more old → StepsOver os more old (Ok (Some (step.Scalar p))) new
-            go [] w = absurd (none_open old.objects old.depth top below w.stacked)
-            go (o ∷ under) w =
-                let f = part_of o under w in
-                let n = f.0 in
-                let there = value_there value found o under n f.1 in
-                let scalar = scalar_at o under n f.1 in
-                let tail : after ≡ opens_key (n.others ∷ under) ++ more = some_same after _ (left n.left n.value n.readable scalar _ there) in
-                record {
-                  name = n.name;
-                  value = n.value;
-                  others = n.others;
-                  left = n.left;
-                  is_part = n.is_part;
-                  is_scalar = scalar;
-                  readable = n.readable;
-                  member = member ∙ f.1;
-                  tail = parts;
-                  begins = of ∙ begins ∙ ap (λ b. b ∷ parts) (sym at_first);
-                  from = part;
-                  named = part ∙ named o under n f.1 ∙ ap (λ v. name_key (is_object o) n.name ++ v) (sym of);
-                  occurs = of ∙ there ∙ ap (λ v. key_of n.value ++ v) (sym tail ∙ sym behind);
-                  behind = rest ∙ sym behind;
-                  amid = record {
-                    left = n.left;
-                    levels = omega (arith, n.levels, at);
-                    are_open = n.are_open;
-                    stacked = stacked_as (n.others ∷ under) old.objects new.objects old.depth new.depth same at n.stacked;
-                    occurs = rest ∙ tail;
-                  };
-                }
+  -- what a step over these reports, by what is so of the innermost
+  pub stepped : (opens : List Open) → (w : IsAmid opens more old) → (r : Result (Option Step) NoKey) (new : Steps) → ((o : Open) (under : List Open) → IsAmid (o ∷ under) more old → StepsOver (o ∷ under) more old r new) → StepsOver opens more old r new
+  stepped [] w r new law = absurd (none_open old.objects old.depth top below w.stacked)
+  stepped (o ∷ under) w r new law = law o under w
 
 -- ---- a walk of which something holds
 

@@ -8,3 +8,5 @@ pub mod Parts
 pub mod Steps
 pub mod Passing
 pub mod SideBySide
+pub mod NextPart
+pub mod Events

@@ -4,7 +4,7 @@ use Rattle.key_value.specs.Readable.{IsReadableAt}
 use Rattle.jsonb_spec.specs.SortKey.{key_of}
 use Rattle.jsonb_spec.specs.Tree.{Tree, no_trees, more_trees, no_members, more_members}
 use Rattle.key_walk.specs.declared.find.NoKey.{NoKey}
-use Rattle.key_walk.specs.declared.steps.ScalarPart.{ScalarPart}
+use Rattle.key_walk.specs.declared.part.ScalarPart.{ScalarPart}
 use Rattle.key_walk.specs.declared.steps.Step.{Step}
 use Rattle.key_walk.specs.declared.steps.Step.TheVariants as step
 use Rattle.key_walk.specs.declared.steps.Steps.{Steps}

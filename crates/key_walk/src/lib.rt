@@ -7,6 +7,7 @@ mod containment;
 mod digits;
 pub mod find;
 pub mod names;
+pub mod part;
 pub mod pass;
 pub mod skip;
 pub mod steps;

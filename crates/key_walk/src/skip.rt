@@ -263,10 +263,10 @@ pub fn after_name(object: bool, bytes: &[u8]) -> Option<&[u8]>
     }
 }
 
-// The bytes after the parts of an object or an array, and after its end. Most have scalars alone, for which nothing is
-// held of what is open.
+/// The bytes after the parts of an object or an array, and after its end. Of other bytes it may be any rest of them, or
+/// `None`. Most have scalars alone, for which nothing is held of what is open.
 #[inline(never)]
-pub(crate) fn after_parts(object: bool, bytes: &[u8]) -> Option<&[u8]>
+pub fn after_parts(object: bool, bytes: &[u8]) -> Option<&[u8]>
     ensures found { AtParts object bytes.now (λ o more. Leaves result more) }
     ensures shorter { IfSome result (λ rest. length rest.now < length bytes.now) }
 {

@@ -4,7 +4,8 @@ ghost use Rattle.std.specs.Prelude.{◌≡◌, ◌≢◌, ◌<◌, ◌≤◌, �
 ghost use Rattle.key_walk.specs.Open.{Open, is_object, open_key, IsOpen};
 
 use crate::find::NoKey;
-use crate::skip::{MAX_DEPTH, after_end, after_name, after_scalar, kind_at, opening, outermost};
+use crate::part::{Part, ScalarPart, read_part};
+use crate::skip::{MAX_DEPTH, kind_at, outermost};
 
 /// A walk over all that is in an array or an object: the arrays and objects that are open, and the bytes that are left.
 #[derive(Drop)]
@@ -26,21 +27,6 @@ pub enum Step<'k> {
     Edge,
     /// Another value, and the name before it.
     Scalar(ScalarPart<'k>),
-}
-
-/// A value that is neither an array nor an object.
-#[derive(Clone, Copy)]
-pub struct ScalarPart<'k> {
-    /// Whether it is of a member.
-    pub is_member: bool,
-    /// The first byte of its key.
-    pub first: u8,
-    /// The bytes from the member's name on, or from the item on.
-    pub part: &'k [u8],
-    /// Those from its key on.
-    pub value: &'k [u8],
-    /// Those behind it.
-    pub after: &'k [u8],
 }
 
 impl<'k> Steps<'k> {
@@ -75,34 +61,21 @@ impl<'k> Steps<'k> {
         let Some(top) = self.depth.checked_sub(1) else {
             return Ok(None);
         };
-        let object = kind_at(&self.objects, top);
-        let part = self.rest;
-        if let Some(after) = after_end(object, part) {
-            self.depth = top;
-            self.rest = after;
-            return Ok(Some(Step::Edge));
+        match read_part(kind_at(&self.objects, top), self.rest)? {
+            Part::End(after) => {
+                self.depth = top;
+                self.rest = after;
+                Ok(Some(Step::Edge))
+            }
+            Part::Opening(opened) => {
+                self.open(opened.object, opened.parts)?;
+                Ok(Some(Step::Edge))
+            }
+            Part::Scalar(part) => {
+                self.rest = part.after;
+                Ok(Some(Step::Scalar(part)))
+            }
         }
-        let Some(value) = after_name(object, part) else {
-            return Err(NoKey);
-        };
-        let Some((first, parts)) = value.split_first() else {
-            return Err(NoKey);
-        };
-        if let Some(inner) = opening(*first) {
-            self.open(inner, parts)?;
-            return Ok(Some(Step::Edge));
-        }
-        let Some(after) = after_scalar(value) else {
-            return Err(NoKey);
-        };
-        self.rest = after;
-        Ok(Some(Step::Scalar(ScalarPart {
-            is_member: object,
-            first: *first,
-            part,
-            value,
-            after,
-        })))
     }
 
     // Goes on with the parts of an array or an object.

@@ -4,11 +4,10 @@ use Rattle.key_walk.specs.Open.{Open, is_object, name_key, open_key, opening_byt
 use Rattle.key_walk.specs.Parts.{opened_tree}
 use Rattle.key_walk.specs.Steps.{IsAmid, StepsOver, opens_key}
 use Rattle.key_walk.proofs.Stepping.{all_passed, edge_passed, no_error, value_passed}
-use Rattle.key_text.specs.Counts.{counts_at, counts_open}
+use Rattle.key_text.specs.Counts.{counts_at, counts_open, opens_counts}
 use Rattle.key_text.proofs.Appending.{preserves_on, retained}
 use Rattle.key_document.specs.LeftOut.{without_nulls}
 use Rattle.key_document.specs.Retaining.{IsBegun, Retains}
-use Rattle.key_text.proofs.Counts.{opens_counts}
 use Rattle.key_document.proofs.Retained.{all_lacks, all_written, next_ready, stays_next}
 use Rattle.key_document.proofs.Stripped.{StripsLeft, StripsNext, bare_all, end_next, ended, null_first, opening_next, part_goes, scalar_next, strip_begun}
 use Rattle.key_document.proofs.nulls.write_parts.Goals as goal

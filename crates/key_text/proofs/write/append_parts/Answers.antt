@@ -7,9 +7,9 @@ use Rattle.key_walk.proofs.Scalars.{scalar_there}
 use Rattle.jsonb_spec.specs.SortKey.{key_of, number_key}
 use Rattle.jsonb_spec.specs.Text.{tree_text}
 use Rattle.jsonb_spec.specs.Tree.{number}
-use Rattle.key_text.specs.Counts.{counts_at, AreZeros}
+use Rattle.key_text.specs.Counts.{counts_at, opens_counts, AreZeros}
 use Rattle.key_text.specs.Writes.{closing_text, opening_text}
-use Rattle.key_text.proofs.Counts.{behind_first, due_as, due_behind_plain, number_left, opens_counts}
+use Rattle.key_text.proofs.Counts.{behind_first, due_as, due_behind_plain, number_left}
 use Rattle.key_text.proofs.Appending.{out_of_memory, passed_on, preserves_on, retained_by}
 use Rattle.key_text.proofs.NextParts.{end_next, value_next}
 use Rattle.key_text.proofs.Walk.{WritesParts, text_begun, end_there, end_fits, end_written, part_there, name_fits, value_fits, scalar_written, each_there, opening_fits, part_begun, all_written}
