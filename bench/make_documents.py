@@ -102,6 +102,11 @@ def documents_of_escaped_letters():
     yield "unicode", [json.dumps([string_of(letters, 20, 100) for _ in range(3000)], separators=(",", ":"))]
 
 
+def documents_of_keys_that_begin_alike():
+    """About 1 MB in one object whose keys differ in numbers at their ends, out of order."""
+    yield "numbered_keys", [text_of({"user:%06d" % i: i for i in random.sample(range(50000), 50000)})]
+
+
 def identity():
     return random.randrange(10**17, 10**18)
 
@@ -332,6 +337,8 @@ def main():
     for name, texts in documents_with_exponents():
         write(os.path.join(folder, name + ".exponents"), texts)
     for name, texts in documents_of_escaped_letters():
+        write_standard(folder, name, texts)
+    for name, texts in documents_of_keys_that_begin_alike():
         write_standard(folder, name, texts)
 
 
