@@ -303,6 +303,11 @@ uint32_t vizhoniku_key_boolean(const unsigned char *key, size_t key_size, uint32
  * bits. *value is 0 then, and with VIZHONIKU_NO_KEY. */
 uint32_t vizhoniku_key_integer(const unsigned char *key, size_t key_size, int64_t *value);
 
+/* Finds the decimal that a number is, with the fewest digits: *digits / 10^*scale, where *digits has at most 18, and the
+ * last of them isn't 0 where *scale isn't. VIZHONIKU_NO_PART: the value is no number, or it has more digits. *digits and
+ * *scale are 0 then, and with VIZHONIKU_NO_KEY. */
+uint32_t vizhoniku_key_decimal(const unsigned char *key, size_t key_size, int64_t *digits, uint32_t *scale);
+
 /* Writes the sort key of an integer to the start of the buffer, of at most 11 bytes.
  *
  *  - VIZHONIKU_ACCEPTED: *size bytes were written. The rest of the buffer is as before.
@@ -487,6 +492,43 @@ uint32_t vizhoniku_document_begin(const unsigned char *document, size_t document
 uint32_t vizhoniku_document_next(const unsigned char *document, size_t document_size,
                                  struct vizhoniku_document_cursor *cursor, struct vizhoniku_key_entry *entry,
                                  unsigned char *buffer, size_t buffer_size, size_t *size);
+
+/* A walk over all that is in a document, in the order of its key: what is open, and what is left of the zeros. It is the
+ * caller's, and may be copied. */
+struct vizhoniku_walk {
+  size_t offset;              /* how many bytes of the document's key are passed */
+  size_t depth;               /* how many arrays and objects are open */
+  size_t passed;              /* up to which byte of the key the zeros are passed */
+  size_t before;              /* how many bytes come from there to the next number with zeros */
+  unsigned char count;        /* how many zeros that number has; 0 where none with zeros is left */
+  size_t entries;             /* where in the document's zeros the entries behind that number begin */
+  unsigned char objects[512]; /* of those that are open, outermost first: 1 for an object, 0 for an array */
+};
+
+/* What a walk meets: a value that begins, or the end of the innermost array or object. */
+struct vizhoniku_event {
+  uint32_t kind;      /* of the value; VIZHONIKU_NO_KIND for an end */
+  uint32_t zeros;     /* that end a number */
+  size_t name_offset; /* of a member's name in the document's key, as vizhoniku_key_next gives it */
+  size_t name_size;   /* 0 for an item, and for the value itself */
+  size_t offset;      /* of the value in the document's key; for an end, what is behind it */
+  size_t size;        /* of a value that is neither an array nor an object; else 0 */
+};
+
+/* Begins a walk over a document, and reports the first event: that the value itself begins. With VIZHONIKU_NO_DOCUMENT
+ * the event is all 0, and the walk has no event left. It takes no memory, nor do the next two. */
+uint32_t vizhoniku_walk_begin(const unsigned char *document, size_t document_size, struct vizhoniku_walk *walk,
+                              struct vizhoniku_event *event);
+
+/* Reports the next event, and moves the walk behind it. The document is that of vizhoniku_walk_begin. VIZHONIKU_NO_PART:
+ * there is none any more. With each status but VIZHONIKU_ACCEPTED the walk stays where it is, and the event is all 0.
+ * Each byte is looked at once: all events take time linear in the document. */
+uint32_t vizhoniku_walk_next(const unsigned char *document, size_t document_size, struct vizhoniku_walk *walk,
+                             struct vizhoniku_event *event);
+
+/* Moves the walk behind the innermost array or object that is open. VIZHONIKU_NO_PART: none is. With each status but
+ * VIZHONIKU_ACCEPTED the walk stays where it is. */
+uint32_t vizhoniku_walk_skip(const unsigned char *document, size_t document_size, struct vizhoniku_walk *walk);
 
 /* Sets the part at the path, as vizhoniku_key_set does. */
 uint32_t vizhoniku_document_set(const unsigned char *document, size_t document_size, const unsigned char *path,

@@ -47,6 +47,7 @@ uint32_t proved_key_name(const unsigned char *name, size_t name_size, unsigned c
                          size_t *size);
 uint32_t proved_key_boolean(const unsigned char *key, size_t key_size, uint32_t *value);
 uint32_t proved_key_integer(const unsigned char *key, size_t key_size, int64_t *value);
+uint32_t proved_key_decimal(const unsigned char *key, size_t key_size, int64_t *digits, uint32_t *scale);
 uint32_t proved_key_of_integer(int64_t value, unsigned char *buffer, size_t buffer_size, size_t *size);
 uint32_t proved_key_of_string(const unsigned char *text, size_t text_size, unsigned char *buffer, size_t buffer_size,
                               size_t *size);
@@ -84,6 +85,11 @@ uint32_t proved_document_begin(const unsigned char *document, size_t document_si
 uint32_t proved_document_next(const unsigned char *document, size_t document_size,
                               struct vizhoniku_document_cursor *cursor, struct vizhoniku_key_entry *entry,
                               unsigned char *buffer, size_t buffer_size, size_t *size);
+uint32_t proved_walk_begin(const unsigned char *document, size_t document_size, struct vizhoniku_walk *walk,
+                           struct vizhoniku_event *event);
+uint32_t proved_walk_next(const unsigned char *document, size_t document_size, struct vizhoniku_walk *walk,
+                          struct vizhoniku_event *event);
+uint32_t proved_walk_skip(const unsigned char *document, size_t document_size, struct vizhoniku_walk *walk);
 uint32_t proved_document_set(const unsigned char *document, size_t document_size, const unsigned char *path,
                              size_t path_size, const unsigned char *part, size_t part_size, uint32_t create,
                              unsigned char *buffer, size_t buffer_size, size_t *size);
@@ -238,6 +244,10 @@ uint32_t vizhoniku_key_integer(const unsigned char *key, size_t key_size, int64_
   return proved_key_integer(bytes_at(key, key_size), key_size, value);
 }
 
+uint32_t vizhoniku_key_decimal(const unsigned char *key, size_t key_size, int64_t *digits, uint32_t *scale) {
+  return proved_key_decimal(bytes_at(key, key_size), key_size, digits, scale);
+}
+
 uint32_t vizhoniku_key_of_integer(int64_t value, unsigned char *buffer, size_t buffer_size, size_t *size) {
   return proved_key_of_integer(value, buffer_at(buffer, buffer_size), buffer_size, size);
 }
@@ -343,6 +353,20 @@ uint32_t vizhoniku_document_next(const unsigned char *document, size_t document_
                                  unsigned char *buffer, size_t buffer_size, size_t *size) {
   return proved_document_next(bytes_at(document, document_size), document_size, cursor, entry,
                               buffer_at(buffer, buffer_size), buffer_size, size);
+}
+
+uint32_t vizhoniku_walk_begin(const unsigned char *document, size_t document_size, struct vizhoniku_walk *walk,
+                              struct vizhoniku_event *event) {
+  return proved_walk_begin(bytes_at(document, document_size), document_size, walk, event);
+}
+
+uint32_t vizhoniku_walk_next(const unsigned char *document, size_t document_size, struct vizhoniku_walk *walk,
+                             struct vizhoniku_event *event) {
+  return proved_walk_next(bytes_at(document, document_size), document_size, walk, event);
+}
+
+uint32_t vizhoniku_walk_skip(const unsigned char *document, size_t document_size, struct vizhoniku_walk *walk) {
+  return proved_walk_skip(bytes_at(document, document_size), document_size, walk);
 }
 
 uint32_t vizhoniku_document_set(const unsigned char *document, size_t document_size, const unsigned char *path,

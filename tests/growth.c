@@ -1,9 +1,10 @@
 /* Calls a function of the library over the sort key, or the document, of the text on standard input: growth FUNCTION
  * [PATH], where growth document_without leaves out all members by their names; or over the text: growth check as JSON,
  * growth text, growth sort_key and growth document as extended JSON, which may reject it, growth lines, and growth
- * error_path for a text that extended JSON rejects; growth document_next over all parts of the text's document, growth document_text for the text of it, and
- * growth text_with_zeros with one zero for each number before a comma. The status is the one that the call returns, and
- * 0 where the parts have ended. tests/growth counts the instructions of the call. */
+ * error_path for a text that extended JSON rejects; growth document_next over all parts of the text's document, growth
+ * walk over all its events, growth document_text for the text of it, and growth text_with_zeros with one zero for each
+ * number before a comma. The status is the one that the call returns, and 0 where the parts have ended. tests/growth
+ * counts the instructions of the call. */
 #include <stdio.h>
 #include <stdlib.h>
 #include <string.h>
@@ -55,6 +56,14 @@ int main(int count, char **words) {
     uint32_t status = vizhoniku_document_begin(key, key_size, &cursor);
     while (status == VIZHONIKU_ACCEPTED)
       status = vizhoniku_document_next(key, key_size, &cursor, &entry, buffer, ROOM, &size);
+    return status == VIZHONIKU_NO_PART ? 0 : 2;
+  }
+  if (!strcmp(words[1], "walk")) {
+    struct vizhoniku_walk walk;
+    struct vizhoniku_event event;
+    if (vizhoniku_document(VIZHONIKU_EXTENDED, text, text_size, key, ROOM, &key_size, &error)) return 2;
+    uint32_t status = vizhoniku_walk_begin(key, key_size, &walk, &event);
+    while (status == VIZHONIKU_ACCEPTED) status = vizhoniku_walk_next(key, key_size, &walk, &event);
     return status == VIZHONIKU_NO_PART ? 0 : 2;
   }
   if (!strncmp(words[1], "document_", 9) && count < 3) {

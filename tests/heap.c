@@ -426,6 +426,7 @@ enum key_function {
   KEY_STRING,
   KEY_CONTAINS,
   DOCUMENT_CHECK,
+  WALK,
   TABLE_MEMBER,
   TABLE_CHECK,
   KEY_ESCAPED_PART,
@@ -461,7 +462,7 @@ enum key_function {
 static const char *const key_functions[] = {
     "vizhoniku_key_check", "vizhoniku_key_count", "vizhoniku_key_next", "vizhoniku_key_member", "vizhoniku_key_item",
     "vizhoniku_key_part", "vizhoniku_key_string", "vizhoniku_key_contains", "vizhoniku_document_check",
-    "vizhoniku_table_member", "vizhoniku_table_check", "vizhoniku_key_part with an escape", "vizhoniku_key_text",
+    "vizhoniku_walk_next", "vizhoniku_table_member", "vizhoniku_table_check", "vizhoniku_key_part with an escape", "vizhoniku_key_text",
     "vizhoniku_key_set", "vizhoniku_key_remove", "vizhoniku_key_put", "vizhoniku_key_push", "vizhoniku_key_merge",
     "vizhoniku_document_text", "vizhoniku_document_part",
     "vizhoniku_document_range", "vizhoniku_document_next", "vizhoniku_document_set", "vizhoniku_document_remove",
@@ -489,6 +490,8 @@ static uint32_t call_over_key(enum key_function function, const struct text *key
   struct vizhoniku_key_cursor cursor;
   struct vizhoniku_document_cursor document_cursor;
   struct vizhoniku_key_entry entry;
+  struct vizhoniku_walk walk;
+  struct vizhoniku_event event;
   size_t offset, part_size;
   uint32_t status;
   *size = 0;
@@ -518,6 +521,10 @@ static uint32_t call_over_key(enum key_function function, const struct text *key
     case KEY_PUSH:
       return vizhoniku_key_push(key->bytes, key->size, null_key, sizeof null_key, buffer, room, size);
     case DOCUMENT_CHECK: return vizhoniku_document_check(key->bytes, key->size);
+    case WALK:
+      status = vizhoniku_walk_begin(key->bytes, key->size, &walk, &event);
+      while (status == VIZHONIKU_ACCEPTED) status = vizhoniku_walk_next(key->bytes, key->size, &walk, &event);
+      return status;
     case TABLE_MEMBER:
       part_size = vizhoniku_table_size(key->bytes, key->size);
       return vizhoniku_table_member(key->bytes, key->size, key->bytes + key->size - part_size, part_size, NAME, 4,

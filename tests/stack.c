@@ -195,7 +195,7 @@ static struct text make(const struct shape *shape) {
 enum function {
   CHECK, TEXT, LINES, SORT_KEY, TEXT_AND_KEY, DOCUMENT, PART, COMPARE, MESSAGE, REASON, KEY_CHECK, KEY_TEXT, KEY_PART,
   KEY_COUNT, KEY_CONTAINS, KEY_SET, KEY_REMOVE, KEY_MERGE, DOCUMENT_CHECK, DOCUMENT_TEXT, DOCUMENT_PART,
-  DOCUMENT_NEXT, DOCUMENT_SET, DOCUMENT_REMOVE, DOCUMENT_INSERT, DOCUMENT_MERGE, DOCUMENT_STRIP, TABLE,
+  DOCUMENT_NEXT, DOCUMENT_SET, DOCUMENT_REMOVE, DOCUMENT_INSERT, DOCUMENT_MERGE, DOCUMENT_STRIP, WALK, TABLE,
   TABLE_CHECK, TEXT_WITH_ZEROS, ERROR_PATH, FUNCTIONS
 };
 
@@ -207,8 +207,8 @@ static const char *const functions[] = {
     "vizhoniku_key_count", "vizhoniku_key_contains", "vizhoniku_key_set", "vizhoniku_key_remove", "vizhoniku_key_merge",
     "vizhoniku_document_check", "vizhoniku_document_text", "vizhoniku_document_part",
     "vizhoniku_document_next", "vizhoniku_document_set", "vizhoniku_document_remove", "vizhoniku_document_insert",
-    "vizhoniku_document_merge", "vizhoniku_document_strip_nulls", "vizhoniku_table", "vizhoniku_table_check",
-    "vizhoniku_text_with_zeros", "vizhoniku_error_path",
+    "vizhoniku_document_merge", "vizhoniku_document_strip_nulls", "vizhoniku_walk_next", "vizhoniku_table",
+    "vizhoniku_table_check", "vizhoniku_text_with_zeros", "vizhoniku_error_path",
 };
 
 /* What docs/C.md says that each takes, in KB: where no value is made, and where one is. */
@@ -221,7 +221,7 @@ static const size_t told[FUNCTIONS][2] = {
     [LINES] = {18, 110},
     [DOCUMENT] = {18, 110},   [DOCUMENT_CHECK] = {5, 0}, [DOCUMENT_TEXT] = {3, 0}, [DOCUMENT_PART] = {2, 0},
     [DOCUMENT_NEXT] = {2, 0}, [DOCUMENT_SET] = {2, 0}, [DOCUMENT_INSERT] = {2, 0}, [DOCUMENT_REMOVE] = {2, 0},
-    [DOCUMENT_MERGE] = {3, 0}, [DOCUMENT_STRIP] = {2, 0}, [TABLE] = {2, 0},        [TABLE_CHECK] = {2, 0},
+    [DOCUMENT_MERGE] = {3, 0}, [DOCUMENT_STRIP] = {2, 0}, [WALK] = {2, 0},         [TABLE] = {2, 0},        [TABLE_CHECK] = {2, 0},
 };
 
 struct call {
@@ -242,6 +242,8 @@ static void *run(void *given) {
   struct vizhoniku_error error;
   struct vizhoniku_document_cursor cursor;
   struct vizhoniku_key_entry entry;
+  struct vizhoniku_walk walk;
+  struct vizhoniku_event event;
   int32_t order;
   call->top = __builtin_frame_address(0);
   switch (call->function) {
@@ -326,6 +328,12 @@ static void *run(void *given) {
       break;
     case DOCUMENT_STRIP:
       call->status = vizhoniku_document_strip_nulls(call->key, call->key_size, 1, call->buffer, call->room, &size);
+      break;
+    case WALK:
+      call->status = vizhoniku_walk_begin(call->key, call->key_size, &walk, &event);
+      while (call->status == VIZHONIKU_ACCEPTED)
+        call->status = vizhoniku_walk_next(call->key, call->key_size, &walk, &event);
+      if (call->status == VIZHONIKU_NO_PART) call->status = VIZHONIKU_ACCEPTED; /* all events were reported */
       break;
     case TABLE:
       call->status = vizhoniku_table(call->key, call->key_size, call->buffer, call->room, &size);

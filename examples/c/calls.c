@@ -561,6 +561,34 @@ static void walk_documents(void) {
   print_key("null next", status, out, size);
 }
 
+/* All events of {"a":[1.50,null],"b":{}}; the array passed; and of bytes that are no document. */
+static void walk_events(void) {
+  static const unsigned char document[] = {0xD1, 'a', 0, 1, 0xD2, 0xA1, 0x1E, 0xD3, 0, 'b', 0, 1, 0xD1, 0,
+                                           0, 0, 0, 5, 1, 2, 0xFF};
+  struct vizhoniku_walk walk;
+  struct vizhoniku_event event;
+  uint32_t status = vizhoniku_walk_begin(document, sizeof document, &walk, &event);
+  for (; status == VIZHONIKU_ACCEPTED; status = vizhoniku_walk_next(document, sizeof document, &walk, &event))
+    printf("event: kind %u name %zu %zu value %zu %zu zeros %u, walk %zu %zu\n", (unsigned)event.kind, event.name_offset,
+           event.name_size, event.offset, event.size, (unsigned)event.zeros, walk.offset, walk.depth);
+  printf("end: %u kind %u\n", (unsigned)status, (unsigned)event.kind);
+  vizhoniku_walk_begin(document, sizeof document, &walk, &event);
+  vizhoniku_walk_next(document, sizeof document, &walk, &event);
+  status = vizhoniku_walk_skip(document, sizeof document, &walk);
+  printf("skip: %u, walk %zu %zu", (unsigned)status, walk.offset, walk.depth);
+  status = vizhoniku_walk_skip(document, sizeof document, &walk);
+  printf("; again: %u, walk %zu %zu", (unsigned)status, walk.offset, walk.depth);
+  printf("; nothing open: %u\n", (unsigned)vizhoniku_walk_skip(document, sizeof document, &walk));
+  status = vizhoniku_walk_begin(document + 2, 3, &walk, &event);
+  printf("no document: %u kind %u depth %zu", (unsigned)status, (unsigned)event.kind, walk.depth);
+  status = vizhoniku_walk_begin(document, 5, &walk, &event);
+  printf(", cut off: %u", (unsigned)status);
+  while (status == VIZHONIKU_ACCEPTED) status = vizhoniku_walk_next(document, 5, &walk, &event);
+  printf(" %u, null: %u", (unsigned)status, (unsigned)vizhoniku_walk_begin(NULL, 0, &walk, &event));
+  printf(" %u %u\n", (unsigned)vizhoniku_walk_next(NULL, 0, &walk, &event),
+         (unsigned)vizhoniku_walk_skip(NULL, 0, &walk));
+}
+
 /* The table of {"a":null,"b":null,"c":null,"d":"xx.."}, and members found by it. */
 static void find_by_table(void) {
   static const unsigned char front[] = {0xD1, 'a', 0, 1, 0xD3, 'b', 0, 1, 0xD3, 'c', 0, 1, 0xD3, 'd', 0, 1, 0xD0};
@@ -610,6 +638,21 @@ static void compare_modes(void) {
   printf("\n");
 }
 
+/* Decimals from keys: 0, 0.5, -1.5, 100, 10^18, 999999999999999999, null, and none. */
+static void read_decimals(void) {
+  static const struct { unsigned char bytes[11]; size_t size; } keys[] = {
+      {{0x80}, 1}, {{0xA0, 0x64}, 2}, {{0x5E, 0xE1}, 2}, {{0xA3, 0x14}, 2}, {{0xB3, 0x14}, 2},
+      {{0xB2, 0xC7, 0xC7, 0xC7, 0xC7, 0xC7, 0xC7, 0xC7, 0xC7, 0xC6}, 10}, {{0xD3}, 1}, {{0}, 0}};
+  int64_t digits = 99;
+  uint32_t scale = 99;
+  printf("decimals:");
+  for (size_t i = 0; i < sizeof keys / sizeof *keys; i++) {
+    uint32_t status = vizhoniku_key_decimal(keys[i].bytes, keys[i].size, &digits, &scale);
+    printf(" %u %lld %u", (unsigned)status, (long long)digits, (unsigned)scale);
+  }
+  printf(", null: %u\n", (unsigned)vizhoniku_key_decimal(NULL, 0, &digits, &scale));
+}
+
 /* Integers from keys, and keys of integers. */
 static void pass_integers(void) {
   static const int64_t integers[] = {0, -1, 1500, INT64_MAX, INT64_MIN};
@@ -651,6 +694,7 @@ static void pass_scalars(void) {
   status = vizhoniku_key_boolean(NULL, 0, &value);
   printf(", %u %u\n", (unsigned)status, (unsigned)value);
   pass_integers();
+  read_decimals();
   status = vizhoniku_key_of_string(text, sizeof text, out, sizeof out, &size);
   print_key("string", status, out, size);
   status = vizhoniku_key_of_string(text, sizeof text, out, 6, &size);
@@ -760,6 +804,7 @@ int main(void) {
   change_keys();
   change_documents();
   walk_documents();
+  walk_events();
   find_by_table();
   compare_modes();
   pass_scalars();

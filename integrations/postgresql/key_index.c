@@ -71,23 +71,30 @@ add_entry(Entries *entries, uint64 hash)
 	entries->at[entries->count++] = Int32GetDatum((int32) hash);
 }
 
-/* Add the entries of a part, to which the path leads. */
+/* Add the entries of the scalars in a key. */
 static void
-add_entries(Entries *entries, uint64 path, Range key)
+add_entries(Entries *entries, Range key)
 {
-	Walk		walk;
+	uint64		paths[MOST_LEVELS + 1]; /* to the whole, and to what is open in it, outermost first */
+	struct vizhoniku_walk walk;
+	struct vizhoniku_event event;
+	uint32		status = vizhoniku_walk_begin(key.at, key.size, &walk, &event);
 
-	if (is_scalar(kind_of(key)))
+	paths[0] = 0;
+	for (; is_found(status); status = vizhoniku_walk_next(key.at, key.size, &walk, &event))
 	{
-		add_entry(entries, hash_on(path, key));
-		return;
-	}
-	check_stack_depth();
-	begin_walk(&walk, key);
-	while (next_in_walk(&walk))
-	{
+		Range		name = {key.at + event.name_offset, event.name_size};
+		Range		value = {key.at + event.offset, event.size};
+		bool		opens = event.kind == VIZHONIKU_ARRAY || event.kind == VIZHONIKU_OBJECT;
+		uint64		path = paths[walk.depth - opens];
+
 		CHECK_FOR_INTERRUPTS();
-		add_entries(entries, walk.name.size > 0 ? hash_on(path, walk.name) : path, walk.value);
+		if (name.size > 0)
+			path = hash_on(path, name);
+		if (opens)
+			paths[walk.depth] = path;
+		else if (event.kind != VIZHONIKU_NO_KIND)
+			add_entry(entries, hash_on(path, value));
 	}
 }
 
@@ -124,7 +131,7 @@ vjson_entries(Datum document, int32 *count)
 {
 	Entries		entries = {palloc(FIRST_ROOM * sizeof(Datum)), 0, FIRST_ROOM};
 
-	add_entries(&entries, 0, key_of_datum(document));
+	add_entries(&entries, key_of_datum(document));
 	*count = entries.count;
 	return entries.at;
 }
@@ -217,7 +224,7 @@ gin_extract_vjson(PG_FUNCTION_ARGS)
 	Entries		entries = {palloc(FIRST_ROOM * sizeof(Datum)), 0, FIRST_ROOM};
 	Range		key = get_key(PG_GETARG_VARLENA_PP(0));
 
-	add_entries(&entries, 0, key);
+	add_entries(&entries, key);
 	add_names(&entries, key);
 	*count = entries.count;
 	PG_RETURN_POINTER(entries.at);

@@ -16,7 +16,7 @@ abbrev pub FindsInteger : List ℕ → Option ℤ → Type 0
 FindsInteger key found = (n : Num) → IsProperNumber n → (more : List ℕ) → key ≡ number_key n ++ more
     → (v : ℤ) → (found ≡ Some v → HasValue n v × FitsSigned w64 v) × (HasValue n v × FitsSigned w64 v → found ≡ Some v)
 
-clash : (kind other : Kind) (b : Bool) → ◌≡◌ {A = Option Kind} (Some kind) (Some other) → is_number kind ≡ b → is_number other ≡ b
+pub clash : (kind other : Kind) (b : Bool) → ◌≡◌ {A = Option Kind} (Some kind) (Some other) → is_number kind ≡ b → is_number other ≡ b
 clash kind other b e f = let same : kind ≡ other = cc in sym (ap is_number same) ∙ f
 
 pub no_number : (t : Tree) → IsReadable t → (kind : Kind) → Some kind ≡ kind_of_tree t → is_number kind ≡ false → IsInteger t 5 (pos 0)

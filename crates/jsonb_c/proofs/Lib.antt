@@ -13,3 +13,5 @@ pub mod Documents
 pub mod DocumentCursor
 pub mod DocumentKeys
 pub mod Integers
+pub mod Decimals
+pub mod DocumentWalk

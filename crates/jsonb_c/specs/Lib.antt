@@ -11,3 +11,4 @@ pub mod Document
 pub mod DocumentCursor
 pub mod DocumentInsert
 pub mod Table
+pub mod DocumentWalk

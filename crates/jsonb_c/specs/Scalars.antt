@@ -2,6 +2,7 @@
 use Rattle.std.specs.Prelude.{◌≡◌, ◌≢◌, ℕ, ℤ, List, Bool, true, false, Option, Some, None, Err, FitsSigned, if◌then◌else◌}
 use Rattle.std.specs.Int.{w64}
 use Rattle.jsonb_core.specs.Error.ErrorText.{code_text}
+use Rattle.key_value.specs.Decimals.{IsShortDecimal}
 use Rattle.key_walk.specs.declared.walk.Kind.{Kind}
 use Rattle.key_walk.specs.declared.walk.Kind.TheVariants as kinds
 use Rattle.text_scan.specs.Parsing.Document.{document_of}
@@ -30,6 +31,11 @@ integer value = number (record { form = int64; scale = 0; whole = value })
 pub record IsInteger (t : Tree) (status : ℕ) (value : ℤ) : Type 0 where
   pub found : status ≡ 0 → IsWholeNumber t value × FitsSigned w64 value
   pub other : status ≢ 0 → (status ≡ 5) × ((v : ℤ) → IsWholeNumber t v → FitsSigned w64 v → ⊥)
+
+-- The status and the decimal of a number of at most 18 digits, or the status of a value that is no such number.
+pub record IsDecimal (t : Tree) (status : ℕ) (digits : ℤ) (scale : ℕ) : Type 0 where
+  pub found : status ≡ 0 → IsShortDecimal t digits scale
+  pub other : status ≢ 0 → (status ≡ 5) × ((d : ℤ) → (s : ℕ) → IsShortDecimal t d s → ⊥)
 
 -- The number chooses a mode in which the text is no document, and the bytes say in words why, without an offset.
 pub record IsReasonOf (number : ℕ) (text bytes : List ℕ) : Type 0 where

@@ -61,8 +61,8 @@ pub extern "C" fn vizhoniku_key_kind(key: &[u8]) -> u32
     kind_number(kind_of(key))
 }
 
-// The number of a kind.
-fn kind_number(kind: Option<Kind>) -> u32
+/// The number of a kind.
+pub(crate) fn kind_number(kind: Option<Kind>) -> u32
     ensures { result ≡ kind_number kind }
 {
     match kind {

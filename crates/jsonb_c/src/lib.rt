@@ -29,6 +29,7 @@ pub mod document;
 pub mod document_cursor;
 pub mod document_edit;
 pub mod document_insert;
+pub mod document_walk;
 pub mod document_without;
 pub mod key;
 pub mod key_change;

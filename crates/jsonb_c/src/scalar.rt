@@ -2,7 +2,7 @@
 ghost use Rattle.std.specs.Prelude.{◌≡◌, ◌≢◌, ◌⊎◌, ◌↔◌, ◌∷◌, ℕ, List, [], IsUtf8, IfOk, IfSome, MatchOption, if◌then◌else◌, pos, string_bytes};
 ghost use Rattle.jsonb_c.specs.Interface.{AcceptsDocuments, FailsFor, FillsBuffer, IsAccepted, IsNoDocumentOf, IsStatus};
 ghost use Rattle.jsonb_c.specs.KeyParts.{IsPartStatus, IsTreeKey};
-ghost use Rattle.jsonb_c.specs.Scalars.{integer, is_number, IsBoolean, IsInteger, IsReasonOf};
+ghost use Rattle.jsonb_c.specs.Scalars.{integer, is_number, IsBoolean, IsDecimal, IsInteger, IsReasonOf};
 ghost use Rattle.jsonb_path.specs.Path.{IsPath};
 ghost use Rattle.text_scan.specs.Answer.{MayAllocate};
 ghost use Rattle.jsonb_spec.specs.Accessors.{as_boolean};
@@ -21,7 +21,7 @@ use jsonb_core::error::{Error, ParseErrorCode};
 use jsonb_core::number::Number;
 use jsonb_core::parts::{append_number_key, append_text_key};
 use jsonb_core::sort_key::kind;
-use key_value::number::integer_of;
+use key_value::number::{decimal_of, integer_of};
 use key_walk::{Kind, boolean_of, kind_of};
 use std::alloc::{AllocError, Global};
 
@@ -84,6 +84,33 @@ fn is_number(kind: Kind) -> bool
     match kind {
         Kind::Number => true,
         _ => false,
+    }
+}
+
+/// The decimal of a sort key: `digits / 10^scale` with the fewest digits, of which there are at most 18.
+#[unsafe(no_mangle)]
+pub extern "C" fn vizhoniku_key_decimal(key: &[u8], digits: &mut i64, scale: &mut u32) -> u32
+    ensures status { IsPartStatus result }
+
+    // The decimal is the number, and a value that is no number with so few digits has none.
+    ensures decimal { (t : Tree) → IsTreeKey key.now t → IsDecimal t result digits.new scale.new }
+    ensures no_value { result ≢ ACCEPTED → (digits.new ≡ pos 0) × (scale.new ≡ 0) }
+{
+    *digits = 0;
+    *scale = 0;
+    let Some(kind) = kind_of(key) else {
+        return NO_KEY;
+    };
+    if !is_number(kind) {
+        return NO_PART;
+    }
+    match decimal_of(key) {
+        Some(decimal) => {
+            *digits = decimal.digits;
+            *scale = decimal.scale;
+            ACCEPTED
+        }
+        None => NO_PART,
     }
 }
 

@@ -88,8 +88,8 @@ pub fn append_next_range(
 ///
 /// # Errors
 ///
-/// `NoDocument` only where the bytes are no document, or this isn't left before a number of it. What is left stays as it
-/// is then.
+/// `NoDocument` only where the bytes are no document, or this isn't left before a number of it. What is left stays as
+/// it is then.
 #[inline(always)]
 pub(crate) fn zeros_of_number(
     document: &[u8],

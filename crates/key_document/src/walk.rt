@@ -1,4 +1,5 @@
-//! A walk over all that is in a document, one event after the other, in the order of its key. Each byte is looked at once.
+//! A walk over all that is in a document, one event after the other, in the order of its key. Each byte is looked at
+//! once.
 
 ghost use Rattle.std.specs.Prelude.{◌≡◌, ◌<◌, ◌≤◌, ◌+◌, ◌^◌, ◌∷◌, ◌++◌, ℕ, Bool, List, IfErr, IfOk, IfSome, MatchResult, None, Ok, Some, drop, false, get_or, length};
 ghost use Rattle.jsonb_spec.specs.SortKey.{key_of};
@@ -268,8 +269,8 @@ fn zeros_of(
     zeros_of_number(document, left, offset)
 }
 
-/// Passes what is left of the innermost array or object that is open, and its end, and returns true; false where none is
-/// open.
+/// Passes what is left of the innermost array or object that is open, and its end, and returns true; false where none
+/// is open.
 ///
 /// # Errors
 ///
