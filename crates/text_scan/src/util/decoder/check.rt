@@ -9,7 +9,7 @@ ghost use Rattle.text_scan.specs.QuotedString.{ChecksContents, decoded_text};
 ghost use Rattle.text_scan.specs.Parsing.String.{body_of};
 
 use super::run::near_backslash;
-use super::unit::{after_unit_mark, pass_units};
+use super::unit::{after_unit_mark, pass_alone, pass_units};
 use super::{DecodingFault, escaped_byte};
 use crate::parser::Mode;
 use jsonb_core::error::{Error, ParseErrorCode, Result};
@@ -113,6 +113,10 @@ fn check(bytes: &[u8], mode: Mode, from: usize) -> std::result::Result<(), Decod
     'items: while !rest.is_empty() {
         // Units come one after another, where all letters of a text are escaped.
         if let Some(digits) = after_unit_mark(rest) {
+            if let Some(after) = pass_alone(digits) {
+                rest = after;
+                continue;
+            }
             rest = pass_units(digits)?;
             continue;
         }

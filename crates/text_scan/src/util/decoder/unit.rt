@@ -290,6 +290,21 @@ pub(super) fn units<'a>(
     })
 }
 
+// Passes the unit whose `\u` is before the bytes, where it can't be the first one of two.
+#[inline(always)]
+pub(super) fn pass_alone(bytes: &[u8]) -> Option<&[u8]>
+    ensures some { IfSome result (λ rest. (mode : GrammarMode) → GoesBeyondJson mode → IsDecodedUpTo mode
+        (ascii.backslash ∷ ascii.lower_u ∷ bytes.now) rest.now) }
+    ensures shorter { IfSome result (λ rest. length rest.now ≤ length bytes.now) }
+{
+    let (digits, rest) = split_unit(bytes)?;
+    let value = value_of(digits)?;
+    if is_surrogate_high(value) {
+        return None;
+    }
+    Some(rest)
+}
+
 // Passes the unit whose `\u` is before the bytes, with the next one where the two are taken together, and returns
 // what follows.
 #[inline(never)]

@@ -30,6 +30,13 @@ items-preserved-in-Some c =
     up_to_then mode c.args.bytes.now c.items.rest.now c.in_ok-rest.rest.now c.items.invariant
     (subst (λ (u : List ℕ). IsDecodedUpTo mode u c.in_ok-rest.rest.now) (sym c.in-Some.ensures.some) (c.in_ok-rest.ensures.ok mode (code_goes_beyond c.args.mode)))
 
+pub items-preserved-in-Some-pass_alone : goal.items-preserved-in-Some-pass_alone
+items-preserved-in-Some-pass_alone c =
+    let mode = mode_of c.args.mode in
+    let after = c.in-Some-pass_alone in
+    up_to_then mode c.args.bytes.now c.items.rest.now after.after.now c.items.invariant
+    (subst (λ (u : List ℕ). IsDecodedUpTo mode u after.after.now) (sym c.in-Some.ensures.some) (after.ensures.some mode (code_goes_beyond c.args.mode)))
+
 pub returns-in_err-rest-2-clause-err : goal.returns-in_err-rest-2-clause-err
 returns-in_err-rest-2-clause-err c =
     let p = err_from_is_err_and c.from_residual-in_err-rest-2.result c.from_residual-in_err-rest-2.ensures.1 in
