@@ -9,7 +9,7 @@ ghost use Rattle.text_scan.specs.QuotedString.{ChecksContents, decoded_text};
 ghost use Rattle.text_scan.specs.Parsing.String.{body_of};
 
 use super::run::near_backslash;
-use super::unit::{after_unit_mark, pass_alone, pass_units};
+use super::unit::{after_unit_mark, pass_units, read_alone};
 use super::{DecodingFault, escaped_byte};
 use crate::parser::Mode;
 use jsonb_core::error::{Error, ParseErrorCode, Result};
@@ -113,8 +113,8 @@ fn check(bytes: &[u8], mode: Mode, from: usize) -> std::result::Result<(), Decod
     'items: while !rest.is_empty() {
         // Units come one after another, where all letters of a text are escaped.
         if let Some(digits) = after_unit_mark(rest) {
-            if let Some(after) = pass_alone(digits) {
-                rest = after;
+            if let Some(unit) = read_alone(digits) {
+                rest = unit.rest;
                 continue;
             }
             rest = pass_units(digits)?;

@@ -256,6 +256,25 @@ fn after_next_mark<'a>(unit: &HexUnit<'a>) -> Option<&'a [u8]>
     after_unit_mark(unit.rest)
 }
 
+// The unit whose `\u` is before the bytes, where it is a character by itself.
+#[inline(always)]
+pub(super) fn read_alone(bytes: &[u8]) -> Option<HexUnit<'_>>
+    ensures some { IfSome result (λ unit. ParsesUnit bytes.now unit.digits.now unit.rest.now unit.value) }
+    ensures alone { IfSome result (λ unit. is_high_surrogate unit.value ≡ false) }
+    ensures long { IfSome result (λ unit. length unit.rest.now + 4 ≤ length bytes.now) }
+{
+    let (digits, rest) = split_unit(bytes)?;
+    let value = value_of(digits)?;
+    if is_surrogate(value) {
+        return None;
+    }
+    Some(HexUnit {
+        digits,
+        value,
+        rest,
+    })
+}
+
 // Decodes the unit whose `\u` is before the bytes, with the next one where the two are taken together.
 #[inline(always)]
 pub(super) fn units<'a>(
@@ -274,6 +293,13 @@ pub(super) fn units<'a>(
     ensures same { OnErr result (text.new ≡ text.old) }
     ensures size { length text.new ≡ length text.old }
 {
+    if let Some(unit) = read_alone(bytes) {
+        let len = push_alone(text, len, unit.digits, unit.value);
+        return Ok(Decoded {
+            rest: unit.rest,
+            len,
+        });
+    }
     let first = read_unit(bytes)?;
     let Some(after) = after_next_mark(&first) else {
         let len = push_alone(text, len, first.digits, first.value);
@@ -288,21 +314,6 @@ pub(super) fn units<'a>(
         rest: next.rest,
         len,
     })
-}
-
-// Passes the unit whose `\u` is before the bytes, where it can't be the first one of two.
-#[inline(always)]
-pub(super) fn pass_alone(bytes: &[u8]) -> Option<&[u8]>
-    ensures some { IfSome result (λ rest. (mode : GrammarMode) → GoesBeyondJson mode → IsDecodedUpTo mode
-        (ascii.backslash ∷ ascii.lower_u ∷ bytes.now) rest.now) }
-    ensures shorter { IfSome result (λ rest. length rest.now ≤ length bytes.now) }
-{
-    let (digits, rest) = split_unit(bytes)?;
-    let value = value_of(digits)?;
-    if is_surrogate_high(value) {
-        return None;
-    }
-    Some(rest)
 }
 
 // Passes the unit whose `\u` is before the bytes, with the next one where the two are taken together, and returns

@@ -1,11 +1,11 @@
-use Rattle.std.proofs.Common.{◌≡◌, ◌<◌, ◌∷◌, List, ℕ, length, drop, get_or, ◌+◌, ap, sym, subst, ◌∙◌, arith, length-drop}
+use Rattle.std.proofs.Common.{inl, ◌≡◌, ◌<◌, ◌∷◌, List, ℕ, length, drop, get_or, ◌+◌, ap, sym, subst, ◌∙◌, arith, length-drop}
 use Rattle.std.proofs.lemmas.List.{take_rest, nil_from_length, get_or-drop}
 use Rattle.std.proofs.lemmas.Result.{err_from_is_err_and}
 use Rattle.text_scan.specs.Answer.{mode_of}
 use Rattle.text_scan.specs.Decoding.{IsDecodedUpTo}
 use Rattle.text_scan.proofs.Steps.Modes.{code_goes_beyond}
 use Rattle.text_scan.proofs.Strings.Checks.{up_to_then}
-use Rattle.text_scan.proofs.Strings.Decoding.{first_byte, stops_after}
+use Rattle.text_scan.proofs.Strings.Decoding.{decoded_alone, first_byte, stops_after}
 use Rattle.text_scan.proofs.util.decoder.check.check.Goals as goal
 
 pub returns-in_default-split_first-clause-ok : goal.returns-in_default-split_first-clause-ok
@@ -30,12 +30,13 @@ items-preserved-in-Some c =
     up_to_then mode c.args.bytes.now c.items.rest.now c.in_ok-rest.rest.now c.items.invariant
     (subst (λ (u : List ℕ). IsDecodedUpTo mode u c.in_ok-rest.rest.now) (sym c.in-Some.ensures.some) (c.in_ok-rest.ensures.ok mode (code_goes_beyond c.args.mode)))
 
-pub items-preserved-in-Some-pass_alone : goal.items-preserved-in-Some-pass_alone
-items-preserved-in-Some-pass_alone c =
+pub items-preserved-in-Some-read_alone : goal.items-preserved-in-Some-read_alone
+items-preserved-in-Some-read_alone c =
     let mode = mode_of c.args.mode in
-    let after = c.in-Some-pass_alone in
-    up_to_then mode c.args.bytes.now c.items.rest.now after.after.now c.items.invariant
-    (subst (λ (u : List ℕ). IsDecodedUpTo mode u after.after.now) (sym c.in-Some.ensures.some) (after.ensures.some mode (code_goes_beyond c.args.mode)))
+    let unit = c.in-Some-read_alone.unit in
+    let is = c.in-Some-read_alone.ensures in
+    let passed : IsDecodedUpTo mode (92 ∷ 117 ∷ c.in-Some.digits.now) unit.rest.now = record { text = _; decodes = decoded_alone mode c.in-Some.digits.now unit.digits.now unit.rest.now unit.value (code_goes_beyond c.args.mode) is.some (inl is.alone) } in
+    up_to_then mode c.args.bytes.now c.items.rest.now unit.rest.now c.items.invariant (subst (λ (u : List ℕ). IsDecodedUpTo mode u unit.rest.now) (sym c.in-Some.ensures.some) passed)
 
 pub returns-in_err-rest-2-clause-err : goal.returns-in_err-rest-2-clause-err
 returns-in_err-rest-2-clause-err c =
