@@ -2,7 +2,7 @@
  * [PATH], where growth document_without leaves out all members by their names; or over the text: growth check as JSON,
  * growth text, growth sort_key and growth document as extended JSON, which may reject it, growth lines, and growth
  * error_path for a text that extended JSON rejects; growth document_next over all parts of the text's document, growth
- * walk over all its events, growth document_text for the text of it, and growth text_with_zeros with one zero for each
+ * walk_next over all its events, growth document_text for the text of it, and growth text_with_zeros with one zero for each
  * number before a comma. The status is the one that the call returns, and 0 where the parts have ended. tests/growth
  * counts the instructions of the call. */
 #include <stdio.h>
@@ -58,7 +58,7 @@ int main(int count, char **words) {
       status = vizhoniku_document_next(key, key_size, &cursor, &entry, buffer, ROOM, &size);
     return status == VIZHONIKU_NO_PART ? 0 : 2;
   }
-  if (!strcmp(words[1], "walk")) {
+  if (!strcmp(words[1], "walk_next")) {
     struct vizhoniku_walk walk;
     struct vizhoniku_event event;
     if (vizhoniku_document(VIZHONIKU_EXTENDED, text, text_size, key, ROOM, &key_size, &error)) return 2;
