@@ -213,13 +213,13 @@ static const char *const functions[] = {
 
 /* What docs/C.md says that each takes, in KB: where no value is made, and where one is. */
 static const size_t told[FUNCTIONS][2] = {
-    [CHECK] = {3, 0},         [TEXT] = {18, 110},      [SORT_KEY] = {18, 110},     [TEXT_AND_KEY] = {18, 110},
-    [PART] = {4, 110},        [COMPARE] = {18, 110},   [MESSAGE] = {3, 0},         [KEY_CHECK] = {5, 0},
+    [CHECK] = {3, 0},         [TEXT] = {20, 110},      [SORT_KEY] = {20, 110},     [TEXT_AND_KEY] = {20, 110},
+    [PART] = {4, 110},        [COMPARE] = {20, 110},   [MESSAGE] = {3, 0},         [KEY_CHECK] = {5, 0},
     [KEY_TEXT] = {2, 0},      [KEY_PART] = {2, 0},     [KEY_COUNT] = {2, 0},       [KEY_CONTAINS] = {25, 0},
     [KEY_SET] = {2, 0},       [KEY_REMOVE] = {2, 0},   [KEY_MERGE] = {2, 0},       [TEXT_WITH_ZEROS] = {2, 0},
     [ERROR_PATH] = {4, 0},    [REASON] = {3, 0},
-    [LINES] = {18, 110},
-    [DOCUMENT] = {18, 110},   [DOCUMENT_CHECK] = {5, 0}, [DOCUMENT_TEXT] = {3, 0}, [DOCUMENT_PART] = {2, 0},
+    [LINES] = {20, 110},
+    [DOCUMENT] = {20, 110},   [DOCUMENT_CHECK] = {5, 0}, [DOCUMENT_TEXT] = {3, 0}, [DOCUMENT_PART] = {2, 0},
     [DOCUMENT_NEXT] = {2, 0}, [DOCUMENT_SET] = {2, 0}, [DOCUMENT_INSERT] = {2, 0}, [DOCUMENT_REMOVE] = {2, 0},
     [DOCUMENT_MERGE] = {3, 0}, [DOCUMENT_STRIP] = {2, 0}, [WALK] = {2, 0},         [TABLE] = {2, 0},        [TABLE_CHECK] = {2, 0},
 };
@@ -231,6 +231,8 @@ struct call {
   unsigned char *buffer, *key_buffer, *key, *table;
   size_t room, key_size, table_size; /* the key has no bytes where the text is refused */
   const struct vizhoniku_error *why; /* in the call's mode */
+  struct vizhoniku_walk walk; /* here, since what is on the machine stack counts */
+  struct vizhoniku_event event;
   uint32_t status;
   const unsigned char *top; /* the machine stack where the call began */
 };
@@ -242,8 +244,6 @@ static void *run(void *given) {
   struct vizhoniku_error error;
   struct vizhoniku_document_cursor cursor;
   struct vizhoniku_key_entry entry;
-  struct vizhoniku_walk walk;
-  struct vizhoniku_event event;
   int32_t order;
   call->top = __builtin_frame_address(0);
   switch (call->function) {
@@ -330,9 +330,9 @@ static void *run(void *given) {
       call->status = vizhoniku_document_strip_nulls(call->key, call->key_size, 1, call->buffer, call->room, &size);
       break;
     case WALK:
-      call->status = vizhoniku_walk_begin(call->key, call->key_size, &walk, &event);
+      call->status = vizhoniku_walk_begin(call->key, call->key_size, &call->walk, &call->event);
       while (call->status == VIZHONIKU_ACCEPTED)
-        call->status = vizhoniku_walk_next(call->key, call->key_size, &walk, &event);
+        call->status = vizhoniku_walk_next(call->key, call->key_size, &call->walk, &call->event);
       if (call->status == VIZHONIKU_NO_PART) call->status = VIZHONIKU_ACCEPTED; /* all events were reported */
       break;
     case TABLE:
