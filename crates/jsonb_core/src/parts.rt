@@ -1,15 +1,16 @@
-//! The parts of serialized forms and of sort keys, for those who write them of other types than `Value`.
+//! The parts of serialized forms and of sort keys, for those who write them.
 //!
 //! A call appends to a buffer, and its only error is that the buffer couldn't grow. A part of what was to be appended
 //! may be there then.
 ghost use Rattle.std.specs.Prelude.{◌≡◌};
 ghost use Rattle.std.specs.Fmt.{sign_text};
+ghost use Rattle.std.specs.List.{flat_map};
 ghost use Rattle.std.specs.Str.{IsUtf8};
 ghost use Rattle.jsonb_spec.specs.Proper.{IsProperNumber};
 ghost use Rattle.jsonb_spec.specs.SortKey.{number_key, text_key};
 ghost use Rattle.jsonb_spec.specs.Text.Appending.{Appends, AppendsAllOrNothing};
 ghost use Rattle.jsonb_spec.specs.Text.NumberText.{number_text};
-ghost use Rattle.jsonb_spec.specs.Text.StringText.{quoted_text};
+ghost use Rattle.jsonb_spec.specs.Text.StringText.{byte_text, quoted_text};
 ghost use Rattle.jsonb_core.specs.View.{number_view};
 
 mod text;
@@ -30,6 +31,14 @@ pub fn append_string(text: &str, buf: &mut Vec<u8>) -> Result<(), AllocError>
     ensures utf8 { IsUtf8 text.now }
 {
     text::append_string(text, buf)
+}
+
+/// Appends what is between the quotes so.
+#[inline(always)]
+pub fn append_contents(bytes: &[u8], buf: &mut Vec<u8>) -> Result<(), AllocError>
+    ensures appends { Appends result buf.old buf.new (flat_map byte_text bytes.now) }
+{
+    text::append_contents(bytes, buf)
 }
 
 /// Appends a number's text.

@@ -70,10 +70,10 @@ pub(crate) fn run_len(bytes: &[u8]) -> usize
     len + run_of_few(&bytes[len..])
 }
 
-/// How many of the first bytes, up to the first that is not, are written as they are, where there are mostly fewer than
-/// 16.
+// How many of the first bytes, up to the first that is not, are written as they are, where there are mostly fewer than
+// 16.
 #[inline(always)]
-pub fn run_of_few(bytes: &[u8]) -> usize
+fn run_of_few(bytes: &[u8]) -> usize
     ensures within { result ≤ length bytes.now }
     ensures plain { ArePlain (take result bytes.now) }
 {

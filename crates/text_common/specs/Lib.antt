@@ -1,5 +1,5 @@
 pub mod VerbatimScalar
-pub mod ShortString
+pub mod JsonString
 pub mod SourceText
 pub mod EncodedNumber
 pub mod Open

@@ -4,7 +4,7 @@ use Rattle.jsonb_spec.specs.Grammar.StandardNumber.{IsStandardNumber}
 use Rattle.jsonb_spec.specs.Source.{Source, number_source, string_source}
 use Rattle.jsonb_spec.specs.Text.{in_quotes}
 use Rattle.jsonb_spec.specs.Tree.{Mark, Num}
-use Rattle.text_common.specs.ShortString.{IsShort}
+use Rattle.text_common.specs.JsonString.{IsJsonBody}
 use Rattle.text_common.specs.SourceText.{source_text}
 use Rattle.text_common.specs.declared.verbatim.Verbatim.{Verbatim}
 use Rattle.text_common.specs.declared.verbatim.Verbatim.TheVariants as verbatim
@@ -35,19 +35,19 @@ pub record IsDecimalAt (text : List ℕ) (from to : ℕ) (s : Source) : Type 0 w
   pub short : IsShortDecimal value
   pub same : slice_range text from to ≡ source_text s
 
--- There is a string in double quotes, whose escapes are of one letter.
-pub record IsShortAt (text : List ℕ) (from to : ℕ) (s : Source) : Type 0 where
+-- There is a string of JSON.
+pub record IsJsonStringAt (text : List ℕ) (from to : ℕ) (s : Source) : Type 0 where
   pub mark : Mark
   pub body : List ℕ
   pub meaning : List ℕ
   pub is : s ≡ string_source mark meaning
   pub inside : to ≤ length text
   pub holds : slice_range text from to ≡ in_quotes body
-  pub short : IsShort body meaning
+  pub decodes : IsJsonBody body meaning
 
 -- the scalar of this kind that is there
 abbrev pub IsVerbatimAt : Verbatim → List ℕ → ℕ → ℕ → Source → Type 0
 IsVerbatimAt verbatim.Integer text from to s = IsIntegerAt text from to s
 IsVerbatimAt verbatim.Decimal text from to s = IsDecimalAt text from to s
-IsVerbatimAt verbatim.Same text from to s = IsShortAt text from to s × (slice_range text from to ≡ source_text s)
-IsVerbatimAt verbatim.Short text from to s = IsShortAt text from to s
+IsVerbatimAt verbatim.Same text from to s = IsJsonStringAt text from to s × (slice_range text from to ≡ source_text s)
+IsVerbatimAt verbatim.Escaped text from to s = IsJsonStringAt text from to s

@@ -9,10 +9,10 @@ pub enum Verbatim {
     Integer,
     /// A decimal of an extended text, which is serialized as it is.
     Decimal,
-    /// A string in double quotes whose escapes are of one letter, which is serialized as it is.
+    /// A string of JSON that is serialized as it is.
     Same,
-    /// Any string in double quotes whose escapes are of one letter.
-    Short,
+    /// Any string of JSON.
+    Escaped,
 }
 
 // What each letter means behind a backslash, and 0 where it means nothing.

@@ -5,6 +5,6 @@ pub mod Elements
 pub mod ExactNumbers
 pub mod FirstBytes
 pub mod VerbatimNumbers
-pub mod ShortStrings
+pub mod JsonStrings
 pub mod Encodings
 pub mod Starts

@@ -4,7 +4,7 @@ pub mod Handler
 pub mod Literals
 pub mod Parser
 pub mod Scalars
-pub mod ShortString
+pub mod JsonString
 pub mod Slots
 pub mod Stack
 pub mod Start

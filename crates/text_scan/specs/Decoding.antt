@@ -1,12 +1,24 @@
 -- What the steps of the decoder guarantee.
-use Rattle.std.specs.Prelude.{◌≡◌, ◌≢◌, ◌⊎◌, ℕ, ◌+◌, ◌≤◌, ◌<◌, ◌^◌, Bool, true, false, List, ◌++◌, length, All, slice_index}
+use Rattle.std.specs.Prelude.{◌≡◌, ◌≢◌, ℕ, ◌+◌, ◌≤◌, ◌<◌, ◌^◌, Bool, true, false, List, ◌++◌, length, All, slice_index}
 use Rattle.std.specs.List.{flat_map, AllByRecursion}
 use Rattle.jsonb_spec.specs.Ascii as ascii
 use Rattle.jsonb_spec.specs.Mode.{Mode}
 use Rattle.jsonb_spec.specs.Code.{Code}
-use Rattle.jsonb_spec.specs.Grammar.StringBody.{Item, after_u, encoding, IsItem, IsHexDigit, meaning}
+use Rattle.jsonb_spec.specs.Grammar.StringBody.{Item, raw, escape, unit, after_u, encoding, IsItem, IsHexDigit, meaning}
 use Rattle.jsonb_spec.specs.Grammar.StringFault.{BadUnit, IsCutShort}
 use Rattle.std.specs.Str.Parse.{digits_value}
+
+-- a unit of four digits that aren't in braces
+abbrev pub IsUnit : Item → Type 0
+IsUnit (unit braces digits) = (braces ≡ false) × (length digits ≡ 4) × All IsHexDigit digits
+IsUnit (raw byte) = ⊥
+IsUnit (escape letter byte) = ⊥
+
+-- the bytes are such units
+pub record AreUnits (bytes : List ℕ) : Type 0 where
+  pub items : List Item
+  pub each : AllByRecursion IsUnit items
+  pub encoded : bytes ≡ flat_map encoding items
 
 -- what follows `\u` is four bytes, in braces or not, and then the rest
 pub record SplitsUnit (bytes digits rest : List ℕ) : Type 0 where
@@ -34,12 +46,6 @@ pub record DecodesUpTo (mode : Mode) (bytes rest text : List ℕ) : Type 0 where
 pub record IsDecodedUpTo (mode : Mode) (bytes rest : List ℕ) : Type 0 where
   pub text : List ℕ
   pub decodes : DecodesUpTo mode bytes rest text
-
--- the letters of escapes in every mode: `"`, `\`, `/`, b, f, n, r and t
-abbrev pub IsShortLetter : ℕ → Type 0
-IsShortLetter letter =
-    (letter ≡ ascii.quote) ⊎ ((letter ≡ ascii.backslash) ⊎ ((letter ≡ ascii.slash) ⊎ ((letter ≡ ascii.lower_b)
-    ⊎ ((letter ≡ ascii.lower_f) ⊎ ((letter ≡ ascii.lower_n) ⊎ ((letter ≡ ascii.lower_r) ⊎ (letter ≡ ascii.lower_t)))))))
 
 -- new is old with the text that the items before the rest add
 pub record Adds (mode : Mode) (bytes rest old new : List ℕ) : Type 0 where

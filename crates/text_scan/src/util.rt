@@ -4,6 +4,6 @@ mod decoder;
 
 pub(crate) use decoder::{digit, unescape};
 pub use decoder::{
-    check_contents, check_strict, decode_behind, decode_escape, near_backslash, parse_string,
+    check_contents, check_strict, decode_behind, near_backslash, parse_string, units_len,
     write_sixteen,
 };

@@ -169,7 +169,7 @@ verbatim_alone kind text from to s at [] = refl
 verbatim_alone verbatim.Integer text from to s at (key ∷ keys) = ap (λ v. part_inside v (key ∷ keys)) at.is
 verbatim_alone verbatim.Decimal text from to s at (key ∷ keys) = ap (λ v. part_inside v (key ∷ keys)) at.is
 verbatim_alone verbatim.Same text from to s at (key ∷ keys) = ap (λ v. part_inside v (key ∷ keys)) at.0.is
-verbatim_alone verbatim.Short text from to s at (key ∷ keys) = ap (λ v. part_inside v (key ∷ keys)) at.is
+verbatim_alone verbatim.Escaped text from to s at (key ∷ keys) = ap (λ v. part_inside v (key ∷ keys)) at.is
 
 -- ---- one part more
 

@@ -1,12 +1,11 @@
 pub mod CheckSink
 pub mod Contents
 pub mod DecimalKey
-pub mod Escaped
 pub mod IntegerKey
+pub mod JsonString
 pub mod KeySink
 pub mod OpenKey
 pub mod OpenText
 pub mod PartSink
-pub mod ShortString
 pub mod TextSink
 pub mod Written

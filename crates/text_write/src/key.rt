@@ -3,7 +3,7 @@ ghost use Rattle.std.specs.Prelude.{◌≡◌, ◌+◌, ◌-◌, ◌<◌, ◌≤
 ghost use Rattle.std.specs.Option.{is_some};
 
 use crate::contents::Contents;
-use crate::escaped_key::append_escaped_key;
+use crate::escaped_key::append_contents_key;
 use crate::key_text::{append_key_text, append_with_kind};
 use crate::sink::Sink;
 use crate::text::Part;
@@ -101,8 +101,9 @@ impl<'a> KeySink<'a> {
         ensures bytes { OnOk result (Writes (kind.string ∷ text_key (text_of_contents contents.now)) self.old self.new) }
         ensures base { base_of self.new ≡ base_of self.old }
     {
-        append_escaped_key(
-            contents.body,
+        self.out.extend_from_slice(&[kind::STRING])?;
+        append_contents_key(
+            contents.body.as_bytes(),
             contents.mode,
             &mut self.out,
             &mut self.members.decoded,
@@ -251,7 +252,7 @@ impl<'a> Sink<'a> for KeySink<'a> {
         mode: Mode,
         offset: usize,
     ) -> std::result::Result<Contents<'a>, Error> {
-        Contents::for_key(body, mode, offset)
+        Contents::new(body, mode, offset)
     }
 
     #[inline(always)]

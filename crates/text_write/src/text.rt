@@ -325,7 +325,7 @@ impl<'a> Sink<'a> for TextSink<'a> {
         mode: Mode,
         offset: usize,
     ) -> std::result::Result<Contents<'a>, Error> {
-        Contents::for_text(body, mode, offset)
+        Contents::new(body, mode, offset)
     }
 
     #[inline(always)]

@@ -28,7 +28,7 @@ impl<'a> TextSink<'a> {
             Verbatim::Integer => self.preserve_range(from, to),
             Verbatim::Decimal => self.preserve_range(from, to),
             Verbatim::Same => self.preserve_range(from, to),
-            Verbatim::Short => self.short_string(from, to),
+            Verbatim::Escaped => self.json_string(from, to),
         }
     }
 }
@@ -52,8 +52,8 @@ impl<'a> KeySink<'a> {
         match verbatim {
             Verbatim::Integer => self.integer(from, to),
             Verbatim::Decimal => self.decimal(from, to),
-            Verbatim::Same => self.short_string(from, to),
-            Verbatim::Short => self.short_string(from, to),
+            Verbatim::Same => self.json_string(from, to),
+            Verbatim::Escaped => self.json_string(from, to),
         }
     }
 }

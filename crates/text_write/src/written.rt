@@ -162,7 +162,7 @@ impl<'a> Written<'a> {
         // With space for the closing quote too, which is copied as the first of 32 bytes, a long string lets the buffer
         // grow once.
         self.out.try_reserve(contents.body.len() + 32)?;
-        append_contents(contents, &mut self.out)?;
+        append_contents(contents.body.as_bytes(), contents.mode, &mut self.out)?;
         self.go_on(after.max(1) - 1);
         self.put(b'"')
     }

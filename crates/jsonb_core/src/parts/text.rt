@@ -16,13 +16,13 @@ pub(crate) fn append_string(text: &str, buf: &mut Vec<u8>) -> Appended
     ensures utf8 { IsUtf8 text.now }
 {
     buf.extend_from_slice(b"\"")?;
-    append_escaped(text.as_bytes(), buf)?;
+    append_contents(text.as_bytes(), buf)?;
     buf.extend_from_slice(b"\"")
 }
 
 // Appends a string's bytes, which mostly need no escape.
 #[inline(always)]
-fn append_escaped(bytes: &[u8], buf: &mut Vec<u8>) -> Appended
+pub(crate) fn append_contents(bytes: &[u8], buf: &mut Vec<u8>) -> Appended
     ensures appends { Appends result buf.old buf.new (flat_map byte_text bytes.now) }
 {
     if run_len(bytes) < bytes.len() {

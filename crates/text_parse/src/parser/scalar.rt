@@ -329,7 +329,7 @@ impl<'a> Parser<'a> {
             self.old self.new sink.old sink.new (S.before container.old slot) (S.after container.new) }
     {
         let from = self.offset - 1;
-        if let Some(verbatim) = self.short_string(V::wants().verbatim, text) {
+        if let Some(verbatim) = self.json_string(V::wants().verbatim, text) {
             return self.put::<V, S>(
                 sink,
                 container,

@@ -1,17 +1,17 @@
 -- What a check of contents says of them.
-use Rattle.std.proofs.Common.{Err, ◌+◌, Bool, true, false, MatchBool, ◌∷◌, ⊎_elim, Some, get_or, List, [], ◌≡◌, ℕ, ◌≤◌, ◌<◌, ◌++◌, length, take, drop, Ok, sym, ap, ◌∙◌, subst, arith, refl, length-append}
+use Rattle.std.proofs.Common.{Err, ◌+◌, List, [], ◌≡◌, ℕ, ◌≤◌, ◌<◌, ◌++◌, length, take, drop, Ok, sym, ap, ◌∙◌, subst, arith, refl, length-append}
 use Rattle.std.proofs.lemmas.Str.{IsUtf8-nil}
 use Rattle.std.proofs.lemmas.List.{append-nil, get_or-take, length-take-le, take-append-drop, take-append-le, take-take}
 use Rattle.std.specs.List.{flat_map}
 use Rattle.std.specs.Str.{IsUtf8}
-use Rattle.jsonb_spec.specs.Mode.{Mode, GoesBeyondJson, Strictness, strict, lenient, strictness}
+use Rattle.jsonb_spec.specs.Mode.{Mode, GoesBeyondJson}
 use Rattle.jsonb_spec.specs.Tree.{escaped}
-use Rattle.jsonb_spec.specs.Grammar.StringBody.{Item, encoding, escaped_byte}
-use Rattle.text_scan.specs.Decoding.{DecodesUpTo, IsDecodedUpTo, IsShortLetter, SeesBackslash, SeesNoBackslash}
+use Rattle.jsonb_spec.specs.Grammar.StringBody.{Item, IsBody, encoding, meaning}
+use Rattle.text_scan.specs.Decoding.{DecodesUpTo, IsDecodedUpTo, SeesBackslash, SeesNoBackslash}
 use Rattle.text_scan.specs.QuotedString.{decoded_text, meaning_of_body}
 use Rattle.text_scan.specs.Parsing.String.{Body, body_of, items_within}
 use Rattle.text_scan.proofs.Strings.Bodies.{body-decoded}
-use Rattle.text_scan.proofs.Strings.Decoding.{decodes_all, decoded_escape, decoded_run, decoded_then, meaning-all}
+use Rattle.text_scan.proofs.Strings.Decoding.{decodes_all, decoded_run, decoded_then, meaning-all}
 use Rattle.text_scan.proofs.Strings.Items.{items_complete, items_sound}
 use Rattle.text_scan.proofs.Strings.Utf8.{meaning_utf8}
 
@@ -21,6 +21,12 @@ decoded_text-is mode bytes text p =
     let encoded : bytes ≡ flat_map encoding p.items = p.encoded ∙ append-nil (flat_map encoding p.items) in
     let enough : length (flat_map encoding p.items) ≤ length bytes = omega (arith, ap length encoded) in
     ap meaning_of_body (ap (items_within (length bytes) mode) encoded ∙ items_complete mode (length bytes) p.items p.each enough) ∙ sym (meaning-all mode bytes text p)
+
+pub body_decoded : (mode : Mode) (bytes : List ℕ) (items : List Item) → IsBody mode bytes items → decoded_text mode bytes ≡ meaning items
+unfolding decoded_text
+body_decoded mode bytes items body =
+    let enough : length (flat_map encoding items) ≤ length bytes = omega (arith, ap length body.encoded) in
+    ap meaning_of_body (ap (items_within (length bytes) mode) body.encoded ∙ items_complete mode (length bytes) items body.each enough)
 
 text_utf8 : (mode : Mode) (bytes text : List ℕ) → DecodesUpTo mode bytes [] text → IsUtf8 bytes → IsUtf8 text
 text_utf8 mode bytes text p utf8 =
@@ -71,36 +77,3 @@ front_stays len end old new added inside within appended =
     let less : len ≤ end = omega (arith, long) in
     let all : len ≤ length (take len old) = omega (arith, length-take-le len old inside) in
     sym (take-take len end new less) ∙ ap (take len) appended ∙ take-append-le len (take len old) added all ∙ take-take len len old (omega arith)
-
--- ---- escapes of one letter
-
-short_escape : (s : Strictness) (letter byte : ℕ) → escaped_byte strict letter ≡ Some byte → escaped_byte lenient letter ≡ Some byte → escaped_byte s letter ≡ Some byte
-short_escape strict letter byte p q = p
-short_escape lenient letter byte p q = q
-
-short_byte : (mode : Mode) (letter byte : ℕ) (rest : List ℕ) → escaped_byte strict letter ≡ Some byte → escaped_byte lenient letter ≡ Some byte → IsDecodedUpTo mode (92 ∷ letter ∷ rest) rest
-short_byte mode letter byte rest p q = record { text = byte ∷ []; decodes = decoded_escape mode letter byte rest (short_escape (strictness mode) letter byte p q) }
-
-short_letter : (mode : Mode) (letter : ℕ) (rest : List ℕ) → IsShortLetter letter → IsDecodedUpTo mode (92 ∷ letter ∷ rest) rest
-short_letter mode letter rest is =
-    ⊎_elim (λ e. at 34 e (short_byte mode 34 34 rest refl refl)) (λ is2.
-    ⊎_elim (λ e. at 92 e (short_byte mode 92 92 rest refl refl)) (λ is3.
-    ⊎_elim (λ e. at 47 e (short_byte mode 47 47 rest refl refl)) (λ is4.
-    ⊎_elim (λ e. at 98 e (short_byte mode 98 8 rest refl refl)) (λ is5.
-    ⊎_elim (λ e. at 102 e (short_byte mode 102 12 rest refl refl)) (λ is6.
-    ⊎_elim (λ e. at 110 e (short_byte mode 110 10 rest refl refl)) (λ is7.
-    ⊎_elim (λ e. at 114 e (short_byte mode 114 13 rest refl refl)) (λ e. at 116 e (short_byte mode 116 9 rest refl refl)) is7) is6) is5) is4) is3) is2) is
-  where
-    at : (n : ℕ) → letter ≡ n → IsDecodedUpTo mode (92 ∷ n ∷ rest) rest → IsDecodedUpTo mode (92 ∷ letter ∷ rest) rest
-    at n e p = subst (λ (l : ℕ). IsDecodedUpTo mode (92 ∷ l ∷ rest) rest) (sym e) p
-
-pub short_passed : (mode : Mode) (bytes : List ℕ) → 2 ≤ length bytes → get_or bytes 0 0 ≡ 92 → IsShortLetter (get_or bytes 1 0) → IsDecodedUpTo mode bytes (drop 2 bytes)
-short_passed mode [] long first second = absurd (omega (arith, long))
-short_passed mode (b ∷ []) long first second = absurd (omega (arith, long))
-short_passed mode (b ∷ letter ∷ rest) long first second = subst (λ (c : ℕ). IsDecodedUpTo mode (c ∷ letter ∷ rest) rest) (sym first) (short_letter mode letter rest second)
-
--- ---- answers of tests
-
-pub where_so : {P Q : Type 0} (t : Bool) → (P → Q) → MatchBool t P (Unit {0}) → MatchBool t Q (Unit {0})
-where_so true f p = f p
-where_so false f p = tt

@@ -433,3 +433,13 @@ pub parsed_contents : (mode : Mode) (bytes : List ℕ) (mark : Mark) (text : Lis
 parsed_contents mode bytes mark text e code left stop =
     let never : ◌≡◌ {A = Body (Mark × List ℕ)} (Ok (mark, text)) (Err (code, stop.read)) = sym e ∙ body_faulty mode bytes code stop.read (inl stop.cut) in
     cc
+
+-- and so none is where they are a body
+pub body_contents : (mode : Mode) (bytes : List ℕ) (items : List Item) → IsBody mode bytes items → AreContents mode bytes
+body_contents mode bytes items body code left stop =
+    let cut = stop.cut in
+    let fewer : length (flat_map encoding items) ≤ length bytes = omega (arith, ap length body.encoded) in
+    let enough : length (flat_map encoding cut.items ++ cut.rest) ≤ length bytes = omega (arith, ap length cut.encoded) in
+    let read : items_within (length bytes) mode bytes ≡ Ok items = ap (items_within (length bytes) mode) body.encoded ∙ items_complete mode (length bytes) items body.each fewer in
+    let never : ◌≡◌ {A = Body (List Item)} (Ok items) (Err (code, length (flat_map encoding cut.items) + cut.steps)) = sym read ∙ ap (items_within (length bytes) mode) cut.encoded ∙ items-cut mode (length bytes) cut.items cut.rest code cut.steps cut.each cut.bad enough in
+    cc

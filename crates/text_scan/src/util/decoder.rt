@@ -6,7 +6,7 @@ ghost use Rattle.jsonb_core.specs.Error.CodeView.{code_of};
 ghost use Rattle.jsonb_spec.specs.Grammar.StringBody.{escaped_byte, Decodes};
 ghost use Rattle.text_scan.specs.Answer.{mode_of};
 ghost use Rattle.text_scan.specs.StringError.{IsDecodingError};
-ghost use Rattle.text_scan.specs.Decoding.{Adds, AreContents, DecodesUpTo, StopsAtEscape};
+ghost use Rattle.text_scan.specs.Decoding.{Adds, AreContents, StopsAtEscape};
 ghost use Rattle.text_scan.specs.QuotedString.{decoded_text};
 
 mod check;
@@ -24,7 +24,8 @@ use space::{give_back, write_byte};
 use std::alloc::Global;
 pub use strict::check_strict;
 pub(crate) use unit::digit;
-use unit::units;
+pub use unit::units_len;
+use unit::{decode_alone, units};
 
 // What prevents bytes from being decoded, and how many of them are left then.
 #[derive(Drop)]
@@ -116,30 +117,13 @@ fn decode(
 {
     let mut done = Decoded { rest: bytes, len };
     'items: while !done.rest.is_empty() {
+        done = decode_alone(done.rest, text, done.len);
         done = copy_run(done.rest, text, done.len);
         if let Some((_, rest)) = done.rest.split_first() {
             done = escape(rest, mode, text, done.len)?;
         }
     }
     Ok(done.len)
-}
-
-/// Decodes the escape whose backslash is before the bytes, and returns how many bytes of the text it is, and what
-/// follows it. There is none where no escape of this mode begins the bytes; contents of a string have no such offset.
-#[inline(always)]
-pub fn decode_escape<'a>(bytes: &'a [u8], mode: Mode, text: &mut [u8]) -> Option<(usize, &'a [u8])>
-    requires { 12 ≤ length text.old }
-    ensures some { IfSome result (λ done. DecodesUpTo (mode_of mode) (ascii.backslash ∷ bytes.now) done.1.now
-        (take done.0 text.new)) }
-    ensures none { IfNone result (¬ (AreContents (mode_of mode) (ascii.backslash ∷ bytes.now))) }
-    ensures shorter { IfSome result (λ done. length done.1.now ≤ length bytes.now) }
-    ensures within { IfSome result (λ done. done.0 ≤ length text.new) }
-    ensures size { length text.new ≡ length text.old }
-{
-    let Ok(done) = escape(bytes, mode, text, 0) else {
-        return None;
-    };
-    Some((done.len, done.rest))
 }
 
 /// Decodes the contents of a string into a text that has space for their length behind its first `len` bytes, and

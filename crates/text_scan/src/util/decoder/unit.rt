@@ -8,7 +8,7 @@ ghost use Rattle.jsonb_spec.specs.Mode.{Mode as GrammarMode, GoesBeyondJson};
 ghost use Rattle.jsonb_core.specs.Error.CodeView.{code_of};
 ghost use Rattle.jsonb_spec.specs.Grammar.StringBody.{IsHexDigit, unit, encoding, alone, together};
 ghost use Rattle.jsonb_spec.specs.Grammar.StringFault.{IsUnitCut, IsFirstNonDigit};
-ghost use Rattle.text_scan.specs.Decoding.{SplitsUnit, ParsesUnit, Adds, IsDecodedUpTo, StopsInUnit, StopsAtEscape};
+ghost use Rattle.text_scan.specs.Decoding.{SplitsUnit, ParsesUnit, Adds, AreUnits, IsDecodedUpTo, StopsInUnit, StopsAtEscape};
 
 use super::space::{write_all, write_byte};
 use super::{Decoded, DecodingFault};
@@ -60,6 +60,15 @@ fn first_non_digit(bytes: &[u8]) -> u8
     unreachable!()
 }
 
+// A number that is below 16 where each of the four is, and only there.
+#[inline(always)]
+fn any_of(first: u32, second: u32, third: u32, fourth: u32) -> u32
+    ensures above { (first ≤ result) × (second ≤ result) × (third ≤ result) × (fourth ≤ result) }
+    ensures below { first < 16 → second < 16 → third < 16 → fourth < 16 → result < 16 }
+{
+    first | second | third | fourth
+}
+
 // The number that four digits write. There is none where one of them isn't hexadecimal.
 #[inline(always)]
 fn value_of(digits: &[u8]) -> Option<u32>
@@ -71,7 +80,7 @@ fn value_of(digits: &[u8]) -> Option<u32>
 {
     let (first, second) = (digit(digits[0]), digit(digits[1]));
     let (third, fourth) = (digit(digits[2]), digit(digits[3]));
-    if first >= 16 || second >= 16 || third >= 16 || fourth >= 16 {
+    if any_of(first, second, third, fourth) >= 16 {
         return None;
     }
     Some(first * 4096 + second * 256 + third * 16 + fourth)
@@ -231,7 +240,7 @@ fn push_together(text: &mut [u8], len: usize, high: &HexUnit<'_>, next: &HexUnit
 
 // What follows the `\u` that the bytes begin with.
 #[inline(always)]
-pub(super) fn after_unit_mark(bytes: &[u8]) -> Option<&[u8]>
+fn after_unit_mark(bytes: &[u8]) -> Option<&[u8]>
     ensures some { IfSome result (λ rest. bytes.now ≡ ascii.backslash ∷ ascii.lower_u ∷ rest.now) }
     ensures len { IfSome result (λ rest. length rest.now + 2 ≡ length bytes.now) }
     ensures none { IfNone result ((rest : List ℕ) → bytes.now ≢ ascii.backslash ∷ ascii.lower_u ∷ rest) }
@@ -256,14 +265,19 @@ fn after_next_mark<'a>(unit: &HexUnit<'a>) -> Option<&'a [u8]>
     after_unit_mark(unit.rest)
 }
 
-// The unit whose `\u` is before the bytes, where it is a character by itself.
+// The unit whose `\u` is before the bytes, where it is a character by itself, and its digits aren't in braces.
 #[inline(always)]
-pub(super) fn read_alone(bytes: &[u8]) -> Option<HexUnit<'_>>
+fn read_alone(bytes: &[u8]) -> Option<HexUnit<'_>>
     ensures some { IfSome result (λ unit. ParsesUnit bytes.now unit.digits.now unit.rest.now unit.value) }
-    ensures alone { IfSome result (λ unit. is_high_surrogate unit.value ≡ false) }
+    ensures low { IfSome result (λ unit. is_high_surrogate unit.value ≡ false) }
+    ensures scalar { IfSome result (λ unit. InScalarRange unit.value) }
+    ensures alone { IfSome result (λ unit. alone unit.digits.now ≡ encode_utf8 unit.value) }
     ensures long { IfSome result (λ unit. length unit.rest.now + 4 ≤ length bytes.now) }
 {
-    let (digits, rest) = split_unit(bytes)?;
+    if bytes.len() < 4 {
+        return None;
+    }
+    let (digits, rest) = bytes.split_at(4);
     let value = value_of(digits)?;
     if is_surrogate(value) {
         return None;
@@ -273,6 +287,52 @@ pub(super) fn read_alone(bytes: &[u8]) -> Option<HexUnit<'_>>
         value,
         rest,
     })
+}
+
+// Decodes the first units, as far as they are characters by themselves.
+#[inline(always)]
+pub(super) fn decode_alone<'a>(bytes: &'a [u8], text: &mut [u8], len: usize) -> Decoded<'a>
+    requires { len + length bytes.now ≤ length text.old }
+    ensures adds { (mode : GrammarMode) → GoesBeyondJson mode → Adds mode bytes.now result.rest.now (take len text.old)
+        (take result.len text.new) }
+    ensures space { result.len + length result.rest.now ≤ len + length bytes.now }
+    ensures shorter { length result.rest.now ≤ length bytes.now }
+    ensures size { length text.new ≡ length text.old }
+{
+    let mut done = Decoded { rest: bytes, len };
+    'units: loop {
+        let Some(digits) = after_unit_mark(done.rest) else {
+            return done;
+        };
+        let Some(unit) = read_alone(digits) else {
+            return done;
+        };
+        done = Decoded {
+            rest: unit.rest,
+            len: push_char(text, done.len, unit.value),
+        };
+    }
+}
+
+/// How many of the first bytes are units of four digits, none in braces.
+#[inline(never)]
+pub fn units_len(bytes: &[u8]) -> usize
+    ensures within { result ≤ length bytes.now }
+    ensures units { AreUnits (take result bytes.now) }
+{
+    let mut len = 0;
+    'units: loop {
+        let Some(digits) = after_unit_mark(&bytes[len..]) else {
+            return len;
+        };
+        if digits.len() < 4 {
+            return len;
+        }
+        let Some(_) = value_of(&digits[..4]) else {
+            return len;
+        };
+        len += 6;
+    }
 }
 
 // Decodes the unit whose `\u` is before the bytes, with the next one where the two are taken together.
@@ -293,13 +353,6 @@ pub(super) fn units<'a>(
     ensures same { OnErr result (text.new ≡ text.old) }
     ensures size { length text.new ≡ length text.old }
 {
-    if let Some(unit) = read_alone(bytes) {
-        let len = push_alone(text, len, unit.digits, unit.value);
-        return Ok(Decoded {
-            rest: unit.rest,
-            len,
-        });
-    }
     let first = read_unit(bytes)?;
     let Some(after) = after_next_mark(&first) else {
         let len = push_alone(text, len, first.digits, first.value);

@@ -24,12 +24,12 @@ returns-in-Decimal-clause-bytes c =
 pub returns-in-Same-clause-bytes : goal.returns-in-Same-clause-bytes
 returns-in-Same-clause-bytes c =
     let r = c.args.self.now in
-    let sink = c.short_string.new.self in
-    subst (λ k. OnOk c.short_string.result ((s : Source) → IsVerbatimAt k r.members.text.now c.args.from c.args.to s → Writes (source_key s) r sink)) (sym c.in-Same.is)
-    (on_ok c.short_string.result c.short_string.ensures.bytes (λ w s at. w s at.0))
+    let sink = c.json_string.new.self in
+    subst (λ k. OnOk c.json_string.result ((s : Source) → IsVerbatimAt k r.members.text.now c.args.from c.args.to s → Writes (source_key s) r sink)) (sym c.in-Same.is)
+    (on_ok c.json_string.result c.json_string.ensures.bytes (λ w s at. w s at.0))
 
-pub returns-in-Short-clause-bytes : goal.returns-in-Short-clause-bytes
-returns-in-Short-clause-bytes c =
+pub returns-in-Escaped-clause-bytes : goal.returns-in-Escaped-clause-bytes
+returns-in-Escaped-clause-bytes c =
     let r = c.args.self.now in
-    let sink = c.short_string-in-Short.new.self in
-    subst (λ k. OnOk c.short_string-in-Short.result ((s : Source) → IsVerbatimAt k r.members.text.now c.args.from c.args.to s → Writes (source_key s) r sink)) (sym c.in-Short.is) c.short_string-in-Short.ensures.bytes
+    let sink = c.json_string-in-Escaped.new.self in
+    subst (λ k. OnOk c.json_string-in-Escaped.result ((s : Source) → IsVerbatimAt k r.members.text.now c.args.from c.args.to s → Writes (source_key s) r sink)) (sym c.in-Escaped.is) c.json_string-in-Escaped.ensures.bytes

@@ -27,7 +27,7 @@ returns-in-Same-clause-bytes c =
     subst (λ k. OnOk c.preserve_range-in-Same.result ((s : Source) → IsVerbatimAt k r.written.text.now c.args.from c.args.to s → Writes (source_text s) r sink)) (sym c.in-Same.is)
     (on_ok c.preserve_range-in-Same.result c.preserve_range-in-Same.ensures.bytes (λ w s at. subst (λ bytes. Writes bytes r sink) at.1 w))
 
-pub returns-in-Short-clause-bytes : goal.returns-in-Short-clause-bytes
-returns-in-Short-clause-bytes c =
+pub returns-in-Escaped-clause-bytes : goal.returns-in-Escaped-clause-bytes
+returns-in-Escaped-clause-bytes c =
     let r = c.args.self.now in
-    subst (λ k. OnOk c.short_string.result ((s : Source) → IsVerbatimAt k r.written.text.now c.args.from c.args.to s → Writes (source_text s) r c.short_string.new.self)) (sym c.in-Short.is) c.short_string.ensures.bytes
+    subst (λ k. OnOk c.json_string.result ((s : Source) → IsVerbatimAt k r.written.text.now c.args.from c.args.to s → Writes (source_text s) r c.json_string.new.self)) (sym c.in-Escaped.is) c.json_string.ensures.bytes

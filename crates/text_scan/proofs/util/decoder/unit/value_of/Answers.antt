@@ -17,4 +17,6 @@ four_hex (a ∷ b ∷ c ∷ e ∷ []) four p q r s (suc (suc (suc (suc k)))) d l
 four_hex (a ∷ b ∷ c ∷ e ∷ f ∷ digits) four p q r s k d low = absurd (omega (arith, four))
 
 pub returns-clause-each : goal.returns-clause-each
-returns-clause-each c = four_hex c.args.digits.now c.requires.four (omega arith) (omega arith) (omega arith) (omega arith)
+returns-clause-each c =
+    let above = c.any_of.ensures.above in
+    four_hex c.args.digits.now c.requires.four (omega (arith, above.0)) (omega (arith, above.1)) (omega (arith, above.2)) (omega (arith, above.3))

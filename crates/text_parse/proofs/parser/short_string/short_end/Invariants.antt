@@ -1,9 +1,0 @@
-use Rattle.std.proofs.Common.{◌-◌, length}
-use Rattle.text_parse.specs.ShortString.{IsShortFront}
-use Rattle.text_parse.proofs.parser.short_string.short_end.Given as goal
-
-abbrev pub invariant-runs : goal.invariant-runs
-invariant-runs l = IsShortFront l.bytes l.end l.is_same
-
-abbrev pub decreases-runs : goal.decreases-runs
-decreases-runs l = length l.bytes - l.end
