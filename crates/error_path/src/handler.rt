@@ -62,7 +62,7 @@ impl<'a> Handler<'a> for PassedPart {
         mode: Mode,
         offset: usize,
     ) -> Result<Self, Error> {
-        check_contents(body, mode, 0, offset)?;
+        check_contents(body, mode, offset)?;
         Ok(PassedPart)
     }
 

@@ -72,7 +72,7 @@ impl<'a, const PLAIN: bool> Handler<'a> for CheckedPart<PLAIN> {
         mode: Mode,
         offset: usize,
     ) -> Result<Self, Error> {
-        check_contents(body, mode, 0, offset)?;
+        check_contents(body, mode, offset)?;
         Ok(CheckedPart)
     }
 
