@@ -166,20 +166,7 @@ pub struct Decimal {
 
 /// The decimal that a number is, from the bytes that its key begins, or `None` where it has more than 18 digits. Of
 /// other bytes it may be any.
-#[inline(always)]
 pub fn decimal_of(bytes: &[u8]) -> Option<Decimal>
-    ensures { (n : Num) → IsProperNumber n → (more : List ℕ) → bytes.now ≡ number_key n ++ more
-        → MatchOption result (HasManyDigits n) (λ d. HasFewDigits n d.digits d.scale) }
-{
-    match short_decimal(bytes) {
-        Some(decimal) => Some(decimal),
-        None => any_decimal(bytes),
-    }
-}
-
-// Does so for any number, in a function of its own, which is called less often.
-#[inline(never)]
-fn any_decimal(bytes: &[u8]) -> Option<Decimal>
     ensures { (n : Num) → IsProperNumber n → (more : List ℕ) → bytes.now ≡ number_key n ++ more
         → MatchOption result (HasManyDigits n) (λ d. HasFewDigits n d.digits d.scale) }
 {
@@ -198,9 +185,9 @@ fn any_decimal(bytes: &[u8]) -> Option<Decimal>
     Some(Decimal { digits, scale })
 }
 
-// The decimal whose key the bytes begin with, if it has at most 18 digits and isn't 0.
+/// The same in 64 bits, of most numbers that have such a decimal. It is `None` of 0 too.
 #[inline(always)]
-fn short_decimal(bytes: &[u8]) -> Option<Decimal>
+pub fn short_decimal(bytes: &[u8]) -> Option<Decimal>
     ensures { (n : Num) → IsProperNumber n → (more : List ℕ) → bytes.now ≡ number_key n ++ more
         → IfSome result (λ d. HasFewDigits n d.digits d.scale) }
 {
@@ -252,6 +239,7 @@ fn short_last_pair(digits: u64, pair: u8) -> Option<(u64, u32)>
 
 // The number of these digits, the first of which has this exponent, without the point, and how many of its digits are
 // behind that. The last of the digits isn't 0, so none of those can be left out. `None` where it has more than 18.
+#[inline(always)]
 fn put_point(digits: u128, count: u32, exponent: u32) -> Option<(u64, u32)>
     requires last { digits % 10 ≢ 0 }
     requires few { count ≤ 42 }
@@ -261,6 +249,9 @@ fn put_point(digits: u128, count: u32, exponent: u32) -> Option<(u64, u32)>
     let digits = few(digits)?;
     if exponent < 255 + count {
         return Some((digits, 255 + count - exponent));
+    }
+    if exponent == 255 + count {
+        return Some((digits, 0));
     }
     let power = 10u64.checked_pow(exponent - (255 + count))?;
     let whole = digits.checked_mul(power)?;

@@ -7,7 +7,7 @@ use Rattle.key_value.specs.Decimals.{HasFewDigits}
 use Rattle.key_value.proofs.Decimals.{few_digits, many_digits, no_answer, some_point, zero_digits}
 use Rattle.key_value.proofs.Integers.{digits_found, exponent_found, parts_read, same_sign}
 use Rattle.key_value.proofs.Signs.{some_bytes, zero_there}
-use Rattle.key_value.proofs.number.any_decimal.Goals as goal
+use Rattle.key_value.proofs.number.decimal_of.Goals as goal
 
 pub returns-in_err-first : goal.returns-in_err-first
 returns-in_err-first c = λ n proper more e. absurd (some_bytes n proper c.args.bytes.now more e c.in_err-first.ensures.cases)
