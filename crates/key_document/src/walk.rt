@@ -229,17 +229,14 @@ fn pass_scalar(
     ensures within { IfOk result (EndsWithin (walk.old.offset + length bytes.now)) }
     ensures further { IfOk result (λ _. walk.old.offset < walk.new.offset) }
 {
-    let Some(kind) = kind_of(passed.value) else {
-        return Err(DocumentError::NoDocument);
-    };
     let name_offset = walk.offset;
     let name_size = bytes.len() - passed.value.len();
     let offset = name_offset + name_size;
     let size = passed.value.len() - passed.after.len();
-    let zeros = zeros_of(document, kind, &mut walk.left, offset)?;
+    let zeros = zeros_of(document, passed.kind, &mut walk.left, offset)?;
     walk.offset = offset + size;
     Ok(Met {
-        kind: Some(kind),
+        kind: Some(passed.kind),
         name_offset,
         name_size,
         offset,

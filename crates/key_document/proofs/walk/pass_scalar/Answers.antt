@@ -1,16 +1,11 @@
 use Rattle.std.proofs.Common.{◌≡◌, ◌+◌, ◌-◌, ◌<◌, ◌∷◌, ◌++◌, length, length-append, ap, arith, refl}
 use Rattle.jsonb_spec.specs.SortKey.{key_of}
-use Rattle.key_document.proofs.Walks.{counts_there, kind_known, part_key, scalar_met, some_key, value_within}
+use Rattle.key_document.proofs.Walks.{counts_there, part_key, scalar_met, some_key, value_within}
 use Rattle.key_document.proofs.walk.pass_scalar.Goals as goal
 use Rattle.key_text.specs.Counts.{opens_counts}
 use Rattle.key_walk.proofs.Holding.{readable_up}
 use Rattle.key_walk.specs.Open.{is_object, name_key}
 use Rattle.key_walk.specs.Steps.{opens_key}
-
-pub returns-in_default-clause-passed : goal.returns-in_default-clause-passed
-returns-in_default-clause-passed c = λ t r e o under at more x.
-    let full = readable_up x.value at.levels 512 (omega (arith, at.deep)) x.readable in
-    absurd (kind_known x.value full (c.in_default.ensures.kind x.value full c.args.passed.after.now x.occurs))
 
 pub returns-in_err-zeros-clause-passed : goal.returns-in_err-zeros-clause-passed
 returns-in_err-zeros-clause-passed c = λ t r e o under at more x.
@@ -23,7 +18,7 @@ returns-in_err-zeros-clause-passed c = λ t r e o under at more x.
     let size : here ≡ length (name ++ from) - length from = omega (arith, ap length x.named, length-append name c.args.passed.value.now, length-append name from) in
     let at_offset = walk.offset + here in
     let full = readable_up x.value at.levels 512 (omega (arith, at.deep)) x.readable in
-    let kind = c.in-Some.ensures.kind x.value full c.args.passed.after.now x.occurs in
+    let kind = x.kind_is in
     let there = counts_there t o under walk at x.name x.value x.others x.is_part (name ++ from) from is refl rest refl at_offset (ap (λ n. walk.offset + n) size) in
     let within = value_within t o under walk at x.name x.value x.others x.is_part (name ++ from) from is refl rest refl at_offset (ap (λ n. walk.offset + n) size) in
     let inside : at_offset < length (key_of t) = omega (arith, within, some_key x.value full) in
@@ -40,7 +35,7 @@ returns-clause-passed c = λ t r e o under at more x.
     let size : here ≡ length (name ++ from) - length from = omega (arith, ap length x.named, length-append name c.args.passed.value.now, length-append name from) in
     let at_offset = walk.offset + here in
     let full = readable_up x.value at.levels 512 (omega (arith, at.deep)) x.readable in
-    let kind = c.in-Some.ensures.kind x.value full c.args.passed.after.now x.occurs in
+    let kind = x.kind_is in
     let there = counts_there t o under walk at x.name x.value x.others x.is_part (name ++ from) from is refl rest refl at_offset (ap (λ n. walk.offset + n) size) in
     let within = value_within t o under walk at x.name x.value x.others x.is_part (name ++ from) from is refl rest refl at_offset (ap (λ n. walk.offset + n) size) in
     let inside : at_offset < length (key_of t) = omega (arith, within, some_key x.value full) in
