@@ -1,5 +1,5 @@
 -- What is said of the decimals of keys.
-use Rattle.std.proofs.Common.{◌≡◌, ℕ, ℤ, pos, List, [], ◌++◌, true, false, Option, Some, None, MatchOption, refl, sym, ap, subst, ◌∙◌, arith}
+use Rattle.std.proofs.Common.{◌≡◌, ℕ, ℤ, pos, List, [], ◌++◌, true, false, Option, Some, None, IfSome, MatchOption, refl, sym, ap, subst, ◌∙◌, arith}
 use Rattle.key_value.specs.Decimals.{HasFewDigits, HasManyDigits, IsShortDecimal}
 use Rattle.key_value.specs.Readable.{IsReadable}
 use Rattle.key_value.specs.declared.number.Decimal.{Decimal}
@@ -51,3 +51,12 @@ module _ (t : Tree) (r : IsReadable t) (kind : Kind) (e : Some kind ≡ kind_of_
       let x = number_there t r kind e f in
       let many = subst (λ o. MatchOption o (HasManyDigits x.0) (λ d. HasFewDigits x.0 d.digits d.scale)) is (finds x.0 x.2 [] (k ∙ ap (λ u. key_of u ++ []) x.1)) in
       subst (λ u. IsDecimal u 5 (pos 0) 0) (sym x.1) (none_there (number x.0) (λ d s h. omega (arith, many d s h.0, h.1)))
+
+-- what is found in few bits
+pub is_short : (t : Tree) → IsReadable t → (kind : Kind) → Some kind ≡ kind_of_tree t → is_number kind ≡ true → (key : List ℕ) → key ≡ key_of t ++ [] → (found : Option Decimal)
+    → ((n : Num) → IsProperNumber n → (more : List ℕ) → key ≡ number_key n ++ more → IfSome found (λ d. HasFewDigits n d.digits d.scale)) → IfSome found (λ d. IsDecimal t 0 d.digits d.scale)
+is_short t r kind e f key k None finds = tt
+is_short t r kind e f key k (Some d) finds =
+    let x = number_there t r kind e f in
+    let few = finds x.0 x.2 [] (k ∙ ap (λ u. key_of u ++ []) x.1) in
+    subst (λ u. IsDecimal u 0 d.digits d.scale) (sym x.1) (record { found = λ h. few; other = λ h. absurd (h refl) })

@@ -28,12 +28,8 @@ use std::alloc::Global;
 /// No kind: the bytes aren't a sort key of a value of JSON's kinds.
 pub const NO_KIND: u32 = 0;
 
-/// The kinds of values.
+/// The first of the kinds of values, which are numbered in the order of `Kind`.
 pub const NULL: u32 = 1;
-
-pub const BOOLEAN: u32 = 2;
-
-pub const NUMBER: u32 = 3;
 
 pub const STRING: u32 = 4;
 
@@ -67,12 +63,7 @@ pub(crate) fn kind_number(kind: Option<Kind>) -> u32
 {
     match kind {
         None => NO_KIND,
-        Some(Kind::Null) => NULL,
-        Some(Kind::Bool) => BOOLEAN,
-        Some(Kind::Number) => NUMBER,
-        Some(Kind::String) => STRING,
-        Some(Kind::Array) => ARRAY,
-        Some(Kind::Object) => OBJECT,
+        Some(kind) => u32::from(kind as u8) + NULL,
     }
 }
 

@@ -21,7 +21,7 @@ use jsonb_core::error::{Error, ParseErrorCode};
 use jsonb_core::number::Number;
 use jsonb_core::parts::{append_number_key, append_text_key};
 use jsonb_core::sort_key::kind;
-use key_value::number::{decimal_of, integer_of};
+use key_value::number::{Decimal, decimal_of, integer_of, short_decimal};
 use key_walk::{Kind, boolean_of, kind_of};
 use std::alloc::{AllocError, Global};
 
@@ -93,6 +93,35 @@ pub extern "C" fn vizhoniku_key_decimal(key: &[u8], digits: &mut i64, scale: &mu
     ensures status { IsPartStatus result }
 
     // The decimal is the number, and a value that is no number with so few digits has none.
+    ensures decimal { (t : Tree) → IsTreeKey key.now t → IsDecimal t result digits.new scale.new }
+    ensures no_value { result ≢ ACCEPTED → (digits.new ≡ pos 0) × (scale.new ≡ 0) }
+{
+    match decimal_in_few_bits(key) {
+        Some(short) => {
+            *digits = short.digits;
+            *scale = short.scale;
+            ACCEPTED
+        }
+        None => any_decimal(key, digits, scale),
+    }
+}
+
+// The decimal of a number's key, if it is found in 64 bits.
+#[inline(always)]
+fn decimal_in_few_bits(key: &[u8]) -> Option<Decimal>
+    ensures { (t : Tree) → IsTreeKey key.now t → IfSome result (λ d. IsDecimal t ACCEPTED d.digits d.scale) }
+{
+    let kind = kind_of(key)?;
+    if !is_number(kind) {
+        return None;
+    }
+    short_decimal(key)
+}
+
+// Does so for any key, in a function of its own, which is called less often.
+#[inline(never)]
+fn any_decimal(key: &[u8], digits: &mut i64, scale: &mut u32) -> u32
+    ensures status { IsPartStatus result }
     ensures decimal { (t : Tree) → IsTreeKey key.now t → IsDecimal t result digits.new scale.new }
     ensures no_value { result ≢ ACCEPTED → (digits.new ≡ pos 0) × (scale.new ≡ 0) }
 {

@@ -17,7 +17,7 @@ over_bytes (members (more_members k t ms)) under h = absurd h
 
 -- ---- a part
 
-regroup : (a b c d : List ℕ) → (a ++ (b ++ c)) ++ d ≡ a ++ (b ++ (c ++ d))
+pub regroup : (a b c d : List ℕ) → (a ++ (b ++ c)) ++ d ≡ a ++ (b ++ (c ++ d))
 regroup a b c d = simp append_assoc
 
 pub part_bytes : (o : Open) (name : List ℕ) (value : Tree) (others : Open) (under : List Open) → IsPart o name value others → opens_counts (o ∷ under) ≡ replicate (length (name_key (is_object o) name)) 0 ++ (counts_at value ++ opens_counts (others ∷ under))

@@ -1,7 +1,7 @@
 -- Where a walk over a document is, and what it meets there.
-use Rattle.std.proofs.Common.{◌≡◌, ◌≢◌, ℕ, zero, suc, ◌+◌, ◌-◌, ◌<◌, ◌≤◌, ◌⊎◌, inl, inr, Bool, true, false, List, [], ◌∷◌, ◌++◌, Option, Some, None, Ok, Err, length, drop, get_or, set, replicate, refl, sym, ap, subst, ◌∙◌, arith, append_assoc, append-nil, length-append}
+use Rattle.std.proofs.Common.{◌≡◌, ◌≢◌, ℕ, zero, suc, ◌+◌, ◌-◌, ◌<◌, ◌≤◌, ◌⊎◌, inl, inr, Bool, true, false, List, [], ◌∷◌, ◌++◌, Option, Some, None, Ok, Err, length, drop, get_or, set, replicate, refl, sym, ap, ap₂, subst, ◌∙◌, arith, append_assoc, append-nil, length-append}
 use Rattle.std.proofs.lemmas.List.{drop-drop, drop_at, get_or-set_other, get_or-set_same, length-replicate}
-use Rattle.jsonb_spec.specs.SortKey.{key_of}
+use Rattle.jsonb_spec.specs.SortKey.{items_key, key_of, members_key, text_key}
 use Rattle.jsonb_spec.specs.Tree.{Tree, null, boolean, string, number, array, object, binary, date, timestamp, timestamp_tz, interval, no_trees, more_trees, no_members, more_members}
 use Rattle.jsonb_core.proofs.SortKeys.Kinds.{is_small, number_begins}
 use Rattle.key_document.specs.Cursor.{IsLeftBehind}
@@ -9,16 +9,15 @@ use Rattle.key_document.specs.Walk.{AreMarked, IsWalkAt, IsNameMet, IsPlace, IsV
 use Rattle.key_document.specs.declared.error.DocumentError.{DocumentError}
 use Rattle.key_document.specs.declared.walk.Met.{Met}
 use Rattle.key_document.specs.declared.walk.Walk.{Walk}
-use Rattle.key_document.proofs.OpenCounts.{opened_bytes, over_bytes, part_bytes}
+use Rattle.key_document.proofs.OpenCounts.{opened_bytes, over_bytes, part_bytes, regroup}
 use Rattle.key_text.proofs.Counts.{one_each, opens_each}
 use Rattle.key_text.specs.Counts.{counts_at, counts_open, opens_counts}
 use Rattle.key_value.specs.Readable.{IsAnyNumber, IsReadable, IsReadableAt}
 use Rattle.key_value.proofs.Texts.{none_some}
 use Rattle.jsonb_path.proofs.PartsReadBack.{deeper}
-use Rattle.key_walk.specs.declared.part.Opened.{Opened}
 use Rattle.key_walk.specs.Events.{Event, begins, ends, events_of, events_of_items, events_of_members}
 use Rattle.key_walk.specs.Found.{IsRange}
-use Rattle.key_walk.specs.NextPart.{BeginsWithEnd, BeginsWithOpening}
+use Rattle.key_walk.specs.NextPart.{BeginsWithEnd}
 use Rattle.key_walk.specs.Open.{Open, items, members, end_key, is_object, name_key, open_key, opening_byte, IsOpen, IsScalar}
 use Rattle.key_walk.specs.Parts.{kind_of_tree, opened_tree}
 use Rattle.key_walk.specs.Steps.{IsOver, IsPart, opens_key, AreOpen}
@@ -74,8 +73,34 @@ moved t opens others offset size passed counts p key_is counts_are long many = r
 pub bytes_there : (t : Tree) (opens : List Open) (offset : ℕ) (key bytes : List ℕ) → IsPlace t opens offset → key ≡ key_of t → bytes ≡ drop offset key → bytes ≡ opens_key opens
 bytes_there t opens offset key bytes p is e = e ∙ ap (drop offset) (is ∙ p.occurs) ∙ drop_at p.before (opens_key opens) offset (sym p.offset_is)
 
+-- and of what follows the key
+pub bytes_left : (t : Tree) (opens : List Open) (offset : ℕ) (behind document bytes : List ℕ) → IsPlace t opens offset → document ≡ key_of t ++ behind → bytes ≡ drop offset document → bytes ≡ opens_key opens ++ behind
+bytes_left t opens offset behind document bytes p is e =
+    e ∙ ap (drop offset) (is ∙ ap (λ k. k ++ behind) p.occurs ∙ append_assoc p.before (opens_key opens) behind) ∙ drop_at p.before (opens_key opens ++ behind) offset (sym p.offset_is)
+
 pub within_key : (t : Tree) (opens : List Open) (offset : ℕ) → IsPlace t opens offset → offset ≤ length (key_of t)
 within_key t opens offset p = omega (arith, p.offset_is, ap length p.occurs, length-append p.before (opens_key opens))
+
+pub within_document : (t : Tree) (opens : List Open) (offset : ℕ) (behind document : List ℕ) → IsPlace t opens offset → document ≡ key_of t ++ behind → offset ≤ length document
+within_document t opens offset behind document p is = omega (arith, within_key t opens offset p, ap length is, length-append (key_of t) behind)
+
+-- ---- keys of what is open
+
+over_key : (o : Open) (under : List Open) → IsOver o → opens_key (o ∷ under) ≡ end_key (is_object o) ++ opens_key under
+over_key (items no_trees) under h = refl
+over_key (items (more_trees t ts)) under h = absurd h
+over_key (members no_members) under h = refl
+over_key (members (more_members k t ms)) under h = absurd h
+
+pub part_key : (o : Open) (name : List ℕ) (value : Tree) (others : Open) (under : List Open) → IsPart o name value others → name_key (is_object o) name ++ (key_of value ++ opens_key (others ∷ under)) ≡ opens_key (o ∷ under)
+part_key (items no_trees) name value others under p = absurd p
+part_key (items (more_trees t ts)) name value others under p =
+    ap₂ (λ v x. key_of v ++ (open_key x ++ opens_key under)) p.1 p.2 ∙ sym (append_assoc (key_of t) (items_key ts) (opens_key under))
+part_key (members no_members) name value others under p = absurd p
+part_key (members (more_members k t ms)) name value others under p =
+    ap₂ (λ v x. text_key name ++ (key_of v ++ (open_key x ++ opens_key under))) p.1 p.2
+    ∙ ap (λ n. text_key n ++ (key_of t ++ (members_key ms ++ opens_key under))) p.0
+    ∙ sym (regroup (text_key k) (key_of t) (members_key ms) (opens_key under))
 
 -- ---- events
 
@@ -122,9 +147,6 @@ opened_event name (members ms) = (refl, refl, refl)
 opened_key : (o : Open) → key_of (opened_tree o) ≡ opening_byte (is_object o) ∷ open_key o
 opened_key (items ts) = refl
 opened_key (members ms) = refl
-
-pub there_opened : (o : Open) (under : List Open) (levels : ℕ) (bytes : List ℕ) (p : Opened) → (x : BeginsWithOpening o levels (opens_key under) bytes p) → p.value.now ≡ key_of (opened_tree x.inside) ++ opens_key (x.others ∷ under)
-there_opened o under levels bytes p x = x.begins ∙ ap (λ r. opening_byte (is_object x.inside) ∷ r) x.behind ∙ ap (λ k. k ++ opens_key (x.others ∷ under)) (sym (opened_key x.inside))
 
 -- ---- the whole value
 
@@ -226,14 +248,13 @@ some_key t r = omega (arith, some_byte 512 t r)
 
 -- ---- the end
 
-pub left_behind : (t : Tree) (o : Open) (under : List Open) (walk new : Walk) (top : ℕ) (bytes after : List ℕ) → (w : IsWalkAt t (o ∷ under) walk) → top + 1 ≡ walk.depth → bytes ≡ opens_key (o ∷ under)
-    → BeginsWithEnd o (opens_key under) bytes after → (size : ℕ) → size ≡ length bytes - length after
+pub left_behind : (t : Tree) (o : Open) (under : List Open) (walk new : Walk) (top : ℕ) (bytes after : List ℕ) → (w : IsWalkAt t (o ∷ under) walk) → top + 1 ≡ walk.depth
+    → (more : List ℕ) → BeginsWithEnd o more bytes after → (size : ℕ) → size ≡ length bytes - length after
     → new.offset ≡ walk.offset + size → new.depth ≡ top → new.left ≡ walk.left → new.objects ≡ walk.objects
     → (met : Met) → met.kind ≡ None → MeetsFirst t (events_left (o ∷ under)) (Ok met) new
-left_behind t o under walk new top bytes after w at is x size size_is offset_is depth_is left_is objects_are met none =
+left_behind t o under walk new top bytes after w at more x size size_is offset_is depth_is left_is objects_are met none =
     let long : size ≡ length (end_key (is_object o)) = omega (arith, size_is, ap length x.passed, length-append (end_key (is_object o)) after) in
-    let key_is : opens_key (o ∷ under) ≡ end_key (is_object o) ++ opens_key under = sym is ∙ x.passed ∙ ap (λ b. end_key (is_object o) ++ b) x.behind in
-    let place = moved t (o ∷ under) under walk.offset size (end_key (is_object o)) (replicate (length (end_key (is_object o))) 0) w.place key_is (over_bytes o under x.is_over) (sym long) (length-replicate {A = ℕ} (length (end_key (is_object o))) 0 ∙ sym long) in
+    let place = moved t (o ∷ under) under walk.offset size (end_key (is_object o)) (replicate (length (end_key (is_object o))) 0) w.place (over_key o under x.is_over) (over_bytes o under x.is_over) (sym long) (length-replicate {A = ℕ} (length (end_key (is_object o))) 0 ∙ sym long) in
     subst (λ events. MeetsFirst t events (Ok met) new) (sym (over_event o under x.is_over)) (
       none,
       record {

@@ -12,7 +12,6 @@ ghost use Rattle.key_walk.specs.Events.{events_of};
 ghost use Rattle.key_walk.specs.NextPart.{BeginsWithOpening, BeginsWithScalar};
 ghost use Rattle.key_walk.specs.Open.{Open, is_object, IsScalar};
 ghost use Rattle.key_walk.specs.Parts.{kind_of_tree, opened_tree};
-ghost use Rattle.key_walk.specs.Steps.{opens_key};
 
 use crate::cursor::{ZerosLeft, zeros_from, zeros_of_number};
 use crate::document::split_document;
@@ -117,6 +116,7 @@ fn mark_of(object: bool) -> u8
 /// # Errors
 ///
 /// `NoDocument` only where the bytes are no document, or the walk isn't one over it. The walk stays as it is then.
+#[inline(always)]
 pub fn next_event(document: &[u8], walk: &mut Walk) -> Result<Option<Met>, DocumentError>
     ensures met { OfDocument document.now (λ t. (opens : List Open) → IsWalkAt t opens walk.old
         → MeetsNext t (events_left opens) result walk.new) }
@@ -128,11 +128,11 @@ pub fn next_event(document: &[u8], walk: &mut Walk) -> Result<Option<Met>, Docum
     let Some(top) = walk.depth.checked_sub(1) else {
         return Ok(None);
     };
-    let (key, _) = split_document(document);
-    if top >= MAX_DEPTH || walk.offset > key.len() {
+    if top >= MAX_DEPTH || walk.offset > document.len() {
         return Err(DocumentError::NoDocument);
     }
-    let (_, bytes) = key.split_at(walk.offset);
+    // What is left of the key, and the zeros, which no part reaches.
+    let (_, bytes) = document.split_at(walk.offset);
     match read_part(is_object_at(&walk.objects, top), bytes) {
         Ok(Part::End(after)) => Ok(Some(leave(walk, top, bytes.len() - after.len()))),
         Ok(Part::Opening(opened)) => Ok(Some(enter(walk, bytes, opened)?)),
@@ -179,7 +179,7 @@ fn enter(walk: &mut Walk, bytes: &[u8], opened: Opened<'_>) -> Result<Met, Docum
     requires within { (length opened.parts.now < length opened.value.now)
         × (length opened.value.now ≤ length bytes.now) }
     ensures entered { (t : Tree) → (o : Open) → (under : List Open) → (at : IsWalkAt t (o ∷ under) walk.old)
-        → bytes.now ≡ opens_key (o ∷ under) → BeginsWithOpening o at.levels (opens_key under) bytes.now opened.entry
+        → (more : List ℕ) → BeginsWithOpening o at.levels more bytes.now opened.entry
         → MeetsFirst t (events_left (o ∷ under)) result walk.new }
     ensures still { IfErr result (λ _. walk.new ≡ walk.old) }
     ensures within { IfOk result (EndsWithin (walk.old.offset + length bytes.now)) }
@@ -212,6 +212,7 @@ fn kind_opened(object: bool) -> Kind
 }
 
 // Passes the value that is first in these bytes, and neither an array nor an object.
+#[inline(always)]
 fn pass_scalar(
     document: &[u8],
     walk: &mut Walk,
@@ -222,24 +223,20 @@ fn pass_scalar(
     requires within { (length passed.after.now < length passed.value.now)
         × (length passed.value.now ≤ length bytes.now) }
     ensures passed { OfDocument document.now (λ t. (o : Open) → (under : List Open)
-        → (at : IsWalkAt t (o ∷ under) walk.old) → bytes.now ≡ opens_key (o ∷ under)
-        → BeginsWithScalar o at.levels (opens_key under) bytes.now passed.entry
-        → MeetsFirst t (events_left (o ∷ under)) result walk.new) }
+        → (at : IsWalkAt t (o ∷ under) walk.old) → (more : List ℕ)
+        → BeginsWithScalar o at.levels more bytes.now passed.entry → MeetsFirst t (events_left (o ∷ under)) result walk.new) }
     ensures still { IfErr result (λ _. walk.new ≡ walk.old) }
     ensures within { IfOk result (EndsWithin (walk.old.offset + length bytes.now)) }
     ensures further { IfOk result (λ _. walk.old.offset < walk.new.offset) }
 {
-    let Some(kind) = kind_of(passed.value) else {
-        return Err(DocumentError::NoDocument);
-    };
     let name_offset = walk.offset;
     let name_size = bytes.len() - passed.value.len();
     let offset = name_offset + name_size;
     let size = passed.value.len() - passed.after.len();
-    let zeros = zeros_of(document, kind, &mut walk.left, offset)?;
+    let zeros = zeros_of(document, passed.kind, &mut walk.left, offset)?;
     walk.offset = offset + size;
     Ok(Met {
-        kind: Some(kind),
+        kind: Some(passed.kind),
         name_offset,
         name_size,
         offset,

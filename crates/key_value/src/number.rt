@@ -185,8 +185,61 @@ pub fn decimal_of(bytes: &[u8]) -> Option<Decimal>
     Some(Decimal { digits, scale })
 }
 
+/// The same in 64 bits, of most numbers that have such a decimal. It is `None` of 0 too.
+#[inline(always)]
+pub fn short_decimal(bytes: &[u8]) -> Option<Decimal>
+    ensures { (n : Num) → IsProperNumber n → (more : List ℕ) → bytes.now ≡ number_key n ++ more
+        → IfSome result (λ d. HasFewDigits n d.digits d.scale) }
+{
+    let (first, _) = bytes.split_first()?;
+    if *first == kind::ZERO {
+        return None;
+    }
+    let negative = *first < kind::ZERO;
+    let (exponent, rest) = read_exponent(negative, bytes)?;
+    let (digits, count) = read_few_digits(negative, rest)?;
+    let (whole, scale) = put_point(u128::from(digits), count, exponent)?;
+    let digits = with_short_sign(negative, whole)?;
+    Some(Decimal { digits, scale })
+}
+
+// The digits as a number, and how many they are, where they are at most 18. A zero at the end is left out.
+#[inline(always)]
+fn read_few_digits(negative: bool, bytes: &[u8]) -> Option<(u64, u32)>
+    ensures found { (count magnitude : ℕ) → magnitude < 10 ^ count → 0 < magnitude → magnitude ≤ 2 ^ 127 → count ≤ 39
+        → (more : List ℕ) → bytes.now ≡ map (invert_if negative) (digits_key count magnitude) ++ more
+        → IfSome result (λ r. IsDigits count magnitude r.0 r.1) }
+    ensures last { IfSome result (λ r. r.0 % 10 ≢ 0) }
+    ensures few { IfSome result (λ r. r.1 ≤ 18) }
+{
+    let (front, count, rest) = read_front(negative, bytes);
+    let (byte, _) = rest.split_first()?;
+    let byte = invert_if(negative, *byte);
+    if byte % 2 != 0 {
+        return None;
+    }
+    let (digits, last) = short_last_pair(front, byte / 2)?;
+    Some((digits, count + last))
+}
+
+// The digits with the last pair of them, as `last_pair` has it.
+#[inline(always)]
+fn short_last_pair(digits: u64, pair: u8) -> Option<(u64, u32)>
+    requires { digits < 10 ^ 16 }
+    ensures { IfSome result (λ r. IsLastPair digits pair r.0 r.1) }
+{
+    if pair == 0 || pair >= 100 {
+        return None;
+    }
+    if pair % 10 == 0 {
+        return Some((digits * 10 + u64::from(pair / 10), 1));
+    }
+    Some((digits * 100 + u64::from(pair), 2))
+}
+
 // The number of these digits, the first of which has this exponent, without the point, and how many of its digits are
 // behind that. The last of the digits isn't 0, so none of those can be left out. `None` where it has more than 18.
+#[inline(always)]
 fn put_point(digits: u128, count: u32, exponent: u32) -> Option<(u64, u32)>
     requires last { digits % 10 ≢ 0 }
     requires few { count ≤ 42 }
@@ -196,6 +249,9 @@ fn put_point(digits: u128, count: u32, exponent: u32) -> Option<(u64, u32)>
     let digits = few(digits)?;
     if exponent < 255 + count {
         return Some((digits, 255 + count - exponent));
+    }
+    if exponent == 255 + count {
+        return Some((digits, 0));
     }
     let power = 10u64.checked_pow(exponent - (255 + count))?;
     let whole = digits.checked_mul(power)?;

@@ -1,14 +1,16 @@
 -- What the bytes begin with, which are left of an array or an object.
 use Rattle.std.proofs.Common.{◌≡◌, ◌≢◌, ℕ, ◌⊎◌, inl, inr, Bool, List, [], ◌∷◌, ◌++◌, Some, None, refl, sym, ap, subst, ◌∙◌, append_assoc}
-use Rattle.key_value.specs.Readable.{IsReadableAt}
+use Rattle.key_value.specs.Readable.{IsReadable, IsReadableAt}
 use Rattle.key_value.proofs.Texts.{none_some, some_same}
 use Rattle.jsonb_spec.specs.SortKey.{key_of, items_key, members_key, text_key}
-use Rattle.jsonb_spec.specs.Tree.{Tree, no_trees, more_trees, no_members, more_members}
+use Rattle.jsonb_spec.specs.Tree.{Tree, null, boolean, string, number, array, object, no_trees, more_trees, no_members, more_members}
 use Rattle.key_walk.specs.Open.{Open, items, members, end_key, is_object, name_key, open_key, opening_byte, IsOpen, IsScalar}
 use Rattle.key_walk.specs.NextPart.{BeginsWithEnd, BeginsWithOpening, BeginsWithScalar}
+use Rattle.key_walk.specs.Parts.{kind_of_tree}
 use Rattle.key_walk.specs.Steps.{IsOver, IsPart}
 use Rattle.key_walk.specs.declared.part.Opened.{Opened}
 use Rattle.key_walk.specs.declared.part.ScalarPart.{ScalarPart}
+use Rattle.key_walk.specs.declared.walk.Kind.{Kind}
 use Rattle.key_walk.proofs.Opens.{no_end}
 use Rattle.key_walk.proofs.Scalars.{scalar_there}
 use Rattle.key_walk.proofs.Stepping.{opening_there}
@@ -47,6 +49,25 @@ which (members (more_members k t ms)) left more bytes h e = inr (record {
   others_fit = (h.0.2, h.1.1);
   occurs = e ∙ regroup (text_key k) (key_of t) (members_key ms) more;
 })
+
+-- a value that is no array and no object needs no level
+scalar_readable : (depth : ℕ) (t : Tree) → IsReadableAt depth t → IsScalar t → IsReadable t
+scalar_readable depth (array ts) r s = absurd s
+scalar_readable depth (object ms) r s = absurd s
+scalar_readable depth null r s = record { proper = r.proper; within = r.within }
+scalar_readable depth (boolean b) r s = record { proper = r.proper; within = r.within }
+scalar_readable depth (string mark text) r s = record { proper = r.proper; within = r.within }
+scalar_readable depth (number n) r s = record { proper = r.proper; within = r.within }
+scalar_readable depth t r s = absurd r.within
+
+some_kind : (t : Tree) → IsReadable t → None ≡ kind_of_tree t → ⊥
+some_kind null r e = none_some _ e
+some_kind (boolean b) r e = none_some _ e
+some_kind (number n) r e = none_some _ e
+some_kind (string mark text) r e = none_some _ e
+some_kind (array ts) r e = none_some _ e
+some_kind (object ms) r e = none_some _ e
+some_kind t r e = r.within
 
 module _ (object : Bool) (bytes : List ℕ) (o : Open) (is : is_object o ≡ object) (left : ℕ) (h : IsOpen o left) (more : List ℕ) (e : bytes ≡ open_key o ++ more) where
   pub ended : (after : List ℕ) → bytes ≡ end_key object ++ after → ((tail : List ℕ) → bytes ≡ end_key object ++ tail → Some after ≡ Some tail) → BeginsWithEnd o more bytes after
@@ -103,12 +124,19 @@ module _ (object : Bool) (bytes : List ℕ) (o : Open) (is : is_object o ≡ obj
           scalar : IsScalar first.value
           scalar = scalar_there left first.value first.readable byte parts value (open_key first.others ++ more) begins there no_object no_array
 
+          full : IsReadable first.value
+          full = scalar_readable left first.value first.readable scalar
+
+          pub never_kind : ((t : Tree) → IsReadable t → (behind : List ℕ) → value ≡ key_of t ++ behind → None ≡ kind_of_tree t) → ⊥
+          never_kind kinds = some_kind first.value full (kinds first.value full _ there)
+
           pub never_ends : ((depth : ℕ) (t : Tree) → IsReadableAt depth t → IsScalar t → (behind : List ℕ) → value ≡ key_of t ++ behind → None ≡ Some behind) → ⊥
           never_ends ends = none_some _ (ends left first.value first.readable scalar _ there)
 
           pub scalar_read : (after : List ℕ) → ((depth : ℕ) (t : Tree) → IsReadableAt depth t → IsScalar t → (behind : List ℕ) → value ≡ key_of t ++ behind → Some after ≡ Some behind)
-              → (p : ScalarPart) → p.is_member ≡ object → p.first ≡ byte → p.part.now ≡ bytes → p.value.now ≡ value → p.after.now ≡ after → BeginsWithScalar o left more bytes p
-          scalar_read after ends p member at_first part at behind =
+              → (kind : Kind) → ((t : Tree) → IsReadable t → (behind : List ℕ) → value ≡ key_of t ++ behind → Some kind ≡ kind_of_tree t)
+              → (p : ScalarPart) → p.is_member ≡ object → p.kind ≡ kind → p.first ≡ byte → p.part.now ≡ bytes → p.value.now ≡ value → p.after.now ≡ after → BeginsWithScalar o left more bytes p
+          scalar_read after ends kind kinds p member at_kind at_first part at behind =
               let tail : after ≡ open_key first.others ++ more = some_same after _ (ends left first.value first.readable scalar _ there) in
               record {
                 name = first.name;
@@ -119,6 +147,7 @@ module _ (object : Bool) (bytes : List ℕ) (o : Open) (is : is_object o ≡ obj
                 readable = first.readable;
                 others_fit = first.others_fit;
                 member = member ∙ sym is;
+                kind_is = ap Some at_kind ∙ kinds first.value full _ there;
                 tail = parts;
                 begins = at ∙ begins ∙ ap (λ b. b ∷ parts) (sym at_first);
                 from = part;

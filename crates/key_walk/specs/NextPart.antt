@@ -1,5 +1,5 @@
 -- What the bytes that are left of an array or an object begin with: its end, or a part of it.
-use Rattle.std.specs.Prelude.{◌≡◌, ◌<◌, ◌≤◌, ℕ, suc, List, ◌∷◌, ◌++◌, length, Result, Ok, Err}
+use Rattle.std.specs.Prelude.{◌≡◌, ◌<◌, ◌≤◌, ℕ, suc, List, ◌∷◌, ◌++◌, length, Result, Ok, Err, Some}
 use Rattle.key_value.specs.Readable.{IsReadableAt}
 use Rattle.jsonb_spec.specs.SortKey.{key_of}
 use Rattle.jsonb_spec.specs.Tree.{Tree}
@@ -9,7 +9,7 @@ use Rattle.key_walk.specs.declared.part.Part.{Part}
 use Rattle.key_walk.specs.declared.part.Part.TheVariants as found
 use Rattle.key_walk.specs.declared.part.ScalarPart.{ScalarPart}
 use Rattle.key_walk.specs.Open.{Open, end_key, is_object, name_key, open_key, opening_byte, IsOpen, IsScalar}
-use Rattle.key_walk.specs.Parts.{opened_tree}
+use Rattle.key_walk.specs.Parts.{kind_of_tree, opened_tree}
 use Rattle.key_walk.specs.Steps.{IsOver, IsPart}
 
 -- It is over, and behind its end are these bytes.
@@ -43,6 +43,7 @@ pub record BeginsWithScalar (o : Open) (left : ℕ) (more bytes : List ℕ) (pas
   pub readable : IsReadableAt left value
   pub others_fit : IsOpen others left
   pub member : passed.is_member ≡ is_object o
+  pub kind_is : Some passed.kind ≡ kind_of_tree value
   pub tail : List ℕ
   pub begins : passed.value.now ≡ passed.first ∷ tail
   pub from : passed.part.now ≡ bytes

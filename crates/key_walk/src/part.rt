@@ -6,12 +6,15 @@ ghost use Rattle.key_walk.specs.Open.{Open, is_object, open_key, IsOpen};
 
 use crate::find::NoKey;
 use crate::skip::{after_end, after_name, after_scalar, opening};
+use crate::walk::{Kind, kind_of};
 
 /// A value that is neither an array nor an object.
 #[derive(Clone, Copy)]
 pub struct ScalarPart<'k> {
     /// Whether it is of a member.
     pub is_member: bool,
+    /// Its kind.
+    pub kind: Kind,
     /// The first byte of its key.
     pub first: u8,
     /// The bytes from the member's name on, or from the item on.
@@ -71,11 +74,15 @@ pub fn read_part(object: bool, bytes: &[u8]) -> Result<Part<'_>, NoKey>
             parts,
         }));
     }
+    let Some(kind) = kind_of(value) else {
+        return Err(NoKey);
+    };
     let Some(after) = after_scalar(value) else {
         return Err(NoKey);
     };
     Ok(Part::Scalar(ScalarPart {
         is_member: object,
+        kind,
         first: *first,
         part: bytes,
         value,

@@ -107,7 +107,20 @@ pub(crate) fn after_text(bytes: &[u8]) -> Option<&[u8]>
 {
     match split_text(bytes) {
         Some((_, rest)) => Some(rest),
-        None => after_any_text(bytes),
+        None => after_size(bytes, any_text_size(bytes)),
+    }
+}
+
+// How many bytes the key of a text takes that may have zeros; 0 where there is none.
+#[inline(never)]
+fn any_text_size(bytes: &[u8]) -> usize
+    ensures found { (text more : List ℕ) → bytes.now ≡ text_key text ++ more
+        → (0 < result) × (drop result bytes.now ≡ more) }
+    ensures within { result ≤ length bytes.now }
+{
+    match after_any_text(bytes) {
+        Some(others) => bytes.len() - others.len(),
+        None => 0,
     }
 }
 

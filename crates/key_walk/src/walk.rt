@@ -25,6 +25,7 @@ pub enum Kind {
 
 /// The kind of the value of JSON's kinds whose key the bytes begin with. It is determined by the first byte alone, so
 /// other bytes may have a kind too; `None` where no key of such a value begins with that byte.
+#[inline(always)]
 pub fn kind_of(key: &[u8]) -> Option<Kind>
     ensures kind { AtKey key.now (λ t more. result ≡ kind_of_tree t) }
     ensures none { (result ≡ None) ↔ BeginsNoKey key.now }

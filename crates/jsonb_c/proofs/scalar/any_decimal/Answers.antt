@@ -5,7 +5,7 @@ use Rattle.jsonb_c.specs.Scalars.{IsDecimal}
 use Rattle.jsonb_c.proofs.Decimals.{no_number, is_found, is_none}
 use Rattle.jsonb_c.proofs.KeyParts.{all_of_it}
 use Rattle.jsonb_c.proofs.Scalars.{has_kind}
-use Rattle.jsonb_c.proofs.scalar.vizhoniku_key_decimal.Goals as goal
+use Rattle.jsonb_c.proofs.scalar.any_decimal.Goals as goal
 
 pub returns-in_default-clause-decimal : goal.returns-in_default-clause-decimal
 returns-in_default-clause-decimal c = λ t k.
