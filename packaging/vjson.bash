@@ -7,18 +7,18 @@ _vjson() {
         return
     fi
     case $before in
-        --indent | --default | --by) return ;;
+        --indent | --default | --by | --down | --where | --has | --lacks) return ;;
     esac
     case $word in
         -*)
             words='--extended --extended-json --standard --progress --no-progress --help'
             case ${COMP_WORDS[1]} in
                 check) words="$words --lines --quiet" ;;
-                format) words="$words --lines --compact --indent --line-buffered" ;;
-                get) words="$words --lines --raw --default --line-buffered" ;;
-                sort) words="$words --lines --unique --reverse --by --check --canonical" ;;
+                format) words="$words --where --has --lacks --lines --compact --indent --line-buffered" ;;
+                get) words="$words --where --has --lacks --lines --raw --array --default --line-buffered" ;;
+                sort) words="$words --where --has --lacks --lines --unique --reverse --by --down --check --canonical" ;;
                 equal) words="$words --quiet" ;;
-                keys) words="$words --lines --by --canonical --line-buffered" ;;
+                keys) words="$words --where --has --lacks --lines --by --down --canonical --line-buffered" ;;
             esac
             mapfile -t COMPREPLY < <(compgen -W "$words" -- "$word")
             ;;

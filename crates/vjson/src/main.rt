@@ -8,7 +8,7 @@ use std::fs::File;
 use std::io::{BufReader, IsTerminal, Read, Write};
 use std::process::ExitCode;
 use std::rt::Env;
-use std::{env, io, mem};
+use std::{env, fs, io, mem};
 use vjson_run::options::{Asked, HELP, Options, Progress, read_words};
 use vjson_run::session::Session;
 
@@ -16,6 +16,10 @@ use vjson_run::session::Session;
 const BLOCK: usize = 1 << 16;
 
 const VERSION: &str = "vjson (Vizhoniku) 0.2.0";
+
+// What is said of a pointer that is the name of a file.
+const DOUBTFUL: &str =
+    "is a JSON Pointer here, and a file: write -- before files, or - for standard input";
 
 // The program's arguments without its own name.
 fn words(rt: &(impl Env + AllocGlobal)) -> io::Result<Vec<String>> {
@@ -89,6 +93,17 @@ fn run(rt: &HostRuntime, options: &Options) -> u8 {
     status
 }
 
+// Whether the last of several pointers may be meant as a file: no file is given, and there is one of this name.
+fn is_doubtful(rt: &HostRuntime, options: &Options, pointer: &str) -> bool {
+    if !options.files.is_empty() {
+        return false;
+    }
+    match fs::metadata(rt, pointer) {
+        Ok(metadata) => metadata.is_file(),
+        Err(_) => false,
+    }
+}
+
 fn main(rt: HostRuntime) -> ExitCode {
     let Ok(words) = words(&rt) else {
         let _ = writeln!(
@@ -107,6 +122,12 @@ fn main(rt: HostRuntime) -> ExitCode {
             ExitCode::SUCCESS
         }
         Ok(Asked::Run(mut options)) => {
+            if let Some(pointer) = &options.last_pointer {
+                if is_doubtful(&rt, &options, pointer.as_str()) {
+                    let _ = writeln!(rt.stderr(), "vjson: {pointer} {DOUBTFUL}");
+                    return ExitCode::from(2);
+                }
+            }
             // A person reads each line as it comes.
             if rt.stdout().is_terminal() {
                 options.block = 1;

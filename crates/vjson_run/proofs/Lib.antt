@@ -1,5 +1,6 @@
 pub mod Arranged
 pub mod Buffered
+pub mod Chosen
 pub mod Cuts
 pub mod Down
 pub mod Fed

@@ -1,56 +1,59 @@
 -- Texts that are in order aren't out of order.
-use Rattle.std.proofs.Common.{◌≡◌, inl, inr, ℕ, suc, ◌+◌, Bool, true, false, true≢false, List, [], ◌∷◌, ◌++◌, Option, Some, None, get_or, Ordering, Less, Equal, Greater, is_lt, refl, sym, ap, subst, ◌∙◌, arith}
+use Rattle.std.proofs.Common.{◌≡◌, inl, inr, ℕ, suc, ◌+◌, Bool, true, false, true≢false, List, [], ◌∷◌, ◌++◌, get_or, Ordering, Less, Equal, Greater, is_lt, refl, sym, ap, subst, ◌∙◌, arith}
 use Rattle.std.proofs.lemmas.List.Elements.{AllZip-get_or}
-use Rattle.std.specs.List.{AllZip}
+use Rattle.std.specs.List.{AllZip, flat_map}
 use Rattle.std.specs.List.Sorted.{IsSorted, IsStrictlySortedBy}
 use Rattle.std.specs.Ordering.{is_le, ordering_reverse}
 use Rattle.jsonb_spec.specs.PartAt.{part_at}
-use Rattle.jsonb_spec.specs.SortKey.{key_of}
 use Rattle.jsonb_spec.specs.Tree.{Tree}
 use Rattle.jsonb.proofs.Documents.Encodings.{document_unique}
 use Rattle.vjson_text.specs.Texts.{IsNoTextOf, IsTextOf}
 use Rattle.text_scan.specs.Answer.{grammar_of}
 use Rattle.text_scan.specs.declared.parser.Grammar.{Grammar}
 use Rattle.vjson_run.proofs.InOrder.{turned}
-use Rattle.vjson_run.specs.Answers.{HasPart, IsKeyOf, LacksPart, keys_of, no_key, part_key, whole_key}
+use Rattle.vjson_run.specs.Keys.{IsKeyBy, IsKeyOf, IsPiece, IsTurned, keys_of, part_key}
 use Rattle.vjson_run.specs.InOrder.{key_order, Ascend, may_follow, AreOutOfOrder, AreInOrder}
 use Rattle.vjson_run.specs.declared.options.Options.{Options}
+use Rattle.vjson_run.specs.declared.options.Part.{Part}
 
 -- ---- a text has one key
 
 one_tree : (g : Grammar) (text : List ℕ) (t u : Tree) → IsTextOf g text t → IsTextOf g text u → t ≡ u
 one_tree g text t u h k = document_unique (grammar_of g) text t u h k
 
-same_tree : (t u : Tree) → Some t ≡ Some u → t ≡ u
-same_tree t u e = cc
+turned_same : (key a b : List ℕ) → AllZip (λ byte turned. byte + turned ≡ 255) key a → AllZip (λ byte turned. byte + turned ≡ 255) key b → a ≡ b
+turned_same [] [] [] h k = refl
+turned_same [] [] (y ∷ b) h k = absurd k
+turned_same [] (x ∷ a) b h k = absurd h
+turned_same (byte ∷ key) [] b h k = absurd h
+turned_same (byte ∷ key) (x ∷ a) [] h k = absurd k
+turned_same (byte ∷ key) (x ∷ a) (y ∷ b) h k =
+    let same : x ≡ y = omega (arith, h.0, k.0) in
+    ap (λ n. n ∷ a) same ∙ ap (λ l. y ∷ l) (turned_same key a b h.1 k.1)
 
-no_path : {X : Type 0} (o : Option X) (x : X) → o ≡ None → o ≡ Some x → ⊥
-no_path o x p q = cc
+piece_same : (down : Bool) (key a b : List ℕ) → IsTurned down key a → IsTurned down key b → a ≡ b
+piece_same false key a b h k = h ∙ sym k
+piece_same true key a b h k = turned_same key a b h k
 
-one_part : (o : Options) (text : List ℕ) (part other : Tree) → HasPart o text part → HasPart o text other → part ≡ other
-one_part o text part other h k =
-    same_tree part other (sym h.there ∙ ap (part_at (keys_of o)) (one_tree o.grammar text h.tree k.tree h.is_text k.is_text) ∙ k.there)
+pieces_same : (t : Tree) (parts : List Part) (ps qs : List (List ℕ)) → AllZip (IsPiece t) parts ps → AllZip (IsPiece t) parts qs → ps ≡ qs
+pieces_same t [] [] [] h k = refl
+pieces_same t [] [] (b ∷ qs) h k = absurd k
+pieces_same t [] (a ∷ ps) qs h k = absurd h
+pieces_same t (part ∷ parts) [] qs h k = absurd h
+pieces_same t (part ∷ parts) (a ∷ ps) [] h k = absurd k
+pieces_same t (part ∷ parts) (a ∷ ps) (b ∷ qs) h k =
+    ap (λ x. x ∷ ps) (piece_same part.down (part_key (part_at (keys_of part.path) t)) a b h.0 k.0) ∙ ap (λ l. b ∷ l) (pieces_same t parts ps qs h.1 k.1)
 
-not_both : (o : Options) (text : List ℕ) (part : Tree) → HasPart o text part → LacksPart o text → ⊥
-not_both o text part h k =
-    no_path (part_at (keys_of o) k.tree) part k.lacks (ap (part_at (keys_of o)) (one_tree o.grammar text k.tree h.tree k.is_text h.is_text) ∙ h.there)
+by_same : (parts : List Part) (t : Tree) (k l : List ℕ) → IsKeyBy parts t k → IsKeyBy parts t l → k ≡ l
+by_same [] t k l h i = h ∙ sym i
+by_same (part ∷ parts) t k l h i = h.2 ∙ ap (flat_map (λ piece. piece)) (pieces_same t (part ∷ parts) h.0 i.0 h.1 i.1) ∙ sym i.2
 
 one_key : (o : Options) (text k l : List ℕ) → IsKeyOf o text k → IsKeyOf o text l → k ≡ l
-one_key o text k l (whole_key none h) (whole_key other i) = h.appended ∙ ap key_of (one_tree o.grammar text h.tree i.tree h.is_text i.is_text) ∙ sym i.appended
-one_key o text k l (whole_key none h) (part_key path part is i e) = absurd (no_path o.pointer path none is)
-one_key o text k l (whole_key none h) (no_key path is i e) = absurd (no_path o.pointer path none is)
-one_key o text k l (part_key path part is h e) (whole_key none i) = absurd (no_path o.pointer path none is)
-one_key o text k l (part_key path part is h e) (part_key way other there i f) = e ∙ ap key_of (one_part o text part other h i) ∙ sym f
-one_key o text k l (part_key path part is h e) (no_key way there i f) = absurd (not_both o text part h i)
-one_key o text k l (no_key path is h e) (whole_key none i) = absurd (no_path o.pointer path none is)
-one_key o text k l (no_key path is h e) (part_key way other there i f) = absurd (not_both o text other i h)
-one_key o text k l (no_key path is h e) (no_key way there i f) = e ∙ sym f
+one_key o text k l h i = by_same o.by.items i.tree k l (subst (λ t. IsKeyBy o.by.items t k) (one_tree o.grammar text h.tree i.tree h.is_text i.is_text) h.is_key) i.is_key
 
 -- a text with a key is one of the grammar
 is_one : (o : Options) (text key : List ℕ) → IsKeyOf o text key → IsNoTextOf o.grammar text → ⊥
-is_one o text key (whole_key none h) rejected = rejected h.tree h.is_text
-is_one o text key (part_key path part is h e) rejected = rejected h.tree h.is_text
-is_one o text key (no_key path is h e) rejected = rejected h.tree h.is_text
+is_one o text key h rejected = rejected h.tree h.is_text
 
 -- ---- neighbours in order
 

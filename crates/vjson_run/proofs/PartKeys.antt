@@ -43,7 +43,7 @@ mutual
   members_deeper (more_members k t ms) depth w = (deeper t depth w.0, members_deeper ms depth w.1)
 
 -- in range at this depth, and well-formed
-abbrev IsSound : ℕ → Tree → Type 0
+abbrev pub IsSound : ℕ → Tree → Type 0
 IsSound depth t = IsWithin HasFewDigits t depth × IsProper t
 
 same_tree : (t u : Tree) → Some t ≡ Some u → t ≡ u
@@ -79,7 +79,7 @@ child_sound key (array ts) u zero e s = absurd s.0
 child_sound key (array ts) u (suc depth) e s = raised depth u (named_sound ts (index_named key) u depth e s.0 s.1)
 child_sound key t u depth e s = absurd (no_tree u e)
 
-part_sound : (keys : List (List ℕ)) (t part : Tree) (depth : ℕ) → part_at keys t ≡ Some part → IsSound depth t → IsSound depth part
+pub part_sound : (keys : List (List ℕ)) (t part : Tree) (depth : ℕ) → part_at keys t ≡ Some part → IsSound depth t → IsSound depth part
 part_sound [] t part depth e s = subst (IsSound depth) (same_tree t part e) s
 part_sound (key ∷ keys) t part depth e s = by (child_at key t) e (λ u child at. part_sound keys u part depth at (child_sound key t u depth child s))
   where
@@ -94,7 +94,7 @@ in_range extended t p w = w
 in_range json t p w = w
 in_range extended_json t p w = w
 
-text_sound : (g : Grammar) (text : List ℕ) (t : Tree) → IsTextOf g text t → IsSound max_depth t
+pub text_sound : (g : Grammar) (text : List ℕ) (t : Tree) → IsTextOf g text t → IsSound max_depth t
 text_sound g text t h = let r = document_in_range (grammar_of g) text t h in (in_range (grammar_of g) t r.1 r.0, r.1)
 
 pub part_key_is : (g : Grammar) (text : List ℕ) (t part : Tree) (keys : List (List ℕ)) (bytes key : List ℕ) → IsTextOf g text t → part_at keys t ≡ Some part → text_of part ≡ Some bytes → AppendsKeyOf Extended bytes [] key → key ≡ key_of part

@@ -9,7 +9,7 @@ use Rattle.std.specs.List.{flat_map, list_all}
 use Rattle.vjson_text.specs.Texts.{AppendsKeyOf, IsNoTextOf}
 use Rattle.vjson_run.proofs.InOrder.{disordered_more, in_order_more, out_of_order, rejected_order}
 use Rattle.vjson_run.proofs.Lists.{any_before, any_last, zipped_more}
-use Rattle.vjson_run.specs.Answers.{Answers, IsFound, IsLaidOut, IsOne, LacksPart, Prints, PrintsKeyed, asked, checked, checks_order, found, keyed, lacking, laid_out, printed, rejected}
+use Rattle.vjson_run.specs.Answers.{Answers, IsFound, IsLaidOut, IsOne, LacksSome, Prints, PrintsKeyed, asked, checked, checks_order, found, keyed, lacking, laid_out, printed, rejected}
 use Rattle.vjson_run.specs.InOrder.{AreInOrderSoFar, is_wrong}
 use Rattle.vjson_run.specs.Lines.{key_line}
 use Rattle.vjson_run.specs.Output.{output, PrintsNothing, PrintsPart}
@@ -204,7 +204,7 @@ module _ {W E : Type 0} (contents : W → Option (List ℕ)) where
 
   got : (s t : Session W E) (text : List ℕ) (good : Bool) → s.options.now.command ≡ Get → Gets s text t
       → MatchBool good (Prints (IsFound s.options.now text) s.out.bytes.items t.out.bytes.items × (t.status ≡ s.status))
-      (LacksPart s.options.now text × (s.options.now.default ≡ None) × (t.out.bytes.items ≡ s.out.bytes.items) × (t.status ≡ denied s.status))
+      (LacksSome s.options.now text × (s.options.now.default ≡ None) × (t.out.bytes.items ≡ s.out.bytes.items) × (t.status ≡ denied s.status))
       → Takes contents s (text ∷ []) t
   got s t text true is h part =
       takes_answered s t true (printed part.0.bytes) text (gets_moves s t text true (printed part.0.bytes) h part.1 part.0.appended) (subst IsByText (sym is) tt) (found part.0.bytes is part.0.is_printed)
@@ -466,11 +466,6 @@ module _ {W E : Type 0} (contents : W → Option (List ℕ)) where
       subst (λ texts. Made start texts t t.options.now.command) (sym (append-nil before))
       (subst (λ o. Made start before t o.now.command) (sym h.retained.options)
       (made_same s.options.now.command s t start before h (had (λ e. calm (h.retained.status ∙ e)) (sym h.retained.error ∙ fine))))
-
-  -- an error of a text that is none is one
-  pub error_taken : (s t u : Session W E) (text : List ℕ) → IsNoTextOf s.options.now.grammar text × IsSame s t → (IsNoTextOf t.options.now.grammar text → Takes contents t (text ∷ []) u) → Takes contents s (text ∷ []) u
-  error_taken s t u text h rejects =
-      takes_then s t u [] (text ∷ []) (same_taken s t h.1) (rejects (subst (λ o. IsNoTextOf o.now.grammar text) (sym h.1.retained.options) h.0))
 
   over_made : (command : Command) (check : Bool) (t : Session W E) (start : Option (List ℕ)) (texts more : List (List ℕ)) → t.over ≡ true → t.options.now.check ≡ check → Made start texts t command → Made start (texts ++ more) t command
   over_made Equal check t start texts more over is had = (

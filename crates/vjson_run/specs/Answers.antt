@@ -1,16 +1,15 @@
 -- What a command makes of one text: yes or no, and the part of the output that is the text's.
-use Rattle.std.specs.Prelude.{◌≡◌, ℕ, Bool, true, false, if◌then◌else◌, List, [], ◌∷◌, ◌++◌, map, None, Some, Option, string_bytes, String, MatchBool, Vec, unwrap_or}
+use Rattle.std.specs.Prelude.{◌≡◌, ℕ, nat_lt, ◌==◌, Bool, true, false, if◌then◌else◌, List, [], ◌∷◌, ◌++◌, drop, length, map, None, Some, Option, string_bytes, String, MatchBool, Vec, unwrap_or}
+use Rattle.std.specs.List.{AllZip, Any, flat_map}
 use Rattle.std.specs.declared.alloc.Global.{Global}
 use Rattle.jsonb_spec.specs.Ascii as ascii
-use Rattle.jsonb_spec.specs.PartAt.{part_at}
-use Rattle.jsonb_spec.specs.SortKey.{key_of}
-use Rattle.jsonb_spec.specs.Text.{text_of}
 use Rattle.jsonb_spec.specs.Tree.{Tree}
-use Rattle.vjson_text.specs.Texts.{AppendsKeyOf, AppendsTextOf, IsTextOf, IsNoTextOf}
+use Rattle.vjson_text.specs.Texts.{AppendsTextOf, IsTextOf, IsNoTextOf}
 use Rattle.vjson_text.specs.Raw.{IsRaw}
 use Rattle.text_scan.specs.declared.parser.Grammar.{Grammar}
 use Rattle.vjson_text.specs.declared.reader.Layout.{Layout}
 use Rattle.vjson_text.specs.declared.reader.Layout.TheVariants.{Compact, Indent}
+use Rattle.vjson_run.specs.Keys.{IsKeyOf, IsPartOf, LacksPart, keys_of}
 use Rattle.vjson_run.specs.Lines.{key_line}
 use Rattle.vjson_run.specs.declared.options.Command.{Command}
 use Rattle.vjson_run.specs.declared.options.Command.TheVariants.{Check, Format, Get, Sort, Keys}
@@ -37,55 +36,78 @@ checks_order options = asked options.command options.check
 abbrev pub layout_of : Options → Layout
 layout_of options = unwrap_or options.layout (if options.lines then Compact else Indent 2)
 
--- the steps of the path, if there is one
-abbrev pub path_of : Option (Vec (String Global) Global) → List (String Global)
-path_of None = []
-path_of (Some path) = path.items
+-- the keys of the first path, if there is one
+abbrev pub first_keys : List (Vec (String Global) Global) → List (List ℕ)
+first_keys [] = []
+first_keys (path ∷ paths) = keys_of path
 
--- the keys of the path at which a part is asked for
-abbrev pub keys_of : Options → List (List ℕ)
-keys_of options = map string_bytes (path_of options.pointer)
+-- the paths at which `get` asks for parts: that of the whole where none is given
+abbrev pub paths_of : Options → List (List (List ℕ))
+paths_of options = first_keys options.paths.items ∷ map keys_of (drop 1 options.paths.items)
 
 -- What `format` prints: the text laid out.
 abbrev pub IsLaidOut : Options → List ℕ → List ℕ → Type 0
 IsLaidOut options text bytes = AppendsTextOf options.grammar (layout_of options) text [] bytes
 
+-- the letter by which a cell has what ends cells and lines, and a backslash
+abbrev pub cell_letter : ℕ → Option ℕ
+cell_letter byte =
+    if byte == ascii.tab then Some ascii.lower_t
+    else if byte == ascii.line_feed then Some ascii.lower_n
+    else if byte == ascii.carriage_return then Some ascii.lower_r
+    else if byte == ascii.backslash then Some ascii.backslash
+    else None
+
+-- a byte of a cell: that letter behind a backslash, or the byte
+abbrev pub lettered : ℕ → Option ℕ → List ℕ
+lettered byte None = byte ∷ []
+lettered byte (Some letter) = ascii.backslash ∷ letter ∷ []
+
+abbrev pub cell_byte : ℕ → List ℕ
+cell_byte byte = lettered byte (cell_letter byte)
+
+-- one part alone as it is, and of several each as a cell
+abbrev pub cell_of : Options → List ℕ → List ℕ
+cell_of options bytes = if nat_lt (length options.paths.items) 2 then bytes else flat_map cell_byte bytes
+
+-- the serialized form of a part, without quotes and escapes
+pub record IsRawCell (options : Options) (part bytes : List ℕ) : Type 0 where
+  pub raw : List ℕ
+  pub is_raw : IsRaw part raw
+  pub cell : bytes ≡ cell_of options raw
+
 -- What `get` prints of the serialized form of a part: that, or with `--raw` the characters of a string.
 abbrev pub IsShown : Options → List ℕ → List ℕ → Type 0
-IsShown options part bytes = MatchBool options.raw (IsRaw part bytes) (bytes ≡ part)
+IsShown options part bytes = MatchBool options.raw (IsRawCell options part bytes) (bytes ≡ part)
 
--- The text is one of the grammar, and this is the serialized form of its part at the path.
-pub record IsPartOf (options : Options) (text bytes : List ℕ) : Type 0 where
-  pub tree : Tree
-  pub is_text : IsTextOf options.grammar text tree
-  pub part : Tree
-  pub there : part_at (keys_of options) tree ≡ Some part
-  pub is_part : text_of part ≡ Some bytes
+-- What `get` prints for a path: the text's part there, or the default where it has none.
+pub data IsCell (options : Options) (text : List ℕ) (keys : List (List ℕ)) (bytes : List ℕ) : Type 0 where
+  shown_part : (part : List ℕ) → IsPartOf options.grammar keys text part → IsShown options part bytes → IsCell options text keys bytes
+  given_default : (given : String Global) → LacksPart options.grammar keys text → options.default ≡ Some given
+      → bytes ≡ string_bytes given → IsCell options text keys bytes
 
--- The text is one of the grammar, and has no part at the path.
-pub record LacksPart (options : Options) (text : List ℕ) : Type 0 where
-  pub tree : Tree
-  pub is_text : IsTextOf options.grammar text tree
-  pub lacks : part_at (keys_of options) tree ≡ None
+-- between two parts: a tab, or in an array a comma
+abbrev pub separator : Bool → ℕ
+separator array = if array then ascii.comma else ascii.tab
 
--- What `get` prints of a text: its part, or the default where it has none.
-pub data IsFound (options : Options) (text bytes : List ℕ) : Type 0 where
-  shown_part : (part : List ℕ) → IsPartOf options text part → IsShown options part bytes → IsFound options text bytes
-  given_default : (given : String Global) → LacksPart options text → options.default ≡ Some given → bytes ≡ string_bytes given
-      → IsFound options text bytes
+-- each cell behind a separator
+abbrev pub separated : Bool → List (List ℕ) → List ℕ
+separated array cells = flat_map (λ cell. separator array ∷ cell) cells
 
--- The text is one of the grammar, and this is its part at the path.
-pub record HasPart (options : Options) (text : List ℕ) (part : Tree) : Type 0 where
-  pub tree : Tree
-  pub is_text : IsTextOf options.grammar text tree
-  pub there : part_at (keys_of options) tree ≡ Some part
+-- the cells between separators, or with `--array` between brackets
+abbrev pub row_of : Bool → List ℕ → List ℕ
+row_of array bytes =
+    if array then ascii.open_bracket ∷ (drop 1 bytes ++ ascii.close_bracket ∷ []) else drop 1 bytes
 
--- The key that a text is sorted by: its value's; or, by a part, the part's, and no bytes where there is no such part.
-pub data IsKeyOf (options : Options) (text key : List ℕ) : Type 0 where
-  whole_key : options.pointer ≡ None → AppendsKeyOf options.grammar text [] key → IsKeyOf options text key
-  part_key : (path : Vec (String Global) Global) (part : Tree) → options.pointer ≡ Some path → HasPart options text part
-      → key ≡ key_of part → IsKeyOf options text key
-  no_key : (path : Vec (String Global) Global) → options.pointer ≡ Some path → LacksPart options text → key ≡ [] → IsKeyOf options text key
+-- What `get` prints of a text: a row with a cell for each path.
+pub record IsFound (options : Options) (text bytes : List ℕ) : Type 0 where
+  pub cells : List (List ℕ)
+  pub each : AllZip (IsCell options text) (paths_of options) cells
+  pub row : bytes ≡ row_of options.array (separated options.array cells)
+
+-- The text is one of the grammar, and lacks a part that is asked for.
+abbrev pub LacksSome : Options → List ℕ → Type 0
+LacksSome options text = Any (λ keys. LacksPart options.grammar keys text) (paths_of options)
 
 -- The line of a text that is sorted: the text itself, or with `--canonical` its serialized form.
 abbrev pub IsLineText : Options → List ℕ → List ℕ → Type 0
@@ -102,6 +124,18 @@ pub record Prints (IsPrinted : List ℕ → Type 0) (old new : List ℕ) : Type 
   pub bytes : List ℕ
   pub is_printed : IsPrinted bytes
   pub appended : new ≡ old ++ printed bytes
+
+-- new is old with what is shown at its end
+pub record AppendsOne (IsOneOf : List ℕ → Type 0) (old new : List ℕ) : Type 0 where
+  pub bytes : List ℕ
+  pub is_one : IsOneOf bytes
+  pub appended : new ≡ old ++ bytes
+
+-- new is old with what `get` prints for a path at its end, behind a separator
+pub record AppendsCell (options : Options) (keys : List (List ℕ)) (text old new : List ℕ) : Type 0 where
+  pub cell : List ℕ
+  pub is_cell : IsCell options text keys cell
+  pub appended : new ≡ old ++ separator options.array ∷ cell
 
 -- new is old with the text's line at its end
 pub record AppendsLine (options : Options) (text old new : List ℕ) : Type 0 where
@@ -121,7 +155,7 @@ pub data Answers (options : Options) (text : List ℕ) : Bool → List ℕ → T
   checked : options.command ≡ Check → IsOne options.grammar text → Answers options text true []
   laid_out : (bytes : List ℕ) → options.command ≡ Format → IsLaidOut options text bytes → Answers options text true (printed bytes)
   found : (bytes : List ℕ) → options.command ≡ Get → IsFound options text bytes → Answers options text true (printed bytes)
-  lacking : options.command ≡ Get → LacksPart options text → options.default ≡ None → Answers options text false []
+  lacking : options.command ≡ Get → LacksSome options text → options.default ≡ None → Answers options text false []
   keyed : (key line : List ℕ) → options.command ≡ Keys → IsKeyed options text key line → Answers options text true (key_line key line)
   rejected : IsNoTextOf options.grammar text → Answers options text false []
 

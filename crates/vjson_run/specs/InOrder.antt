@@ -7,7 +7,7 @@ use Rattle.std.specs.declared.alloc.Global.{Global}
 use Rattle.std.specs.declared.cmp.Ordering.{Ordering}
 use Rattle.jsonb_spec.specs.Order.{bytes_cmp}
 use Rattle.vjson_text.specs.Texts.{IsNoTextOf}
-use Rattle.vjson_run.specs.Answers.{IsKeyOf}
+use Rattle.vjson_run.specs.Keys.{IsKeyOf}
 use Rattle.vjson_run.specs.declared.options.Options.{Options}
 
 -- the order of keys: byte by byte, or the reverse

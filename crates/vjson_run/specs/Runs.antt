@@ -4,9 +4,11 @@ use Rattle.std.specs.Io.KnownBytes.{Appends}
 use Rattle.std.specs.List.{All, AllZip, Any, filter, flat_map, list_all}
 use Rattle.std.specs.declared.alloc.Global.{Global}
 use Rattle.vjson_text.specs.Texts.{AppendsKeyOf, IsNoTextOf}
-use Rattle.vjson_run.specs.Answers.{Answers, IsFound, IsKeyOf, IsKeyed, LacksPart, Prints}
+use Rattle.vjson_run.specs.Answers.{Answers, IsFound, IsKeyed, LacksSome, Prints}
+use Rattle.vjson_run.specs.Chosen.{Chooses}
 use Rattle.vjson_run.specs.Input.{is_blank_line, without_end}
 use Rattle.vjson_run.specs.InOrder.{AreInOrder, AreInOrderSoFar, is_wrong}
+use Rattle.vjson_run.specs.Keys.{IsKeyOf}
 use Rattle.vjson_run.specs.Lines.{IsArranged, line_text}
 use Rattle.vjson_run.specs.Output.{PrintsPart, output}
 use Rattle.vjson_run.specs.declared.lines.Line.{Line}
@@ -153,7 +155,7 @@ pub record Gets {W E : Type 0} (s : Session W E) (text : List ℕ) (t : Session 
   pub good : Bool
   pub part : MatchBool good
       (Prints (IsFound s.options.now text) s.out.bytes.items t.out.bytes.items × (t.status ≡ s.status))
-      (LacksPart s.options.now text × (s.options.now.default ≡ None) × (t.out.bytes.items ≡ s.out.bytes.items)
+      (LacksSome s.options.now text × (s.options.now.default ≡ None) × (t.out.bytes.items ≡ s.out.bytes.items)
       × (t.status ≡ denied s.status))
 
 module _ {W E : Type 0} (contents : W → Option (List ℕ)) where
@@ -177,6 +179,10 @@ module _ {W E : Type 0} (contents : W → Option (List ℕ)) where
   -- After what s had taken, t has taken these texts too.
   abbrev pub Takes : Session W E → List (List ℕ) → Session W E → Type 0
   Takes s texts t = (start : Option (List ℕ)) (before : List (List ℕ)) → HasTaken start before s → HasTaken start (before ++ texts) t
+
+  -- After what s had taken, t has taken those of the texts that aren't left out.
+  abbrev pub TakesChosen : Session W E → List (List ℕ) → Session W E → Type 0
+  TakesChosen s texts t = (chosen : List ℕ → Bool) → Chooses s.options.now chosen → Takes s (filter chosen texts) t
 
 -- What the command prints of the texts, from start to end of the output, and whether its status is yes.
 abbrev pub IsDone : Options → List (List ℕ) → Option (List ℕ) → Option (List ℕ) → Bool → Command → Type 0

@@ -5,7 +5,7 @@ use Rattle.text_scan.specs.Answer.{MayAllocate}
 use Rattle.text_scan.specs.declared.parser.Grammar.{Grammar}
 use Rattle.vjson_text.specs.Texts.{IsNoTextOf}
 use Rattle.vjson_run.specs.Answers.{IsOne}
-use Rattle.vjson_run.specs.Runs.{Takes, sorts}
+use Rattle.vjson_run.specs.Runs.{TakesChosen, sorts}
 use Rattle.vjson_run.specs.declared.options.Command.{Command}
 use Rattle.vjson_run.specs.declared.options.Command.TheVariants.{Check, Equal}
 use Rattle.vjson_run.specs.declared.options.Options.{Options}
@@ -36,8 +36,8 @@ pub record Troubles {W E : Type 0} (s : Session W E) (texts : List (List ℕ)) (
 abbrev pub MayTroubleAtEnd : {W E : Type 0} → Session W E → Output W → Type 0
 MayTroubleAtEnd s out = (out.error ≢ None) ⊎ (sorts s ≡ true)
 
--- After what s had taken, t has taken these texts too, and it is in trouble only so.
+-- After what s had taken, t has taken those of these texts that aren't left out, and it is in trouble only so.
 pub record Advances {W E : Type 0} (contents : W → Option (List ℕ)) (s : Session W E) (texts : List (List ℕ))
     (t : Session W E) : Type 0 where
-  pub takes : Takes contents s texts t
+  pub takes : TakesChosen contents s texts t
   pub troubles : Troubles s texts t

@@ -1,25 +1,36 @@
 //! What the commands answer to one text, and print of it.
 
-ghost use Rattle.std.specs.Prelude.{◌≡◌, ◌≢◌, ◌⊎◌, [], false, map, string_bytes, IfOk, IfErr, OnOk, MatchBool, Err, None};
+ghost use Rattle.std.specs.Prelude.{◌≡◌, ◌≢◌, ◌⊎◌, ◌++◌, ◌∷◌, [], false, drop, map, string_bytes, ℕ, Bool, List, IfOk, IfErr, OnOk, MatchBool, Err, None};
+ghost use Rattle.std.specs.List.{flat_map};
 ghost use Rattle.vjson_text.specs.Texts.{AppendsKeyOf, AppendsPartOf, Rejects};
 ghost use Rattle.text_scan.specs.declared.parser.Grammar.{Grammar};
-ghost use Rattle.vjson_run.specs.Trouble.{MayTakeMemory};
+ghost use Rattle.vjson_run.specs.Trouble.{MayRunOutBy, MayTakeMemory};
 ghost use Rattle.vjson_run.specs.Answers.{
+  AppendsCell,
   AppendsLine,
+  AppendsOne,
   IsFound,
-  IsKeyOf,
   IsLaidOut,
   IsShown,
-  LacksPart,
+  LacksSome,
   Prints,
   PrintsKeyed,
+  cell_byte,
+  cell_letter,
+  first_keys,
   layout_of,
-  path_of,
+  printed,
+  row_of,
+  separator,
 };
+ghost use Rattle.vjson_run.specs.Chosen.{Chooses, Holds, IsLeftOut, allows, leaves_out};
+ghost use Rattle.vjson_run.specs.declared.options.Options.{Options};
+ghost use Rattle.vjson_run.specs.Keys.{AppendsPiece, AppendsTurned, HasPartKey, IsKeyOf, LacksPart, keys_of};
 
-use crate::lines::append_key_line;
-use crate::options::Options;
+use crate::lines::{append_key_line, append_line as append_row};
+use crate::options::{Command, Condition, Options, Part};
 use std::alloc::{AllocError, Global};
+use std::cmp::Ordering;
 use vjson_text::{Fault, Grammar, Layout};
 
 /// Buffers that serve one text after the other.
@@ -27,6 +38,10 @@ use vjson_text::{Fault, Grammar, Layout};
 pub struct Buffers {
     // The serialized form of a part.
     part: Vec<u8>,
+    // What is printed of several parts.
+    row: Vec<u8>,
+    // The key of a part.
+    part_key: Vec<u8>,
     /// A key.
     pub key: Vec<u8>,
 }
@@ -36,6 +51,8 @@ impl Buffers {
     pub fn new(alloc: Global) -> Buffers {
         Buffers {
             part: Vec::new(alloc),
+            row: Vec::new(alloc),
+            part_key: Vec::new(alloc),
             key: Vec::new(alloc),
         }
     }
@@ -83,6 +100,7 @@ fn find_part(
     buffers: &mut Buffers,
 ) -> Result<bool, Fault>
     ensures ok { IfOk result (λ found. AppendsPartOf grammar (map string_bytes path.now) text.now [] buffers.new.part.items found) }
+    ensures others { buffers.new ≡ record buffers.old { part = buffers.new.part } }
     ensures rejected { Rejects grammar text.now result }
     ensures memory { result ≡ Err Fault.NoMemory → MayTakeMemory grammar text.now }
 {
@@ -90,21 +108,136 @@ fn find_part(
     vjson_text::append_part(alloc, grammar, path, text, &mut buffers.part)
 }
 
-// Prints what `get` prints of the serialized form of a part.
-fn show(alloc: Global, options: &Options, part: &[u8], out: &mut Vec<u8>) -> Result<(), Fault>
-    ensures ok { OnOk result (Prints (IsShown options.now part.now) out.old.items out.new.items) }
-    ensures memory { IfErr result (λ f. f ≡ Fault.NoMemory) }
+// The letter by which a cell has what ends cells and lines, and a backslash.
+fn cell_letter(byte: u8) -> Option<u8>
+    ensures { result ≡ cell_letter byte }
 {
-    if options.raw {
-        vjson_text::append_raw(alloc, part, out)?;
-    } else {
-        out.extend_from_slice(part)?;
+    match byte {
+        b'\t' => Some(b't'),
+        b'\n' => Some(b'n'),
+        b'\r' => Some(b'r'),
+        b'\\' => Some(b'\\'),
+        _ => None,
     }
-    out.push(b'\n')?;
+}
+
+// Appends a byte of a cell.
+fn append_cell_byte(byte: u8, row: &mut Vec<u8>) -> Result<(), AllocError>
+    ensures ok { OnOk result (row.new.items ≡ row.old.items ++ cell_byte byte) }
+{
+    let Some(letter) = cell_letter(byte) else {
+        row.push(byte)?;
+        return Ok(());
+    };
+    row.extend_from_slice(&[b'\\', letter])
+}
+
+// Appends bytes as a cell.
+fn append_cell_bytes(bytes: &[u8], row: &mut Vec<u8>) -> Result<(), AllocError>
+    ensures ok { OnOk result (row.new.items ≡ row.old.items ++ flat_map cell_byte bytes.now) }
+{
+    'bytes: for byte in bytes {
+        append_cell_byte(*byte, row)?;
+    }
     Ok(())
 }
 
-/// Prints the text's part, or the default where it has none. False where there is no default either.
+// Appends what `get` prints of the serialized form of a part.
+fn append_shown(
+    alloc: Global,
+    options: &Options,
+    part: &[u8],
+    row: &mut Vec<u8>,
+) -> Result<(), Fault>
+    ensures ok { OnOk result (AppendsOne (IsShown options.now part.now) row.old.items row.new.items) }
+    ensures memory { IfErr result (λ f. f ≡ Fault.NoMemory) }
+{
+    if !options.raw {
+        row.extend_from_slice(part)?;
+        return Ok(());
+    }
+    if options.paths.len() < 2 {
+        return vjson_text::append_raw(alloc, part, row);
+    }
+    let mut raw = Vec::new(alloc);
+    vjson_text::append_raw(alloc, part, &mut raw)?;
+    append_cell_bytes(&raw, row)?;
+    Ok(())
+}
+
+// What is between two parts.
+fn separator(array: bool) -> u8
+    ensures { result ≡ separator array }
+{
+    if array { b',' } else { b'\t' }
+}
+
+// Appends the text's part at the path, or the default, to the row, behind a separator. False where there is neither.
+fn append_cell(
+    alloc: Global,
+    options: &Options,
+    path: &[String],
+    text: &[u8],
+    buffers: &mut Buffers,
+) -> Result<bool, Fault>
+    ensures ok { IfOk result (λ found. MatchBool found
+        (AppendsCell options.now (map string_bytes path.now) text.now buffers.old.row.items buffers.new.row.items)
+        (LacksPart options.now.grammar (map string_bytes path.now) text.now × (options.now.default ≡ None))) }
+    ensures rejected { Rejects options.now.grammar text.now result }
+    ensures memory { result ≡ Err Fault.NoMemory → MayTakeMemory options.now.grammar text.now }
+{
+    let found = find_part(alloc, options.grammar, path, text, buffers)?;
+    if found {
+        buffers.row.push(separator(options.array))?;
+        append_shown(alloc, options, &buffers.part, &mut buffers.row)?;
+        return Ok(true);
+    }
+    let Some(default) = &options.default else {
+        return Ok(false);
+    };
+    buffers.row.push(separator(options.array))?;
+    buffers.row.extend_from_slice(default.as_bytes())?;
+    Ok(true)
+}
+
+// The first path at which a part is asked for: that of the whole where none is.
+fn first_path(options: &Options) -> &[String]
+    ensures { map string_bytes result.now ≡ first_keys options.now.paths.items }
+{
+    match options.paths.first() {
+        Some(path) => path,
+        None => &[],
+    }
+}
+
+// The other paths.
+fn other_paths(options: &Options) -> &[Vec<String>]
+    ensures { result.now ≡ drop 1 options.now.paths.items }
+{
+    match options.paths.as_slice() {
+        [_, others @ ..] => others,
+        [] => &[],
+    }
+}
+
+// Prints a row, each cell of which is behind a separator.
+fn print_row(array: bool, row: &[u8], out: &mut Vec<u8>) -> Result<(), AllocError>
+    ensures ok { OnOk result (out.new.items ≡ out.old.items ++ printed (row_of array row.now)) }
+{
+    let cells = match row {
+        [_, cells @ ..] => cells,
+        [] => &[],
+    };
+    if !array {
+        return append_row(cells, out);
+    }
+    out.push(b'[')?;
+    out.extend_from_slice(cells)?;
+    append_row(b"]", out)
+}
+
+/// Prints the text's parts, or the default where it has none, on a line. False where a part is missing and there is no
+/// default.
 ///
 /// # Errors
 ///
@@ -117,32 +250,24 @@ pub fn get(
     out: &mut Vec<u8>,
 ) -> Result<bool, Fault>
     ensures ok { IfOk result (λ found. MatchBool found (Prints (IsFound options.now text.now) out.old.items out.new.items)
-        (LacksPart options.now text.now × (options.now.default ≡ None) × (out.new.items ≡ out.old.items))) }
+        (LacksSome options.now text.now × (options.now.default ≡ None) × (out.new.items ≡ out.old.items))) }
     ensures err { IfErr result (λ f. f ≢ Fault.NoMemory → out.new.items ≡ out.old.items) }
     ensures rejected { Rejects options.now.grammar text.now result }
     ensures memory { result ≡ Err Fault.NoMemory → MayTakeMemory options.now.grammar text.now }
 {
-    let path = path_of(options);
-    if find_part(alloc, options.grammar, path, text, buffers)? {
-        show(alloc, options, &buffers.part, out)?;
-        return Ok(true);
-    }
-    let Some(default) = &options.default else {
+    buffers.row.clear();
+    let found = append_cell(alloc, options, first_path(options), text, buffers)?;
+    if !found {
         return Ok(false);
-    };
-    out.extend_from_slice(default.as_bytes())?;
-    out.push(b'\n')?;
-    Ok(true)
-}
-
-// The path at which a part is asked for: that of the whole where none is.
-fn path_of(options: &Options) -> &[String]
-    ensures { result.now ≡ path_of options.now.pointer }
-{
-    match &options.pointer {
-        Some(path) => path,
-        None => &[],
     }
+    'paths: for path in other_paths(options) {
+        let found = append_cell(alloc, options, path, text, buffers)?;
+        if !found {
+            return Ok(false);
+        }
+    }
+    print_row(options.array, &buffers.row, out)?;
+    Ok(true)
 }
 
 /// Puts the key of the text's value instead of the one in the buffers.
@@ -180,27 +305,150 @@ pub fn make_key(
     ensures memory { result ≡ Err Fault.NoMemory → MayTakeMemory options.now.grammar text.now }
 {
     let grammar = options.grammar;
-    let Some(path) = &options.pointer else {
+    let Some((first, others)) = options.by.split_first() else {
         return make_whole_key(alloc, grammar, text, buffers);
     };
-    if find_part(alloc, grammar, path, text, buffers)? {
-        make_part_key(alloc, buffers)?;
-        return Ok(());
-    }
     buffers.key.clear();
+    append_piece(alloc, grammar, first, text, buffers)?;
+    'parts: for part in others {
+        append_piece(alloc, grammar, part, text, buffers)?;
+    }
     Ok(())
 }
 
-// Puts the key of the part in the buffers, which is a text of extended mode, instead of the one that is there.
-fn make_part_key(alloc: Global, buffers: &mut Buffers) -> Result<(), AllocError>
-    ensures ok { OnOk result (AppendsKeyOf Grammar.Extended buffers.old.part.items [] buffers.new.key.items) }
+// Appends what a part that lines are sorted by has in the text's key.
+fn append_piece(
+    alloc: Global,
+    grammar: Grammar,
+    part: &Part,
+    text: &[u8],
+    buffers: &mut Buffers,
+) -> Result<(), Fault>
+    ensures ok { OnOk result (AppendsPiece grammar part.now text.now buffers.old.key.items buffers.new.key.items) }
+    ensures rejected { Rejects grammar text.now result }
+    ensures memory { result ≡ Err Fault.NoMemory → MayTakeMemory grammar text.now }
 {
-    buffers.key.clear();
-    match vjson_text::append_key(alloc, Grammar::Extended, &buffers.part, &mut buffers.key) {
-        Ok(()) => Ok(()),
-        Err(_) => Err(AllocError),
+    make_part_key(alloc, grammar, &part.path, text, buffers)?;
+    append_turned(&buffers.part_key, part.down, &mut buffers.key)?;
+    Ok(())
+}
+
+// Appends the bytes, or downwards each turned round.
+fn append_turned(bytes: &[u8], down: bool, out: &mut Vec<u8>) -> Result<(), AllocError>
+    ensures ok { OnOk result (AppendsTurned down bytes.now out.old.items out.new.items) }
+{
+    if !down {
+        return out.extend_from_slice(bytes);
+    }
+    'bytes: for byte in bytes {
+        out.push(255 - *byte)?;
+    }
+    Ok(())
+}
+
+// Puts the key of the text's part into `part_key`, or a byte below all keys where there is no such part. Whether there
+// is one.
+fn make_part_key(
+    alloc: Global,
+    grammar: Grammar,
+    path: &[String],
+    text: &[u8],
+    buffers: &mut Buffers,
+) -> Result<bool, Fault>
+    ensures ok { IfOk result (λ found. HasPartKey grammar (map string_bytes path.now) text.now buffers.new.part_key.items found) }
+    ensures key { buffers.new.key ≡ buffers.old.key }
+    ensures rejected { Rejects grammar text.now result }
+    ensures memory { result ≡ Err Fault.NoMemory → MayTakeMemory grammar text.now }
+{
+    let found = find_part(alloc, grammar, path, text, buffers)?;
+    buffers.part_key.clear();
+    if !found {
+        buffers.part_key.push(0)?;
+        return Ok(false);
+    }
+    // The part is a text of extended mode.
+    let key = &mut buffers.part_key;
+    let Ok(()) = vjson_text::append_key(alloc, Grammar::Extended, &buffers.part, key) else {
+        return Err(Fault::NoMemory);
+    };
+    Ok(true)
+}
+
+// Whether a part may be so beside the value of the condition.
+fn allows(condition: &Condition, order: Ordering) -> bool
+    ensures { result ≡ allows condition.now order }
+{
+    match order {
+        Ordering::Less => condition.less,
+        Ordering::Equal => condition.equal,
+        Ordering::Greater => condition.greater,
     }
 }
+
+// Whether the condition holds of the text.
+fn holds(
+    alloc: Global,
+    grammar: Grammar,
+    condition: &Condition,
+    text: &[u8],
+    buffers: &mut Buffers,
+) -> Result<bool, Fault>
+    ensures ok { IfOk result (λ held. Holds grammar condition.now text.now held) }
+    ensures rejected { Rejects grammar text.now result }
+    ensures memory { result ≡ Err Fault.NoMemory → MayTakeMemory grammar text.now }
+{
+    let found = make_part_key(alloc, grammar, &condition.path, text, buffers)?;
+    if !found {
+        return Ok(condition.absent);
+    }
+    Ok(allows(
+        condition,
+        buffers.part_key.as_slice().cmp(condition.key.as_slice()),
+    ))
+}
+
+// Whether the command leaves texts out.
+fn leaves_out(command: Command) -> bool
+    ensures { result ≡ leaves_out command }
+{
+    match command {
+        Command::Check => false,
+        _ => true,
+    }
+}
+
+/// False where the text is left out, since a condition doesn't hold of it.
+///
+/// # Errors
+///
+/// As of [`vjson_text::check`].
+pub fn is_chosen(
+    alloc: Global,
+    options: &Options,
+    text: &[u8],
+    buffers: &mut Buffers,
+) -> Result<bool, Fault>
+    ensures ok { IfOk result (λ chosen. MatchBool chosen (IsLeftOut options.now text.now → ⊥)
+        (IsLeftOut options.now text.now)) }
+    ensures rejected { Rejects options.now.grammar text.now result }
+    ensures memory { result ≡ Err Fault.NoMemory → MayRunOutBy options.now.command options.now.grammar text.now }
+{
+    if !leaves_out(options.command) {
+        return Ok(true);
+    }
+    'conditions: for condition in &options.conditions {
+        let held = holds(alloc, options.grammar, condition, text, buffers)?;
+        if !held {
+            return Ok(false);
+        }
+    }
+    Ok(true)
+}
+
+/// There is a test that says of each text whether it is left out.
+pub fn some_test_chooses()
+    ensures { (options : Options) → (chosen : List ℕ → Bool) × Chooses options chosen }
+{}
 
 /// Appends the line of a text that is sorted: the text, or its serialized form.
 ///

@@ -9,6 +9,7 @@ ghost use Rattle.jsonb_spec.specs.Tree.{Tree};
 ghost use Rattle.text_scan.specs.declared.parser.Grammar.{Grammar};
 ghost use Rattle.vjson_run.specs.declared.options.Options.{Options};
 ghost use Rattle.vjson_run.specs.InOrder.{AreInOrder, key_order, may_follow};
+ghost use Rattle.vjson_run.specs.Keys.{IsKeyOf, sort_cmp};
 ghost use Rattle.vjson_run.specs.Lines.{
   Arranges,
   IsArranged,
@@ -227,6 +228,12 @@ fn hex_digit(half: u8) -> u8
 pub fn lines_order_as_values()
     ensures { (g : Grammar) → (l m : Line) → (t u : Tree) → IsLineOf g l t → IsLineOf g m u
         → line_cmp l m ≡ tree_cmp t u }
+{}
+
+/// The keys that texts are sorted by order as the parts that are asked for, or as the values.
+pub fn keys_order_as_asked()
+    ensures { (options : Options) → (x y k l : List ℕ) → (h : IsKeyOf options x k) → (i : IsKeyOf options y l)
+        → bytes_cmp k l ≡ sort_cmp options.by.items h.tree i.tree }
 {}
 
 /// Texts that are in order, each one of the grammar, aren't out of order, and none of them is none of the grammar.

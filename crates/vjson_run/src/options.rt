@@ -3,7 +3,7 @@
 use jsonb_path::read_keys;
 use std::alloc::{AllocError, AllocFailed, Global};
 use std::fmt;
-use vjson_text::{Grammar, Layout};
+use vjson_text::{Fault, Grammar, Layout, Message};
 
 /// What `--help` prints.
 pub const HELP: &str = "\
@@ -13,7 +13,8 @@ standard input is read.
 
   check                  print nothing, or FILE:LINE:COLUMN: and what is wrong
   format                 print each text laid out, keys in order (vjson FILE too)
-  get POINTER            print the part at a JSON Pointer, as /items/0/name
+  get POINTER...         print the part at a JSON Pointer, as /items/0/name; of
+                         several the parts, with tabs between (-- before a /file)
   sort                   sort JSON Lines by value
   equal A B              status 0 where the values of two files are equal, else 1
   keys                   print each line behind its sort key and a tab, for
@@ -25,11 +26,18 @@ standard input is read.
       --standard         numbers are integers of 64 bits alone
   -c, --compact          format: on one line
       --indent N         format: N spaces, 0 to 16 (2)
+      --where POINTER OP JSON
+                         only texts whose part is =, !=, <, <=, > or >= the value
+      --has POINTER      only texts with this part (all but check and equal)
+      --lacks POINTER    only texts without it
   -r, --raw              get: a string without quotes and escapes
+      --array            get: the parts as one JSON array
       --default TEXT     get: what to print where there is no such part
   -u, --unique           sort: one of equal values, the first
       --reverse          sort: descending
-      --by POINTER       sort, keys: by this part; lines without it come first
+      --by POINTER       sort, keys: by this part; lines without it come first.
+                         Another --by orders those that are equal by it
+      --down POINTER     the same, descending
       --check            sort: only say whether the lines are in order
       --canonical        sort, keys: print the values' canonical text
   -q, --quiet            check, equal: the status alone
@@ -66,6 +74,25 @@ pub enum Progress {
     Always,
 }
 
+/// A part that lines are sorted by, up or down.
+#[derive(Drop)]
+pub struct Part {
+    pub path: Vec<String>,
+    pub down: bool,
+}
+
+/// What a text has to be like: whether its part at the path may be less than the value with this key, equal to it, and
+/// greater, and whether it may be absent.
+#[derive(Drop)]
+pub struct Condition {
+    pub path: Vec<String>,
+    pub key: Vec<u8>,
+    pub less: bool,
+    pub equal: bool,
+    pub greater: bool,
+    pub absent: bool,
+}
+
 /// A command with its options and its files.
 #[derive(Drop)]
 pub struct Options {
@@ -74,6 +101,7 @@ pub struct Options {
     pub lines: bool,
     pub layout: Option<Layout>,
     pub raw: bool,
+    pub array: bool,
     pub unique: bool,
     pub reverse: bool,
     pub check: bool,
@@ -83,7 +111,14 @@ pub struct Options {
     /// How many bytes of the output are held before they are written.
     pub block: usize,
     pub default: Option<String>,
-    pub pointer: Option<Vec<String>>,
+    /// Where `get` looks for parts.
+    pub paths: Vec<Vec<String>>,
+    /// The parts that lines are sorted by, the first before the others.
+    pub by: Vec<Part>,
+    /// What texts have to be like, each of them.
+    pub conditions: Vec<Condition>,
+    /// The last word of several that was taken for a pointer.
+    pub last_pointer: Option<String>,
     pub files: Vec<String>,
 }
 
@@ -104,9 +139,12 @@ pub enum UsageError {
     UnknownOption(String, &'static str),
     NotHere(String, &'static str),
     NoValue(String),
-    Twice(String),
     NoPointer(String),
     NoNumber(String),
+    NoComparison(String),
+    /// A word that is no JSON, the column, and why.
+    NoText(String, usize, Message),
+    RawArray,
     PointerMissing,
     TwoFiles,
     NoMemory,
@@ -138,12 +176,22 @@ impl fmt::Display for UsageError {
                 write!(f, "this command doesn't take {word}{instead}")
             }
             UsageError::NoValue(word) => write!(f, "option {word} needs a value"),
-            UsageError::Twice(word) => write!(f, "option {word} is there twice"),
             UsageError::NoPointer(word) => write!(
                 f,
                 "not a JSON Pointer: {word} (write /a/0 for the first item of a, '' for the whole text)"
             ),
             UsageError::NoNumber(word) => write!(f, "not a number from 0 to 16: {word}"),
+            UsageError::NoComparison(word) => {
+                write!(
+                    f,
+                    "not a comparison: {word} (=, !=, <, <=, > or >=, in quotes)"
+                )
+            }
+            UsageError::NoText(word, column, message) => write!(
+                f,
+                "not a JSON text: {word} (column {column}: {message}; a string is written '\"x\"')"
+            ),
+            UsageError::RawArray => f.write_str("--array prints JSON, and --raw doesn't"),
             UsageError::PointerMissing => f.write_str("get needs a JSON Pointer, as /a/0"),
             UsageError::TwoFiles => f.write_str("equal needs two files"),
             UsageError::NoMemory => f.write_str("out of memory"),
@@ -161,8 +209,10 @@ fn instead_of_command(word: &str) -> &'static str {
         "." | "cat" | "pretty" => " (format lays a text out, as jq . does)",
         "lint" | "validate" => " (check prints what is wrong)",
         "cmp" | "diff" => " (equal says whether two values are the same)",
-        "pick" | "select" => " (get prints a part)",
+        "pick" => " (get prints parts)",
+        "filter" | "grep" | "select" => " (format -l --where POINTER = JSON prints some texts)",
         "uniq" => " (sort --unique prints one of equal values)",
+        "count" | "wc" => " (format -l prints a line for each text, for wc -l)",
         _ => "",
     }
 }
@@ -212,9 +262,10 @@ fn takes(command: Command, option: &str) -> bool {
     match option {
         "--lines" => command != Command::Equal,
         "--compact" | "--indent" => command == Command::Format,
-        "--raw" | "--default" => command == Command::Get,
+        "--raw" | "--array" | "--default" => command == Command::Get,
+        "--where" | "--has" | "--lacks" => !matches!(command, Command::Check | Command::Equal),
         "--unique" | "--reverse" | "--check" => command == Command::Sort,
-        "--by" | "--canonical" => matches!(command, Command::Sort | Command::Keys),
+        "--by" | "--down" | "--canonical" => matches!(command, Command::Sort | Command::Keys),
         "--quiet" => matches!(command, Command::Check | Command::Equal),
         "--line-buffered" => matches!(command, Command::Format | Command::Get | Command::Keys),
         _ => true,
@@ -254,6 +305,7 @@ fn new_options(alloc: Global, command: Command) -> Options {
         lines: matches!(command, Command::Sort | Command::Keys),
         layout: None,
         raw: false,
+        array: false,
         unique: false,
         reverse: false,
         check: false,
@@ -262,7 +314,10 @@ fn new_options(alloc: Global, command: Command) -> Options {
         progress: Progress::Late,
         block: BLOCK,
         default: None,
-        pointer: None,
+        paths: Vec::new(alloc),
+        by: Vec::new(alloc),
+        conditions: Vec::new(alloc),
+        last_pointer: None,
         files: Vec::new(alloc),
     }
 }
@@ -290,6 +345,7 @@ impl Options {
             "--standard" => self.grammar = Grammar::Standard,
             "--compact" => self.layout = Some(Layout::Compact),
             "--raw" => self.raw = true,
+            "--array" => self.array = true,
             "--unique" => self.unique = true,
             "--reverse" => self.reverse = true,
             "--check" => self.check = true,
@@ -303,22 +359,46 @@ impl Options {
         true
     }
 
-    // Sets what an option with a value says. False where there is none of the name.
-    fn set_value(&mut self, alloc: Global, name: &str, value: &str) -> Result<bool, UsageError> {
+    // Sets what an option with a value says, which may be the first of several. False where there is none of the name.
+    fn set_value(
+        &mut self,
+        alloc: Global,
+        name: &str,
+        value: &str,
+        words: &mut Words<'_>,
+    ) -> Result<bool, UsageError> {
         match name {
             "--indent" => self.layout = Some(Layout::Indent(width_of(alloc, value)?)),
             "--default" => self.default = Some(copy(alloc, value)?),
-            "--by" if self.pointer.is_some() => return Err(UsageError::Twice(copy(alloc, name)?)),
-            "--by" => self.pointer = Some(pointer_of(alloc, value)?),
+            "--by" | "--down" => self.by.push(Part {
+                path: pointer_of(alloc, value)?,
+                down: name == "--down",
+            })?,
+            "--has" => self.conditions.push(present(alloc, value)?)?,
+            "--lacks" => self.conditions.push(absent(alloc, value)?)?,
+            "--where" => {
+                let comparison = next_value(alloc, name, words)?;
+                let text = next_value(alloc, name, words)?;
+                self.conditions
+                    .push(condition_of(alloc, value, comparison, text)?)?;
+            }
             _ => return Ok(false),
         }
         Ok(true)
     }
 
-    // Takes a word that is no option.
-    fn take_word(&mut self, alloc: Global, word: &str) -> Result<(), UsageError> {
-        if self.command == Command::Get && self.pointer.is_none() {
-            self.pointer = Some(pointer_of(alloc, word)?);
+    // Takes a word that is no option: a pointer of `get`, or a file. All behind a file are files, and all behind `--`
+    // but for the first pointer.
+    fn take_word(&mut self, alloc: Global, word: &str, only_files: bool) -> Result<(), UsageError> {
+        let first = self.paths.is_empty();
+        let another = !only_files
+            && self.files.is_empty()
+            && (word.is_empty() || word.starts_with("/"));
+        if self.command == Command::Get && (first || another) {
+            self.paths.push(pointer_of(alloc, word)?)?;
+            if !first {
+                self.last_pointer = Some(copy(alloc, word)?);
+            }
             return Ok(());
         }
         self.files.push(copy(alloc, word)?)?;
@@ -326,9 +406,74 @@ impl Options {
     }
 }
 
+// The key of a JSON text.
+fn key_of(alloc: Global, word: &str) -> Result<Vec<u8>, UsageError> {
+    let mut key = Vec::new(alloc);
+    match vjson_text::append_key(alloc, Grammar::Json, word.as_bytes(), &mut key) {
+        Ok(()) => Ok(key),
+        Err(Fault::NoMemory) => Err(UsageError::NoMemory),
+        Err(Fault::At(offset, message)) => {
+            Err(UsageError::NoText(copy(alloc, word)?, offset.saturating_add(1), message))
+        }
+    }
+}
+
+// That the part is there.
+fn present(alloc: Global, pointer: &str) -> Result<Condition, UsageError> {
+    Ok(Condition {
+        path: pointer_of(alloc, pointer)?,
+        key: Vec::new(alloc),
+        less: true,
+        equal: true,
+        greater: true,
+        absent: false,
+    })
+}
+
+// That it isn't.
+fn absent(alloc: Global, pointer: &str) -> Result<Condition, UsageError> {
+    Ok(Condition {
+        path: pointer_of(alloc, pointer)?,
+        key: Vec::new(alloc),
+        less: false,
+        equal: false,
+        greater: false,
+        absent: true,
+    })
+}
+
+// How the part is beside a value. What is absent isn't equal to any value.
+fn condition_of(
+    alloc: Global,
+    pointer: &str,
+    comparison: &str,
+    text: &str,
+) -> Result<Condition, UsageError> {
+    let (less, equal, greater) = match comparison {
+        "=" => (false, true, false),
+        "!=" => (true, false, true),
+        "<" => (true, false, false),
+        "<=" => (true, true, false),
+        ">" => (false, false, true),
+        ">=" => (false, true, true),
+        _ => return Err(UsageError::NoComparison(copy(alloc, comparison)?)),
+    };
+    Ok(Condition {
+        path: pointer_of(alloc, pointer)?,
+        key: key_of(alloc, text)?,
+        less,
+        equal,
+        greater,
+        absent: less && greater,
+    })
+}
+
 // Whether an option of the name takes a value.
 fn has_value(name: &str) -> bool {
-    matches!(name, "--indent" | "--default" | "--by")
+    matches!(
+        name,
+        "--indent" | "--default" | "--by" | "--down" | "--where" | "--has" | "--lacks"
+    )
 }
 
 // The words behind the command, as they are read.
@@ -385,7 +530,7 @@ impl Options {
                 Some(value) => value,
                 None => next_value(alloc, name, words)?,
             };
-            self.set_value(alloc, name, value)?;
+            self.set_value(alloc, name, value, words)?;
         } else if value.is_some() || !self.set_flag(name) {
             return Err(UsageError::UnknownOption(copy(alloc, word)?, instead));
         }
@@ -393,9 +538,17 @@ impl Options {
     }
 
     // Whether all is there that the command needs.
-    fn complete(self) -> Result<Asked, UsageError> {
-        if self.command == Command::Get && self.pointer.is_none() {
+    fn complete(self, alloc: Global) -> Result<Asked, UsageError> {
+        if self.command == Command::Get && self.paths.is_empty() {
             return Err(UsageError::PointerMissing);
+        }
+        if self.array && self.raw {
+            return Err(UsageError::RawArray);
+        }
+        if let Some(default) = &self.default {
+            if self.array {
+                drop(key_of(alloc, default.as_str())?);
+            }
         }
         if self.command == Command::Equal && self.files.len() != 2 {
             return Err(UsageError::TwoFiles);
@@ -449,7 +602,7 @@ pub fn read_words(alloc: Global, words: &[String]) -> Result<Asked, UsageError> 
         words.rest = behind;
         let word = word.as_str();
         if words.only_files || word == "-" || !word.starts_with("-") {
-            options.take_word(alloc, word)?;
+            options.take_word(alloc, word, words.only_files)?;
         } else if word == "--" {
             words.only_files = true;
         } else {
@@ -460,5 +613,5 @@ pub fn read_words(alloc: Global, words: &[String]) -> Result<Asked, UsageError> 
             }
         }
     }
-    options.complete()
+    options.complete(alloc)
 }

@@ -19,6 +19,7 @@ ghost use Rattle.vjson_run.specs.Runs.{
   IsRetained,
   IsSame,
   Takes,
+  TakesChosen,
   WritesSorted,
   denied,
   line_texts,
@@ -129,7 +130,7 @@ impl<'o, W: Write, E: Write> Session<'o, W, E> {
     /// Where the input fails, or has more than 2^64 lines.
     pub fn feed<R: BufRead>(&mut self, name: &str, input: &mut R) -> io::Result<()>
         ensures takes { OnOk result (IfSome (R.remaining input.old)
-            (λ bytes. Takes W.contents self.old (texts_of self.old.options.now.lines bytes) self.new)) }
+            (λ bytes. TakesChosen W.contents self.old (texts_of self.old.options.now.lines bytes) self.new)) }
         ensures trouble { OnOk result (IfSome (R.remaining input.old)
             (λ bytes. Troubles self.old (texts_of self.old.options.now.lines bytes) self.new)) }
     {
@@ -267,15 +268,19 @@ impl<'o, W: Write, E: Write> Session<'o, W, E> {
         }
     }
 
-    // Answers a text.
+    // Answers a text, unless it is left out.
     fn take(&mut self, text: &[u8]) -> Result<(), Fault>
-        ensures ok { OnOk result (Takes W.contents self.old (text.now ∷ []) self.new) }
+        ensures ok { OnOk result (TakesChosen W.contents self.old (text.now ∷ []) self.new) }
         ensures rejected { IfErr result (λ f. f ≢ Fault.NoMemory
             → IsNoTextOf self.old.options.now.grammar text.now × IsSame self.old self.new) }
         ensures calm { Troubles self.old [] self.new }
         ensures memory { result ≡ Err Fault.NoMemory
             → MayRunOutBy self.old.options.now.command self.old.options.now.grammar text.now }
     {
+        let chosen = answers::is_chosen(self.alloc, self.options, text, &mut self.buffers)?;
+        if !chosen {
+            return Ok(());
+        }
         self.answer(text)?;
         self.settle();
         Ok(())

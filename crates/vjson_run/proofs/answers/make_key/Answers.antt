@@ -1,19 +1,21 @@
-use Rattle.vjson_run.proofs.Parts.{at_keys, key_by_part, key_of_none, steps_of}
-use Rattle.vjson_text.specs.declared.fault.Fault.TheVariants.{NoMemory}
-use Rattle.std.proofs.Common.{◌≡◌, rules, Err}
+use Rattle.std.proofs.Common.{◌∙◌, sym}
+use Rattle.vjson_run.proofs.Parts.{first_pieces, key_by_pieces, next_pieces}
 use Rattle.vjson_run.proofs.answers.make_key.Goals as goal
 
-pub returns-then-branch-clause-ok : goal.returns-then-branch-clause-ok
-returns-then-branch-clause-ok c = key_by_part c.args.options.now c.in-Some.path c.args.text.now c.find_part.new.buffers.part.items c.make_part_key.new.buffers.key.items c.in-Some.is
-    (at_keys c.args.options.now c.deref.result.now c.args.text.now c.find_part.new.buffers.part.items c.in_ok-find_part.field-0 _ (steps_of c.args.options.now c.in-Some.path c.deref.result.now c.in-Some.is c.deref.ensures.value) c.if-branch.true c.in_ok-find_part.ensures.ok)
-    c.in_ok-make_part_key.ensures.ok
+pub parts-init : goal.parts-init
+parts-init c = (
+  c.in-Some.first.now,
+  sym c.deref.ensures.value ∙ c.in-Some.ensures.cases.0,
+  first_pieces c.args.options.now.grammar c.args.text.now c.in-Some.first.now c.clear.new.self.items c.append_piece.new.buffers.key.items c.clear.ensures.items c.in_ok-append_piece.ensures.ok,
+)
+
+pub parts-preserved : goal.parts-preserved
+parts-preserved c = (
+  c.parts.invariant.0,
+  c.parts.invariant.1,
+  next_pieces c.args.options.now.grammar c.args.text.now c.parts.invariant.0 c.in-Some.others.now c.parts.part-index c.part-item.result c.parts.buffers.key.items c.append_piece-in-parts.new.buffers.key.items
+      c.parts-test.true c.part-item.is c.parts.invariant.2 c.in_ok-append_piece-2.ensures.ok,
+)
 
 pub returns-clause-ok : goal.returns-clause-ok
-returns-clause-ok c = key_of_none c.args.options.now c.in-Some.path c.args.text.now c.find_part.new.buffers.part.items c.clear.new.self.items c.in-Some.is
-    (at_keys c.args.options.now c.deref.result.now c.args.text.now c.find_part.new.buffers.part.items c.in_ok-find_part.field-0 _ (steps_of c.args.options.now c.in-Some.path c.deref.result.now c.in-Some.is c.deref.ensures.value) c.if-branch.false c.in_ok-find_part.ensures.ok)
-    c.clear.ensures.items
-
-pub returns-in_err-find_part-clause-memory : goal.returns-in_err-find_part-clause-memory
-returns-in_err-find_part-clause-memory c = λ is.
-    let lack : c.find_part.result ≡ Err NoMemory = search rules in
-    c.find_part.ensures.memory lack
+returns-clause-ok c = key_by_pieces c.args.options.now c.args.text.now c.parts.invariant.0 c.in-Some.others.now c.parts.part-index c.parts.buffers.key.items c.parts.invariant.1 c.parts-test.false c.parts.invariant.2

@@ -3,7 +3,8 @@ use Rattle.std.proofs.lemmas.List.Elements.{same_from_all_zip}
 use Rattle.std.proofs.lemmas.Result.{err_from_is_err_and}
 use Rattle.vjson_text.specs.Texts.{Rejects}
 use Rattle.vjson_run.proofs.Parts.{line_alone}
-use Rattle.vjson_run.specs.Answers.{AppendsLine, IsKeyOf}
+use Rattle.vjson_run.specs.Answers.{AppendsLine}
+use Rattle.vjson_run.specs.Keys.{IsKeyOf}
 use Rattle.vjson_text.specs.declared.fault.Fault.TheVariants.{NoMemory}
 use Rattle.std.proofs.Common.{◌≡◌, inr, rules, Err}
 use Rattle.vjson_run.proofs.Troubled.{keyed_one}

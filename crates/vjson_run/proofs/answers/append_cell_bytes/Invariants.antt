@@ -1,0 +1,7 @@
+use Rattle.std.proofs.Common.{◌≡◌, ◌++◌, take}
+use Rattle.std.specs.List.{flat_map}
+use Rattle.vjson_run.specs.Answers.{cell_byte}
+use Rattle.vjson_run.proofs.answers.append_cell_bytes.Given as goal
+
+abbrev pub invariant-bytes : goal.invariant-bytes
+invariant-bytes l = l.row.items ≡ l.fn.row.items ++ flat_map cell_byte (take l.byte-index l.bytes)

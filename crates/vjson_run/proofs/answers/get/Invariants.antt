@@ -1,0 +1,9 @@
+use Rattle.std.proofs.Common.{◌∷◌, map, take}
+use Rattle.vjson_run.proofs.Parts.{AreCells}
+use Rattle.vjson_run.specs.Answers.{first_keys}
+use Rattle.vjson_run.specs.Keys.{keys_of}
+use Rattle.vjson_run.proofs.answers.get.Given as goal
+
+-- the cells of the paths so far are in the row
+abbrev pub invariant-paths : goal.invariant-paths
+invariant-paths l = AreCells l.options l.text (first_keys l.options.paths.items ∷ map keys_of (take l.path-index l.path-items)) l.buffers.row.items
