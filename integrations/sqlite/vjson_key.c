@@ -239,8 +239,8 @@ struct table {
 
 /* An array or an object that the walk is in. */
 struct level {
-  const unsigned char *at; /* its key */
-  int is_array;
+  struct key key;
+  struct vizhoniku_key_cursor next;
   sqlite3_int64 index; /* of the next item */
   size_t path_size;    /* of its own path, in the path of the walk */
 };
@@ -258,9 +258,8 @@ struct walk {
   size_t depth, capacity;
   int is_over, is_root; /* whether the row is the root */
   sqlite3_int64 row;
-  struct key whole; /* the root */
-  struct vizhoniku_walk next;
-  struct vizhoniku_event met; /* the row */
+  struct key part; /* of the row */
+  struct key name; /* in the key, where the row is a member; of size 0 where it is an item */
   sqlite3_int64 index;
 };
 
@@ -275,46 +274,32 @@ static int fail_with(struct walk *walk, uint32_t status) {
   return fail(walk, status == VIZHONIKU_NO_PATH ? MALFORMED_PATH : NO_KEY);
 }
 
-static int is_container(const struct walk *walk) {
-  return walk->met.kind == VIZHONIKU_ARRAY || walk->met.kind == VIZHONIKU_OBJECT;
-}
-
-/* The part that the row is. The walk is before the parts of an array or an object, whose end is looked for. */
-static struct key part_of_row(const struct walk *walk) {
-  struct key part = {walk->whole.at + walk->met.offset, walk->met.size};
-  if (is_container(walk)) {
-    struct vizhoniku_walk behind = walk->next;
-    vizhoniku_walk_skip(walk->whole.at, walk->whole.size, &behind);
-    part.size = behind.offset - walk->met.offset;
-  }
-  return part;
-}
-
 /* Writes the name or the index of the row as it is in a path: behind a slash, with ~ as ~0 and / as ~1. */
 static uint32_t write_step(const struct walk *walk, const struct level *level, char **step, size_t *size) {
-  struct key in_key = {walk->whole.at + walk->met.name_offset, walk->met.name_size};
   size_t name_size;
-  *step = sqlite3_malloc64(3 * in_key.size + 24);
+  *step = sqlite3_malloc64(3 * walk->name.size + 24);
   if (!*step) return VIZHONIKU_OUT_OF_MEMORY;
-  if (level->is_array) {
+  if (level->next.kind == VIZHONIKU_ARRAY) {
     *size = (size_t)sprintf(*step, "/%lld", walk->index);
     return VIZHONIKU_ACCEPTED;
   }
   /* The name is written behind the step, in which each of its bytes becomes two at most. */
-  unsigned char *name = (unsigned char *)*step + 2 * in_key.size + 24;
-  uint32_t status = vizhoniku_key_name(in_key.at, in_key.size, name, in_key.size, &name_size);
+  unsigned char *name = (unsigned char *)*step + 2 * walk->name.size + 24;
+  uint32_t status = vizhoniku_key_name(walk->name.at, walk->name.size, name, walk->name.size, &name_size);
   if (status != VIZHONIKU_ACCEPTED) {
     sqlite3_free(*step);
     return status;
   }
-  status = vizhoniku_path_step(name, name_size, (unsigned char *)*step, 2 * in_key.size + 24, size);
+  status = vizhoniku_path_step(name, name_size, (unsigned char *)*step, 2 * walk->name.size + 24, size);
   if (status != VIZHONIKU_ACCEPTED) sqlite3_free(*step);
   return status == VIZHONIKU_NO_PATH ? VIZHONIKU_NO_KEY : status; /* the names of a key are UTF-8 */
 }
 
 /* Enters the row's part, whose path is that of the level around it and a step more. The root's path is the argument. */
 static int enter(struct walk *walk) {
-  struct level level = {walk->whole.at + walk->met.offset, walk->met.kind == VIZHONIKU_ARRAY, 0, walk->root_size};
+  struct level level = {walk->part, {0, 0}, 0, walk->root_size};
+  uint32_t status = vizhoniku_key_begin(level.key.at, level.key.size, &level.next);
+  if (status != VIZHONIKU_ACCEPTED) return fail_with(walk, status);
   if (walk->depth == walk->capacity) {
     struct level *grown = sqlite3_realloc64(walk->levels, (2 * walk->capacity + 8) * sizeof *grown);
     if (!grown) return SQLITE_NOMEM;
@@ -325,7 +310,7 @@ static int enter(struct walk *walk) {
     const struct level *around = &walk->levels[walk->depth - 1];
     char *step;
     size_t size;
-    uint32_t status = write_step(walk, around, &step, &size);
+    status = write_step(walk, around, &step, &size);
     if (status != VIZHONIKU_ACCEPTED) return fail_with(walk, status);
     level.path_size = around->path_size + size;
     if (level.path_size > walk->path_capacity) {
@@ -344,32 +329,39 @@ static int enter(struct walk *walk) {
   return SQLITE_OK;
 }
 
-/* Goes to the next part, and leaves the levels that end before it. */
+static int is_container(struct key key) {
+  uint32_t kind = vizhoniku_key_kind(key.at, key.size);
+  return kind == VIZHONIKU_ARRAY || kind == VIZHONIKU_OBJECT;
+}
+
+/* Goes to the next part of the innermost level, or to that of the levels around it where it has no more. */
 static int step_on(struct walk *walk) {
-  uint32_t status;
-  for (;;) {
-    status = vizhoniku_walk_next(walk->whole.at, walk->whole.size, &walk->next, &walk->met);
-    if (status != VIZHONIKU_ACCEPTED || walk->met.kind != VIZHONIKU_NO_KIND) break;
+  while (walk->depth) {
+    struct level *level = &walk->levels[walk->depth - 1];
+    struct vizhoniku_key_entry entry;
+    uint32_t status = vizhoniku_key_next(level->key.at, level->key.size, &level->next, &entry);
+    if (status == VIZHONIKU_ACCEPTED) {
+      walk->part.at = level->key.at + entry.offset;
+      walk->part.size = entry.size;
+      walk->name.at = level->key.at + entry.name_offset;
+      walk->name.size = entry.name_size;
+      walk->index = level->index++;
+      walk->is_root = 0;
+      walk->row++;
+      return SQLITE_OK;
+    }
+    if (status != VIZHONIKU_NO_PART) return fail_with(walk, status);
     walk->depth--;
   }
-  walk->is_over = status == VIZHONIKU_NO_PART;
-  if (walk->is_over) return SQLITE_OK;
-  if (status != VIZHONIKU_ACCEPTED) return fail_with(walk, status);
-  walk->index = walk->levels[walk->depth - 1].index++;
-  walk->is_root = 0;
-  walk->row++;
+  walk->is_over = 1;
   return SQLITE_OK;
 }
 
-/* Goes behind the row: into an array or an object, or past it where the table has no more of it than its row. */
 static int walk_next(sqlite3_vtab_cursor *cursor) {
   struct walk *walk = (struct walk *)cursor;
-  if (is_container(walk) && walk->is_tree) {
+  if (walk->is_tree && is_container(walk->part)) {
     int status = enter(walk);
     if (status != SQLITE_OK) return status;
-  } else if (is_container(walk)) {
-    uint32_t status = vizhoniku_walk_skip(walk->whole.at, walk->whole.size, &walk->next);
-    if (status != VIZHONIKU_ACCEPTED) return fail_with(walk, status);
   }
   return step_on(walk);
 }
@@ -413,16 +405,17 @@ static int walk_filter(sqlite3_vtab_cursor *cursor, int index, const char *words
     memcpy(walk->path, walk->root, walk->root_size);
     walk->path_capacity = walk->root_size;
   }
+  walk->part.at = walk->key;
   uint32_t status = vizhoniku_key_part(walk->key, walk->key_size, (const unsigned char *)walk->root, walk->root_size,
-                                       &offset, &walk->whole.size);
+                                       &offset, &walk->part.size);
   if (status == VIZHONIKU_NO_PART) return SQLITE_OK;
   if (status != VIZHONIKU_ACCEPTED) return fail_with(walk, status);
-  walk->whole.at = walk->key + offset;
-  status = vizhoniku_walk_begin(walk->whole.at, walk->whole.size, &walk->next, &walk->met);
-  if (status != VIZHONIKU_ACCEPTED) return fail_with(walk, status);
+  walk->part.at += offset;
+  if (vizhoniku_key_kind(walk->part.at, walk->part.size) == VIZHONIKU_NO_KIND)
+    return fail_with(walk, VIZHONIKU_NO_KEY);
   walk->is_over = 0;
   walk->is_root = 1;
-  if (walk->is_tree || !is_container(walk)) return SQLITE_OK;
+  if (walk->is_tree || !is_container(walk->part)) return SQLITE_OK;
   int entered = enter(walk);
   return entered == SQLITE_OK ? step_on(walk) : entered;
 }
@@ -462,16 +455,15 @@ static void give_root_name(sqlite3_context *context, const struct walk *walk) {
 }
 
 static void give_name(sqlite3_context *context, const struct walk *walk) {
-  if (walk->levels[walk->depth - 1].is_array) {
+  if (walk->levels[walk->depth - 1].next.kind == VIZHONIKU_ARRAY) {
     sqlite3_result_int64(context, walk->index);
     return;
   }
-  struct key in_key = {walk->whole.at + walk->met.name_offset, walk->met.name_size};
   size_t size;
-  unsigned char *name = sqlite3_malloc64(in_key.size);
+  unsigned char *name = sqlite3_malloc64(walk->name.size);
   if (!name)
     sqlite3_result_error_nomem(context);
-  else if (vizhoniku_key_name(in_key.at, in_key.size, name, in_key.size, &size) != VIZHONIKU_ACCEPTED) {
+  else if (vizhoniku_key_name(walk->name.at, walk->name.size, name, walk->name.size, &size) != VIZHONIKU_ACCEPTED) {
     sqlite3_free(name);
     report_status(context, VIZHONIKU_NO_KEY);
   } else
@@ -504,7 +496,6 @@ static void give_path(sqlite3_context *context, const char *path, size_t size) {
 
 static int walk_column(sqlite3_vtab_cursor *cursor, sqlite3_context *context, int column) {
   const struct walk *walk = (const struct walk *)cursor;
-  struct key part;
   switch ((enum column)column) {
   case NAME:
     if (walk->is_root)
@@ -513,21 +504,20 @@ static int walk_column(sqlite3_vtab_cursor *cursor, sqlite3_context *context, in
       give_name(context, walk);
     break;
   case VALUE:
-    part = part_of_row(walk);
-    if (!give_scalar(context, part)) give_json(context, part);
+    if (!give_scalar(context, walk->part)) give_json(context, walk->part);
     break;
   case TYPE:
-    give_type(context, part_of_row(walk));
+    give_type(context, walk->part);
     break;
   case ATOM:
-    if (!is_container(walk)) give_scalar(context, part_of_row(walk));
+    give_scalar(context, walk->part);
     break;
   case ID:
-    sqlite3_result_int64(context, walk->whole.at + walk->met.offset - walk->key);
+    sqlite3_result_int64(context, walk->part.at - walk->key);
     break;
   case PARENT:
     if (walk->is_tree && !walk->is_root)
-      sqlite3_result_int64(context, walk->levels[walk->depth - 1].at - walk->key);
+      sqlite3_result_int64(context, walk->levels[walk->depth - 1].key.at - walk->key);
     break;
   case FULLKEY:
     if (walk->is_root)
@@ -542,8 +532,7 @@ static int walk_column(sqlite3_vtab_cursor *cursor, sqlite3_context *context, in
       give_path(context, walk->path, walk->levels[walk->depth - 1].path_size);
     break;
   case PART:
-    part = part_of_row(walk);
-    sqlite3_result_blob64(context, part.at, part.size, SQLITE_TRANSIENT);
+    sqlite3_result_blob64(context, walk->part.at, walk->part.size, SQLITE_TRANSIENT);
     break;
   case KEY:
     sqlite3_result_blob64(context, walk->key, walk->key_size, SQLITE_TRANSIENT);
