@@ -21,9 +21,11 @@ TRAITS = {"clone", "cmp", "default", "partial_cmp"}
 
 # Records that clauses of these names state, whose fields the page names.
 RECORDS = ["crates/jsonb_spec/specs/Text/Appending.antt", "crates/jsonb/specs/Parses.antt",
-           "crates/jsonb/specs/Follows.antt", "crates/key_edit/specs/Edit.antt",
-           "crates/key_walk/specs/AtKeys.antt", "crates/jsonb_c/specs/Interface.antt",
-           "crates/jsonb_c/specs/KeyParts.antt", "crates/key_table/specs/Results.antt"]
+           "crates/jsonb/specs/Follows.antt", "crates/key_edit/specs/Edit.antt", "crates/jsonb_spec/specs/Edit.antt",
+           "crates/key_walk/specs/AtKeys.antt", "crates/jsonb_spec/specs/SortKey/AtKeys.antt",
+           "crates/jsonb_spec/specs/Interface.antt", "crates/jsonb_c/specs/Interface.antt",
+           "crates/jsonb_spec/specs/Interface/KeyParts.antt", "crates/jsonb_c/specs/KeyParts.antt",
+           "crates/key_table/specs/Results.antt"]
 RECORD_CLAUSES = {"accepts", "appends", "fills", "finds", "follows", "parses", "path", "preserves", "rejects", "reports",
                   "status", "within", "writes"}
 

@@ -2,7 +2,7 @@
 use Rattle.std.proofs.Common.{◌≡◌, ℕ, suc, ◌+◌, ◌-◌, ◌<◌, List, [], ◌∷◌, ◌++◌, length, take, drop, sym, ap, ◌∙◌, arith}
 use Rattle.std.proofs.lemmas.List.{drop-take, length-drop, take-append-le, take_all}
 use Rattle.std.specs.List.{count_by}
-use Rattle.error_path.specs.Characters.{begins_character, character_at}
+use Rattle.jsonb_spec.specs.Characters.{begins_character, character_at}
 
 module _ (text : List ℕ) (first index : ℕ) where
   -- the bytes that are looked at

@@ -3,7 +3,7 @@ use Rattle.std.proofs.Common.{◌≡◌, ℕ, ◌+◌, ◌<◌, length, get_or, 
 use Rattle.std.proofs.lemmas.List.{map-append, take_more}
 use Rattle.std.proofs.lemmas.Str.{IsUtf8-string_bytes}
 use Rattle.std.specs.List.{AllByRecursion}
-use Rattle.jsonb_path.specs.Path.{encoded_byte, encoded_key, encoded_keys}
+use Rattle.jsonb_spec.specs.Path.{encoded_byte, encoded_key, encoded_keys}
 
 pub key_then : (front : List ℕ) (byte : ℕ) → encoded_key (front ++ byte ∷ []) ≡ encoded_key front ++ encoded_byte byte
 key_then [] byte = append-nil (encoded_byte byte)

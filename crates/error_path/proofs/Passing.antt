@@ -10,16 +10,16 @@ use Rattle.jsonb_spec.specs.Grammar.Whitespace.IsWhitespace.{more_whitespace, no
 use Rattle.jsonb_spec.specs.Mode.{Mode, IsLenient, Strictness, strictness}
 use Rattle.jsonb_spec.specs.Source.{Source, null_source, tree_of_source}
 use Rattle.jsonb_spec.specs.Tree.{Tree}
-use Rattle.text_scan.specs.Parsing.{Fault, Parse, fault, ◌>>=◌}
-use Rattle.text_scan.specs.Parsing.Whitespace.{is_break, is_whitespace_start, opens_comment, piece_length, skip_closed_whitespace}
-use Rattle.text_scan.specs.Parsing.Document.{at_end, comment_at, document_of, source_from, source_of, value_to_end}
+use Rattle.jsonb_spec.specs.Parsing.{Fault, Parse, fault, ◌>>=◌}
+use Rattle.jsonb_spec.specs.Parsing.Whitespace.{is_break, is_whitespace_start, opens_comment, piece_length, skip_closed_whitespace}
+use Rattle.jsonb_spec.specs.Parsing.Document.{at_end, comment_at, document_of, source_from, source_of, value_to_end}
 use Rattle.text_scan.proofs.Containers.JoinedParts.{ends-piece, ends-whitespace, ends_at, other}
 use Rattle.text_scan.proofs.Text.Whitespace.{length-pass, opens-stop, pass-none, pass-piece, pass-stop, pass-whitespace}
 use Rattle.text_parse.proofs.Scalars.Encodings.{Follows}
 use Rattle.text_parse.proofs.Scalars.Encodings.Follows.{before}
 use Rattle.text_parse.proofs.Containers.Values.{value_is_complete}
-use Rattle.error_path.specs.ErrorPath.{BeginsWithPart, IsPart, NonePasses}
-use Rattle.error_path.specs.ErrorPath.IsPart.{element, member_value}
+use Rattle.jsonb_spec.specs.Path.ErrorPath.{BeginsWithPart, IsPart, NonePasses}
+use Rattle.jsonb_spec.specs.Path.ErrorPath.IsPart.{element, member_value}
 use Rattle.error_path.specs.Placed.{ends_before, leaves_out}
 
 -- ---- no whitespace

@@ -7,11 +7,11 @@ use Rattle.jsonb_spec.specs.Mode.{IsLenient, Mode, Strictness, lenient, strict, 
 use Rattle.jsonb_spec.specs.Tree.{Tree}
 use Rattle.jsonb_core.specs.Error.CodeView.{code_of}
 use Rattle.jsonb_core.specs.declared.error.ParseErrorCode.{ParseErrorCode}
-use Rattle.text_scan.specs.Parsing.{Fault, begins, on_byte}
-use Rattle.text_scan.specs.Parsing.Document.{document_of}
-use Rattle.text_scan.specs.Parsing.Whitespace.{opens_comment, piece_length}
-use Rattle.error_path.specs.ErrorPath.{IsWrong, NonePasses}
-use Rattle.error_path.specs.ErrorPath.IsWrong.{no_colon, open_comment, too_deep}
+use Rattle.jsonb_spec.specs.Parsing.{Fault, begins, on_byte}
+use Rattle.jsonb_spec.specs.Parsing.Document.{document_of}
+use Rattle.jsonb_spec.specs.Parsing.Whitespace.{opens_comment, piece_length}
+use Rattle.jsonb_spec.specs.Path.ErrorPath.{IsWrong, NonePasses}
+use Rattle.jsonb_spec.specs.Path.ErrorPath.IsWrong.{no_colon, open_comment, too_deep}
 use Rattle.error_path.specs.Placed.{ends_before, is_trailing, lacks, leaves_out}
 use Rattle.error_path.proofs.Passing.{IsBehindPart, none_if}
 

@@ -1,13 +1,13 @@
 -- What is found of a place where a part is due.
 use Rattle.std.specs.Prelude.{◌≡◌, ℕ, Bool, true, false, ◌||◌, ◌&&◌, not, ◌==◌, List, [], ◌∷◌, Option, if◌then◌else◌}
-use Rattle.error_path.specs.ErrorPath.{HasAt, RepeatsSome, completed, literal}
+use Rattle.jsonb_spec.specs.Path.ErrorPath.{HasAt, RepeatsSome, completed, literal}
 use Rattle.error_path.specs.declared.place.Put.{Put}
 use Rattle.error_path.specs.declared.place.Put.TheVariants.{Elsewhere, Repeated, There}
 use Rattle.jsonb_spec.specs.Ascii as ascii
 use Rattle.jsonb_spec.specs.Code.{Code, unexpected_trailing_characters}
 use Rattle.jsonb_spec.specs.Mode.{Mode, Strictness, lenient, strict}
-use Rattle.text_scan.specs.Parsing.{begins}
-use Rattle.text_scan.specs.Parsing.Whitespace.{opens_comment}
+use Rattle.jsonb_spec.specs.Parsing.{begins}
+use Rattle.jsonb_spec.specs.Parsing.Whitespace.{opens_comment}
 
 -- of a text in which a value was put
 abbrev pub IsPut : Put → Mode → List ℕ → List (List ℕ) → List ℕ → Type 0

@@ -2,7 +2,7 @@
 
 ghost use Rattle.std.specs.Prelude.{◌≡◌, ◌≤◌, length};
 ghost use Rattle.std.specs.List.{count_by};
-ghost use Rattle.error_path.specs.Characters.{begins_character, character_at};
+ghost use Rattle.jsonb_spec.specs.Characters.{begins_character, character_at};
 
 /// Which character of the text the byte at `index` is of, counted from 1 at the byte at `first`: with the first byte of
 /// a line the column in characters. In UTF-8 each byte but 0x80 to 0xBF begins one. An index past the end counts as the

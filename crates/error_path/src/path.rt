@@ -1,8 +1,8 @@
 //! The path of the part at which a text is rejected.
 ghost use Rattle.std.specs.Prelude.{◌≡◌, ◌++◌, ◌∷◌, [], List, ℕ, map, string_bytes, IfOk, OnOk};
-ghost use Rattle.error_path.specs.ErrorPath.{IsErrorPath};
+ghost use Rattle.jsonb_spec.specs.Path.ErrorPath.{IsErrorPath};
 ghost use Rattle.error_path.specs.Faults.{text_upto};
-ghost use Rattle.jsonb_path.specs.Path.{encoded_byte, encoded_key, encoded_keys, IsPath};
+ghost use Rattle.jsonb_spec.specs.Path.{encoded_byte, encoded_key, encoded_keys, IsPath};
 ghost use Rattle.text_scan.specs.Answer.{grammar_of};
 
 use crate::handler::PassedPart;

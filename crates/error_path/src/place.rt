@@ -1,14 +1,14 @@
 //! Where a part of a text is due, and whether the text is wrong there, which documents show that are made of its front.
 ghost use Rattle.std.specs.Prelude.{◌≡◌, ◌+◌, ◌<◌, ◌||◌, ◌++◌, ◌∷◌, ℕ, Bool, List, length, map, slice_index, string_bytes, IfOk, None, OnOk, MatchBool};
 ghost use Rattle.std.specs.List.{AllByRecursion};
-ghost use Rattle.error_path.specs.ErrorPath.{IsClosing, IsErrorPath, IsWrong, NonePasses, BeginsWithDocument, completed, literal, put_before};
+ghost use Rattle.jsonb_spec.specs.Path.ErrorPath.{IsClosing, IsErrorPath, IsWrong, NonePasses, BeginsWithDocument, completed, literal, put_before};
 ghost use Rattle.error_path.specs.Placed.{AreLed, IsPut, ends_before, is_trailing, lacks, leaves_out};
 ghost use Rattle.jsonb_spec.specs.Ascii as ascii;
 ghost use Rattle.jsonb_spec.specs.Mode.{strictness};
 ghost use Rattle.jsonb_core.specs.Error.CodeView.{code_of};
 ghost use Rattle.text_scan.specs.Answer.{grammar_of};
-ghost use Rattle.text_scan.specs.Parsing.{begins};
-ghost use Rattle.text_scan.specs.Parsing.Whitespace.{opens_comment, piece_length};
+ghost use Rattle.jsonb_spec.specs.Parsing.{begins};
+ghost use Rattle.jsonb_spec.specs.Parsing.Whitespace.{opens_comment, piece_length};
 
 use jsonb::{append_part, check};
 use jsonb_core::error::{Error, ParseErrorCode};

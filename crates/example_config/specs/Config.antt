@@ -5,11 +5,12 @@ use Rattle.jsonb.specs.AstView.{Written, written_members}
 use Rattle.jsonb_core.specs.Error.CodeView.{code_of}
 use Rattle.jsonb_spec.specs.Grammar.{IsDocument, IsNoDocument}
 use Rattle.jsonb_spec.specs.Mode.{extended}
-use Rattle.text_scan.specs.Answer.{Fails, MayAllocate}
+use Rattle.text_scan.specs.Answer.{Fails}
+use Rattle.jsonb_spec.specs.Parsing.Memory.{MayAllocate}
 use Rattle.jsonb_spec.specs.Accessors.{as_boolean, as_object, as_string, find_member, IsWholeNumber}
 use Rattle.jsonb_spec.specs.Line.{column_at, fault_index, line_at}
 use Rattle.jsonb_spec.specs.Located.{IsLocated}
-use Rattle.text_scan.specs.Parsing.Document.{document_of}
+use Rattle.jsonb_spec.specs.Parsing.Document.{document_of}
 use Rattle.jsonb_spec.specs.Source.{object_source, SourceMembers, no_source_members, more_source_members}
 use Rattle.jsonb.specs.Source.{source_members_view}
 use Rattle.jsonb_spec.specs.Tree.{Mark, Tree, Members}

@@ -2,7 +2,7 @@
 use Rattle.std.proofs.Common.{ℕ, true, false, List, subst}
 use Rattle.std.specs.declared.borrow.CowStr.TheVariants.{Borrowed, Owned}
 use Rattle.jsonb_spec.specs.Source.{Source}
-use Rattle.text_scan.specs.Encoded as scan
+use Rattle.jsonb_spec.specs.Text.Encoded as scan
 use Rattle.text_write.specs.TextSink.{IsEncoded, SeesPart}
 use Rattle.text_write.specs.declared.text.Part.{Part}
 use Rattle.text_write.specs.declared.text.Part.TheVariants as part

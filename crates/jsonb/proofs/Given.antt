@@ -1,7 +1,7 @@
 -- A scalar that is given to be put in, and is held or not.
 use Rattle.std.proofs.Common.{◌≡◌, ◌⊎◌, ℕ, List, Option, None, Some, inl, inr, sym, subst}
 use Rattle.text_parse.specs.Scalars.{IsVerbatimAs}
-use Rattle.text_scan.specs.Encoded.{IsEncodedAt}
+use Rattle.jsonb_spec.specs.Text.Encoded.{IsEncodedAt}
 use Rattle.jsonb_spec.specs.Source.{Source}
 use Rattle.text_write.specs.TextSink.{SeesPart}
 use Rattle.text_write.specs.declared.text.Part.{Part}

@@ -8,10 +8,11 @@ use Rattle.jsonb_spec.specs.Mode.{Mode}
 use Rattle.jsonb_spec.specs.Text.{AppendsText, tree_text}
 use Rattle.jsonb_spec.specs.Tree.{Tree}
 use Rattle.jsonb_core.specs.declared.error.Error.{Error}
-use Rattle.jsonb.specs.Appends.{IsParsed, LacksCapacityForText}
-use Rattle.text_scan.specs.Answer.{MayAllocate}
+use Rattle.jsonb_spec.specs.Parsing.Appends.{IsParsed, LacksCapacityForText}
+use Rattle.jsonb_spec.specs.Parsing.Memory.{MayAllocate}
 use Rattle.jsonb.proofs.Documents.Straight.{text_there}
-use Rattle.jsonb.specs.Lines.{lines_of, with_first, AppendsTextOfLine, AppendsTextOfLines, IsRejectedLine, LacksCapacityForLine, LacksCapacityForLines, RejectsLine}
+use Rattle.jsonb_spec.specs.Parsing.Lines.{lines_of, with_first, AppendsTextOfLine, AppendsTextOfLines, LacksCapacityForLine, LacksCapacityForLines}
+use Rattle.jsonb.specs.Lines.{IsRejectedLine, RejectsLine}
 
 -- this byte is a line feed
 abbrev IsFeedAt : List ℕ → ℕ → Type 0

@@ -8,7 +8,8 @@ use Rattle.jsonb_spec.specs.Tree.{Mark}
 use Rattle.jsonb_core.specs.View.{mark_view}
 use Rattle.jsonb.specs.AstView.{Written}
 use Rattle.jsonb_spec.specs.Source.{Source, SourceMembers, no_source_members, more_source_members}
-use Rattle.jsonb.specs.Source.{source_view, sources_view, source_members_view, sources_eq, source_members_eq}
+use Rattle.jsonb.specs.Source.{source_view, sources_view, source_members_view}
+use Rattle.jsonb_spec.specs.Source.Equality.{sources_eq, source_members_eq}
 use Rattle.jsonb.specs.declared.parser.ast.JsonAst.{JsonAst, Null}
 
 -- the first row has ended: they are the same where the second has too

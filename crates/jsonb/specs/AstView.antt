@@ -1,5 +1,5 @@
 -- The tree of a `JsonAst`.
-use Rattle.std.specs.Prelude.{ℕ, List, map, ⊤}
+use Rattle.std.specs.Prelude.{ℕ, List, map}
 use Rattle.std.specs.Cow.{cow_str_bytes}
 use Rattle.std.specs.declared.alloc.Global.{Global}
 use Rattle.std.specs.declared.borrow.CowStr.{CowStr}
@@ -40,9 +40,3 @@ written_pairs ms = keyed_trees (map (λ m. (m.0, ast_view m.1, m.2)) ms)
 -- the members of an object, put in one after the other
 abbrev pub written_members : List Written → Members
 written_members ms = put_all (written_pairs ms) no_members
-
--- the tree is an array or an object
-abbrev pub IsContainer : Tree → Type 0
-IsContainer (array ts) = ⊤
-IsContainer (object ms) = ⊤
-IsContainer other = ⊥

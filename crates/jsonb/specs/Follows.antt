@@ -4,7 +4,7 @@ use Rattle.jsonb_spec.specs.Mode.{Mode}
 use Rattle.jsonb_spec.specs.Tree.{Tree}
 use Rattle.jsonb_core.specs.declared.error.Error.{Error}
 use Rattle.text_scan.specs.Answer.{Fails, Gives}
-use Rattle.text_scan.specs.Parsing.Document.{document_of}
+use Rattle.jsonb_spec.specs.Parsing.Document.{document_of}
 use Rattle.jsonb.specs.Explained.{IsExplained}
 
 -- What is returned, seen by view, is what the executable specification gives, and so are the code and the offset of an

@@ -8,7 +8,7 @@ use Rattle.jsonb_spec.specs.Tree.{Mark, put_all}
 use Rattle.jsonb_spec.specs.Tree.Members.{no_members}
 use Rattle.jsonb_value.specs.View.{members_view}
 use Rattle.jsonb_value.specs.declared.value.Value.{Value}
-use Rattle.text_common.specs.Open.{Open, elements_so_far, members_so_far}
+use Rattle.jsonb_spec.specs.Source.Open.{Open, elements_so_far, members_so_far}
 use Rattle.text_parse.specs.declared.parser.frame.Frame.{Frame}
 use Rattle.text_parse.specs.declared.parser.frame.Frame.TheVariants as variants
 

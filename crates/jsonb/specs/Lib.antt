@@ -1,4 +1,3 @@
-pub mod Appends
 pub mod EndZeros
 pub mod Lines
 pub mod AstView

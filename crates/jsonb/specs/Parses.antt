@@ -6,7 +6,8 @@ use Rattle.jsonb_spec.specs.Mode.{Mode}
 use Rattle.jsonb_spec.specs.Tree.{Tree}
 use Rattle.jsonb_core.specs.declared.error.Error.{Error}
 use Rattle.jsonb_core.specs.declared.error.Error.TheVariants.{OutOfMemory}
-use Rattle.text_scan.specs.Answer.{IsTextError, MayAllocate}
+use Rattle.text_scan.specs.Answer.{IsTextError}
+use Rattle.jsonb_spec.specs.Parsing.Memory.{MayAllocate}
 
 -- What is returned, seen by view, is the one tree of the document. What is rejected is no document, unless memory ran
 -- out, which takes a text that may allocate. The error is a fault of the text or want of memory.

@@ -6,7 +6,7 @@ use Rattle.std.specs.Cmp.Lexicographic.{nat_list_eq_equiv}
 use Rattle.jsonb_core.specs.Order.NumberLaws.{num_cmp_total}
 use Rattle.jsonb_spec.specs.Order.{num_cmp}
 use Rattle.jsonb_spec.specs.Source.{Source, null_source, boolean_source, string_source, number_source, array_source, object_source, Sources, no_sources, more_sources, SourceMembers, no_source_members, more_source_members}
-use Rattle.jsonb.specs.Source.{source_eq, sources_eq, source_members_eq}
+use Rattle.jsonb_spec.specs.Source.Equality.{source_eq, sources_eq, source_members_eq}
 
 bools : IsEquivalence (eq_by_cmp bool_cmp)
 bools = eq_by_cmp_equiv bool_cmp_total

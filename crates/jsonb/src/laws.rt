@@ -13,8 +13,8 @@ ghost use Rattle.jsonb_spec.specs.Accessors.{as_number};
 ghost use Rattle.jsonb_spec.specs.Number.Signed.{signed_by};
 ghost use Rattle.jsonb_spec.specs.Order.{Same};
 ghost use Rattle.jsonb_spec.specs.Tree.{Num, Tree};
-ghost use Rattle.text_scan.specs.Parsing.{fault};
-ghost use Rattle.text_scan.specs.Parsing.Document.{document_of};
+ghost use Rattle.jsonb_spec.specs.Parsing.{fault};
+ghost use Rattle.jsonb_spec.specs.Parsing.Document.{document_of};
 ghost use Rattle.jsonb_spec.specs.JsonText.{IsJsonText};
 
 /// A text is a document of at most one tree. Where the text of a value is a proper prefix of that of another, both are

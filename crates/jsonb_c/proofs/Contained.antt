@@ -1,7 +1,7 @@
 -- What is reported of containment by a status.
 use Rattle.std.proofs.Common.{◌≡◌, Bool, true, false, Result, Ok, Err, refl, sym, subst, ◌∙◌}
 use Rattle.key_walk.specs.declared.find.NoKey.{NoKey}
-use Rattle.jsonb_c.specs.KeyContains.{IsContained}
+use Rattle.jsonb_spec.specs.Interface.KeyContains.{IsContained}
 
 same_answer : (a b : Bool) → ◌≡◌ {A = Result Bool NoKey} (Ok a) (Ok b) → a ≡ b
 same_answer a b e = cc

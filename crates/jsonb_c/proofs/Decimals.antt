@@ -1,7 +1,7 @@
 -- What is said of the decimals of keys.
 use Rattle.std.proofs.Common.{◌≡◌, ℕ, ℤ, pos, List, [], ◌++◌, true, false, Option, Some, None, IfSome, MatchOption, refl, sym, ap, subst, ◌∙◌, arith}
-use Rattle.key_value.specs.Decimals.{HasFewDigits, HasManyDigits, IsShortDecimal}
-use Rattle.key_value.specs.Readable.{IsReadable}
+use Rattle.jsonb_spec.specs.SortKey.Decimals.{HasFewDigits, HasManyDigits, IsShortDecimal}
+use Rattle.jsonb_spec.specs.SortKey.Readable.{IsReadable}
 use Rattle.key_value.specs.declared.number.Decimal.{Decimal}
 use Rattle.key_walk.specs.declared.walk.Kind.{Kind}
 use Rattle.key_walk.specs.declared.walk.Kind.TheVariants as kinds
@@ -9,7 +9,8 @@ use Rattle.key_walk.specs.Parts.{kind_of_tree}
 use Rattle.jsonb_spec.specs.Proper.{IsProperNumber}
 use Rattle.jsonb_spec.specs.SortKey.{key_of, number_key}
 use Rattle.jsonb_spec.specs.Tree.{Num, Tree, null, boolean, string, number, array, object}
-use Rattle.jsonb_c.specs.Scalars.{is_number, IsDecimal}
+use Rattle.jsonb_c.specs.Scalars.{is_number}
+use Rattle.jsonb_spec.specs.Interface.Scalars.{IsDecimal}
 use Rattle.jsonb_c.proofs.Integers.{clash}
 
 -- what is found of a number's key

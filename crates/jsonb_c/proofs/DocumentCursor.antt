@@ -3,27 +3,30 @@ use Rattle.std.proofs.Common.{◌≡◌, ℕ, ◌+◌, ◌≤◌, inl, List, ◌
 use Rattle.std.specs.Prelude.{IsErrAnd, Vec}
 use Rattle.std.specs.declared.alloc.Global.{Global}
 use Rattle.std.proofs.lemmas.List.{drop-drop, drop_at, length-replicate, length-take-le, take-append-drop}
-use Rattle.key_value.specs.Readable.{IsAnyNumber, IsReadable}
-use Rattle.key_walk.specs.Open.{Open, items, members, IsScalar}
+use Rattle.jsonb_spec.specs.SortKey.Readable.{IsAnyNumber, IsReadable}
+use Rattle.jsonb_spec.specs.SortKey.Open.{Open, items, members, IsScalar}
 use Rattle.key_walk.proofs.Finds.{readable_inside}
 use Rattle.jsonb_spec.specs.Grammar.{max_depth}
 use Rattle.jsonb_spec.specs.Proper.{IsProper}
 use Rattle.jsonb_spec.specs.SortKey.{key_of, items_key, members_key, text_key}
 use Rattle.jsonb_spec.specs.Text.Range.{IsWithin}
 use Rattle.jsonb_spec.specs.Tree.{Tree, null, boolean, string, number, array, object, binary, date, timestamp, timestamp_tz, interval, no_trees, more_trees, no_members, more_members}
-use Rattle.key_document.specs.Changes.{IsLacking, IsPartAt}
+use Rattle.key_document.specs.Changes.{IsLacking}
+use Rattle.jsonb_spec.specs.Document.PartAt.{IsPartAt}
 use Rattle.key_document.specs.Cursor.{IsLeftBehind}
-use Rattle.key_document.specs.Document.{document_of}
+use Rattle.jsonb_spec.specs.Document.{document_of}
 use Rattle.key_document.specs.declared.error.DocumentError.{DocumentError}
 use Rattle.key_document.specs.declared.error.DocumentError.TheVariants.{NoDocument, TooDeep, OutOfMemory}
 use Rattle.key_text.proofs.Counts.{one_each}
-use Rattle.jsonb_c.specs.Document.{IsDocumentAnswer}
-use Rattle.jsonb_c.specs.DocumentCursor.{all_parts, behind_first, first_part, zeros_left, IsBefore, IsBegunBefore}
-use Rattle.jsonb_c.specs.KeyParts.{IsBegun, IsNextPart, IsWritten, OccursBefore}
+use Rattle.jsonb_spec.specs.Interface.Document.{IsDocumentAnswer}
+use Rattle.jsonb_spec.specs.Interface.DocumentCursor.{all_parts, behind_first, first_part}
+use Rattle.jsonb_c.specs.DocumentCursor.{zeros_left, IsBefore, IsBegunBefore}
+use Rattle.jsonb_c.specs.KeyParts.{IsBegun, IsNextPart, OccursBefore}
+use Rattle.jsonb_spec.specs.Interface.KeyParts.{IsWritten}
 use Rattle.jsonb_c.specs.declared.document_cursor.DocumentCursor.{DocumentCursor}
 use Rattle.jsonb_c.specs.declared.key.Cursor.{Cursor}
 use Rattle.jsonb_c.specs.declared.key.Entry.{Entry}
-use Rattle.key_text.specs.Counts.{counts_at, counts_at_items, counts_at_members}
+use Rattle.jsonb_spec.specs.Document.Counts.{counts_at, counts_at_items, counts_at_members}
 
 -- ---- the cursor before all parts
 

@@ -6,12 +6,12 @@ use Rattle.jsonb_spec.specs.Mode.{Mode}
 use Rattle.jsonb_spec.specs.SortKey.{key_of, text_key}
 use Rattle.jsonb_spec.specs.Text.Range.{EndsInNoZero, HasNoEndZeros, IsWithin, AreWithin, HaveWithin}
 use Rattle.jsonb_spec.specs.Tree.{Tree, null, boolean, string, number, array, object, Trees, no_trees, more_trees, Members, no_members, more_members}
-use Rattle.key_document.specs.Document.{behind_key, document_of}
-use Rattle.key_text.specs.Counts.{counts_at, counts_at_items, counts_at_members}
+use Rattle.jsonb_spec.specs.Document.{behind_key, document_of}
+use Rattle.jsonb_spec.specs.Document.Counts.{counts_at, counts_at_items, counts_at_members}
 use Rattle.key_text.proofs.Spares.{none_to_spare}
-use Rattle.key_zeros.specs.Zeros.{zeros_of}
-use Rattle.jsonb_c.specs.Document.{IsDocumentOfText}
-use Rattle.jsonb_c.specs.Interface.{IsKeyOf}
+use Rattle.jsonb_spec.specs.Document.Zeros.{zeros_of}
+use Rattle.jsonb_spec.specs.Interface.Document.{IsDocumentOfText}
+use Rattle.jsonb_spec.specs.Interface.{IsKeyOf}
 
 abbrev AllZero : List ℕ → Type 0
 AllZero cs = AllByRecursion (λ c. c ≡ 0) cs

@@ -5,8 +5,8 @@ use Rattle.jsonb_spec.specs.Mode.{Mode}
 use Rattle.jsonb_spec.specs.Text.{text_of}
 use Rattle.jsonb_spec.specs.Text.ReadsBack.{ReadsBackAs}
 use Rattle.jsonb_spec.specs.Tree.{Tree}
-use Rattle.jsonb.specs.Appends.{AppendsPartOf, IsParsed, LacksCapacityForPart}
-use Rattle.text_scan.specs.Answer.{MayAllocate}
+use Rattle.jsonb_spec.specs.Parsing.Appends.{AppendsPartOf, IsParsed, LacksCapacityForPart}
+use Rattle.jsonb_spec.specs.Parsing.Memory.{MayAllocate}
 use Rattle.jsonb_spec.specs.PartAt.{IsAt}
 use Rattle.jsonb_c.proofs.ArraySizes.{document_below}
 use Rattle.jsonb_c.proofs.PartsAt.{part_found, part_there}

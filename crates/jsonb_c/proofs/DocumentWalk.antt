@@ -7,8 +7,8 @@ use Rattle.key_document.specs.Walk.{MeetsFirst, MeetsNext, SkipsFirst}
 use Rattle.key_document.specs.declared.error.DocumentError.{DocumentError}
 use Rattle.key_document.specs.declared.walk.Met.{Met}
 use Rattle.key_document.specs.declared.walk.Walk.{Walk}
-use Rattle.key_walk.specs.Events.{Event as TreeEvent}
-use Rattle.key_walk.specs.Open.{Open}
+use Rattle.jsonb_spec.specs.SortKey.Events.{Event as TreeEvent}
+use Rattle.jsonb_spec.specs.SortKey.Open.{Open}
 
 pub first_met : (t : Tree) (events : List TreeEvent) (met : Met) (event : Event) (walk : Walk) → event ≡ event_of met → MeetsFirst t events (Ok met) walk → MeetsEvent t events 0 event walk
 first_met t [] met event walk is x = absurd x

@@ -1,7 +1,7 @@
 -- The document of a text's tree.
 use Rattle.std.proofs.Common.{◌≡◌, ℕ, List, sym, ap, ◌∙◌}
 use Rattle.key_value.proofs.Texts.{some_same}
-use Rattle.key_value.specs.Readable.{IsAnyNumber, IsReadable}
+use Rattle.jsonb_spec.specs.SortKey.Readable.{IsAnyNumber, IsReadable}
 use Rattle.jsonb_spec.specs.Grammar.{max_depth, IsDocument}
 use Rattle.jsonb_spec.specs.Mode.{Mode, standard, extended, json, extended_json}
 use Rattle.jsonb_spec.specs.SortKey.{key_of}
@@ -10,7 +10,7 @@ use Rattle.jsonb_spec.specs.Text.Range.{HasFewDigits, IsIntegral}
 use Rattle.jsonb_spec.specs.Tree.{Tree}
 use Rattle.jsonb_core.proofs.Trees.RangeTexts.{document_in_range, text_in_range}
 use Rattle.jsonb_core.proofs.Trees.Ranges.{widened}
-use Rattle.jsonb_c.specs.Interface.{IsTextOf}
+use Rattle.jsonb_spec.specs.Interface.{IsTextOf}
 
 pub document_readable : (mode : Mode) (bytes : List ℕ) (t : Tree) → IsDocument mode bytes t → IsReadable t
 document_readable standard bytes t d = let x = document_in_range standard bytes t d in record { proper = x.1; within = widened IsIntegral IsAnyNumber (λ n p w. tt) t max_depth x.1 x.0 }

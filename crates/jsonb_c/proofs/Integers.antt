@@ -1,7 +1,7 @@
 -- What is said of the integers of keys.
 use Rattle.std.proofs.Common.{◌≡◌, ℕ, ℤ, pos, List, [], ◌++◌, Bool, true, false, Option, Some, None, FitsSigned, refl, sym, ap, ◌∙◌, arith}
 use Rattle.std.specs.Int.{w64}
-use Rattle.key_value.specs.Readable.{IsReadable}
+use Rattle.jsonb_spec.specs.SortKey.Readable.{IsReadable}
 use Rattle.key_walk.specs.declared.walk.Kind.{Kind}
 use Rattle.key_walk.specs.declared.walk.Kind.TheVariants as kinds
 use Rattle.key_walk.specs.Parts.{kind_of_tree}
@@ -9,7 +9,8 @@ use Rattle.jsonb_spec.specs.Number.Cast.{HasValue}
 use Rattle.jsonb_spec.specs.Proper.{IsProperNumber}
 use Rattle.jsonb_spec.specs.SortKey.{key_of, number_key}
 use Rattle.jsonb_spec.specs.Tree.{Num, Tree, null, boolean, string, number, array, object}
-use Rattle.jsonb_c.specs.Scalars.{is_number, IsInteger}
+use Rattle.jsonb_c.specs.Scalars.{is_number}
+use Rattle.jsonb_spec.specs.Interface.Scalars.{IsInteger}
 
 -- what is found of a number's key
 abbrev pub FindsInteger : List ℕ → Option ℤ → Type 0

@@ -2,16 +2,19 @@
 use Rattle.std.proofs.Common.{◌≡◌, ℕ, ◌+◌, ◌-◌, Bool, List, [], ◌∷◌, ◌++◌, Bor, Option, Some, None, Result, Ok, Err, drop, length, if◌then◌else◌, ◌==◌, sym, subst, refl, ap, ◌∙◌, arith, append_assoc, append-nil}
 use Rattle.std.proofs.Math.Seq.{drop-append_seam}
 use Rattle.std.proofs.lemmas.List.{length-append}
-use Rattle.key_value.specs.Readable.{IsReadable}
+use Rattle.jsonb_spec.specs.SortKey.Readable.{IsReadable}
 use Rattle.jsonb_spec.specs.SortKey.{key_of, items_key, members_key, text_key}
 use Rattle.jsonb_spec.specs.Tree.{Tree, null, boolean, string, number, array, object, no_trees, more_trees, no_members, more_members}
 use Rattle.key_walk.specs.declared.find.NoKey.{NoKey}
-use Rattle.key_walk.specs.Found.{IsLeftOf, IsNext}
-use Rattle.key_walk.specs.Open.{Open, items, members, is_object, open_key, opening_byte, IsOpen, IsScalar}
-use Rattle.key_walk.specs.Parts.{kind_of_tree, opened_tree}
+use Rattle.jsonb_spec.specs.SortKey.Found.{IsLeftOf}
+use Rattle.key_walk.specs.Found.{IsNext}
+use Rattle.jsonb_spec.specs.SortKey.Open.{Open, items, members, is_object, open_key, opening_byte, IsOpen, IsScalar}
+use Rattle.key_walk.specs.Parts.{kind_of_tree}
+use Rattle.jsonb_spec.specs.SortKey.Parts.{opened_tree}
 use Rattle.jsonb_c.specs.declared.key.Cursor.{Cursor}
 use Rattle.jsonb_c.specs.declared.key.Entry.{Entry}
-use Rattle.jsonb_c.specs.KeyParts.{kind_number, open_number, text_of_tree, IsBegun, IsCounted, IsNextPart, IsTreeKey, IsWritten, OccursBefore}
+use Rattle.jsonb_c.specs.KeyParts.{kind_number, IsBegun, IsNextPart, OccursBefore}
+use Rattle.jsonb_spec.specs.Interface.KeyParts.{open_number, text_of_tree, IsCounted, IsTreeKey, IsWritten}
 
 -- nothing is behind the key
 pub all_of_it : (key : List ℕ) (t : Tree) → IsTreeKey key t → key ≡ key_of t ++ []

@@ -8,7 +8,7 @@ use Rattle.jsonb_spec.specs.SortKey.{key_of}
 use Rattle.jsonb_spec.specs.Tree.{Tree}
 use Rattle.jsonb_core.proofs.SortKeys.Trees.{keys_order, keys_no_front}
 use Rattle.jsonb.proofs.Documents.Bounds.{document_proper}
-use Rattle.jsonb_c.specs.Interface.{sign, IsDocumentOf, IsKeyOf, IsOrdered, IsTextOf}
+use Rattle.jsonb_spec.specs.Interface.{sign, IsDocumentOf, IsKeyOf, IsOrdered, IsTextOf}
 use Rattle.jsonb_c.proofs.Reasons.{one_mode}
 use Rattle.jsonb_c.proofs.Parts.{one_tree}
 

@@ -4,7 +4,7 @@ use Rattle.jsonb_spec.specs.Grammar.{IsDocument}
 use Rattle.jsonb_spec.specs.Tree.{Tree}
 use Rattle.jsonb_spec.specs.PartAt.{IsAt}
 use Rattle.jsonb_path.proofs.KeyEncoding.{one_path}
-use Rattle.jsonb_c.specs.Interface.{IsAccepted, IsDocumentOf, HasPartAt, HasNoPartAt}
+use Rattle.jsonb_spec.specs.Interface.{IsAccepted, IsDocumentOf, HasPartAt, HasNoPartAt}
 use Rattle.jsonb_c.proofs.Reasons.{one_mode}
 
 -- a text is a document of one tree

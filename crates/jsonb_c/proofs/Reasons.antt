@@ -6,12 +6,13 @@ use Rattle.jsonb_spec.specs.Mode.{Mode}
 use Rattle.jsonb_core.specs.declared.error.Error.{Error}
 use Rattle.jsonb_core.specs.declared.error.Error.TheVariants as errors
 use Rattle.text_scan.specs.Answer.{Fails}
-use Rattle.text_scan.specs.Parsing.Document.{document_of}
+use Rattle.jsonb_spec.specs.Parsing.Document.{document_of}
 use Rattle.jsonb.specs.Explained.{IsExplained}
 use Rattle.jsonb_c.specs.declared.Rejection.{Rejection}
 use Rattle.jsonb_c.specs.declared.Failure.{Failure}
 use Rattle.jsonb_c.specs.declared.Failure.TheVariants.{Text, OutOfMemory, UnknownMode}
-use Rattle.jsonb_c.specs.Interface.{NumberChooses, standard_mode, extended_mode, json_mode, extended_json_mode, status_of, IsAccepted, IsOneRejected, first_rejected, second_rejected, IsReason, IsRejected, SaysError}
+use Rattle.jsonb_spec.specs.Interface.{NumberChooses, standard_mode, extended_mode, json_mode, extended_json_mode, IsAccepted}
+use Rattle.jsonb_c.specs.Interface.{status_of, IsOneRejected, first_rejected, second_rejected, IsReason, IsRejected, SaysError}
 
 -- ---- modes
 

@@ -2,11 +2,13 @@
 use Rattle.std.proofs.Common.{◌≡◌, inl, inr, ℕ, suc, ◌≤◌, List, [], ◌∷◌, All, refl, subst, sym, arith}
 use Rattle.jsonb_spec.specs.Mode.{Mode}
 use Rattle.jsonb_core.specs.declared.error.Error.{Error}
-use Rattle.jsonb.specs.Lines.{IsFirstOfLines, LacksCapacityForLines, RejectsLine, lines_of}
+use Rattle.jsonb_spec.specs.Parsing.Lines.{IsFirstOfLines, LacksCapacityForLines, lines_of}
+use Rattle.jsonb.specs.Lines.{RejectsLine}
 use Rattle.jsonb_c.specs.declared.Rejection.{Rejection}
 use Rattle.jsonb_c.specs.declared.Failure.{Failure}
 use Rattle.jsonb_c.specs.declared.Failure.TheVariants.{Text, OutOfMemory, UnknownMode}
-use Rattle.jsonb_c.specs.Interface.{IsAccepted, IsReason, IsRejected, NumberChooses, SaysError, status_of}
+use Rattle.jsonb_spec.specs.Interface.{IsAccepted, NumberChooses}
+use Rattle.jsonb_c.specs.Interface.{IsReason, IsRejected, SaysError, status_of}
 use Rattle.jsonb_c.specs.Lines.{IsLineRejected}
 use Rattle.jsonb_c.proofs.Reasons.{denied, rejected_text, within}
 use Rattle.jsonb_c.proofs.Texts.{document_accepted, parsed_accepted}

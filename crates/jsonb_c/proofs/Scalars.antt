@@ -1,11 +1,11 @@
 -- What is said of the booleans of keys.
 use Rattle.std.proofs.Common.{◌≡◌, ℕ, Bool, Option, Some, None, sym, subst, refl, ap, ◌∙◌, if◌then◌else◌}
-use Rattle.key_value.specs.Readable.{IsReadable}
+use Rattle.jsonb_spec.specs.SortKey.Readable.{IsReadable}
 use Rattle.jsonb_spec.specs.Tree.{Tree}
 use Rattle.key_walk.specs.declared.walk.Kind.{Kind}
 use Rattle.key_walk.specs.Parts.{kind_of_tree}
 use Rattle.jsonb_c.specs.KeyParts.{kind_number}
-use Rattle.jsonb_c.specs.Scalars.{IsBoolean}
+use Rattle.jsonb_spec.specs.Interface.Scalars.{IsBoolean}
 use Rattle.jsonb_c.proofs.KeyParts.{some_kind}
 
 pub is_reported : (found wanted : Option Bool) (b : Bool) (value : ℕ) → found ≡ Some b → found ≡ wanted → value ≡ (if b then 1 else 0) → IsBoolean wanted 0 value

@@ -6,11 +6,12 @@ use Rattle.jsonb_spec.specs.Grammar.{IsDocument}
 use Rattle.jsonb_spec.specs.Mode.{Mode}
 use Rattle.jsonb_spec.specs.Tree.{Tree}
 use Rattle.jsonb_core.proofs.Trees.RangeTexts.{document_text_reads_back}
-use Rattle.jsonb.specs.Appends.{IsParsed}
+use Rattle.jsonb_spec.specs.Parsing.Appends.{IsParsed}
 use Rattle.jsonb.proofs.Documents.Encodings.{document_complete, document_unique}
 use Rattle.jsonb_c.specs.declared.Failure.{Failure}
 use Rattle.jsonb_c.specs.declared.Failure.TheVariants.{Text, OutOfMemory, UnknownMode}
-use Rattle.jsonb_c.specs.Interface.{IsAccepted, IsDocumentOf, IsReason, IsRejected, IsTextOf, NumberChooses}
+use Rattle.jsonb_spec.specs.Interface.{IsAccepted, IsDocumentOf, IsTextOf, NumberChooses}
+use Rattle.jsonb_c.specs.Interface.{IsReason, IsRejected}
 use Rattle.jsonb_c.proofs.Reasons.{denied}
 
 pub done : {T E : Type 0} (P : Type 0) (r : Result T E) → is_err r ≡ false → OnOk r P → P

@@ -1,15 +1,16 @@
 -- What the statuses say of the parts of a document, one after the other, and what is in a cursor over them.
 use Rattle.std.specs.Prelude.{◌≡◌, ℕ, List, drop, Option, Some, None}
 use Rattle.jsonb_spec.specs.SortKey.{key_of}
-use Rattle.jsonb_spec.specs.Tree.{Tree, array, object, no_trees, more_trees, no_members, more_members}
-use Rattle.key_walk.specs.Open.{Open, items, members}
+use Rattle.jsonb_spec.specs.Tree.{Tree}
+use Rattle.jsonb_spec.specs.SortKey.Open.{Open}
 use Rattle.key_document.specs.Cursor.{IsLeftBehind}
 use Rattle.key_document.specs.declared.cursor.ZerosLeft.{ZerosLeft}
-use Rattle.jsonb_c.specs.Document.{IsDocumentAnswer}
+use Rattle.jsonb_spec.specs.Interface.Document.{IsDocumentAnswer}
 use Rattle.jsonb_c.specs.KeyParts.{IsNextPart, OccursBefore}
 use Rattle.jsonb_c.specs.declared.document_cursor.DocumentCursor.{DocumentCursor}
 use Rattle.jsonb_c.specs.declared.key.Entry.{Entry}
-use Rattle.key_text.specs.Counts.{counts_at, counts_open}
+use Rattle.jsonb_spec.specs.Document.Counts.{counts_at, counts_open}
+use Rattle.jsonb_spec.specs.Interface.DocumentCursor.{first_part, behind_first}
 
 -- what the cursor says is left of the zeros
 abbrev pub zeros_left : DocumentCursor → ZerosLeft
@@ -27,30 +28,10 @@ pub record IsBefore (t : Tree) (left : Open) (cursor : DocumentCursor) : Type 0 
   pub counts : drop cursor.parts.offset (counts_at t) ≡ counts_open left
   pub zeros : IsLeftBehind t (zeros_left cursor)
 
--- all that is left of a value behind the first byte of its key; nothing of a scalar
-abbrev pub all_parts : Tree → Option Open
-all_parts (array ts) = Some (items ts)
-all_parts (object ms) = Some (members ms)
-all_parts t = None
-
 -- The status says that the cursor is before all these parts of the value, or that it has none.
 abbrev pub IsBegunBefore : Tree → Option Open → ℕ → DocumentCursor → Type 0
 IsBegunBefore t (Some left) status cursor = (status ≡ 0) × IsBefore t left cursor
 IsBegunBefore t None status cursor = status ≡ 5
-
--- the first part that is left; nothing where none is
-abbrev pub first_part : Open → Option Tree
-first_part (items no_trees) = None
-first_part (items (more_trees t ts)) = Some t
-first_part (members no_members) = None
-first_part (members (more_members name t ms)) = Some t
-
--- what is left behind the first part
-abbrev pub behind_first : Open → Open
-behind_first (items no_trees) = items no_trees
-behind_first (items (more_trees t ts)) = items ts
-behind_first (members no_members) = members no_members
-behind_first (members (more_members name t ms)) = members ms
 
 -- The document of the first part that is left is written, or the status says why it isn't. Where it is written, the
 -- ranges of the part are reported, and the cursor is behind it.

@@ -7,8 +7,8 @@ use Rattle.jsonb_c.specs.declared.document_walk.Event.{Event}
 use Rattle.key_document.specs.Walk.{IsWalkAt, IsWalkBefore, IsMet}
 use Rattle.key_document.specs.declared.walk.Met.{Met}
 use Rattle.key_document.specs.declared.walk.Walk.{Walk}
-use Rattle.key_walk.specs.Events.{Event as TreeEvent}
-use Rattle.key_walk.specs.Open.{Open}
+use Rattle.jsonb_spec.specs.SortKey.Events.{Event as TreeEvent}
+use Rattle.jsonb_spec.specs.SortKey.Open.{Open}
 
 -- what is reported of what is met
 abbrev pub event_of : Met → Event

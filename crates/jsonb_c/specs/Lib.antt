@@ -1,14 +1,11 @@
 pub mod Interface
 pub mod Lines
-pub mod KeyContains
 pub mod KeyEdit
 pub mod KeyParts
 pub mod KeyText
 pub mod Zeros
-pub mod Rejected
 pub mod Scalars
 pub mod Document
 pub mod DocumentCursor
-pub mod DocumentInsert
 pub mod Table
 pub mod DocumentWalk

@@ -1,24 +1,11 @@
--- What the statuses say of a text whose lines are texts of their own.
-use Rattle.std.specs.Prelude.{◌≡◌, ◌⊎◌, ℕ, List, [], ◌∷◌}
-use Rattle.jsonb_spec.specs.Mode.{Mode}
-use Rattle.jsonb.specs.Lines.{AppendsTextOfLines, IsFirstOfLines, lines_of}
-use Rattle.text_scan.specs.Answer.{MayAllocate}
-use Rattle.jsonb_c.specs.Interface.{NumberChooses, IsAccepted, IsRejected}
+-- Which line of a text is rejected.
+use Rattle.std.specs.Prelude.{ℕ, List}
+use Rattle.jsonb_spec.specs.Parsing.Lines.{IsFirstOfLines, lines_of}
+use Rattle.jsonb_spec.specs.Interface.{IsAccepted}
+use Rattle.jsonb_c.specs.Interface.{IsRejected}
 use Rattle.jsonb_c.specs.declared.Rejection.{Rejection}
-
--- The number chooses a mode in which each line of the text is a document, and the bytes are the texts of these, each with
--- a line feed behind it.
-pub record AreTextsOfLines (number : ℕ) (text bytes : List ℕ) : Type 0 where
-  pub mode : Mode
-  pub chosen : NumberChooses number mode
-  pub written : AppendsTextOfLines mode (lines_of text) [] bytes
 
 -- Of the line that begins at this offset it is reported why it is rejected, and those before it are accepted.
 abbrev pub IsLineRejected : ℕ → List ℕ → ℕ → Rejection → Type 0
 IsLineRejected number text offset rejection =
     IsFirstOfLines (λ line. IsRejected number line 1 rejection) (IsAccepted number) (lines_of text) offset
-
--- The text may allocate, or its first line is a document, of which something is written.
-abbrev pub LinesMayAllocate : ℕ → List ℕ → Type 0
-LinesMayAllocate number text = MayAllocate text
-    ⊎ ((line : List ℕ) × (lines : List (List ℕ)) × (lines_of text ≡ line ∷ lines) × IsAccepted number line)

@@ -1,22 +1,7 @@
--- What the statuses of the call on the zeros that end decimals say.
-use Rattle.std.specs.Prelude.{◌≡◌, ℕ, List}
-use Rattle.key_value.specs.Readable.{IsReadable}
-use Rattle.jsonb_spec.specs.Text.{tree_text}
-use Rattle.jsonb_spec.specs.Tree.{Tree}
-use Rattle.key_text.specs.FewestDigits.{with_fewest_digits}
-use Rattle.key_zeros.specs.Zeros.{zeros_in}
+-- The statuses of errors of zeros.
+use Rattle.std.specs.Prelude.{ℕ}
 use Rattle.key_zeros.specs.declared.error.ZerosError.{ZerosError}
 use Rattle.key_zeros.specs.declared.error.ZerosError.TheVariants as errors
-
--- Whichever value has this text with the fewest digits, and these zeros, the text is its serialized form.
-abbrev pub IsTextWithZeros : List ℕ → List ℕ → List ℕ → Type 0
-IsTextWithZeros shortest zeros text =
-    (t : Tree) → IsReadable t → shortest ≡ tree_text (with_fewest_digits t) → zeros ≡ zeros_in t → text ≡ tree_text t
-
--- No value has this text with the fewest digits, and these zeros.
-abbrev pub LackZeros : List ℕ → List ℕ → Type 0
-LackZeros shortest zeros =
-    (t : Tree) → IsReadable t → shortest ≡ tree_text (with_fewest_digits t) → zeros ≡ zeros_in t → ⊥
 
 -- the status of an error
 abbrev pub zeros_status_of : ZerosError → ℕ

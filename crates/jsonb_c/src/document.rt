@@ -5,19 +5,22 @@
 //! 512 nested arrays and objects; of other bytes it may be `NO_DOCUMENT` or any bytes.
 ghost use Rattle.std.specs.Prelude.{◌≡◌, ◌⊎◌, ◌≤◌, ◌↔◌, ◌++◌, IfOk, IsTrue, ℕ, List, [], length, map, string_bytes, Option, Some, Vec};
 ghost use Rattle.std.specs.declared.alloc.Global.{Global as GlobalAlloc};
-ghost use Rattle.jsonb_c.specs.Document.{document_status_of, IsDocumentAnswer, IsDocumentOfText, IsDocumentStatus, IsTreeDocument};
-ghost use Rattle.jsonb_c.specs.Interface.{sign, FailsFor, FillsBuffer, FormMayAllocate, IsRejected, IsStatusOfForm, PreservesBuffer, Reports, ReportsPath};
-ghost use Rattle.jsonb_c.specs.KeyParts.{IsWritten};
-ghost use Rattle.key_value.specs.Readable.{IsReadable};
-ghost use Rattle.jsonb_path.specs.Path.{IsPath};
+ghost use Rattle.jsonb_c.specs.Document.{document_status_of};
+ghost use Rattle.jsonb_spec.specs.Interface.Document.{IsDocumentAnswer, IsDocumentOfText, IsDocumentStatus, IsTreeDocument};
+ghost use Rattle.jsonb_spec.specs.Interface.{sign, FillsBuffer, FormMayAllocate, IsStatusOfForm, PreservesBuffer, ReportsPath};
+ghost use Rattle.jsonb_c.specs.Interface.{FailsFor, IsRejected, Reports};
+ghost use Rattle.jsonb_spec.specs.Interface.KeyParts.{IsWritten};
+ghost use Rattle.jsonb_spec.specs.SortKey.Readable.{IsReadable};
+ghost use Rattle.jsonb_spec.specs.Path.{IsPath};
 ghost use Rattle.jsonb_spec.specs.Order.{tree_cmp};
 ghost use Rattle.jsonb_spec.specs.PartAt.{part_at};
 ghost use Rattle.jsonb_spec.specs.SortKey.{key_of};
 ghost use Rattle.jsonb_spec.specs.Text.{text_of};
 ghost use Rattle.jsonb_spec.specs.Tree.{Tree};
-ghost use Rattle.key_document.specs.Check.{IsDocumentInRange};
-ghost use Rattle.key_document.specs.Changes.{Answers, AppendsDocument, IsPartAt};
-ghost use Rattle.key_table.specs.Table.{has_table, table_of};
+ghost use Rattle.jsonb_spec.specs.Document.Check.{IsDocumentInRange};
+ghost use Rattle.key_document.specs.Changes.{Answers, AppendsDocument};
+ghost use Rattle.jsonb_spec.specs.Document.PartAt.{IsPartAt};
+ghost use Rattle.jsonb_spec.specs.Table.{has_table, table_of};
 
 use crate::{
     ACCEPTED, Failure, NO_DOCUMENT, NO_PART, NO_PATH, NOTHING, OUT_OF_MEMORY, Rejection, TOO_DEEP,

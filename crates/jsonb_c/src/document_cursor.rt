@@ -4,15 +4,16 @@
 //! kinds with at most 512 nested arrays and objects, and for a cursor that these calls put there; of other bytes it may
 //! be `NO_DOCUMENT` or any bytes.
 ghost use Rattle.std.specs.Prelude.{◌≡◌, ◌≢◌, ◌⊎◌, ◌<◌, ◌++◌, List, ℕ, IfErr, IfOk, IfSome, MatchOption, MatchResult, None, Some};
-ghost use Rattle.jsonb_c.specs.Document.{IsDocumentStatus, IsTreeDocument};
-ghost use Rattle.jsonb_c.specs.DocumentCursor.{all_parts, behind_first, first_part, zeros_left, IsBefore, IsBegunBefore, WritesNext};
-ghost use Rattle.jsonb_c.specs.Interface.{PreservesBuffer};
+ghost use Rattle.jsonb_spec.specs.Interface.Document.{IsDocumentStatus, IsTreeDocument};
+ghost use Rattle.jsonb_spec.specs.Interface.DocumentCursor.{all_parts, behind_first, first_part};
+ghost use Rattle.jsonb_c.specs.DocumentCursor.{zeros_left, IsBefore, IsBegunBefore, WritesNext};
+ghost use Rattle.jsonb_spec.specs.Interface.{PreservesBuffer};
 ghost use Rattle.jsonb_c.specs.KeyParts.{IsNextPart, LiesWithin};
 ghost use Rattle.jsonb_spec.specs.SortKey.{key_of};
 ghost use Rattle.jsonb_spec.specs.Tree.{Tree};
-ghost use Rattle.key_document.specs.Document.{document_of};
-ghost use Rattle.key_value.specs.Readable.{IsReadable};
-ghost use Rattle.key_walk.specs.Open.{Open};
+ghost use Rattle.jsonb_spec.specs.Document.{document_of};
+ghost use Rattle.jsonb_spec.specs.SortKey.Readable.{IsReadable};
+ghost use Rattle.jsonb_spec.specs.SortKey.Open.{Open};
 
 use crate::document::document_status;
 use crate::key::{Cursor, Entry, NO_CURSOR, NO_ENTRY, kind_of_parts, next_entry};

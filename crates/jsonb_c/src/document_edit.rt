@@ -3,12 +3,12 @@
 //! Any bytes are safe to pass. What a call writes is promised for the documents of values of JSON's kinds with at most
 //! 512 nested arrays and objects; of other bytes it may be `NO_DOCUMENT` or any bytes.
 ghost use Rattle.std.specs.Prelude.{◌≡◌, ◌↔◌, ◌⊎◌, ◌==◌, IsUtf8, ℕ, List, not, map, string_bytes, Some};
-ghost use Rattle.jsonb_c.specs.Document.{IsDocumentAnswer, IsDocumentStatus, IsTreeDocument};
-ghost use Rattle.jsonb_c.specs.Interface.{PreservesBuffer, ReportsPath};
+ghost use Rattle.jsonb_spec.specs.Interface.Document.{IsDocumentAnswer, IsDocumentStatus, IsTreeDocument};
+ghost use Rattle.jsonb_spec.specs.Interface.{PreservesBuffer, ReportsPath};
 ghost use Rattle.jsonb_c.specs.declared.TheConstants.{OUT_OF_MEMORY};
-ghost use Rattle.jsonb_path.specs.Path.{IsPath};
+ghost use Rattle.jsonb_spec.specs.Path.{IsPath};
 ghost use Rattle.jsonb_spec.specs.Tree.{Tree};
-ghost use Rattle.key_edit.specs.Edit.{merge, with_item, with_member, with_part, without_part};
+ghost use Rattle.jsonb_spec.specs.Edit.{merge, with_item, with_member, with_part, without_part};
 
 use crate::document::{answer, report_document};
 use crate::{NO_PATH, names_of};

@@ -3,13 +3,13 @@
 //! Any bytes are safe to pass. What a call writes is promised for the documents of values of JSON's kinds with at most
 //! 512 nested arrays and objects; of other bytes it may be `NO_DOCUMENT` or any bytes.
 ghost use Rattle.std.specs.Prelude.{◌≡◌, ◌⊎◌, ◌==◌, ℕ, List, not, map, string_bytes};
-ghost use Rattle.jsonb_c.specs.Document.{IsDocumentStatus, IsTreeDocument};
-ghost use Rattle.jsonb_c.specs.DocumentInsert.{IsInsertionAnswer};
-ghost use Rattle.jsonb_c.specs.Interface.{PreservesBuffer, ReportsPath};
+ghost use Rattle.jsonb_spec.specs.Interface.Document.{IsDocumentStatus, IsTreeDocument};
+ghost use Rattle.jsonb_spec.specs.Interface.DocumentInsert.{IsInsertionAnswer};
+ghost use Rattle.jsonb_spec.specs.Interface.{PreservesBuffer, ReportsPath};
 ghost use Rattle.jsonb_c.specs.declared.TheConstants.{OUT_OF_MEMORY};
-ghost use Rattle.jsonb_path.specs.Path.{IsPath};
+ghost use Rattle.jsonb_spec.specs.Path.{IsPath};
 ghost use Rattle.jsonb_spec.specs.Tree.{Tree};
-ghost use Rattle.key_edit.specs.Insert.{with_inserted, without_member};
+ghost use Rattle.jsonb_spec.specs.Edit.Insert.{with_inserted, without_member};
 
 use crate::document::document_status;
 use crate::{NO_PART, NO_PATH, PRESENT, names_of, put};

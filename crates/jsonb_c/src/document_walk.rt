@@ -4,12 +4,13 @@
 //! kinds with at most 512 nested arrays and objects, and for a walk that these calls put there; of other bytes it may
 //! be `NO_DOCUMENT` or any event within them.
 ghost use Rattle.std.specs.Prelude.{◌≡◌, ◌≢◌, ◌⊎◌, ◌<◌, ◌≤◌, ◌+◌, List, None, length};
-ghost use Rattle.jsonb_c.specs.Document.{IsTreeDocument};
+ghost use Rattle.jsonb_spec.specs.Interface.Document.{IsTreeDocument};
 ghost use Rattle.jsonb_c.specs.DocumentWalk.{event_of, EventWithin, MeetsEvent, SkipsOpen};
 ghost use Rattle.jsonb_spec.specs.Tree.{Tree};
-ghost use Rattle.key_document.specs.Walk.{events_left, IsWalkAt};
-ghost use Rattle.key_walk.specs.Events.{events_of};
-ghost use Rattle.key_walk.specs.Open.{Open};
+ghost use Rattle.jsonb_spec.specs.Document.Walk.{events_left};
+ghost use Rattle.key_document.specs.Walk.{IsWalkAt};
+ghost use Rattle.jsonb_spec.specs.SortKey.Events.{events_of};
+ghost use Rattle.jsonb_spec.specs.SortKey.Open.{Open};
 
 use crate::key::{NO_KIND, kind_number};
 use crate::{ACCEPTED, NO_DOCUMENT, NO_PART};

@@ -3,11 +3,11 @@
 //! Any bytes are safe to pass. What a call writes is promised for the documents of values of JSON's kinds with at most
 //! 512 nested arrays and objects; of other bytes it may be `NO_DOCUMENT` or any bytes.
 ghost use Rattle.std.specs.Prelude.{◌≡◌, ◌⊎◌, ◌==◌, not, Some};
-ghost use Rattle.jsonb_c.specs.Document.{IsDocumentAnswer, IsDocumentStatus, IsTreeDocument};
-ghost use Rattle.jsonb_c.specs.Interface.{PreservesBuffer};
+ghost use Rattle.jsonb_spec.specs.Interface.Document.{IsDocumentAnswer, IsDocumentStatus, IsTreeDocument};
+ghost use Rattle.jsonb_spec.specs.Interface.{PreservesBuffer};
 ghost use Rattle.jsonb_c.specs.declared.TheConstants.{OUT_OF_MEMORY};
 ghost use Rattle.jsonb_spec.specs.Tree.{Tree};
-ghost use Rattle.key_document.specs.LeftOut.{without_names, without_nulls};
+ghost use Rattle.jsonb_spec.specs.Edit.LeftOut.{without_names, without_nulls};
 
 use crate::document::{answer, report_document};
 use key_document::{append_without_names, append_without_nulls};

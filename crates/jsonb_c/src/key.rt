@@ -4,12 +4,14 @@
 //! nested arrays and objects; of other bytes it may be `NO_KEY` or any answer within them.
 
 ghost use Rattle.std.specs.Prelude.{◌≡◌, ◌≢◌, ◌↔◌, ◌⊎◌, ◌<◌, ◌≤◌, ◌+◌, ◌∷◌, ℕ, List, length, Option, None, MatchResult, MatchOption, IfOk, IfSome, if◌then◌else◌};
-ghost use Rattle.jsonb_c.specs.Interface.{PreservesBuffer, ReportsPath};
-ghost use Rattle.jsonb_c.specs.KeyParts.{kind_number, text_of_tree, FindsRange, IsBegun, IsCounted, IsFound, IsNextPart, IsPartStatus, IsTreeKey, IsWithinKey, IsWritten, LiesWithin, OccursBefore, WritesText};
-ghost use Rattle.jsonb_path.specs.Path.{IsPath, IsPlainPath, StartsKey};
-ghost use Rattle.key_walk.specs.Checked.{IsSortKey};
-ghost use Rattle.key_walk.specs.Found.{count_of, item_from, Finds, IsRange};
-ghost use Rattle.key_walk.specs.Open.{Open};
+ghost use Rattle.jsonb_spec.specs.Interface.{PreservesBuffer, ReportsPath};
+ghost use Rattle.jsonb_c.specs.KeyParts.{kind_number, IsBegun, IsNextPart, LiesWithin, OccursBefore};
+ghost use Rattle.jsonb_spec.specs.Interface.KeyParts.{text_of_tree, FindsRange, IsCounted, IsFound, IsPartStatus, IsTreeKey, IsWithinKey, IsWritten, WritesText};
+ghost use Rattle.jsonb_spec.specs.Path.{IsPath, IsPlainPath, StartsKey};
+ghost use Rattle.jsonb_spec.specs.SortKey.Checked.{IsSortKey};
+ghost use Rattle.jsonb_spec.specs.SortKey.Found.{count_of, item_from, IsRange};
+ghost use Rattle.key_walk.specs.Found.{Finds};
+ghost use Rattle.jsonb_spec.specs.SortKey.Open.{Open};
 ghost use Rattle.key_walk.specs.Parts.{BeginsNoKey, kind_of_tree};
 ghost use Rattle.jsonb_spec.specs.Accessors.{get_by_name};
 ghost use Rattle.jsonb_spec.specs.SortKey.{key_of, text_key};

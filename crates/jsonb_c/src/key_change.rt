@@ -4,12 +4,14 @@
 //! nested arrays and objects; of other bytes it may be `NO_KEY` or any bytes.
 ghost use Rattle.std.specs.Prelude.{◌≡◌, ◌↔◌, ◌⊎◌, ◌==◌, IsUtf8, ℕ, List, [], not, map, string_bytes, Option, Some, Vec};
 ghost use Rattle.std.specs.declared.alloc.Global.{Global as GlobalAlloc};
-ghost use Rattle.jsonb_c.specs.Interface.{PreservesBuffer, ReportsPath};
-ghost use Rattle.jsonb_c.specs.KeyEdit.{edit_status_of, IsEdited, IsEditStatus};
-ghost use Rattle.jsonb_c.specs.KeyParts.{IsTreeKey};
-ghost use Rattle.jsonb_path.specs.Path.{IsPath};
+ghost use Rattle.jsonb_spec.specs.Interface.{PreservesBuffer, ReportsPath};
+ghost use Rattle.jsonb_c.specs.KeyEdit.{edit_status_of};
+ghost use Rattle.jsonb_spec.specs.Interface.KeyEdit.{IsEdited, IsEditStatus};
+ghost use Rattle.jsonb_spec.specs.Interface.KeyParts.{IsTreeKey};
+ghost use Rattle.jsonb_spec.specs.Path.{IsPath};
 ghost use Rattle.jsonb_spec.specs.Tree.{Tree};
-ghost use Rattle.key_edit.specs.Edit.{merge, with_item, with_member, with_part, without_part, AppendsKey, Edits};
+ghost use Rattle.jsonb_spec.specs.Edit.{merge, with_item, with_member, with_part, without_part};
+ghost use Rattle.key_edit.specs.Edit.{AppendsKey, Edits};
 
 use crate::{
     ACCEPTED, NO_KEY, NO_PART, NO_PATH, OUT_OF_MEMORY, TOO_DEEP, TOO_SHORT, names_of, put,

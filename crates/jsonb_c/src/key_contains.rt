@@ -1,7 +1,7 @@
 //! Whether a value contains another, from their sort keys.
 ghost use Rattle.std.specs.Prelude.{◌≡◌, ◌⊎◌};
-ghost use Rattle.jsonb_c.specs.KeyContains.{IsContained};
-ghost use Rattle.jsonb_c.specs.KeyParts.{IsTreeKey};
+ghost use Rattle.jsonb_spec.specs.Interface.KeyContains.{IsContained};
+ghost use Rattle.jsonb_spec.specs.Interface.KeyParts.{IsTreeKey};
 ghost use Rattle.jsonb_spec.specs.Containment.{contains};
 ghost use Rattle.jsonb_spec.specs.Tree.{Tree};
 

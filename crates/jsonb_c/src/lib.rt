@@ -13,9 +13,11 @@ ghost use Rattle.jsonb_core.specs.Error.ErrorText.{error_text};
 ghost use Rattle.jsonb_spec.specs.Order.{bytes_cmp};
 ghost use Rattle.jsonb_value.specs.View.{view};
 ghost use Rattle.jsonb_spec.specs.Line.{column_at, fault_index, line_at};
-ghost use Rattle.text_scan.specs.Answer.{grammar_of, MayAllocate, IsTextError};
-ghost use Rattle.jsonb_path.specs.Path.{IsPath};
-ghost use Rattle.jsonb_c.specs.Interface.{NumberChooses, code_number, nothing, sign, status_of, rejection_of, AcceptsDocuments, EitherMayAllocate, FailsFor, FillsBuffer, FormMayAllocate, HasNoPartAt, HasPartAt, IsAccepted, IsNoDocumentOf, IsNoPath, IsOneRejected, IsOrdered, IsDocumentOf, IsKeyOf, IsMessageOf, IsPartAnswer, IsPartOf, IsRejected, IsStatus, IsStatusOfForm, IsTextOf, NeedsCapacityForBoth, OrdersTexts, PartMayAllocate, SaysError, Reports, Writes};
+ghost use Rattle.text_scan.specs.Answer.{grammar_of, IsTextError};
+ghost use Rattle.jsonb_spec.specs.Parsing.Memory.{MayAllocate};
+ghost use Rattle.jsonb_spec.specs.Path.{IsPath};
+ghost use Rattle.jsonb_spec.specs.Interface.{NumberChooses, code_number, sign, AcceptsDocuments, EitherMayAllocate, FillsBuffer, FormMayAllocate, HasNoPartAt, HasPartAt, IsAccepted, IsNoDocumentOf, IsNoPath, IsOrdered, IsDocumentOf, IsKeyOf, IsPartOf, IsStatus, IsStatusOfForm, IsTextOf, NeedsCapacityForBoth, PartMayAllocate, Writes};
+ghost use Rattle.jsonb_c.specs.Interface.{nothing, status_of, rejection_of, FailsFor, IsOneRejected, IsMessageOf, IsPartAnswer, IsRejected, OrdersTexts, SaysError, Reports};
 
 use jsonb::{
     Error, Grammar, ParseErrorCode, Value, append_part, append_sort_key, append_text, check,

@@ -1,8 +1,10 @@
 //! A text whose lines are texts of their own.
 ghost use Rattle.std.specs.Prelude.{◌≡◌, ◌≢◌, ◌⊎◌, ◌≤◌, All, IfOk, MatchResult};
-ghost use Rattle.jsonb.specs.Lines.{lines_of};
-ghost use Rattle.jsonb_c.specs.Interface.{FailsFor, FillsBuffer, IsAccepted, IsStatus, Reports, status_of};
-ghost use Rattle.jsonb_c.specs.Lines.{AreTextsOfLines, IsLineRejected, LinesMayAllocate};
+ghost use Rattle.jsonb_spec.specs.Parsing.Lines.{lines_of};
+ghost use Rattle.jsonb_c.specs.Interface.{FailsFor, Reports, status_of};
+ghost use Rattle.jsonb_spec.specs.Interface.{FillsBuffer, IsAccepted, IsStatus};
+ghost use Rattle.jsonb_spec.specs.Interface.Lines.{AreTextsOfLines, LinesMayAllocate};
+ghost use Rattle.jsonb_c.specs.Lines.{IsLineRejected};
 
 use crate::{
     ACCEPTED, Failure, NOTHING, OUT_OF_MEMORY, REJECTED, Rejection, TOO_SHORT, buffer_of,

@@ -1,8 +1,8 @@
 //! Where in a document's value its text is rejected.
 ghost use Rattle.std.specs.Prelude.{◌≡◌, ◌⊎◌, ◌↔◌, ◌<◌};
-ghost use Rattle.jsonb_c.specs.Interface.{FillsBuffer};
-ghost use Rattle.jsonb_c.specs.Rejected.{IsSomePath};
-ghost use Rattle.error_path.specs.Characters.{character_at};
+ghost use Rattle.jsonb_spec.specs.Interface.{FillsBuffer};
+ghost use Rattle.jsonb_spec.specs.Interface.Rejected.{IsSomePath};
+ghost use Rattle.jsonb_spec.specs.Characters.{character_at};
 
 use crate::{ACCEPTED, OUT_OF_MEMORY, Rejection, TOO_SHORT, UNKNOWN_MODE, choose_grammar, put};
 use error_path::{Fault, character_at, error_path};

@@ -1,15 +1,17 @@
 //! Scalars from and to sort keys, a step of a path from a name, and the reason of an error without its offset.
 ghost use Rattle.std.specs.Prelude.{◌≡◌, ◌≢◌, ◌⊎◌, ◌↔◌, ◌∷◌, ℕ, List, [], IsUtf8, IfOk, IfSome, MatchOption, if◌then◌else◌, pos, string_bytes};
-ghost use Rattle.jsonb_c.specs.Interface.{AcceptsDocuments, FailsFor, FillsBuffer, IsAccepted, IsNoDocumentOf, IsStatus};
-ghost use Rattle.jsonb_c.specs.KeyParts.{IsPartStatus, IsTreeKey};
-ghost use Rattle.jsonb_c.specs.Scalars.{integer, is_number, IsBoolean, IsDecimal, IsInteger, IsReasonOf};
-ghost use Rattle.jsonb_path.specs.Path.{IsPath};
-ghost use Rattle.text_scan.specs.Answer.{MayAllocate};
+ghost use Rattle.jsonb_spec.specs.Interface.{AcceptsDocuments, FillsBuffer, IsAccepted, IsNoDocumentOf, IsStatus};
+ghost use Rattle.jsonb_c.specs.Interface.{FailsFor};
+ghost use Rattle.jsonb_spec.specs.Interface.KeyParts.{IsPartStatus, IsTreeKey};
+ghost use Rattle.jsonb_spec.specs.Interface.Scalars.{integer, IsBoolean, IsDecimal, IsInteger, IsReasonOf};
+ghost use Rattle.jsonb_c.specs.Scalars.{is_number};
+ghost use Rattle.jsonb_spec.specs.Path.{IsPath};
+ghost use Rattle.jsonb_spec.specs.Parsing.Memory.{MayAllocate};
 ghost use Rattle.jsonb_spec.specs.Accessors.{as_boolean};
 ghost use Rattle.jsonb_spec.specs.SortKey.{key_of};
 ghost use Rattle.jsonb_spec.specs.Tree.{Tree, string, escaped};
 ghost use Rattle.jsonb_core.specs.Error.CodeView.{code_of};
-ghost use Rattle.jsonb_core.specs.Error.ErrorText.{code_text};
+ghost use Rattle.jsonb_spec.specs.Code.Message.{code_text};
 
 use crate::{
     ACCEPTED, Failure, NO_KEY, NO_PART, NO_PATH, OUT_OF_MEMORY, REJECTED, TOO_SHORT,

@@ -3,13 +3,14 @@
 //! Any bytes are safe to pass. What a call answers is promised for the key of a value of JSON's kinds with at most 512
 //! nested arrays and objects, and for its table; of other bytes it may be any answer within them.
 ghost use Rattle.std.specs.Prelude.{◌≡◌, ◌⊎◌, ◌↔◌, ◌≤◌, ◌++◌, ℕ, List, length, IsTrue};
-ghost use Rattle.jsonb_c.specs.Interface.{PreservesBuffer};
-ghost use Rattle.jsonb_c.specs.KeyParts.{IsFound, IsPartStatus, IsTreeKey, IsWithinKey, IsWritten};
-ghost use Rattle.jsonb_c.specs.Table.{kept_table, table_status_of, IsTableStatus};
+ghost use Rattle.jsonb_spec.specs.Interface.{PreservesBuffer};
+ghost use Rattle.jsonb_spec.specs.Interface.KeyParts.{IsFound, IsPartStatus, IsTreeKey, IsWithinKey, IsWritten};
+ghost use Rattle.jsonb_spec.specs.Interface.Table.{kept_table, IsTableStatus};
+ghost use Rattle.jsonb_c.specs.Table.{table_status_of};
 ghost use Rattle.jsonb_c.specs.declared.TheConstants.{OUT_OF_MEMORY};
 ghost use Rattle.jsonb_spec.specs.Accessors.{get_by_name};
 ghost use Rattle.jsonb_spec.specs.Tree.{Tree};
-ghost use Rattle.key_table.specs.Table.{has_table, table_of, IsUnmarked};
+ghost use Rattle.jsonb_spec.specs.Table.{has_table, table_of, IsUnmarked};
 
 use crate::{ACCEPTED, NO_KEY, NO_PART, OUT_OF_MEMORY, put};
 use key_table::{TableError, append_table, find_by_table, is_table, split_table};

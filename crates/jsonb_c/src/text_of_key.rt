@@ -1,7 +1,8 @@
 //! The text of a value from its sort key.
 ghost use Rattle.std.specs.Prelude.{◌≡◌, ◌⊎◌};
-ghost use Rattle.jsonb_c.specs.Interface.{FillsBuffer};
-ghost use Rattle.jsonb_c.specs.KeyText.{IsNoKey, IsTextOfKey, key_status_of};
+ghost use Rattle.jsonb_spec.specs.Interface.{FillsBuffer};
+ghost use Rattle.jsonb_spec.specs.Interface.KeyText.{IsNoKey, IsTextOfKey};
+ghost use Rattle.jsonb_c.specs.KeyText.{key_status_of};
 
 use crate::{ACCEPTED, NO_KEY, OUT_OF_MEMORY, TOO_SHORT, put};
 use key_text::write_text_of_key;

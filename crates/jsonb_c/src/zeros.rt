@@ -1,7 +1,8 @@
 //! The zeros that end decimals, which a sort key doesn't have: stored beside it, they give the text again.
 ghost use Rattle.std.specs.Prelude.{◌≡◌, ◌⊎◌};
-ghost use Rattle.jsonb_c.specs.Interface.{FillsBuffer};
-ghost use Rattle.jsonb_c.specs.Zeros.{zeros_status_of, IsTextWithZeros, LackZeros};
+ghost use Rattle.jsonb_spec.specs.Interface.{FillsBuffer};
+ghost use Rattle.jsonb_c.specs.Zeros.{zeros_status_of};
+ghost use Rattle.jsonb_spec.specs.Interface.Zeros.{IsTextWithZeros, LackZeros};
 
 use crate::{ACCEPTED, NO_ZEROS, OUT_OF_MEMORY, TOO_SHORT, put};
 use key_zeros::{ZerosError, write_text_with_zeros};

@@ -4,7 +4,8 @@ ghost use Rattle.std.specs.Prelude.{◌≡◌, ◌↔◌, ◌⊎◌, ℕ, ◌+�
 ghost use Rattle.std.specs.Io.KnownBytes.{IsAtEnd};
 ghost use Rattle.jsonb_spec.specs.Ascii as ascii;
 ghost use Rattle.jsonb_spec.specs.Mode.{Mode as GrammarMode};
-ghost use Rattle.text_scan.specs.Answer.{mode_of, MayAllocate};
+ghost use Rattle.text_scan.specs.Answer.{mode_of};
+ghost use Rattle.jsonb_spec.specs.Parsing.Memory.{MayAllocate};
 ghost use Rattle.jsonb.specs.Follows.{FailsAsSpecified};
 ghost use Rattle.jsonb.specs.Parses.{Rejects};
 ghost use Rattle.jsonb_spec.specs.Program.{WordsChoose, IsLineOf, LacksCapacity, IsAccepted, IsAnswered};

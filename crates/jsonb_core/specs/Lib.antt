@@ -2,5 +2,4 @@ pub mod Error
 pub mod Number
 pub mod View
 pub mod Order
-pub mod StringStep
 pub mod TextParts

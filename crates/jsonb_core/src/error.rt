@@ -118,7 +118,7 @@ impl From<Utf8Error> for Error {
 impl fmt::Display for ParseErrorCode {
     ghost use Rattle.std.specs.Prelude.{Some};
     ghost use Rattle.jsonb_core.specs.Error.CodeView.{code_of};
-    ghost use Rattle.jsonb_core.specs.Error.ErrorText.{code_text};
+    ghost use Rattle.jsonb_spec.specs.Code.Message.{code_text};
 
     ghost output = { λ code. Some (code_text (code_of code)) };
 

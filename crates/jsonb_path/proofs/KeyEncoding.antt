@@ -2,8 +2,8 @@
 use Rattle.std.proofs.Common.{◌≡◌, ◌≢◌, ℕ, List, [], ◌∷◌, ◌++◌, Bool, true, false, cond, eqb, eqb-true, Option, Some, None, map, string_bytes, String, Global, IsUtf8, refl, sym, ap, subst, ◌∙◌, append_assoc, append-nil}
 use Rattle.std.proofs.lemmas.Str.{IsUtf8-string_bytes}
 use Rattle.std.specs.List.{AllByRecursion}
-use Rattle.jsonb_path.specs.Path.{encoded_byte, encoded_key, encoded_keys, IsPath, StartsKey}
-use Rattle.jsonb_path.specs.KeyEncoding.{escape_of, byte_of, Reads}
+use Rattle.jsonb_spec.specs.Path.{encoded_byte, encoded_key, encoded_keys, IsPath, StartsKey}
+use Rattle.jsonb_spec.specs.Path.KeyEncoding.{escape_of, byte_of, Reads}
 
 abbrev read_as : ℕ → List ℕ → Option (ℕ × List ℕ)
 read_as b rest = Some (b, rest)

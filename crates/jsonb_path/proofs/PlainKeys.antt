@@ -6,8 +6,8 @@ use Rattle.std.proofs.lemmas.List.{length-append, take-append-drop}
 use Rattle.std.proofs.lemmas.Str.{IsAscii-append, IsUtf8-from_ascii}
 use Rattle.std.proofs.lemmas.Str.Ascii.{IsAscii-cons, IsAscii-nil}
 use Rattle.std.specs.Str.{IsAscii}
-use Rattle.jsonb_path.specs.Path.{encoded_byte, encoded_key, encoded_keys, IsPath, IsPlainKey}
-use Rattle.jsonb_path.specs.KeyEncoding.{byte_of, BeginsAscii, BeginsPlain, BeginsPlainText}
+use Rattle.jsonb_spec.specs.Path.{encoded_byte, encoded_key, encoded_keys, IsPath, IsPlainKey}
+use Rattle.jsonb_spec.specs.Path.KeyEncoding.{byte_of, BeginsAscii, BeginsPlain, BeginsPlainText}
 use Rattle.jsonb_path.proofs.KeyEncoding.{cons_cons, ended, itself, nil_cons, one_key, encoded_key-append}
 
 -- the text so far is encoded as it is

@@ -2,8 +2,8 @@
 
 ghost use Rattle.std.specs.Prelude.{◌≡◌, ◌↔◌, ◌<◌, ◌≤◌, ℕ, List, ◌++◌, ◌∷◌, length, take, drop, map, string_bytes, option_map, None, IfOk, IfErr, IfSome, IfNone, IsTrue, IsUtf8};
 ghost use Rattle.jsonb_spec.specs.Ascii as ascii;
-ghost use Rattle.jsonb_path.specs.Path.{encoded_key, encoded_keys, IsPath, IsPlainKey, StartsKey};
-ghost use Rattle.jsonb_path.specs.KeyEncoding.{escape_of, byte_of, BeginsAscii, BeginsPlain, BeginsPlainText};
+ghost use Rattle.jsonb_spec.specs.Path.{encoded_key, encoded_keys, IsPath, IsPlainKey, StartsKey};
+ghost use Rattle.jsonb_spec.specs.Path.KeyEncoding.{escape_of, byte_of, BeginsAscii, BeginsPlain, BeginsPlainText};
 
 use std::alloc::{AllocError, Global};
 

@@ -9,6 +9,7 @@ pub mod Scalar
 pub mod StandardNumber
 pub mod StringBody
 pub mod StringFault
+pub mod StringStep
 use Rattle.std.specs.Prelude.{◌≡◌, ◌≢◌, ℕ, zero, suc, List, [], ◌∷◌, ◌++◌, map, ⊤}
 use Rattle.std.specs.List.{AllByRecursion}
 use Rattle.jsonb_spec.specs.Ascii as ascii

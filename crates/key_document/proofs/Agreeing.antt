@@ -1,16 +1,17 @@
 -- The slot that is found in a key is that of the splice.
 use Rattle.std.proofs.Common.{◌≡◌, ℕ, Bool, true, List, [], ◌∷◌, ◌++◌, Option, Some, None, length, refl, sym, ap, ◌∙◌, arith, append_assoc, length-append}
-use Rattle.key_value.specs.Readable.{IsAnyNumber}
+use Rattle.jsonb_spec.specs.SortKey.Readable.{IsAnyNumber}
 use Rattle.jsonb_spec.specs.Grammar.{max_depth}
 use Rattle.jsonb_spec.specs.SortKey.{key_of}
 use Rattle.jsonb_spec.specs.Text.Range.{IsWithin}
 use Rattle.jsonb_spec.specs.Tree.{Tree, null, boolean}
-use Rattle.key_walk.specs.Open.{name_key}
-use Rattle.key_document.specs.Splices.{Cut, IsSplice, AreSplices, Agrees}
-use Rattle.key_edit.specs.Edit.{Outcome, goes, becomes}
-use Rattle.key_edit.specs.Spots.{Answers, SlotIn}
+use Rattle.jsonb_spec.specs.SortKey.Open.{name_key}
+use Rattle.jsonb_spec.specs.Edit.Splices.{Cut, IsSplice, AreSplices, Agrees}
+use Rattle.jsonb_spec.specs.Edit.{Outcome, goes, becomes}
+use Rattle.jsonb_spec.specs.Edit.Spots.{Answers}
+use Rattle.key_edit.specs.Spots.{SlotIn}
 use Rattle.key_edit.specs.declared.slot.Slot.{Slot}
-use Rattle.key_text.specs.Counts.{counts_at}
+use Rattle.jsonb_spec.specs.Document.Counts.{counts_at}
 
 abbrev tail_of : List ℕ → List ℕ
 tail_of [] = []

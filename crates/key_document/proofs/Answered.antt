@@ -2,13 +2,13 @@
 use Rattle.std.proofs.Common.{◌≡◌, ℕ, ◌+◌, ◌<◌, ◌≤◌, Bool, true, false, List, ◌++◌, Option, Some, None, Result, Ok, Err, length, refl, sym, ap, subst, ◌∙◌, arith, append_assoc, length-append}
 use Rattle.std.specs.Prelude.{IfOk, IsErrAnd, Vec, vec_len, vec_capacity}
 use Rattle.std.specs.declared.alloc.Global.{Global}
-use Rattle.key_value.specs.Readable.{IsAnyNumber}
+use Rattle.jsonb_spec.specs.SortKey.Readable.{IsAnyNumber}
 use Rattle.jsonb_spec.specs.SortKey.{key_of}
 use Rattle.jsonb_spec.specs.Text.Range.{IsWithin}
 use Rattle.jsonb_spec.specs.Tree.{Tree, object, Members}
 use Rattle.key_document.specs.Changes.{Answers, AppendsDocument, IsLacking}
-use Rattle.key_document.specs.Document.{behind_key, document_of, zeros_at}
-use Rattle.key_document.specs.LeftOut.{without_names}
+use Rattle.jsonb_spec.specs.Document.{behind_key, document_of, zeros_at}
+use Rattle.jsonb_spec.specs.Edit.LeftOut.{without_names}
 use Rattle.key_document.specs.Retaining.{WritesAnswer}
 use Rattle.key_document.specs.Splices.{AppendsZeros}
 use Rattle.key_document.specs.declared.error.DocumentError.{DocumentError}

@@ -2,7 +2,7 @@
 use Rattle.std.proofs.Common.{◌≡◌, ℕ, suc, ◌+◌, inl, inr, List, [], ◌∷◌, ◌++◌, length, reverse, refl, sym, ap, ap₂, subst, ◌∙◌, arith, append-nil, length-append}
 use Rattle.std.proofs.lemmas.Bool.{cases_eq}
 use Rattle.key_value.proofs.Texts.{some_same}
-use Rattle.key_value.specs.Readable.{IsAnyNumber, IsReadable}
+use Rattle.jsonb_spec.specs.SortKey.Readable.{IsAnyNumber, IsReadable}
 use Rattle.jsonb_spec.specs.Grammar.{max_depth}
 use Rattle.jsonb_spec.specs.Proper.{IsProper}
 use Rattle.jsonb_spec.specs.SortKey.{key_of}
@@ -13,20 +13,21 @@ use Rattle.jsonb_core.proofs.SortKeys.Trees.{keys_same}
 use Rattle.jsonb_core.proofs.Trees.OneText.{one_tree, IsShort}
 use Rattle.jsonb_core.proofs.Trees.Ranges.{widened}
 use Rattle.jsonb_core.proofs.Trees.Runs.{heads, tails}
-use Rattle.key_document.specs.Document.{behind_key, document_of, zeros_at, EndsUnlike}
+use Rattle.jsonb_spec.specs.Document.{behind_key, document_of, zeros_at, EndsUnlike}
 use Rattle.key_document.proofs.Agreeing.{same_back}
 use Rattle.key_document.proofs.Backwards.{turned_back, turned_number}
 use Rattle.key_document.proofs.Endings.{key_ends}
 use Rattle.key_document.proofs.Tails.{but_last, same_last, tail_cases}
 use Rattle.key_document.proofs.Twins.{split_same, twins}
-use Rattle.key_zeros.specs.Scan.{ending_of, ZerosAhead}
-use Rattle.key_zeros.specs.Zeros.{counts_in, in_sevens, zeros_of}
+use Rattle.jsonb_spec.specs.Document.Scan.{ending_of}
+use Rattle.key_zeros.specs.Scan.{ZerosAhead}
+use Rattle.jsonb_spec.specs.Document.Zeros.{counts_in, in_sevens, zeros_of}
 use Rattle.key_zeros.proofs.Ahead.{ends_so, zeros_ahead}
 use Rattle.key_zeros.proofs.Sevens.{some_sevens}
 use Rattle.key_zeros.proofs.Splitting.{entry_first, plain_first}
 use Rattle.key_zeros.proofs.Taking.{pend}
 use Rattle.key_zeros.proofs.Telling.{sevens_same, text_reported}
-use Rattle.key_text.specs.Counts.{counts_at}
+use Rattle.jsonb_spec.specs.Document.Counts.{counts_at}
 
 -- ---- the key and the zeros of a document
 

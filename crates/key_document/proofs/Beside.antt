@@ -2,7 +2,7 @@
 use Rattle.std.proofs.Common.{◌≡◌, ℕ, zero, suc, ◌<◌, ◌≤◌, ◌∷◌, inl, inr, MatchBool, Bool, true, false, ◌||◌, if◌then◌else◌, Less, List, [], ◌++◌, Option, Some, None, length, refl, sym, ap, subst, ◌∙◌, arith, length-append}
 use Rattle.std.specs.Ordering.{is_eq}
 use Rattle.std.specs.Str.{bytes_eq}
-use Rattle.key_value.specs.Readable.{IsAnyNumber}
+use Rattle.jsonb_spec.specs.SortKey.Readable.{IsAnyNumber}
 use Rattle.jsonb_spec.specs.Containment.{any_item}
 use Rattle.jsonb_spec.specs.Keys.{IsBelowKeys}
 use Rattle.jsonb_spec.specs.Order.{bytes_cmp}
@@ -14,15 +14,16 @@ use Rattle.std.proofs.lemmas.Slice.Eq.{bytes_eq-Decides}
 use Rattle.key_walk.proofs.Holding.{above_is_other, turned_back}
 use Rattle.key_walk.proofs.Occurrence.{equal_names}
 use Rattle.jsonb_core.proofs.SortKeys.Texts.{text_key-other}
-use Rattle.key_walk.specs.Passing.{joined_members}
-use Rattle.key_edit.specs.Merging.{AreFirst, AreReplaced, IsLast, keys_of_members}
+use Rattle.jsonb_spec.specs.SortKey.Passing.{joined_members}
+use Rattle.jsonb_spec.specs.Edit.Merging.{AreFirst, AreReplaced, keys_of_members}
+use Rattle.key_edit.specs.Merging.{IsLast}
 use Rattle.key_edit.specs.declared.merge.Step.{Step}
 use Rattle.key_edit.proofs.Merged.{joined_key}
-use Rattle.key_document.specs.LeftOut.{any_named, beside_names, has_name, is_named, items_beside, members_beside}
+use Rattle.jsonb_spec.specs.Edit.LeftOut.{any_named, beside_names, has_name, is_named, items_beside, members_beside}
 use Rattle.key_document.specs.Retaining.{unless}
 use Rattle.key_document.proofs.MembersJoined.{counts_each, counts_of_members, first_proper, joined_counts}
 use Rattle.key_document.proofs.Retained.{PassedNext}
-use Rattle.key_text.specs.Counts.{counts_at, counts_at_items, counts_at_members}
+use Rattle.jsonb_spec.specs.Document.Counts.{counts_at, counts_at_items, counts_at_members}
 
 -- ---- names
 

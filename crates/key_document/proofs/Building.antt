@@ -2,21 +2,21 @@
 use Rattle.std.proofs.Common.{◌≡◌, ℕ, ◌-◌, Bool, true, false, [], ◌∷◌, ◌++◌, Option, Some, None, Result, Ok, length, refl, sym, ap, subst, ◌∙◌, arith, length-append}
 use Rattle.std.specs.Prelude.{Vec}
 use Rattle.std.specs.declared.alloc.Global.{Global}
-use Rattle.key_value.specs.Readable.{IsAnyNumber}
+use Rattle.jsonb_spec.specs.SortKey.Readable.{IsAnyNumber}
 use Rattle.jsonb_spec.specs.Grammar.{max_depth}
 use Rattle.jsonb_spec.specs.Proper.{IsProper}
 use Rattle.jsonb_spec.specs.SortKey.{key_of}
 use Rattle.jsonb_spec.specs.Text.Range.{IsWithin}
 use Rattle.jsonb_spec.specs.Tree.{Tree, array, no_trees, more_trees}
-use Rattle.key_document.specs.Merging.{counts_of_items}
+use Rattle.jsonb_spec.specs.Document.Counts.{counts_of_items, counts_at}
 use Rattle.key_document.proofs.Changing.{ChangedAt, Reported}
 use Rattle.key_text.proofs.Counts.{one_each}
 use Rattle.key_document.proofs.Merging.{items_counts_end, joined_counts}
-use Rattle.key_edit.specs.Edit.{Edits, with_item}
+use Rattle.key_edit.specs.Edit.{Edits}
+use Rattle.jsonb_spec.specs.Edit.{with_item}
 use Rattle.key_edit.specs.declared.error.EditError.{EditError}
 use Rattle.key_edit.specs.Merging.{keys_of_items}
 use Rattle.key_edit.proofs.Joined.{items_end, joined_is}
-use Rattle.key_text.specs.Counts.{counts_at}
 
 none_some : {a : Tree} → None ≡ Some a → ⊥
 none_some e = cc

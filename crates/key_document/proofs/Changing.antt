@@ -3,30 +3,33 @@ use Rattle.std.proofs.Common.{◌≡◌, ℕ, ◌+◌, ◌^◌, ◌<◌, ◌≤�
 use Rattle.std.specs.Prelude.{IfOk, IsErrAnd, Vec, vec_len, vec_capacity}
 use Rattle.std.specs.declared.alloc.Global.{Global}
 use Rattle.std.proofs.Math.Seq.{take-append_seam}
-use Rattle.key_value.specs.Readable.{IsAnyNumber}
+use Rattle.jsonb_spec.specs.SortKey.Readable.{IsAnyNumber}
 use Rattle.jsonb_spec.specs.Grammar.{max_depth}
 use Rattle.jsonb_spec.specs.Proper.{IsProper}
 use Rattle.jsonb_spec.specs.SortKey.{key_of}
 use Rattle.jsonb_spec.specs.Text.Appending.{Extends}
 use Rattle.jsonb_spec.specs.Text.Range.{IsWithin}
 use Rattle.jsonb_spec.specs.Tree.{Tree}
-use Rattle.key_document.specs.Changes.{Answers, AppendsDocument, IsLacking, PreservesOnError, as_document_error}
-use Rattle.key_document.specs.Document.{behind_key, document_of, zeros_at}
-use Rattle.key_document.specs.Splices.{AppendsZeros, Cut, CutsOnError, IsSplice, AreSpliced, PutsPart, Spliced, entry_counts, spliced_counts}
+use Rattle.key_document.specs.Changes.{Answers, AppendsDocument, IsLacking, as_document_error}
+use Rattle.jsonb_spec.specs.Document.PartAt.{PreservesOnError}
+use Rattle.jsonb_spec.specs.Document.{behind_key, document_of, zeros_at}
+use Rattle.key_document.specs.Splices.{AppendsZeros, CutsOnError, AreSpliced, PutsPart, spliced_counts}
+use Rattle.jsonb_spec.specs.Edit.Splices.{Cut, IsSplice, Spliced, entry_counts}
 use Rattle.key_document.specs.declared.error.DocumentError.{DocumentError}
 use Rattle.key_document.specs.declared.error.DocumentError.TheVariants.{OutOfMemory}
 use Rattle.key_document.specs.declared.splice.Lengths.{Lengths}
 use Rattle.key_document.proofs.Agreeing.{agree}
 use Rattle.key_text.proofs.Counts.{one_each}
-use Rattle.key_edit.specs.Insert.{add}
-use Rattle.key_edit.specs.Edit.{Outcome, stays, goes, becomes, changed_at, remove, set_to, without_part}
+use Rattle.jsonb_spec.specs.Edit.Insert.{add}
+use Rattle.jsonb_spec.specs.Edit.{Outcome, stays, goes, becomes, changed_at, remove, set_to, without_part}
 use Rattle.key_edit.specs.Edit.{IsLacking as KeyLacks}
-use Rattle.key_edit.specs.Spots.{Answers as SpotAnswers, SlotIn, Occurs}
+use Rattle.jsonb_spec.specs.Edit.Spots.{Answers as SpotAnswers}
+use Rattle.key_edit.specs.Spots.{SlotIn, Occurs}
 use Rattle.key_edit.specs.declared.error.EditError.{EditError}
 use Rattle.key_edit.specs.declared.error.EditError.TheVariants as edits
 use Rattle.key_edit.specs.declared.slot.Slot.{Slot}
-use Rattle.key_zeros.specs.Zeros.{zeros_of}
-use Rattle.key_text.specs.Counts.{counts_at}
+use Rattle.jsonb_spec.specs.Document.Zeros.{zeros_of}
+use Rattle.jsonb_spec.specs.Document.Counts.{counts_at}
 
 pub false_true : false ≡ true → ⊥
 false_true e = cc

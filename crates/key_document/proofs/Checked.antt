@@ -6,18 +6,19 @@ use Rattle.std.proofs.Math.Seq.{drop-append_seam, take-append_seam}
 use Rattle.jsonb_spec.specs.Grammar.{max_depth}
 use Rattle.jsonb_spec.specs.SortKey.{key_of}
 use Rattle.jsonb_spec.specs.Tree.{Tree}
-use Rattle.key_document.specs.Check.{IsDocumentInRange, ZerosFit, most_at}
-use Rattle.key_document.specs.Document.{OfDocument, behind_key, end_of, zeros_at}
+use Rattle.jsonb_spec.specs.Document.Check.{IsDocumentInRange}
+use Rattle.key_document.specs.Check.{ZerosFit, most_at}
+use Rattle.jsonb_spec.specs.Document.{OfDocument, behind_key, end_of, zeros_at}
 use Rattle.key_document.proofs.Trailing.{ending, own_counts}
-use Rattle.key_value.specs.Readable.{IsReadable}
-use Rattle.key_walk.specs.Checked.{IsSortKey}
+use Rattle.jsonb_spec.specs.SortKey.Readable.{IsReadable}
+use Rattle.jsonb_spec.specs.SortKey.Checked.{IsSortKey}
 use Rattle.key_walk.proofs.InRange.{readable_at}
 use Rattle.key_value.proofs.Texts.{none_some, some_same}
 use Rattle.std.proofs.Math.Nat.{pow-suc, pow-zero}
 use Rattle.jsonb_core.proofs.Trees.Runs.{heads, tails}
-use Rattle.key_zeros.specs.Zeros.{in_sevens, zeros_of}
+use Rattle.jsonb_spec.specs.Document.Zeros.{in_sevens, zeros_of}
 use Rattle.key_zeros.proofs.Sevens.{few, many, some_sevens}
-use Rattle.key_text.specs.Counts.{counts_at}
+use Rattle.jsonb_spec.specs.Document.Counts.{counts_at}
 
 -- ---- numbers in groups of seven bits
 

@@ -6,10 +6,10 @@ use Rattle.jsonb_spec.specs.Proper.{IsProper, AreProper, HaveProperParts}
 use Rattle.jsonb_spec.specs.SortKey.{key_of, items_key, members_key, text_key}
 use Rattle.jsonb_spec.specs.Tree.{Tree, null, boolean, string, number, array, object, binary, date, timestamp, timestamp_tz, interval, Trees, no_trees, more_trees, Members, no_members, more_members}
 use Rattle.key_text.proofs.Counts.{one_each}
-use Rattle.key_document.specs.Changes.{IsBehind, IsPartBehind}
-use Rattle.key_zeros.specs.Numbers.{counts_taken}
-use Rattle.key_zeros.specs.PartsOf.{IsWhole, OccursIn, OccursInItems, OccursInMembers}
-use Rattle.key_text.specs.Counts.{counts_at, counts_at_items, counts_at_members}
+use Rattle.jsonb_spec.specs.Document.PartAt.{IsBehind, IsPartBehind}
+use Rattle.jsonb_spec.specs.Document.Numbers.{counts_taken}
+use Rattle.jsonb_spec.specs.Document.PartsOf.{IsWhole, OccursIn, OccursInItems, OccursInMembers}
+use Rattle.jsonb_spec.specs.Document.Counts.{counts_at, counts_at_items, counts_at_members}
 
 -- ---- a part
 

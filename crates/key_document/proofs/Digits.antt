@@ -20,8 +20,8 @@ use Rattle.jsonb_core.proofs.Numbers.Nearest.{signed_parts}
 use Rattle.jsonb_core.proofs.Numbers.Pointed.{pointed_whole, pointed_inside, pointed_before}
 use Rattle.jsonb_core.proofs.SortKeys.Kinds.{is_small}
 use Rattle.jsonb_core.proofs.Trees.Runs.{heads}
-use Rattle.key_text.specs.FewestDigits.{spare_zeros}
-use Rattle.key_zeros.specs.Scan.{is_number_byte, ending_of}
+use Rattle.jsonb_spec.specs.SortKey.FewestDigits.{spare_zeros}
+use Rattle.jsonb_spec.specs.Document.Scan.{is_number_byte, ending_of}
 use Rattle.key_zeros.proofs.Decimals.{text_passed}
 use Rattle.key_zeros.proofs.NumberedTexts as numbered
 use Rattle.key_document.specs.FromText.{AreDigitsOf, AreDigitsOfNumber, EndsNumber, is_digit, magnitude_from, scale_from, scale_with, with_digit}

@@ -11,11 +11,12 @@ use Rattle.key_document.specs.DueZeros.{AreDue}
 use Rattle.key_document.specs.declared.due.ZerosDue.{ZerosDue}
 use Rattle.key_value.specs.declared.error.KeyError.{KeyError}
 use Rattle.key_value.specs.declared.error.KeyError.TheVariants.{OutOfMemory}
-use Rattle.key_text.specs.Counts.{count_of, ending_text, Completes}
-use Rattle.key_text.specs.FewestDigits.{fewest_digits}
+use Rattle.jsonb_spec.specs.Document.Counts.{count_of, ending_text}
+use Rattle.key_text.specs.Counts.{Completes}
+use Rattle.jsonb_spec.specs.SortKey.FewestDigits.{fewest_digits}
 use Rattle.key_text.proofs.Counts.{none_next}
-use Rattle.key_zeros.specs.Scan.{ending_of}
-use Rattle.key_zeros.specs.Zeros.{zeros_of}
+use Rattle.jsonb_spec.specs.Document.Scan.{ending_of}
+use Rattle.jsonb_spec.specs.Document.Zeros.{zeros_of}
 use Rattle.key_text.proofs.Decimals.{pointed, some_spare}
 use Rattle.key_zeros.proofs.Decimals.{ends_there, shortest_passed}
 

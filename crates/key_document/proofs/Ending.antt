@@ -6,8 +6,8 @@ use Rattle.std.specs.declared.alloc.AllocError.{AllocError}
 use Rattle.std.proofs.Math.Seq.{take-length, take-append_seam, drop-append_seam}
 use Rattle.std.proofs.lemmas.List.{length-reverse, reverse-append}
 use Rattle.jsonb_spec.specs.Text.Appending.{Appends}
-use Rattle.key_document.specs.Document.{end_of}
-use Rattle.key_zeros.specs.Zeros.{in_sevens}
+use Rattle.jsonb_spec.specs.Document.{end_of}
+use Rattle.jsonb_spec.specs.Document.Zeros.{in_sevens}
 
 -- the end of some zeros
 pub end_some : (size : ℕ) → (size ≡ 0 → ⊥) → end_of size ≡ reverse (in_sevens 8 size) ++ 255 ∷ []

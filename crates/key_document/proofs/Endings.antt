@@ -5,7 +5,7 @@ use Rattle.std.specs.List.{flat_map}
 use Rattle.std.proofs.lemmas.Bool.{cases_eq}
 use Rattle.std.proofs.lemmas.List.{map-append}
 use Rattle.std.proofs.Math.Nat.{mod-lt, div-add-mod, div-lt_iff_lt-mul, pow-suc}
-use Rattle.key_value.specs.Readable.{IsAnyNumber}
+use Rattle.jsonb_spec.specs.SortKey.Readable.{IsAnyNumber}
 use Rattle.jsonb_spec.specs.Proper.{IsProper, AreProper, HaveProperParts}
 use Rattle.jsonb_spec.specs.SortKey.{key_of, items_key, members_key, text_key, byte_key, number_key, magnitude_key, exponent_key, digits_key, digit_count, invert_if}
 use Rattle.jsonb_spec.specs.Text.Range.{IsWithin, AreWithin, HaveWithin}
@@ -13,7 +13,7 @@ use Rattle.jsonb_spec.specs.Tree.{Num, Tree, null, boolean, string, number, arra
 use Rattle.jsonb_core.proofs.SortKeys.Counts.{digits_counted}
 use Rattle.jsonb_core.proofs.SortKeys.Digits.{ten, last_pair, more_pairs}
 use Rattle.jsonb_core.proofs.SortKeys.Kinds.{is_small}
-use Rattle.key_document.specs.Document.{EndsUnlike}
+use Rattle.jsonb_spec.specs.Document.{EndsUnlike}
 use Rattle.jsonb_core.proofs.SortKeys.Numbers.{IsSmall, positive, negative, nothing_there, magnitude_split}
 
 -- the bytes end, and with one below 254

@@ -9,14 +9,14 @@ use Rattle.key_document.specs.Check.{AreAtMost, Fits, FitsFrom, IsCounted, Zeros
 use Rattle.key_document.specs.declared.due.ZerosDue.{ZerosDue}
 use Rattle.key_text.proofs.Counts.{items_each, members_each, one_each}
 use Rattle.key_document.proofs.Trailing.{as_long, none_at_most}
-use Rattle.key_walk.specs.Open.{Open, items, members, is_object, open_key, end_key, name_key, IsOpen, IsScalar}
-use Rattle.key_walk.specs.Parts.{opened_tree}
-use Rattle.key_zeros.specs.PartsOf.{numbers_in}
-use Rattle.key_zeros.specs.Zeros.{in_sevens, zeros_of}
-use Rattle.key_walk.specs.Steps.{IsOver, IsPart}
+use Rattle.jsonb_spec.specs.SortKey.Open.{Open, items, members, is_object, open_key, end_key, name_key, IsOpen, IsScalar}
+use Rattle.jsonb_spec.specs.SortKey.Parts.{opened_tree}
+use Rattle.jsonb_spec.specs.Document.PartsOf.{numbers_in}
+use Rattle.jsonb_spec.specs.Document.Zeros.{in_sevens, zeros_of}
+use Rattle.jsonb_spec.specs.SortKey.Steps.{IsOver, IsPart}
 use Rattle.key_zeros.proofs.Splitting.{entry_first, plain_first}
 use Rattle.key_zeros.proofs.Taking.{counts_long, one_pending, pending_occurs}
-use Rattle.key_text.specs.Counts.{counts_at, counts_at_items, counts_at_members}
+use Rattle.jsonb_spec.specs.Document.Counts.{counts_at, counts_at_items, counts_at_members}
 
 -- ---- byte by byte
 

@@ -1,7 +1,7 @@
 -- The key of a value, written part by part from its text.
 use Rattle.std.proofs.Common.{◌≡◌, ◌≢◌, ℕ, suc, ◌+◌, ◌-◌, ◌<◌, ◌≤◌, inl, inr, true, false, List, [], ◌∷◌, ◌++◌, length, drop, replicate, unsigned_abs, sym, ap, ap₂, subst, ◌∙◌, arith, append_assoc, append-nil, length-append}
 use Rattle.std.proofs.Math.Seq.{drop-append_seam}
-use Rattle.key_value.specs.Readable.{IsReadable}
+use Rattle.jsonb_spec.specs.SortKey.Readable.{IsReadable}
 use Rattle.jsonb_spec.specs.SortKey.{key_of, number_key}
 use Rattle.jsonb_spec.specs.Text.{tree_text}
 use Rattle.jsonb_spec.specs.Text.NumberText.{number_text}
@@ -10,12 +10,12 @@ use Rattle.std.proofs.lemmas.Bool.{cases_lt}
 use Rattle.jsonb_spec.specs.Text.StringText.{quoted_text}
 use Rattle.jsonb_core.proofs.Appending.Appended.{IsUnderway, fits}
 use Rattle.jsonb_core.proofs.SortKeys.Kinds.{is_small, number_begins}
-use Rattle.key_text.specs.Counts.{counts_at}
-use Rattle.key_text.specs.FewestDigits.{spare_zeros}
+use Rattle.jsonb_spec.specs.Document.Counts.{counts_at}
+use Rattle.jsonb_spec.specs.SortKey.FewestDigits.{spare_zeros}
 use Rattle.key_zeros.proofs.Decimals.{text_begins}
-use Rattle.key_zeros.specs.Scan.{is_number_byte}
-use Rattle.key_zeros.specs.Zeros.{zeros_of}
-use Rattle.key_document.specs.Document.{zeros_at}
+use Rattle.jsonb_spec.specs.Document.Scan.{is_number_byte}
+use Rattle.jsonb_spec.specs.Document.Zeros.{zeros_of}
+use Rattle.jsonb_spec.specs.Document.{zeros_at}
 use Rattle.key_document.specs.FromText.{mark_behind, mark_key, string_key}
 use Rattle.key_document.specs.Tokens.{Token, tokens_text, tokens_key, tokens_counts, AreTokens, FindsZeros, ZerosFrom}
 use Rattle.key_document.specs.declared.from_text.FirstZeros.{FirstZeros}

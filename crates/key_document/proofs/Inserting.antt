@@ -2,7 +2,7 @@
 use Rattle.std.proofs.Common.{◌≡◌, ℕ, Bool, true, false, List, Option, Some, None, MatchOption, Ok, Err, refl, sym, subst, ◌∙◌}
 use Rattle.std.specs.Prelude.{Vec}
 use Rattle.std.specs.declared.alloc.Global.{Global}
-use Rattle.key_value.specs.Readable.{IsAnyNumber}
+use Rattle.jsonb_spec.specs.SortKey.Readable.{IsAnyNumber}
 use Rattle.jsonb_spec.specs.Grammar.{max_depth}
 use Rattle.jsonb_spec.specs.SortKey.{key_of}
 use Rattle.jsonb_spec.specs.Text.Range.{IsWithin}
@@ -12,9 +12,10 @@ use Rattle.key_document.specs.Inserting.{AnswersInsertion}
 use Rattle.key_document.specs.declared.error.DocumentError.{DocumentError}
 use Rattle.key_document.specs.declared.insert.Insertion.TheVariants.{Inserted, Present, Nowhere}
 use Rattle.key_document.proofs.Changing.{false_true}
-use Rattle.key_edit.specs.Edit.{Outcome, becomes, remove}
-use Rattle.key_edit.specs.Insert.{add, changed_slot_at, with_inserted, without_member}
-use Rattle.key_edit.specs.Spots.{Answers as SpotAnswers, Occurs, SlotIn}
+use Rattle.jsonb_spec.specs.Edit.{Outcome, becomes, remove}
+use Rattle.jsonb_spec.specs.Edit.Insert.{add, changed_slot_at, with_inserted, without_member}
+use Rattle.jsonb_spec.specs.Edit.Spots.{Answers as SpotAnswers}
+use Rattle.key_edit.specs.Spots.{Occurs, SlotIn}
 use Rattle.key_edit.specs.declared.slot.Slot.{Slot}
 use Rattle.key_edit.proofs.Inserting.{removed_member}
 

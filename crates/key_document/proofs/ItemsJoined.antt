@@ -1,18 +1,18 @@
 -- The zeros of an array with the items of two values.
 use Rattle.std.proofs.Common.{◌≡◌, ℕ, ◌+◌, List, [], ◌∷◌, ◌++◌, None, Some, length, drop, refl, sym, ap, ◌∙◌, arith, append-nil, length-append}
 use Rattle.std.proofs.Math.Seq.{drop-append_seam}
-use Rattle.key_value.specs.Readable.{IsReadable}
+use Rattle.jsonb_spec.specs.SortKey.Readable.{IsReadable}
 use Rattle.key_value.proofs.Texts.{none_some}
 use Rattle.jsonb_spec.specs.SortKey.{key_of, items_key}
 use Rattle.jsonb_spec.specs.Tree.{Tree, array, Trees}
-use Rattle.key_document.specs.Document.{zeros_at}
-use Rattle.key_document.specs.Merging.{counts_of_items, item_edge}
+use Rattle.jsonb_spec.specs.Document.{zeros_at}
+use Rattle.jsonb_spec.specs.Document.Counts.{counts_of_items, counts_at, counts_at_items}
+use Rattle.key_document.specs.Merging.{item_edge}
 use Rattle.key_document.proofs.Merging.{items_counts_end, joined_counts}
-use Rattle.key_edit.specs.Edit.{as_items, joined_items}
+use Rattle.jsonb_spec.specs.Edit.{as_items, joined_items}
 use Rattle.key_edit.proofs.Joined.{items_there}
-use Rattle.key_zeros.specs.Zeros.{plain_at_end, zeros_of}
+use Rattle.jsonb_spec.specs.Document.Zeros.{plain_at_end, zeros_of}
 use Rattle.key_zeros.proofs.Joining.{zeros_joined}
-use Rattle.key_text.specs.Counts.{counts_at, counts_at_items}
 
 pub edge_some : (t : Tree) → IsReadable t → (key rest : List ℕ) → key ≡ key_of t → key ≡ 0xD2 ∷ rest → 1 ≡ item_edge t
 edge_some t r key rest e begins = sym (ap item_edge (items_there t r key rest e begins).whole)

@@ -8,7 +8,7 @@ use Rattle.key_document.specs.Splices.{AppendsZeros, AreSpliced, spliced_counts}
 use Rattle.key_document.specs.declared.error.DocumentError.{DocumentError}
 use Rattle.key_document.specs.declared.error.DocumentError.TheVariants.{OutOfMemory}
 use Rattle.key_document.specs.declared.splice.Lengths.{Lengths}
-use Rattle.key_zeros.specs.Zeros.{zeros_of, plain_at_end, plain_behind}
+use Rattle.jsonb_spec.specs.Document.Zeros.{zeros_of, plain_at_end, plain_behind}
 use Rattle.key_zeros.proofs.Joining.{zeros_joined}
 
 -- no more bytes without zeros are at the end than there are

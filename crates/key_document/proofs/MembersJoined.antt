@@ -5,19 +5,20 @@ use Rattle.std.proofs.lemmas.List.{length-replicate}
 use Rattle.jsonb_spec.specs.Proper.{HaveProperParts}
 use Rattle.jsonb_spec.specs.SortKey.{key_of, members_key, text_key}
 use Rattle.jsonb_spec.specs.Tree.{Members, no_members, more_members}
-use Rattle.key_walk.specs.Checked.{HaveReadable}
-use Rattle.key_walk.specs.Passing.{joined_members}
+use Rattle.jsonb_spec.specs.SortKey.Checked.{HaveReadable}
+use Rattle.jsonb_spec.specs.SortKey.Passing.{joined_members}
 use Rattle.key_document.specs.Merging.{taken_counts}
 use Rattle.key_text.proofs.Counts.{members_each, one_each}
 use Rattle.key_document.proofs.Joining.{plain_bound}
-use Rattle.key_edit.specs.Edit.{merged_members}
-use Rattle.key_edit.specs.Merging.{IsLast, IsStep, StepsOn, keys_of_members}
+use Rattle.jsonb_spec.specs.Edit.{merged_members}
+use Rattle.key_edit.specs.Merging.{IsLast, IsStep, StepsOn}
+use Rattle.jsonb_spec.specs.Edit.Merging.{keys_of_members}
 use Rattle.key_edit.proofs.Merged.{into_none, joined_key, last_step, next_step}
 use Rattle.key_edit.specs.declared.merge.Step.{Step}
-use Rattle.key_zeros.specs.Numbers.{Pends}
-use Rattle.key_zeros.specs.Zeros.{plain_at_end, zeros_of}
+use Rattle.jsonb_spec.specs.Document.Numbers.{Pends}
+use Rattle.jsonb_spec.specs.Document.Zeros.{plain_at_end, zeros_of}
 use Rattle.key_zeros.proofs.Joining.{plain_joined, zeros_joined}
-use Rattle.key_text.specs.Counts.{counts_at, counts_at_members}
+use Rattle.jsonb_spec.specs.Document.Counts.{counts_at, counts_at_members}
 
 -- ---- members after members
 

@@ -8,10 +8,9 @@ use Rattle.jsonb_spec.specs.Keys.{IsBelowKeys}
 use Rattle.jsonb_spec.specs.Order.{bytes_cmp}
 use Rattle.jsonb_spec.specs.Tree.{Tree, Trees, no_trees, more_trees, Members, no_members, more_members, put}
 use Rattle.jsonb_core.proofs.Trees.MembersInOrder.{turned}
-use Rattle.key_document.specs.Merging.{counts_of_items}
-use Rattle.key_edit.specs.Edit.{joined_items, merged_members}
+use Rattle.jsonb_spec.specs.Document.Counts.{counts_of_items, counts_at, counts_at_items}
+use Rattle.jsonb_spec.specs.Edit.{joined_items, merged_members}
 use Rattle.key_edit.proofs.ProperChanges.{below_rest}
-use Rattle.key_text.specs.Counts.{counts_at, counts_at_items}
 
 put_after : (k l : List ℕ) (t u : Tree) (ms : Members) → bytes_cmp k l ≡ Less → put l u (more_members k t ms) ≡ more_members k t (put l u ms)
 put_after k l t u ms h = ap (λ o. match_ordering o (more_members l u (more_members k t ms)) (more_members k u ms) (more_members k t (put l u ms))) (turned k l h)

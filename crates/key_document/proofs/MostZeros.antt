@@ -9,9 +9,9 @@ use Rattle.jsonb_core.proofs.SortKeys.Counts.{power_le}
 use Rattle.jsonb_core.proofs.SortKeys.Digits.{ten}
 use Rattle.key_document.specs.Check.{IsStripped, most_zeros}
 use Rattle.key_document.proofs.Trailing.{Fewest, fewest, no_digits}
-use Rattle.key_text.specs.FewestDigits.{spare_zeros}
+use Rattle.jsonb_spec.specs.SortKey.FewestDigits.{spare_zeros}
 use Rattle.key_text.proofs.Spares.{all_spare, some_spare}
-use Rattle.key_value.specs.Reading.{IsLastPair, IsNoLastPair, ReadsDigits, exponent_of, read_as}
+use Rattle.jsonb_spec.specs.SortKey.Reading.{IsLastPair, IsNoLastPair, ReadsDigits, exponent_of, read_as}
 use Rattle.key_value.proofs.Exact.{counted}
 use Rattle.key_value.proofs.Numbers.{cancel, exponent_read, last_none, last_some}
 use Rattle.key_value.proofs.Signs.{IsSigned}

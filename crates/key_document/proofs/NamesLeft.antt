@@ -4,13 +4,13 @@ use Rattle.std.specs.Prelude.{IsErrAnd, Vec, vec_capacity}
 use Rattle.std.specs.declared.alloc.Global.{Global}
 use Rattle.std.specs.Ordering.{is_eq}
 use Rattle.std.specs.Str.{bytes_eq}
-use Rattle.key_value.specs.Readable.{IsReadable}
+use Rattle.jsonb_spec.specs.SortKey.Readable.{IsReadable}
 use Rattle.jsonb_spec.specs.Containment.{any_item}
 use Rattle.jsonb_spec.specs.SortKey.{items_key, key_of, members_key, text_key}
 use Rattle.jsonb_spec.specs.Tree.{Tree, null, boolean, string, number, array, object, Trees, no_trees, more_trees, Members, no_members, more_members}
 use Rattle.jsonb_core.proofs.SortKeys.Kinds.{is_small, number_begins}
 use Rattle.jsonb_core.proofs.Trees.Runs.{heads, tails}
-use Rattle.key_walk.specs.Checked.{AreReadable, HaveReadable}
+use Rattle.jsonb_spec.specs.SortKey.Checked.{AreReadable, HaveReadable}
 use Rattle.std.proofs.lemmas.Slice.Eq.{bytes_eq-Decides}
 use Rattle.key_walk.proofs.Finds.{readable_inside}
 use Rattle.key_walk.proofs.Framed.{names_compare}
@@ -18,9 +18,9 @@ use Rattle.key_walk.proofs.Occurrence.{equal_names}
 use Rattle.key_edit.specs.Merging.{IsStep, StepsOn}
 use Rattle.key_edit.specs.declared.merge.Step.{Step}
 use Rattle.key_edit.proofs.Merged.{behind_first, joined_key, last_step, next_step}
-use Rattle.key_walk.specs.Passing.{joined_members}
+use Rattle.jsonb_spec.specs.SortKey.Passing.{joined_members}
 use Rattle.jsonb_spec.specs.Proper.{HaveProperParts}
-use Rattle.key_document.specs.LeftOut.{any_named, has_name, is_named, items_beside, members_beside}
+use Rattle.jsonb_spec.specs.Edit.LeftOut.{any_named, has_name, is_named, items_beside, members_beside}
 use Rattle.key_document.specs.Retaining.{Finishes, IsBegun, Retains, WritesAnswer, output_of, unless}
 use Rattle.key_document.specs.declared.error.DocumentError.{DocumentError}
 use Rattle.key_document.specs.declared.error.DocumentError.TheVariants.{OutOfMemory}
@@ -29,7 +29,7 @@ use Rattle.key_document.specs.declared.retain.Retaining.{Retaining}
 use Rattle.key_document.proofs.Beside.{MemberPassed, replaced_passed, run_passed, push_counts, push_key, rest_stays}
 use Rattle.key_text.proofs.Counts.{members_each, one_each}
 use Rattle.key_document.proofs.Retained.{answer_finished, answer_lacking, next_ready, retains_begun, stays_next}
-use Rattle.key_text.specs.Counts.{counts_at, counts_at_items, counts_at_members}
+use Rattle.jsonb_spec.specs.Document.Counts.{counts_at, counts_at_items, counts_at_members}
 
 -- ---- whether anything goes
 

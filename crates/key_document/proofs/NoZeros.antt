@@ -4,24 +4,23 @@ use Rattle.std.proofs.lemmas.Bool.{cond-false, ne_eqb}
 use Rattle.std.specs.Ordering.{match_ordering}
 use Rattle.std.specs.declared.cmp.Ordering.{Ordering}
 use Rattle.std.specs.declared.cmp.Ordering.TheVariants.{Less, Equal, Greater}
-use Rattle.key_value.specs.Readable.{IsReadable}
+use Rattle.jsonb_spec.specs.SortKey.Readable.{IsReadable}
 use Rattle.jsonb_spec.specs.Containment.{any_item}
 use Rattle.jsonb_spec.specs.Order.{bytes_cmp}
 use Rattle.jsonb_spec.specs.PartAt.{part_at}
 use Rattle.jsonb_spec.specs.SortKey.{text_key}
 use Rattle.jsonb_spec.specs.Text.{tree_text}
 use Rattle.jsonb_spec.specs.Tree.{Tree, null, boolean, string, number, array, object, binary, date, timestamp, timestamp_tz, interval, Trees, no_trees, more_trees, Members, no_members, more_members, put}
-use Rattle.key_document.specs.Document.{zeros_at}
-use Rattle.key_document.specs.LeftOut.{any_named, beside_names, has_name, is_named, is_null, items_beside, items_without_nulls, members_beside, members_without_nulls, without_nulls}
-use Rattle.key_document.specs.Merging.{counts_of_items}
+use Rattle.jsonb_spec.specs.Document.{zeros_at}
+use Rattle.jsonb_spec.specs.Edit.LeftOut.{any_named, beside_names, has_name, is_named, is_null, items_beside, items_without_nulls, members_beside, members_without_nulls, without_nulls}
+use Rattle.jsonb_spec.specs.Document.Counts.{counts_of_items, counts_at, counts_at_items, counts_at_members}
 use Rattle.key_document.proofs.Beside.{by_case, no_tree}
 use Rattle.key_document.proofs.ItemsJoined.{items_within, joined_array}
 use Rattle.key_document.proofs.Slots.{part_inside}
 use Rattle.key_document.proofs.Merging.{joined_counts, items_counts_end}
-use Rattle.key_edit.specs.Edit.{as_items, merge, merged_members}
-use Rattle.key_text.specs.Counts.{counts_at, counts_at_items, counts_at_members}
-use Rattle.key_text.specs.FewestDigits.{with_fewest_digits}
-use Rattle.key_zeros.specs.Zeros.{counts_in, counts_in_items, counts_in_members, entry_of, in_sevens, plain_behind, zeros_in, zeros_of}
+use Rattle.jsonb_spec.specs.Edit.{as_items, merge, merged_members}
+use Rattle.jsonb_spec.specs.SortKey.FewestDigits.{with_fewest_digits}
+use Rattle.jsonb_spec.specs.Document.Zeros.{counts_in, counts_in_items, counts_in_members, entry_of, in_sevens, plain_behind, zeros_in, zeros_of}
 use Rattle.key_zeros.proofs.NumberedTexts.{counts_of, numbers_of}
 use Rattle.key_zeros.proofs.Splitting.{split}
 

@@ -2,10 +2,10 @@
 use Rattle.std.proofs.Common.{◌≡◌, ℕ, List, ◌∷◌, ◌++◌, length, replicate, refl, sym, ap, ap₂, ◌∙◌, append_assoc}
 use Rattle.jsonb_spec.specs.SortKey.{text_key}
 use Rattle.jsonb_spec.specs.Tree.{Tree, no_trees, more_trees, no_members, more_members}
-use Rattle.key_text.specs.Counts.{counts_at, counts_at_items, counts_at_members, counts_open, opens_counts}
-use Rattle.key_walk.specs.Open.{Open, items, members, is_object, end_key, name_key}
-use Rattle.key_walk.specs.Parts.{opened_tree}
-use Rattle.key_walk.specs.Steps.{IsOver, IsPart}
+use Rattle.jsonb_spec.specs.Document.Counts.{counts_at, counts_at_items, counts_at_members, counts_open, opens_counts}
+use Rattle.jsonb_spec.specs.SortKey.Open.{Open, items, members, is_object, end_key, name_key}
+use Rattle.jsonb_spec.specs.SortKey.Parts.{opened_tree}
+use Rattle.jsonb_spec.specs.SortKey.Steps.{IsOver, IsPart}
 
 -- ---- an end
 

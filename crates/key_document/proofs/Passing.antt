@@ -5,8 +5,8 @@ use Rattle.std.specs.declared.alloc.Global.{Global}
 use Rattle.key_document.specs.Changes.{CopiesOn}
 use Rattle.key_document.specs.declared.error.DocumentError.{DocumentError}
 use Rattle.key_document.specs.declared.error.DocumentError.TheVariants.{OutOfMemory}
-use Rattle.key_zeros.specs.Numbers.{Pends, PendsAt}
-use Rattle.key_zeros.specs.Zeros.{zeros_of}
+use Rattle.jsonb_spec.specs.Document.Numbers.{Pends, PendsAt}
+use Rattle.jsonb_spec.specs.Document.Zeros.{zeros_of}
 use Rattle.key_zeros.proofs.Taking.{SkipLeft, CopyLeft, copies_some, none_skipped, entry_reached}
 
 -- what pends of the counts that are left, of which so many are still to be passed

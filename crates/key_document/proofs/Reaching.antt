@@ -18,7 +18,7 @@ use Rattle.jsonb_spec.specs.PartAt.{IsChild, child_at, index_named, leads_well, 
 use Rattle.jsonb_spec.specs.Proper.{IsProper}
 use Rattle.jsonb_spec.specs.Tree.{Tree, array, object, Trees, no_trees, more_trees, Members, no_members, more_members}
 use Rattle.key_walk.proofs.Occurrence.{below_all, equal_names}
-use Rattle.key_edit.specs.Edit.{Outcome, stays, goes, becomes, member_before, changed_member, item_before, changed_item, step_named, changed_at_step, changed_part, part_with, within, changed_at}
+use Rattle.jsonb_spec.specs.Edit.{Outcome, stays, goes, becomes, member_before, changed_member, item_before, changed_item, step_named, changed_at_step, changed_part, part_with, within, changed_at}
 
 none_some : {A : Type 0} {a : A} → None ≡ Some a → ⊥
 none_some e = cc

@@ -5,16 +5,16 @@ use Rattle.std.proofs.lemmas.List.{drop-append-le, drop-drop, drop_at, length-dr
 use Rattle.jsonb_spec.specs.Proper.{IsProper}
 use Rattle.jsonb_spec.specs.SortKey.{key_of}
 use Rattle.jsonb_spec.specs.Tree.{Tree}
-use Rattle.key_document.specs.Changes.{IsPartAt}
+use Rattle.jsonb_spec.specs.Document.PartAt.{IsPartAt}
 use Rattle.key_document.specs.Cursor.{IsLeftAt, IsLeftBehind, IsLeftOf}
-use Rattle.key_document.specs.Document.{zeros_at}
+use Rattle.jsonb_spec.specs.Document.{zeros_at}
 use Rattle.key_document.specs.declared.cursor.ZerosLeft.{ZerosLeft}
 use Rattle.key_text.proofs.Counts.{one_each}
 use Rattle.key_document.proofs.Joining.{zeros_behind_plain}
-use Rattle.key_zeros.specs.Numbers.{PendsAt}
-use Rattle.key_zeros.specs.Zeros.{entry_of, plain_at_end, plain_behind, zeros_of}
+use Rattle.jsonb_spec.specs.Document.Numbers.{PendsAt}
+use Rattle.jsonb_spec.specs.Document.Zeros.{entry_of, plain_at_end, plain_behind, zeros_of}
 use Rattle.key_zeros.proofs.Joining.{zeros_joined}
-use Rattle.key_text.specs.Counts.{counts_at}
+use Rattle.jsonb_spec.specs.Document.Counts.{counts_at}
 
 -- what is left at the end is found by its length
 dropped : (all front others : List ℕ) → all ≡ front ++ others → drop (length all - length others) all ≡ others

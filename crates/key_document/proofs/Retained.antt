@@ -12,10 +12,10 @@ use Rattle.key_document.specs.declared.retain.Output.{Output}
 use Rattle.key_document.specs.declared.retain.Output.TheVariants.{Bytes, Zeros}
 use Rattle.key_document.specs.declared.retain.Retaining.{Retaining}
 use Rattle.key_document.proofs.Joining.{plain_bound}
-use Rattle.key_zeros.specs.Numbers.{Pends}
-use Rattle.key_zeros.specs.Zeros.{plain_at_end, zeros_of}
+use Rattle.jsonb_spec.specs.Document.Numbers.{Pends}
+use Rattle.jsonb_spec.specs.Document.Zeros.{plain_at_end, zeros_of}
 use Rattle.key_zeros.proofs.Joining.{zeros_joined}
-use Rattle.key_text.specs.Counts.{counts_at}
+use Rattle.jsonb_spec.specs.Document.Counts.{counts_at}
 
 -- ---- bytes written, and left out
 

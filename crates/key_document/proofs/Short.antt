@@ -5,11 +5,11 @@ use Rattle.std.proofs.lemmas.List.{length-reverse}
 use Rattle.jsonb_spec.specs.Proper.{IsProper}
 use Rattle.jsonb_spec.specs.SortKey.{key_of}
 use Rattle.jsonb_spec.specs.Tree.{Tree}
-use Rattle.key_document.specs.Document.{behind_key, end_of, zeros_at}
+use Rattle.jsonb_spec.specs.Document.{behind_key, end_of, zeros_at}
 use Rattle.key_text.proofs.Counts.{one_each}
-use Rattle.key_zeros.specs.Zeros.{entry_of, in_sevens, plain_behind, zeros_of}
+use Rattle.jsonb_spec.specs.Document.Zeros.{entry_of, in_sevens, plain_behind, zeros_of}
 use Rattle.key_zeros.proofs.Sevens.{few, many, last}
-use Rattle.key_text.specs.Counts.{counts_at}
+use Rattle.jsonb_spec.specs.Document.Counts.{counts_at}
 
 -- one byte and more for each seven bits, of which there are at most so many groups
 sevens_few : (more n : ℕ) → length (in_sevens more n) ≤ more + 1

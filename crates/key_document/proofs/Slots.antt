@@ -2,24 +2,26 @@
 use Rattle.std.proofs.Common.{◌≡◌, ℕ, ◌+◌, ◌-◌, inl, inr, List, [], ◌∷◌, ◌++◌, Bor, Option, Some, None, Ok, Err, length, replicate, take, drop, refl, sym, ap, subst, ◌∙◌, arith, append_assoc, append-nil, length-append}
 use Rattle.std.proofs.Math.Seq.{take-append_seam, drop-append_seam}
 use Rattle.std.proofs.lemmas.List.{length-replicate}
-use Rattle.key_value.specs.Readable.{IsAnyNumber, IsReadable}
+use Rattle.jsonb_spec.specs.SortKey.Readable.{IsAnyNumber, IsReadable}
 use Rattle.jsonb_spec.specs.Grammar.{max_depth}
 use Rattle.jsonb_spec.specs.PartAt.{part_at}
 use Rattle.jsonb_spec.specs.SortKey.{key_of}
 use Rattle.jsonb_spec.specs.Text.Range.{IsWithin}
 use Rattle.jsonb_spec.specs.Tree.{Tree}
 use Rattle.key_walk.specs.Found.{Finds}
-use Rattle.key_walk.specs.Open.{name_key}
+use Rattle.jsonb_spec.specs.SortKey.Open.{name_key}
 use Rattle.key_walk.specs.declared.find.NoKey.{NoKey}
-use Rattle.key_document.specs.Changes.{FindsRange, IsPartBehind}
-use Rattle.key_document.specs.Splices.{IsSplice, AreSplices, entry_counts, entry_key}
+use Rattle.key_document.specs.Changes.{FindsRange}
+use Rattle.jsonb_spec.specs.Document.PartAt.{IsPartBehind}
+use Rattle.jsonb_spec.specs.Edit.Splices.{IsSplice, AreSplices, entry_counts, entry_key}
 use Rattle.key_document.proofs.Agreeing.{agree, same_back, same_front}
 use Rattle.key_document.proofs.Reaching.{ChangesPart, at_part, part_changes, same_some}
 use Rattle.key_document.proofs.Splicing.{at_splice}
-use Rattle.key_edit.specs.Edit.{Outcome, stays, goes, becomes, changed_at, remove}
-use Rattle.key_edit.specs.Spots.{Answers, SlotIn, Occurs}
+use Rattle.jsonb_spec.specs.Edit.{Outcome, stays, goes, becomes, changed_at, remove}
+use Rattle.jsonb_spec.specs.Edit.Spots.{Answers}
+use Rattle.key_edit.specs.Spots.{SlotIn, Occurs}
 use Rattle.key_edit.specs.declared.slot.Slot.{Slot}
-use Rattle.key_text.specs.Counts.{counts_at}
+use Rattle.jsonb_spec.specs.Document.Counts.{counts_at}
 
 goes_stays : goes ≡ stays → ⊥
 goes_stays e = cc

@@ -11,11 +11,11 @@ use Rattle.jsonb_spec.specs.Order.{bytes_cmp}
 use Rattle.jsonb_spec.specs.Proper.{IsProper, AreProper, HaveProperParts}
 use Rattle.jsonb_spec.specs.SortKey.{key_of, items_key, members_key, text_key}
 use Rattle.jsonb_spec.specs.Tree.{Tree, null, boolean, string, number, array, object, binary, date, timestamp, timestamp_tz, interval, Trees, no_trees, more_trees, Members, no_members, more_members}
-use Rattle.key_edit.specs.Edit.{Outcome, stays, goes, becomes, member_before, changed_member, item_before, changed_item, changed_item_back, step_named, changed_at_member, changed_at_step, changed_part, part_with, within, changed_at}
-use Rattle.key_edit.specs.Insert.{changed_between, changed_slot, changed_slot_at, slot_index}
-use Rattle.key_document.specs.Splices.{Cut, IsSplice, AreSplices, Spliced, entry_key, entry_counts}
+use Rattle.jsonb_spec.specs.Edit.{Outcome, stays, goes, becomes, member_before, changed_member, item_before, changed_item, changed_item_back, step_named, changed_at_member, changed_at_step, changed_part, part_with, within, changed_at}
+use Rattle.jsonb_spec.specs.Edit.Insert.{changed_between, changed_slot, changed_slot_at, slot_index}
+use Rattle.jsonb_spec.specs.Edit.Splices.{Cut, IsSplice, AreSplices, Spliced, entry_key, entry_counts}
 use Rattle.key_text.proofs.Counts.{one_each, items_each, members_each}
-use Rattle.key_text.specs.Counts.{counts_at, counts_at_items, counts_at_members}
+use Rattle.jsonb_spec.specs.Document.Counts.{counts_at, counts_at_items, counts_at_members}
 
 -- ---- behind more bytes
 

@@ -8,7 +8,7 @@ use Rattle.key_document.specs.declared.error.DocumentError.{DocumentError}
 use Rattle.key_document.specs.declared.error.DocumentError.TheVariants.{OutOfMemory}
 use Rattle.key_document.specs.declared.merge.Merging.{Merging}
 use Rattle.key_document.proofs.Joining.{plain_bound}
-use Rattle.key_zeros.specs.Zeros.{plain_at_end, zeros_of}
+use Rattle.jsonb_spec.specs.Document.Zeros.{plain_at_end, zeros_of}
 use Rattle.key_zeros.proofs.Joining.{plain_joined, zeros_joined}
 
 -- why a step isn't copied

@@ -2,19 +2,20 @@
 use Rattle.std.proofs.Common.{◌≡◌, ℕ, zero, suc, ◌==◌, Bool, true, false, ◌&&◌, ◌||◌, if◌then◌else◌, List, [], ◌∷◌, ◌++◌, length, replicate, None, Ok, refl, sym, ap, ap₂, subst, ◌∙◌, arith, append-nil, append_assoc, length-append}
 use Rattle.std.proofs.lemmas.Bool.{ne_eqb}
 use Rattle.std.proofs.lemmas.List.{length-replicate}
-use Rattle.key_value.specs.Readable.{IsAnyNumber, IsReadableAt}
+use Rattle.jsonb_spec.specs.SortKey.Readable.{IsAnyNumber, IsReadableAt}
 use Rattle.jsonb_spec.specs.Proper.{IsProper}
 use Rattle.jsonb_spec.specs.SortKey.{key_of, items_key, members_key, text_key}
 use Rattle.jsonb_spec.specs.Text.Range.{IsOneDeeper, IsWithin, AreWithin, HaveWithin}
 use Rattle.jsonb_spec.specs.Tree.{Tree, null, boolean, string, number, array, object, binary, date, timestamp, timestamp_tz, interval, Trees, no_trees, more_trees, Members, no_members, more_members}
 use Rattle.jsonb_core.proofs.SortKeys.Kinds.{is_small, number_begins}
 use Rattle.jsonb_core.proofs.Trees.Runs.{heads}
-use Rattle.key_walk.specs.Open.{Open, items, members, is_object, open_key, end_key, name_key, opening_byte, IsScalar}
-use Rattle.key_walk.specs.Parts.{opened_tree}
-use Rattle.key_walk.specs.Steps.{IsAmid, StepsOver, opens_key}
+use Rattle.jsonb_spec.specs.SortKey.Open.{Open, items, members, is_object, open_key, end_key, name_key, opening_byte, IsScalar}
+use Rattle.jsonb_spec.specs.SortKey.Parts.{opened_tree}
+use Rattle.key_walk.specs.Steps.{IsAmid, StepsOver}
+use Rattle.jsonb_spec.specs.SortKey.Steps.{opens_key, IsOver, IsPart}
 use Rattle.key_walk.specs.declared.steps.Steps.{Steps}
 use Rattle.key_walk.proofs.Stepping.{Walking}
-use Rattle.key_document.specs.LeftOut.{is_null, items_without_nulls, members_without_nulls, without_nulls}
+use Rattle.jsonb_spec.specs.Edit.LeftOut.{is_null, items_without_nulls, members_without_nulls, without_nulls}
 use Rattle.key_document.specs.Retaining.{AreAhead, IsBegun, Retains, unless}
 use Rattle.key_document.specs.declared.retain.Output.{Output}
 use Rattle.key_document.specs.declared.retain.Retaining.{Retaining}
@@ -22,8 +23,7 @@ use Rattle.key_document.proofs.Beside.{push_counts, push_key}
 use Rattle.key_text.proofs.Counts.{one_each}
 use Rattle.key_document.proofs.OpenCounts.{opened_bytes, over_bytes, part_bytes}
 use Rattle.key_document.proofs.Retained.{PassedNext, retains_begun}
-use Rattle.key_walk.specs.Steps.{IsOver, IsPart}
-use Rattle.key_text.specs.Counts.{counts_at, counts_at_items, counts_at_members, counts_open, opens_counts}
+use Rattle.jsonb_spec.specs.Document.Counts.{counts_at, counts_at_items, counts_at_members, counts_open, opens_counts}
 
 -- ---- what stays
 

@@ -3,9 +3,9 @@ use Rattle.std.proofs.Common.{◌≡◌, ℕ, inl, inr, ◌⊎◌, List, [], ◌
 use Rattle.std.specs.Prelude.{reverse}
 use Rattle.std.proofs.lemmas.List.{reverse-append}
 use Rattle.jsonb_core.proofs.Trees.Runs.{heads, tails}
-use Rattle.key_document.specs.Document.{behind_key, EndsUnlike}
+use Rattle.jsonb_spec.specs.Document.{behind_key, EndsUnlike}
 use Rattle.key_document.proofs.Backwards.{turned_back}
-use Rattle.key_zeros.specs.Zeros.{in_sevens}
+use Rattle.jsonb_spec.specs.Document.Zeros.{in_sevens}
 
 -- the bytes of a document with zeros but the last
 abbrev pub but_last : List ℕ → List ℕ → List ℕ

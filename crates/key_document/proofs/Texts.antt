@@ -2,15 +2,15 @@
 use Rattle.std.proofs.Common.{◌≡◌, ℕ, List, ◌++◌, Result, Ok, Err, refl, sym, ap, ◌∙◌}
 use Rattle.std.specs.Prelude.{IfErr, IsErrAnd, OnErr}
 use Rattle.key_value.proofs.Texts.{some_same}
-use Rattle.key_value.specs.Readable.{HasFewestDigits, IsAnyNumber, IsReadable}
+use Rattle.jsonb_spec.specs.SortKey.Readable.{HasFewestDigits, IsAnyNumber, IsReadable}
 use Rattle.jsonb_spec.specs.Text.{tree_text, AppendsText}
 use Rattle.jsonb_spec.specs.Tree.{Tree}
 use Rattle.jsonb_core.proofs.Trees.RangeTexts.{text_in_range}
-use Rattle.key_text.specs.FewestDigits.{with_fewest_digits, AppendsTextOf}
+use Rattle.jsonb_spec.specs.SortKey.FewestDigits.{with_fewest_digits, AppendsTextOf}
 use Rattle.key_document.specs.Changes.{of_key_error}
 use Rattle.key_value.specs.declared.error.KeyError.{KeyError}
 use Rattle.key_value.specs.declared.error.KeyError.TheVariants as key_errors
-use Rattle.key_document.specs.Document.{OfDocument}
+use Rattle.jsonb_spec.specs.Document.{OfDocument}
 use Rattle.key_document.specs.declared.error.DocumentError.{DocumentError}
 use Rattle.key_document.specs.declared.error.DocumentError.TheVariants.{OutOfMemory}
 

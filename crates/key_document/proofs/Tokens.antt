@@ -1,7 +1,7 @@
 -- The parts of a value's text, and what they are of it: its text, its key, and the counts of the bytes of its key.
 use Rattle.std.proofs.Common.{◌≡◌, ◌≢◌, ℕ, zero, suc, ◌==◌, Bool, true, false, true≢false, List, [], ◌∷◌, ◌++◌, length, replicate, refl, sym, ap, ◌∙◌, arith, append_assoc, length-append}
 use Rattle.std.specs.List.{flat_map}
-use Rattle.key_value.specs.Readable.{IsAnyNumber}
+use Rattle.jsonb_spec.specs.SortKey.Readable.{IsAnyNumber}
 use Rattle.jsonb_spec.specs.Proper.{IsProper, AreProper, HaveProperParts, IsProperNumber}
 use Rattle.jsonb_spec.specs.SortKey.{key_of, items_key, members_key, text_key}
 use Rattle.jsonb_spec.specs.Text.{tree_text, item_texts, member_texts}
@@ -12,12 +12,12 @@ use Rattle.jsonb_spec.specs.Text.StringText.{byte_text, quoted_text}
 use Rattle.jsonb_spec.specs.Tree.{Num, Tree, null, boolean, string, number, array, object, binary, date, timestamp, timestamp_tz, interval, Trees, no_trees, more_trees, Members, no_members, more_members}
 use Rattle.jsonb_core.proofs.Appending.Pieces.{texts_left, texts_left-comma}
 use Rattle.jsonb_core.proofs.Trees.Runs.{heads, tails}
-use Rattle.key_zeros.specs.Scan.{is_number_byte}
+use Rattle.jsonb_spec.specs.Document.Scan.{is_number_byte}
 use Rattle.key_zeros.proofs.Decimals.{text_begins}
 use Rattle.key_document.specs.FromText.{closed, EndsNumber, is_name, mark_behind}
 use Rattle.key_document.specs.Tokens.{Token, mark_part, string_part, number_part, tokens_text, tokens_key, tokens_counts, IsMark, AreTokens}
 use Rattle.key_document.proofs.Items.{kind_of}
-use Rattle.key_text.specs.Counts.{counts_at, counts_at_items, counts_at_members}
+use Rattle.jsonb_spec.specs.Document.Counts.{counts_at, counts_at_items, counts_at_members}
 
 -- what may follow a value: no byte of a number, and no colon
 abbrev pub EndsValue : List ℕ → Type 0

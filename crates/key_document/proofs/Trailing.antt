@@ -14,8 +14,8 @@ use Rattle.jsonb_core.proofs.Numbers.Nearest.{unsigned_abs-signed}
 use Rattle.jsonb_core.proofs.SortKeys.Counts.{digits_counted, power_le}
 use Rattle.jsonb_core.proofs.SortKeys.Digits.{ten}
 use Rattle.key_document.specs.Check.{AreAtMost, most_at, most_at_items, most_at_members, most_zeros, zeros_within}
-use Rattle.key_text.specs.Counts.{counts_at, counts_at_items, counts_at_members}
-use Rattle.key_text.specs.FewestDigits.{spare_zeros}
+use Rattle.jsonb_spec.specs.Document.Counts.{counts_at, counts_at_items, counts_at_members}
+use Rattle.jsonb_spec.specs.SortKey.FewestDigits.{spare_zeros}
 use Rattle.key_text.proofs.Spares.{all_spare, are_spare, divided_less, some_spare}
 use Rattle.key_value.proofs.Signs.{same_keys}
 use Rattle.key_value.proofs.Wholes.{same_number}

@@ -10,7 +10,7 @@ use Rattle.std.proofs.lemmas.Int.{unsigned_abs-mul}
 use Rattle.std.proofs.lemmas.Map.Lookups.{exact_bytes}
 use Rattle.std.proofs.lemmas.Nat.{pow-add}
 use Rattle.key_value.proofs.FirstBytes.{no_pair}
-use Rattle.key_value.specs.Readable.{HasFewestDigits, IsAnyNumber}
+use Rattle.jsonb_spec.specs.SortKey.Readable.{HasFewestDigits, IsAnyNumber}
 use Rattle.jsonb_spec.specs.Order.{bytes_cmp, num_cmp, tree_cmp}
 use Rattle.jsonb_spec.specs.Proper.{IsProper, AreProper, HaveProperParts, IsProperNumber}
 use Rattle.jsonb_spec.specs.SortKey.{key_of, items_key, members_key, number_key, text_key}
@@ -26,12 +26,13 @@ use Rattle.jsonb_core.proofs.SortKeys.Texts.{text_compares}
 use Rattle.jsonb_core.proofs.SortKeys.Trees.{keys_same, tree_compares}
 use Rattle.jsonb_core.proofs.Trees.Runs.{heads, tails}
 use Rattle.key_document.proofs.Agreeing.{same_back}
-use Rattle.key_text.specs.Counts.{counts_at, counts_at_items, counts_at_members}
-use Rattle.key_text.specs.FewestDigits.{fewest_digits, items_with_fewest_digits, members_with_fewest_digits, spare_zeros}
-use Rattle.key_text.specs.Writes.{items_left, members_left, name_text, value_text}
+use Rattle.jsonb_spec.specs.Document.Counts.{counts_at, counts_at_items, counts_at_members}
+use Rattle.jsonb_spec.specs.SortKey.FewestDigits.{fewest_digits, items_with_fewest_digits, members_with_fewest_digits, spare_zeros}
+use Rattle.key_text.specs.Writes.{items_left, members_left, name_text}
+use Rattle.jsonb_spec.specs.SortKey.Text.{value_text}
 use Rattle.key_text.proofs.Spares.{fewest_has, fewest_key, fewest_proper}
 use Rattle.key_text.proofs.Whole.{array_text, object_text}
-use Rattle.key_zeros.specs.Zeros.{counts_in, counts_in_items, counts_in_members}
+use Rattle.jsonb_spec.specs.Document.Zeros.{counts_in, counts_in_items, counts_in_members}
 
 -- ---- counts that go together
 

@@ -5,22 +5,23 @@ use Rattle.jsonb_spec.specs.SortKey.{items_key, key_of, members_key, text_key}
 use Rattle.jsonb_spec.specs.Tree.{Tree, null, boolean, string, number, array, object, binary, date, timestamp, timestamp_tz, interval, no_trees, more_trees, no_members, more_members}
 use Rattle.jsonb_core.proofs.SortKeys.Kinds.{is_small, number_begins}
 use Rattle.key_document.specs.Cursor.{IsLeftBehind}
-use Rattle.key_document.specs.Walk.{AreMarked, IsWalkAt, IsNameMet, IsPlace, IsValueMet, MeetsFirst, MeetsNext, events_left, events_open, kind_mark, scalar_size, value_zeros}
+use Rattle.jsonb_spec.specs.Document.Walk.{AreMarked, IsPlace, events_left, events_open, kind_mark, scalar_size, value_zeros}
+use Rattle.key_document.specs.Walk.{IsWalkAt, IsNameMet, IsValueMet, MeetsFirst, MeetsNext}
 use Rattle.key_document.specs.declared.error.DocumentError.{DocumentError}
 use Rattle.key_document.specs.declared.walk.Met.{Met}
 use Rattle.key_document.specs.declared.walk.Walk.{Walk}
 use Rattle.key_document.proofs.OpenCounts.{opened_bytes, over_bytes, part_bytes, regroup}
 use Rattle.key_text.proofs.Counts.{one_each, opens_each}
-use Rattle.key_text.specs.Counts.{counts_at, counts_open, opens_counts}
-use Rattle.key_value.specs.Readable.{IsAnyNumber, IsReadable, IsReadableAt}
+use Rattle.jsonb_spec.specs.Document.Counts.{counts_at, counts_open, opens_counts}
+use Rattle.jsonb_spec.specs.SortKey.Readable.{IsAnyNumber, IsReadable, IsReadableAt}
 use Rattle.key_value.proofs.Texts.{none_some}
 use Rattle.jsonb_path.proofs.PartsReadBack.{deeper}
-use Rattle.key_walk.specs.Events.{Event, begins, ends, events_of, events_of_items, events_of_members}
-use Rattle.key_walk.specs.Found.{IsRange}
-use Rattle.key_walk.specs.NextPart.{BeginsWithEnd}
-use Rattle.key_walk.specs.Open.{Open, items, members, end_key, is_object, name_key, open_key, opening_byte, IsOpen, IsScalar}
-use Rattle.key_walk.specs.Parts.{kind_of_tree, opened_tree}
-use Rattle.key_walk.specs.Steps.{IsOver, IsPart, opens_key, AreOpen}
+use Rattle.jsonb_spec.specs.SortKey.Events.{Event, begins, ends, events_of, events_of_items, events_of_members}
+use Rattle.jsonb_spec.specs.SortKey.Found.{IsRange}
+use Rattle.jsonb_spec.specs.SortKey.Steps.{BeginsWithEnd, IsOver, IsPart, opens_key, AreOpen}
+use Rattle.jsonb_spec.specs.SortKey.Open.{Open, items, members, end_key, is_object, name_key, open_key, opening_byte, IsOpen, IsScalar}
+use Rattle.key_walk.specs.Parts.{kind_of_tree}
+use Rattle.jsonb_spec.specs.SortKey.Parts.{opened_tree}
 
 -- ---- marks
 

@@ -5,10 +5,10 @@ use Rattle.jsonb_spec.specs.SortKey.{number_key}
 use Rattle.jsonb_spec.specs.Text.NumberText.{number_text}
 use Rattle.jsonb_core.proofs.Appending.Appended.{IsUnderway, begun, goes_on, fits}
 use Rattle.jsonb_core.proofs.SortKeys.Kinds.{is_small, number_begins}
-use Rattle.key_text.specs.FewestDigits.{spare_zeros}
+use Rattle.jsonb_spec.specs.SortKey.FewestDigits.{spare_zeros}
 use Rattle.key_zeros.proofs.Decimals.{text_begins}
-use Rattle.key_zeros.specs.Scan.{is_number_byte}
-use Rattle.key_zeros.specs.Zeros.{entry_of, plain_behind, zeros_of}
+use Rattle.jsonb_spec.specs.Document.Scan.{is_number_byte}
+use Rattle.jsonb_spec.specs.Document.Zeros.{entry_of, plain_behind, zeros_of}
 use Rattle.key_document.specs.FromText.{mark_behind, mark_key, string_key}
 use Rattle.key_document.specs.Tokens.{Token, tokens_text, tokens_key, tokens_counts, AreTokens}
 use Rattle.key_document.proofs.Joining.{zeros_behind_plain}

@@ -1,23 +1,23 @@
 -- What is appended of a document: a part, or what a change makes of it.
-use Rattle.std.specs.Prelude.{◌≡◌, ℕ, ◌+◌, ◌<◌, ◌≤◌, Bool, true, false, List, ◌++◌, length, Option, Some, None, Result, Ok, OnOk, OnErr, IfOk, IfErr, MatchResult, Vec, vec_len, ⊤}
+use Rattle.std.specs.Prelude.{◌≡◌, ℕ, ◌+◌, ◌<◌, Bool, true, false, List, ◌++◌, length, Option, Some, None, Result, Ok, OnOk, IfOk, IfErr, MatchResult, Vec, vec_len, ⊤}
 use Rattle.std.specs.Borrow.{Bor}
 use Rattle.std.specs.Vec.{vec_capacity}
 use Rattle.std.specs.declared.alloc.Global.{Global}
-use Rattle.key_value.specs.Readable.{IsAnyNumber, IsReadable}
+use Rattle.jsonb_spec.specs.SortKey.Readable.{IsAnyNumber, IsReadable}
 use Rattle.key_value.specs.declared.error.KeyError.{KeyError}
 use Rattle.key_value.specs.declared.error.KeyError.TheVariants as key_errors
 use Rattle.jsonb_spec.specs.Grammar.{max_depth}
 use Rattle.jsonb_spec.specs.SortKey.{key_of}
 use Rattle.jsonb_spec.specs.Text.Range.{IsWithin}
 use Rattle.jsonb_spec.specs.Tree.{Tree}
-use Rattle.key_document.specs.Document.{document_of, OfDocument}
-use Rattle.key_zeros.specs.Numbers.{Pends}
-use Rattle.key_zeros.specs.Zeros.{plain_at_end, zeros_of}
+use Rattle.jsonb_spec.specs.Document.{document_of, OfDocument}
+use Rattle.jsonb_spec.specs.Document.Numbers.{Pends}
+use Rattle.jsonb_spec.specs.Document.Zeros.{plain_at_end, zeros_of}
 use Rattle.key_document.specs.declared.error.DocumentError.{DocumentError}
 use Rattle.key_document.specs.declared.error.DocumentError.TheVariants.{NoDocument, TooDeep, OutOfMemory}
 use Rattle.key_edit.specs.declared.error.EditError.{EditError}
 use Rattle.key_edit.specs.declared.error.EditError.TheVariants as edits
-use Rattle.key_text.specs.Counts.{counts_at}
+use Rattle.jsonb_spec.specs.Document.PartAt.{IsPartAt}
 
 -- Why the document of the value isn't appended: it has too many arrays and objects in one another, or the capacity for
 -- the document is missing.
@@ -53,33 +53,6 @@ abbrev pub AppendsBoth : {X : Type 0} → (Tree → Tree → Tree) → List ℕ 
     → Vec ℕ Global → Type 0
 AppendsBoth both left right result old new =
     OfDocument left (λ t. OfDocument right (λ u. AppendsDocument (both t u) result old new))
-
--- After an error the buffer has its old bytes, and its capacity doesn't shrink.
-pub record PreservesOnError {X E : Type 0} (result : Result X E) (old new : Vec ℕ Global) : Type 0 where
-  pub err : OnErr result (new.items ≡ old.items)
-  pub capacity : vec_capacity old ≤ vec_capacity new
-
--- In a key these bytes come first, and then the key of the part; and so it is with the counts of its bytes.
-pub record IsBehind (key counts before : List ℕ) (part : Tree) : Type 0 where
-  pub counts_before : List ℕ
-  pub one_each : length counts_before ≡ length before
-  pub behind : List ℕ
-  pub counts_behind : List ℕ
-  pub key_is : key ≡ before ++ (key_of part ++ behind)
-  pub counts_are : counts ≡ counts_before ++ (counts_at part ++ counts_behind)
-
--- so in the key of the value
-abbrev pub IsPartBehind : Tree → List ℕ → Tree → Type 0
-IsPartBehind t before part = IsBehind (key_of t) (counts_at t) before part
-
--- The key of the part begins at this offset in that of the value, and so do the counts of its bytes.
-abbrev pub IsPartAt : Tree → ℕ → Tree → Type 0
-IsPartAt t offset part = (before : List ℕ) × (length before ≡ offset) × IsPartBehind t before part
-
--- Whichever part of the value is at this offset, and has a key of this size, this is so of it.
-abbrev pub OfPartAt : Tree → ℕ → ℕ → (Tree → Type 0) → Type 0
-OfPartAt t offset size Is =
-    (part : Tree) → IsReadable part → IsPartAt t offset part → size ≡ length (key_of part) → Is part
 
 -- What is found is the offset of the part and its key; or nothing where there is no part.
 abbrev pub FindsRange : Tree → Option Tree → Result (Option (ℕ × Bor (List ℕ))) DocumentError → Type 0

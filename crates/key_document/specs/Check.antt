@@ -1,22 +1,12 @@
--- Which bytes are a document, and which zeros the numbers of a value may end in.
+-- Which zeros the numbers of a value may end in.
 use Rattle.std.specs.Prelude.{◌≡◌, ◌≢◌, ◌⊎◌, ◌<◌, ◌≤◌, ℕ, suc, ◌+◌, ◌-◌, ◌%◌, unsigned_abs, List, [], ◌∷◌, ◌++◌, length, replicate, ⊤}
-use Rattle.jsonb_spec.specs.Proper.{IsProper}
 use Rattle.jsonb_spec.specs.SortKey.{digit_count, key_of, number_key, text_key}
-use Rattle.jsonb_spec.specs.Text.Range.{IsInRange}
 use Rattle.jsonb_spec.specs.Tree.{Num, Tree, number, array, object, Trees, no_trees, more_trees, Members, no_members, more_members}
-use Rattle.key_document.specs.Document.{document_of}
 use Rattle.key_document.specs.declared.due.ZerosDue.{ZerosDue}
-use Rattle.key_text.specs.FewestDigits.{fewest_digits}
-use Rattle.key_value.specs.Reading.{IsDigits}
-use Rattle.key_walk.specs.Open.{Open, items, members}
-use Rattle.key_zeros.specs.Zeros.{zeros_of}
-
--- The bytes are the document of a value in range: one that a text of extended mode can have.
-pub record IsDocumentInRange (bytes : List ℕ) : Type 0 where
-  pub value : Tree
-  pub proper : IsProper value
-  pub in_range : IsInRange value
-  pub is_document : bytes ≡ document_of value
+use Rattle.jsonb_spec.specs.SortKey.FewestDigits.{fewest_digits}
+use Rattle.jsonb_spec.specs.SortKey.Reading.{IsDigits}
+use Rattle.jsonb_spec.specs.SortKey.Open.{Open, items, members}
+use Rattle.jsonb_spec.specs.Document.Zeros.{zeros_of}
 
 -- how many zeros may follow these digits behind the point, so that there are at most 38, before and behind it
 abbrev pub zeros_within : ℕ → ℕ → ℕ

@@ -2,12 +2,12 @@
 use Rattle.std.specs.Prelude.{◌≡◌, ◌⊎◌, ℕ, ◌≤◌, ◌+◌, IfOk, List, length, drop, get_or, replicate, Result, Ok, Err}
 use Rattle.jsonb_spec.specs.SortKey.{key_of}
 use Rattle.jsonb_spec.specs.Tree.{Tree}
-use Rattle.key_document.specs.Changes.{OfPartAt}
-use Rattle.key_document.specs.Document.{zeros_at, OfDocument}
+use Rattle.jsonb_spec.specs.Document.PartAt.{OfPartAt}
+use Rattle.jsonb_spec.specs.Document.{zeros_at, OfDocument}
 use Rattle.key_document.specs.declared.cursor.ZerosLeft.{ZerosLeft}
 use Rattle.key_document.specs.declared.error.DocumentError.{DocumentError}
-use Rattle.key_zeros.specs.Numbers.{PendsAt}
-use Rattle.key_text.specs.Counts.{counts_at}
+use Rattle.jsonb_spec.specs.Document.Numbers.{PendsAt}
+use Rattle.jsonb_spec.specs.Document.Counts.{counts_at}
 
 -- The first of these counts above 0 is the one that is left, and the entries behind it begin at the offset in the zeros;
 -- or the counts are all 0.

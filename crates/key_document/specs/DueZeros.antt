@@ -1,8 +1,8 @@
 -- What is known of a document's zeros that are left while its key is walked.
 use Rattle.std.specs.Prelude.{◌≡◌, ◌⊎◌, ◌<◌, ◌^◌, ℕ, suc, List, length}
 use Rattle.key_document.specs.declared.due.ZerosDue.{ZerosDue}
-use Rattle.key_text.specs.Counts.{AreZeros}
-use Rattle.key_zeros.specs.Numbers.{PendsAt}
+use Rattle.jsonb_spec.specs.Document.Counts.{AreZeros}
+use Rattle.jsonb_spec.specs.Document.Numbers.{PendsAt}
 
 -- Where so many bytes are left is the first of these counts above 0, and the entries are the zeros of those behind it.
 pub record IsDueAmong (due : ZerosDue) (counts : List ℕ) : Type 0 where

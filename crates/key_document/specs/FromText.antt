@@ -6,19 +6,13 @@ use Rattle.std.specs.declared.alloc.Global.{Global}
 use Rattle.jsonb_spec.specs.Ascii as ascii
 use Rattle.jsonb_spec.specs.SortKey.{text_key}
 use Rattle.jsonb_spec.specs.SortKey.Kind as kind
-use Rattle.jsonb_spec.specs.Text.{tree_text}
 use Rattle.jsonb_spec.specs.Text.StringText.{byte_text}
-use Rattle.jsonb_spec.specs.Tree.{Num, Tree}
+use Rattle.jsonb_spec.specs.Tree.{Num}
 use Rattle.key_document.specs.declared.error.DocumentError.{DocumentError}
 use Rattle.key_document.specs.declared.error.DocumentError.TheVariants.{OutOfMemory}
 use Rattle.key_document.specs.declared.from_text.digits.Digits.{Digits}
-use Rattle.key_text.specs.FewestDigits.{spare_zeros}
-use Rattle.key_value.specs.Readable.{IsReadable}
-use Rattle.key_zeros.specs.Scan.{is_number_byte, ending_of}
-
--- Whichever value the text is the serialized form of, this is so of it.
-abbrev pub OfText : List ℕ → (Tree → Type 0) → Type 0
-OfText text Is = (t : Tree) → IsReadable t → text ≡ tree_text t → Is t
+use Rattle.jsonb_spec.specs.SortKey.FewestDigits.{spare_zeros}
+use Rattle.jsonb_spec.specs.Document.Scan.{is_number_byte, ending_of}
 
 -- ---- numbers
 

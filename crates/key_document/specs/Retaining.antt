@@ -9,9 +9,9 @@ use Rattle.key_document.specs.declared.error.DocumentError.TheVariants.{OutOfMem
 use Rattle.key_document.specs.declared.retain.Output.{Output}
 use Rattle.key_document.specs.declared.retain.Output.TheVariants.{Bytes, Zeros}
 use Rattle.key_document.specs.declared.retain.Retaining.{Retaining}
-use Rattle.key_zeros.specs.Numbers.{Pends}
-use Rattle.key_zeros.specs.Zeros.{zeros_of}
-use Rattle.key_text.specs.Counts.{counts_at}
+use Rattle.jsonb_spec.specs.Document.Numbers.{Pends}
+use Rattle.jsonb_spec.specs.Document.Zeros.{zeros_of}
+use Rattle.jsonb_spec.specs.Document.Counts.{counts_at}
 
 -- what is written of bytes with these counts: the bytes, or their zeros
 abbrev pub output_of : Output → List ℕ → List ℕ → List ℕ

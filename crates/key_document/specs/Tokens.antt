@@ -5,10 +5,10 @@ use Rattle.jsonb_spec.specs.Proper.{IsProperNumber}
 use Rattle.jsonb_spec.specs.SortKey.{key_of, number_key}
 use Rattle.jsonb_spec.specs.Text.NumberText.{number_text}
 use Rattle.jsonb_spec.specs.Tree.{Num, Tree}
-use Rattle.key_text.specs.FewestDigits.{spare_zeros}
-use Rattle.key_zeros.specs.Scan.{is_number_byte}
-use Rattle.key_zeros.specs.Zeros.{zeros_of}
-use Rattle.key_document.specs.Document.{zeros_at}
+use Rattle.jsonb_spec.specs.SortKey.FewestDigits.{spare_zeros}
+use Rattle.jsonb_spec.specs.Document.Scan.{is_number_byte}
+use Rattle.jsonb_spec.specs.Document.Zeros.{zeros_of}
+use Rattle.jsonb_spec.specs.Document.{zeros_at}
 use Rattle.key_document.specs.FromText.{closed, EndsNumber, mark_behind, mark_key, string_key}
 use Rattle.key_document.specs.declared.from_text.FirstZeros.{FirstZeros}
 

@@ -1,7 +1,8 @@
 //! Objects and arrays with a part more, as documents.
 
-ghost use Rattle.key_document.specs.Changes.{AnswersOfBoth, PreservesOnError};
-ghost use Rattle.key_edit.specs.Edit.{with_item, with_member};
+ghost use Rattle.key_document.specs.Changes.{AnswersOfBoth};
+ghost use Rattle.jsonb_spec.specs.Document.PartAt.{PreservesOnError};
+ghost use Rattle.jsonb_spec.specs.Edit.{with_item, with_member};
 
 use crate::document::split_document;
 use crate::edit::put_document;

@@ -4,12 +4,13 @@ ghost use Rattle.std.specs.Prelude.{◌≡◌, ◌<◌, ◌≤◌, ◌^◌, ◌+
 ghost use Rattle.jsonb_spec.specs.Proper.{IsProper, IsProperNumber};
 ghost use Rattle.jsonb_spec.specs.SortKey.{digits_key, invert_if, key_of, number_key};
 ghost use Rattle.jsonb_spec.specs.Tree.{Num, Tree};
-ghost use Rattle.key_document.specs.Check.{Fits, IsCounted, IsDocumentInRange, IsStripped, ZerosFit, most_at, most_open, most_zeros};
-ghost use Rattle.key_document.specs.Document.{end_of};
-ghost use Rattle.key_walk.specs.AtKeys.{Leaves, OfKey};
-ghost use Rattle.key_walk.specs.Open.{Open, IsOpen, IsScalar, is_object, open_key};
-ghost use Rattle.key_zeros.specs.PartsOf.{number_count, numbers_in};
-ghost use Rattle.key_zeros.specs.Zeros.{in_sevens};
+ghost use Rattle.key_document.specs.Check.{Fits, IsCounted, IsStripped, ZerosFit, most_at, most_open, most_zeros};
+ghost use Rattle.jsonb_spec.specs.Document.Check.{IsDocumentInRange};
+ghost use Rattle.jsonb_spec.specs.Document.{end_of};
+ghost use Rattle.jsonb_spec.specs.SortKey.AtKeys.{Leaves, OfKey};
+ghost use Rattle.jsonb_spec.specs.SortKey.Open.{Open, IsOpen, IsScalar, is_object, open_key};
+ghost use Rattle.jsonb_spec.specs.Document.PartsOf.{number_count, numbers_in};
+ghost use Rattle.jsonb_spec.specs.Document.Zeros.{in_sevens};
 
 use crate::document::{ZEROS_MARK, split_document};
 use crate::due::ZerosDue;

@@ -2,11 +2,12 @@
 
 ghost use Rattle.std.specs.Prelude.{◌≡◌, ◌<◌, ◌≤◌, ◌+◌, ◌^◌, ◌++◌, ℕ, List, IfErr, IfOk, MatchResult, Ok, drop, get_or, length};
 ghost use Rattle.jsonb_spec.specs.SortKey.{key_of};
-ghost use Rattle.key_document.specs.Changes.{AppendsDocument, PreservesOnError};
+ghost use Rattle.key_document.specs.Changes.{AppendsDocument};
+ghost use Rattle.jsonb_spec.specs.Document.PartAt.{PreservesOnError};
 ghost use Rattle.key_document.specs.Cursor.{IsLeftAt, IsLeftBehind, IsLeftOf, OfNextPart, ReportsLeft, ReportsZeros};
-ghost use Rattle.key_document.specs.Document.{OfDocument};
-ghost use Rattle.key_zeros.specs.Numbers.{Pends};
-ghost use Rattle.key_zeros.specs.Zeros.{zeros_of};
+ghost use Rattle.jsonb_spec.specs.Document.{OfDocument};
+ghost use Rattle.jsonb_spec.specs.Document.Numbers.{Pends};
+ghost use Rattle.jsonb_spec.specs.Document.Zeros.{zeros_of};
 
 use crate::document::split_document;
 use crate::error::DocumentError;

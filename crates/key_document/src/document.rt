@@ -3,9 +3,9 @@
 ghost use Rattle.std.specs.Prelude.{◌≡◌, ◌<◌, ◌≤◌, ◌+◌, ◌^◌, ◌++◌, ℕ, List, length, reverse, IfSome, MatchOption};
 ghost use Rattle.jsonb_spec.specs.SortKey.{key_of};
 ghost use Rattle.jsonb_spec.specs.Text.Appending.{Appends};
-ghost use Rattle.key_document.specs.Document.{end_of, zeros_at, OfDocument};
-ghost use Rattle.key_text.specs.Writes.{Preserves};
-ghost use Rattle.key_zeros.specs.Zeros.{in_sevens};
+ghost use Rattle.jsonb_spec.specs.Document.{end_of, zeros_at, OfDocument};
+ghost use Rattle.jsonb_spec.specs.SortKey.Text.{Preserves};
+ghost use Rattle.jsonb_spec.specs.Document.Zeros.{in_sevens};
 
 use key_zeros::entry::append_sevens;
 use std::alloc::AllocError;

@@ -5,10 +5,11 @@ ghost use Rattle.jsonb_spec.specs.Proper.{IsProperNumber};
 ghost use Rattle.jsonb_spec.specs.Text.NumberText.{number_text};
 ghost use Rattle.jsonb_spec.specs.Tree.{Num};
 ghost use Rattle.key_document.specs.DueZeros.{AreDue};
-ghost use Rattle.key_text.specs.Counts.{count_of, Completes};
-ghost use Rattle.key_text.specs.FewestDigits.{fewest_digits};
-ghost use Rattle.key_text.specs.Writes.{Preserves};
-ghost use Rattle.key_zeros.specs.Zeros.{zeros_of};
+ghost use Rattle.jsonb_spec.specs.Document.Counts.{count_of};
+ghost use Rattle.key_text.specs.Counts.{Completes};
+ghost use Rattle.jsonb_spec.specs.SortKey.FewestDigits.{fewest_digits};
+ghost use Rattle.jsonb_spec.specs.SortKey.Text.{Preserves};
+ghost use Rattle.jsonb_spec.specs.Document.Zeros.{zeros_of};
 
 use key_text::Zeros;
 use key_value::KeyError;

@@ -1,15 +1,17 @@
 //! Parts of documents, set and removed.
 
 ghost use Rattle.std.specs.Prelude.{◌≡◌, ◌≤◌, Bool, Option, map, string_bytes};
-ghost use Rattle.key_value.specs.Readable.{IsReadable};
+ghost use Rattle.jsonb_spec.specs.SortKey.Readable.{IsReadable};
 ghost use Rattle.jsonb_spec.specs.SortKey.{key_of};
 ghost use Rattle.jsonb_spec.specs.Tree.{Tree};
-ghost use Rattle.key_document.specs.Changes.{Answers, AnswersOf, AnswersOfBoth, PreservesOnError};
-ghost use Rattle.key_document.specs.Document.{zeros_at, OfDocument};
-ghost use Rattle.key_document.specs.Splices.{PutsPart, Spliced};
-ghost use Rattle.key_edit.specs.Edit.{Outcome, becomes, with_part, without_part};
+ghost use Rattle.key_document.specs.Changes.{Answers, AnswersOf, AnswersOfBoth};
+ghost use Rattle.jsonb_spec.specs.Document.PartAt.{PreservesOnError};
+ghost use Rattle.jsonb_spec.specs.Document.{zeros_at, OfDocument};
+ghost use Rattle.key_document.specs.Splices.{PutsPart};
+ghost use Rattle.jsonb_spec.specs.Edit.Splices.{Spliced};
+ghost use Rattle.jsonb_spec.specs.Edit.{Outcome, becomes, with_part, without_part};
 ghost use Rattle.key_edit.specs.Spots.{SlotIn};
-ghost use Rattle.key_text.specs.Counts.{counts_at};
+ghost use Rattle.jsonb_spec.specs.Document.Counts.{counts_at};
 
 use crate::document::split_document;
 use crate::error::DocumentError;

@@ -1,10 +1,10 @@
 //! Parts inserted into documents: between the items of an array, or as a new member of an object.
 
 ghost use Rattle.std.specs.Prelude.{map, string_bytes};
-ghost use Rattle.key_document.specs.Changes.{PreservesOnError};
-ghost use Rattle.key_document.specs.Document.{OfDocument};
+ghost use Rattle.jsonb_spec.specs.Document.PartAt.{PreservesOnError};
+ghost use Rattle.jsonb_spec.specs.Document.{OfDocument};
 ghost use Rattle.key_document.specs.Inserting.{AnswersInsertion};
-ghost use Rattle.key_edit.specs.Insert.{with_inserted, without_member};
+ghost use Rattle.jsonb_spec.specs.Edit.Insert.{with_inserted, without_member};
 
 use crate::document::split_document;
 use crate::edit::put_document;

@@ -2,9 +2,9 @@
 
 ghost use Rattle.std.specs.Prelude.{◌≡◌, ◌≤◌, ◌+◌, ◌*◌, ◌++◌, [], List, ℕ, length, Option};
 ghost use Rattle.std.specs.declared.cmp.Ordering.TheVariants.{Less, Equal, Greater};
-ghost use Rattle.key_value.specs.Readable.{IsReadable};
+ghost use Rattle.jsonb_spec.specs.SortKey.Readable.{IsReadable};
 ghost use Rattle.jsonb_spec.specs.Keys.{IsBelowKeys};
-ghost use Rattle.key_walk.specs.Open.{name_key};
+ghost use Rattle.jsonb_spec.specs.SortKey.Open.{name_key};
 ghost use Rattle.std.specs.Ordering.{ordering_then};
 ghost use Rattle.jsonb_spec.specs.Order.{bytes_cmp, tree_cmp};
 ghost use Rattle.jsonb_spec.specs.Proper.{IsProper};
@@ -12,16 +12,15 @@ ghost use Rattle.jsonb_spec.specs.SortKey.{key_of};
 ghost use Rattle.jsonb_spec.specs.Text.{tree_text};
 ghost use Rattle.jsonb_spec.specs.Text.Range.{IsInRange};
 ghost use Rattle.jsonb_spec.specs.Tree.{Tree, Trees, Members, more_members};
-ghost use Rattle.key_document.specs.Changes.{IsPartBehind};
-ghost use Rattle.key_document.specs.Document.{behind_key, document_of, zeros_at, zeros_mark, EndsUnlike};
-ghost use Rattle.key_document.specs.Merging.{counts_of_items};
-ghost use Rattle.key_document.specs.Splices.{Agrees, AreSplices, Spliced};
-ghost use Rattle.key_edit.specs.Edit.{Outcome, changed_at, joined_items, merged_members};
+ghost use Rattle.jsonb_spec.specs.Document.PartAt.{IsPartBehind};
+ghost use Rattle.jsonb_spec.specs.Document.{behind_key, document_of, zeros_at, zeros_mark, EndsUnlike};
+ghost use Rattle.jsonb_spec.specs.Document.Counts.{counts_of_items, counts_at, counts_at_items};
+ghost use Rattle.jsonb_spec.specs.Edit.Splices.{Agrees, AreSplices, Spliced};
+ghost use Rattle.jsonb_spec.specs.Edit.{Outcome, changed_at, joined_items, merged_members};
 ghost use Rattle.key_edit.specs.Spots.{SlotIn};
 ghost use Rattle.key_edit.specs.declared.slot.Slot.{Slot};
-ghost use Rattle.key_zeros.specs.Numbers.{counts_taken};
-ghost use Rattle.key_zeros.specs.PartsOf.{OccursIn};
-ghost use Rattle.key_text.specs.Counts.{counts_at, counts_at_items};
+ghost use Rattle.jsonb_spec.specs.Document.Numbers.{counts_taken};
+ghost use Rattle.jsonb_spec.specs.Document.PartsOf.{OccursIn};
 
 /// Documents compare as the values do; where these are equal, what is behind their keys decides. A key alone bounds
 /// the documents of its value and of those above it from below.

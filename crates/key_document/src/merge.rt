@@ -3,16 +3,17 @@
 ghost use Rattle.std.specs.Prelude.{◌≡◌, ◌<◌, ◌≤◌, ◌+◌, ◌-◌, ◌^◌, ℕ, List, MatchResult, length};
 ghost use Rattle.jsonb_spec.specs.SortKey.{key_of, members_key};
 ghost use Rattle.jsonb_spec.specs.Tree.{Members, array, object};
-ghost use Rattle.key_walk.specs.AtKeys.{OfKey};
-ghost use Rattle.key_walk.specs.Checked.{HaveReadable};
-ghost use Rattle.key_document.specs.Changes.{AppendsBoth, PreservesOnError};
-ghost use Rattle.key_document.specs.Document.{behind_key, zeros_at};
+ghost use Rattle.jsonb_spec.specs.SortKey.AtKeys.{OfKey};
+ghost use Rattle.jsonb_spec.specs.SortKey.Checked.{HaveReadable};
+ghost use Rattle.key_document.specs.Changes.{AppendsBoth};
+ghost use Rattle.jsonb_spec.specs.Document.PartAt.{PreservesOnError};
+ghost use Rattle.jsonb_spec.specs.Document.{behind_key, zeros_at};
 ghost use Rattle.key_document.specs.Merging.{CopiesStep, ItemsLeft, OfBoth, item_edge};
 ghost use Rattle.key_document.specs.Splices.{AppendsZeros};
-ghost use Rattle.key_edit.specs.Edit.{as_items, joined_items, merge, merged_members};
-ghost use Rattle.key_text.specs.Counts.{counts_at_members};
-ghost use Rattle.key_text.specs.Writes.{Preserves};
-ghost use Rattle.key_zeros.specs.Numbers.{Pends};
+ghost use Rattle.jsonb_spec.specs.Edit.{as_items, joined_items, merge, merged_members};
+ghost use Rattle.jsonb_spec.specs.Document.Counts.{counts_at_members};
+ghost use Rattle.jsonb_spec.specs.SortKey.Text.{Preserves};
+ghost use Rattle.jsonb_spec.specs.Document.Numbers.{Pends};
 
 use crate::document::{end_zeros, split_document};
 use crate::error::DocumentError;

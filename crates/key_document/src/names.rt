@@ -1,20 +1,21 @@
 //! Members that an object names, and items that are one of its names, left out.
 
 ghost use Rattle.std.specs.Prelude.{◌≡◌, ◌<◌, ◌≤◌, ◌++◌, List, ℕ, length, MatchBool, Some};
-ghost use Rattle.key_value.specs.Readable.{IsReadable};
+ghost use Rattle.jsonb_spec.specs.SortKey.Readable.{IsReadable};
 ghost use Rattle.jsonb_spec.specs.SortKey.{items_key, key_of, members_key, text_key};
 ghost use Rattle.jsonb_spec.specs.SortKey.Kind as kind;
 ghost use Rattle.jsonb_spec.specs.Tree.{Members, Tree, Trees, array, object};
-ghost use Rattle.key_walk.specs.AtKeys.{OfKey};
-ghost use Rattle.key_walk.specs.Checked.{AreReadable, HaveReadable};
-ghost use Rattle.key_document.specs.Changes.{Answers, AnswersOfBoth, PreservesOnError};
-ghost use Rattle.key_document.specs.Document.{behind_key, zeros_at};
-ghost use Rattle.key_document.specs.LeftOut.{beside_names, has_name, is_named, without_names};
+ghost use Rattle.jsonb_spec.specs.SortKey.AtKeys.{OfKey};
+ghost use Rattle.jsonb_spec.specs.SortKey.Checked.{AreReadable, HaveReadable};
+ghost use Rattle.key_document.specs.Changes.{Answers, AnswersOfBoth};
+ghost use Rattle.jsonb_spec.specs.Document.PartAt.{PreservesOnError};
+ghost use Rattle.jsonb_spec.specs.Document.{behind_key, zeros_at};
+ghost use Rattle.jsonb_spec.specs.Edit.LeftOut.{beside_names, has_name, is_named, without_names};
 ghost use Rattle.key_document.specs.Retaining.{AreAhead, Finishes, IsBegun, Retains, WritesAnswer};
 ghost use Rattle.key_document.specs.Splices.{AppendsZeros};
 ghost use Rattle.key_document.specs.declared.retain.Output.{Output};
-ghost use Rattle.key_text.specs.Counts.{counts_at, counts_at_items, counts_at_members};
-ghost use Rattle.key_text.specs.Writes.{Preserves};
+ghost use Rattle.jsonb_spec.specs.Document.Counts.{counts_at, counts_at_items, counts_at_members};
+ghost use Rattle.jsonb_spec.specs.SortKey.Text.{Preserves};
 
 use crate::document::{end_zeros, split_document};
 use crate::error::DocumentError;

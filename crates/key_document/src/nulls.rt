@@ -2,16 +2,17 @@
 
 ghost use Rattle.std.specs.Prelude.{◌≡◌, ◌==◌, ◌&&◌, ◌||◌};
 ghost use Rattle.jsonb_spec.specs.SortKey.Kind as kind;
-ghost use Rattle.key_walk.specs.AtKeys.{OfKey};
-ghost use Rattle.key_walk.specs.Open.{Open, is_object, open_key, opening_byte, IsOpen};
-ghost use Rattle.key_walk.specs.Parts.{opened_tree};
-ghost use Rattle.key_document.specs.Changes.{AppendsDocument, PreservesOnError};
-ghost use Rattle.key_document.specs.Document.{behind_key, zeros_at, OfDocument};
-ghost use Rattle.key_document.specs.LeftOut.{without_nulls};
+ghost use Rattle.jsonb_spec.specs.SortKey.AtKeys.{OfKey};
+ghost use Rattle.jsonb_spec.specs.SortKey.Open.{Open, is_object, open_key, opening_byte, IsOpen};
+ghost use Rattle.jsonb_spec.specs.SortKey.Parts.{opened_tree};
+ghost use Rattle.key_document.specs.Changes.{AppendsDocument};
+ghost use Rattle.jsonb_spec.specs.Document.PartAt.{PreservesOnError};
+ghost use Rattle.jsonb_spec.specs.Document.{behind_key, zeros_at, OfDocument};
+ghost use Rattle.jsonb_spec.specs.Edit.LeftOut.{without_nulls};
 ghost use Rattle.key_document.specs.Retaining.{AreAhead, IsBegun, WritesAll};
 ghost use Rattle.key_document.specs.Splices.{AppendsZeros};
-ghost use Rattle.key_text.specs.Counts.{counts_at, counts_open};
-ghost use Rattle.key_text.specs.Writes.{Preserves};
+ghost use Rattle.jsonb_spec.specs.Document.Counts.{counts_at, counts_open};
+ghost use Rattle.jsonb_spec.specs.SortKey.Text.{Preserves};
 
 use crate::document::{end_zeros, split_document};
 use crate::error::DocumentError;

@@ -2,7 +2,7 @@
 
 ghost use Rattle.std.specs.Prelude.{◌≡◌};
 ghost use Rattle.jsonb_spec.specs.Order.{tree_cmp};
-ghost use Rattle.key_document.specs.Document.{OfDocument};
+ghost use Rattle.jsonb_spec.specs.Document.{OfDocument};
 
 use crate::document::split_document;
 use std::cmp::Ordering;

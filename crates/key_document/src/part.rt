@@ -1,14 +1,15 @@
 //! Parts of documents, as documents.
 
 ghost use Rattle.std.specs.Prelude.{◌≡◌, ◌<◌, ◌^◌, ℕ, List, length, map, string_bytes};
-ghost use Rattle.key_value.specs.Readable.{IsReadable};
+ghost use Rattle.jsonb_spec.specs.SortKey.Readable.{IsReadable};
 ghost use Rattle.jsonb_spec.specs.PartAt.{part_at};
 ghost use Rattle.jsonb_spec.specs.Proper.{IsProper};
 ghost use Rattle.jsonb_spec.specs.SortKey.{key_of};
 ghost use Rattle.jsonb_spec.specs.Tree.{Tree};
-ghost use Rattle.key_walk.specs.AtKeys.{OfKey};
-ghost use Rattle.key_document.specs.Changes.{Answers, AnswersOf, AppendsDocument, FindsRange, IsPartAt, PreservesOnError, OfPartAt};
-ghost use Rattle.key_document.specs.Document.{zeros_at, OfDocument};
+ghost use Rattle.jsonb_spec.specs.SortKey.AtKeys.{OfKey};
+ghost use Rattle.key_document.specs.Changes.{Answers, AnswersOf, AppendsDocument, FindsRange};
+ghost use Rattle.jsonb_spec.specs.Document.PartAt.{IsPartAt, PreservesOnError, OfPartAt};
+ghost use Rattle.jsonb_spec.specs.Document.{zeros_at, OfDocument};
 
 use crate::document::split_document;
 use crate::error::DocumentError;

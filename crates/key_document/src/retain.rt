@@ -6,7 +6,7 @@ ghost use Rattle.key_document.specs.Retaining.{AreAhead, LeavesOut, Retains, Wri
 ghost use Rattle.key_document.specs.Splices.{AppendsZeros};
 ghost use Rattle.key_document.specs.declared.error.DocumentError.TheVariants.{OutOfMemory};
 ghost use Rattle.key_document.specs.declared.retain.Output.{Output};
-ghost use Rattle.key_text.specs.Writes.{Preserves};
+ghost use Rattle.jsonb_spec.specs.SortKey.Text.{Preserves};
 
 use crate::error::DocumentError;
 use crate::zeros::{copy, pass};

@@ -2,10 +2,10 @@
 
 ghost use Rattle.std.specs.Prelude.{◌≡◌, ◌<◌, ◌^◌, ◌++◌, List, ℕ, IfOk, length, true};
 ghost use Rattle.key_document.specs.Splices.{AppendsZeros, AreSpliced, CutsOnError, spliced_counts};
-ghost use Rattle.key_document.specs.Document.{behind_key};
-ghost use Rattle.key_text.specs.Writes.{Preserves};
-ghost use Rattle.key_zeros.specs.Numbers.{Pends};
-ghost use Rattle.key_zeros.specs.Zeros.{zeros_of};
+ghost use Rattle.jsonb_spec.specs.Document.{behind_key};
+ghost use Rattle.jsonb_spec.specs.SortKey.Text.{Preserves};
+ghost use Rattle.jsonb_spec.specs.Document.Numbers.{Pends};
+ghost use Rattle.jsonb_spec.specs.Document.Zeros.{zeros_of};
 
 use crate::document::end_zeros;
 use crate::error::DocumentError;

@@ -2,9 +2,9 @@
 
 ghost use Rattle.std.specs.Prelude.{◌≡◌, IfErr, OnErr, OnOk};
 ghost use Rattle.jsonb_spec.specs.Text.{AppendsText, tree_text};
-ghost use Rattle.key_text.specs.Writes.{LacksCapacity};
-ghost use Rattle.key_document.specs.Changes.{PreservesOnError};
-ghost use Rattle.key_document.specs.Document.{OfDocument};
+ghost use Rattle.jsonb_spec.specs.SortKey.Text.{LacksCapacity};
+ghost use Rattle.jsonb_spec.specs.Document.PartAt.{PreservesOnError};
+ghost use Rattle.jsonb_spec.specs.Document.{OfDocument};
 
 use crate::document::split_document;
 use crate::due::zeros_due;

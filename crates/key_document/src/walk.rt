@@ -5,13 +5,15 @@ ghost use Rattle.std.specs.Prelude.{◌≡◌, ◌<◌, ◌≤◌, ◌+◌, ◌^
 ghost use Rattle.jsonb_spec.specs.SortKey.{key_of};
 ghost use Rattle.jsonb_spec.specs.Tree.{Tree};
 ghost use Rattle.key_document.specs.Cursor.{IsLeftBehind};
-ghost use Rattle.key_document.specs.Document.{OfDocument};
-ghost use Rattle.key_document.specs.Walk.{events_left, kind_mark, value_zeros, EndsWithin, IsWalkAt, MeetsFirst, MeetsNext, SkipsFirst};
-ghost use Rattle.key_text.specs.Counts.{counts_at};
-ghost use Rattle.key_walk.specs.Events.{events_of};
+ghost use Rattle.jsonb_spec.specs.Document.{OfDocument};
+ghost use Rattle.jsonb_spec.specs.Document.Walk.{events_left, kind_mark, value_zeros};
+ghost use Rattle.key_document.specs.Walk.{EndsWithin, IsWalkAt, MeetsFirst, MeetsNext, SkipsFirst};
+ghost use Rattle.jsonb_spec.specs.Document.Counts.{counts_at};
+ghost use Rattle.jsonb_spec.specs.SortKey.Events.{events_of};
 ghost use Rattle.key_walk.specs.NextPart.{BeginsWithOpening, BeginsWithScalar};
-ghost use Rattle.key_walk.specs.Open.{Open, is_object, IsScalar};
-ghost use Rattle.key_walk.specs.Parts.{kind_of_tree, opened_tree};
+ghost use Rattle.jsonb_spec.specs.SortKey.Open.{Open, is_object, IsScalar};
+ghost use Rattle.key_walk.specs.Parts.{kind_of_tree};
+ghost use Rattle.jsonb_spec.specs.SortKey.Parts.{opened_tree};
 
 use crate::cursor::{ZerosLeft, zeros_from, zeros_of_number};
 use crate::document::split_document;

@@ -2,12 +2,13 @@
 use Rattle.std.proofs.Common.{◌≡◌, ℕ, Bool, true, false, List, [], ◌∷◌, ◌++◌, Option, Some, None, option_map, MatchOption, Result, Ok, Ordering, Less, Equal, Greater, Vec, Global, refl, sym, ap, subst, ◌∙◌, append-nil, arith}
 use Rattle.std.specs.Ordering.{match_ordering}
 use Rattle.key_value.proofs.Texts.{none_some}
-use Rattle.key_walk.specs.Open.{members, IsScalar}
+use Rattle.jsonb_spec.specs.SortKey.Open.{members, IsScalar}
 use Rattle.jsonb_spec.specs.Grammar.{max_depth}
 use Rattle.jsonb_spec.specs.Order.{bytes_cmp}
 use Rattle.jsonb_spec.specs.SortKey.{key_of, items_key, members_key}
 use Rattle.jsonb_spec.specs.Tree.{Tree, null, boolean, string, number, array, object, binary, date, timestamp, timestamp_tz, interval, Trees, no_trees, more_trees, Members, no_members, more_members, put}
-use Rattle.key_edit.specs.Edit.{Outcome, becomes, changed_at_member, changed_member, joined_items, set_to, with_item, with_member, AppendsKey, Edits}
+use Rattle.jsonb_spec.specs.Edit.{Outcome, becomes, changed_at_member, changed_member, joined_items, set_to, with_item, with_member}
+use Rattle.key_edit.specs.Edit.{AppendsKey, Edits}
 use Rattle.key_edit.specs.Spots.{SlotIn, SpotIn}
 use Rattle.key_edit.specs.declared.error.EditError.{EditError}
 use Rattle.key_edit.specs.declared.slot.Slot.{Slot}

@@ -1,11 +1,11 @@
 -- How deep the parts of an array or an object are, while its key is walked.
 use Rattle.std.proofs.Common.{◌≡◌, ℕ, zero, suc, ◌+◌, ◌<◌, ◌≤◌, ◌↔◌, ◌⊎◌, inl, inr, Bool, true, false, List, [], ◌∷◌, Result, Ok, Err, MatchResult, MatchBool, length, refl, sym, subst, arith}
 use Rattle.std.specs.Bool.{⊤}
-use Rattle.key_value.specs.Readable.{IsAnyNumber, IsReadableAt}
+use Rattle.jsonb_spec.specs.SortKey.Readable.{IsAnyNumber, IsReadableAt}
 use Rattle.key_walk.specs.declared.find.NoKey.{NoKey}
-use Rattle.key_walk.specs.Open.{Open, items, members, IsScalar}
-use Rattle.key_walk.specs.Parts.{opened_tree}
-use Rattle.key_walk.specs.Steps.{IsOver, IsPart}
+use Rattle.jsonb_spec.specs.SortKey.Open.{Open, items, members, IsScalar}
+use Rattle.jsonb_spec.specs.SortKey.Parts.{opened_tree}
+use Rattle.jsonb_spec.specs.SortKey.Steps.{IsOver, IsPart}
 use Rattle.jsonb_spec.specs.Text.Range.{IsWithin}
 use Rattle.jsonb_spec.specs.Tree.{Tree, null, boolean, string, number, array, object, no_trees, more_trees, no_members, more_members}
 use Rattle.key_edit.specs.Spots.{OpenWithin}

@@ -2,10 +2,10 @@
 use Rattle.std.proofs.Common.{◌≡◌, ℕ, zero, suc, ◌+◌, ◌-◌, ◌<◌, Bool, true, false, List, [], ◌∷◌, ◌++◌, Bor, Option, Some, None, option_map, if◌then◌else◌, Result, Ok, refl, sym, ap, subst, ◌∙◌, arith, append_assoc}
 use Rattle.std.specs.Option.{option_and_then}
 use Rattle.std.proofs.lemmas.Bool.{le-ltb, lt-ltb}
-use Rattle.key_value.specs.Readable.{IsAnyNumber, IsReadable}
-use Rattle.key_walk.specs.Found.{IsLeftOf}
-use Rattle.key_walk.specs.Open.{Open, items, members, is_object, open_key, opening_byte, IsOpen}
-use Rattle.key_walk.specs.Parts.{opened_tree}
+use Rattle.jsonb_spec.specs.SortKey.Readable.{IsAnyNumber, IsReadable}
+use Rattle.jsonb_spec.specs.SortKey.Found.{IsLeftOf}
+use Rattle.jsonb_spec.specs.SortKey.Open.{Open, items, members, is_object, open_key, opening_byte, IsOpen}
+use Rattle.jsonb_spec.specs.SortKey.Parts.{opened_tree}
 use Rattle.key_walk.specs.declared.find.NoKey.{NoKey}
 use Rattle.key_walk.proofs.Finds.{readable_inside}
 use Rattle.jsonb_spec.specs.Accessors.{trees_len}
@@ -13,9 +13,11 @@ use Rattle.jsonb_spec.specs.Proper.{AreProper, HaveProperParts}
 use Rattle.jsonb_spec.specs.SortKey.{key_of, items_key, members_key}
 use Rattle.jsonb_spec.specs.Text.Range.{AreWithin, HaveWithin, IsWithin}
 use Rattle.jsonb_spec.specs.Tree.{Tree, null, boolean, string, number, array, object, binary, date, timestamp, timestamp_tz, interval, Trees, no_trees, more_trees, Members}
-use Rattle.key_edit.specs.Edit.{Outcome, changed_at_member, changed_member, changed_part, remove, step_named, within}
-use Rattle.key_edit.specs.Insert.{changed_between, changed_slot, changed_slot_at, changed_within, items_from, one_more, slot_index, without_member}
-use Rattle.key_edit.specs.Spots.{Answers, SpotIn, OccursFirst}
+use Rattle.jsonb_spec.specs.Edit.{Outcome, changed_at_member, changed_member, changed_part, remove, step_named, within}
+use Rattle.jsonb_spec.specs.Edit.Insert.{changed_between, changed_slot, changed_slot_at, one_more, slot_index, without_member}
+use Rattle.key_edit.specs.Insert.{changed_within, items_from}
+use Rattle.jsonb_spec.specs.Edit.Spots.{Answers}
+use Rattle.key_edit.specs.Spots.{SpotIn, OccursFirst}
 use Rattle.key_edit.specs.declared.spot.Spot.{Spot}
 use Rattle.key_edit.proofs.Lifting.{lifted}
 use Rattle.key_edit.proofs.Located.{false_true, items_open, members_open, open_fits, tree_before, tree_fits}

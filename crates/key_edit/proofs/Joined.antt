@@ -1,16 +1,16 @@
 -- Items of two values, one after the other.
 use Rattle.std.proofs.Common.{◌≡◌, ℕ, true, false, List, [], ◌∷◌, ◌++◌, Bor, Some, None, Result, Ok, Err, MatchResult, refl, sym, ap, subst, ◌∙◌, append_assoc, append-nil}
-use Rattle.key_value.specs.Readable.{IsAnyNumber, IsReadable}
+use Rattle.jsonb_spec.specs.SortKey.Readable.{IsAnyNumber, IsReadable}
 use Rattle.key_value.proofs.Texts.{none_some}
-use Rattle.key_walk.specs.Checked.{HaveReadable}
-use Rattle.key_walk.specs.Open.{Open, items, members, is_object, open_key, IsOpen}
-use Rattle.key_walk.specs.Parts.{opened_tree}
+use Rattle.jsonb_spec.specs.SortKey.Checked.{HaveReadable}
+use Rattle.jsonb_spec.specs.SortKey.Open.{Open, items, members, is_object, open_key, IsOpen}
+use Rattle.jsonb_spec.specs.SortKey.Parts.{opened_tree}
 use Rattle.key_walk.proofs.Finds.{parent_of}
 use Rattle.key_walk.proofs.Occurrence.{left_of, object_left}
 use Rattle.jsonb_spec.specs.SortKey.{key_of, items_key, members_key}
 use Rattle.jsonb_spec.specs.Text.Range.{IsWithin, AreWithin}
 use Rattle.jsonb_spec.specs.Tree.{Tree, array, object, Trees, no_trees, more_trees, Members}
-use Rattle.key_edit.specs.Edit.{as_items, joined_items, merge, merged_members}
+use Rattle.jsonb_spec.specs.Edit.{as_items, joined_items, merge, merged_members}
 use Rattle.key_edit.specs.Merging.{keys_of_items}
 use Rattle.key_edit.specs.declared.error.EditError.{EditError}
 use Rattle.key_edit.specs.declared.error.EditError.TheVariants.{TooDeep}

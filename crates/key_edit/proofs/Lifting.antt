@@ -1,8 +1,8 @@
 -- An answer that is behind more bytes.
 use Rattle.std.proofs.Common.{◌≡◌, ℕ, ◌↔◌, Bool, List, [], ◌++◌, Option, Some, None, refl, sym, ap, ◌∙◌, append_assoc}
 use Rattle.std.specs.Bool.{⊤}
-use Rattle.key_edit.specs.Edit.{Outcome, stays, goes, becomes}
-use Rattle.key_edit.specs.Spots.{Answers}
+use Rattle.jsonb_spec.specs.Edit.{Outcome, stays, goes, becomes}
+use Rattle.jsonb_spec.specs.Edit.Spots.{Answers}
 
 -- the second has the bytes in front of the first, and fits where that does; or there is neither
 abbrev pub Lifts : {A B : Type 0} → (A → List ℕ) → (A → Type 0) → (B → List ℕ) → (B → Type 0) → List ℕ → Option A → Option B → Type 0

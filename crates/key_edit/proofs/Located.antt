@@ -1,17 +1,18 @@
 -- The slot that a path leads to: the walk to it.
 use Rattle.std.proofs.Common.{◌≡◌, ℕ, suc, ◌+◌, Bool, true, false, List, [], ◌∷◌, ◌++◌, Bor, Option, Some, None, option_map, IfSome, MatchOption, MatchResult, Result, Ok, Err, refl, sym, ap, subst, ◌∙◌, arith, append_assoc, append-nil}
-use Rattle.key_value.specs.Readable.{IsAnyNumber, IsReadable}
-use Rattle.key_walk.specs.Found.{IsLeftOf}
-use Rattle.key_walk.specs.Open.{Open, items, members, is_object, open_key, name_key, opening_byte, IsOpen}
-use Rattle.key_walk.specs.Parts.{opened_tree}
+use Rattle.jsonb_spec.specs.SortKey.Readable.{IsAnyNumber, IsReadable}
+use Rattle.jsonb_spec.specs.SortKey.Found.{IsLeftOf}
+use Rattle.jsonb_spec.specs.SortKey.Open.{Open, items, members, is_object, open_key, name_key, opening_byte, IsOpen}
+use Rattle.jsonb_spec.specs.SortKey.Parts.{opened_tree}
 use Rattle.key_walk.specs.declared.find.NoKey.{NoKey}
 use Rattle.jsonb_spec.specs.Grammar.{max_depth}
 use Rattle.jsonb_spec.specs.SortKey.{key_of}
 use Rattle.jsonb_spec.specs.Text.Range.{IsWithin}
 use Rattle.jsonb_spec.specs.Tree.{Tree, array, object, Trees, Members}
-use Rattle.key_edit.specs.Edit.{Outcome, stays, changed_at, changed_items, changed_member, changed_part, part_with, within}
+use Rattle.jsonb_spec.specs.Edit.{Outcome, stays, changed_at, changed_items, changed_member, changed_part, part_with, within}
 use Rattle.key_edit.specs.Insert.{changed_within, ChangesSo, IsPartWithin, SlotBefore}
-use Rattle.key_edit.specs.Spots.{Answers, OpenWithin, SlotIn, SpotIn, Occurs, changed_open}
+use Rattle.jsonb_spec.specs.Edit.Spots.{Answers}
+use Rattle.key_edit.specs.Spots.{OpenWithin, SlotIn, SpotIn, Occurs, changed_open}
 use Rattle.key_edit.specs.declared.slot.Slot.{Slot}
 use Rattle.key_edit.specs.declared.spot.Spot.{Spot}
 use Rattle.key_edit.proofs.Lifting.{Lifts, lifted, lifts_through}

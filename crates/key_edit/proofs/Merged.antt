@@ -5,11 +5,12 @@ use Rattle.std.specs.Cmp.Lexicographic.{nat_list_cmp_total}
 use Rattle.std.specs.Ordering.{match_ordering}
 use Rattle.std.specs.Vec.{vec_capacity}
 use Rattle.std.specs.declared.alloc.AllocError.{AllocError}
-use Rattle.key_value.specs.Readable.{IsAnyNumber, IsReadable}
-use Rattle.key_walk.specs.Checked.{HaveReadable}
-use Rattle.key_walk.specs.Passing.{AreBelow, IsFirst, PassesBelow, joined_members}
+use Rattle.jsonb_spec.specs.SortKey.Readable.{IsAnyNumber, IsReadable}
+use Rattle.jsonb_spec.specs.SortKey.Checked.{HaveReadable}
+use Rattle.jsonb_spec.specs.SortKey.Passing.{AreBelow, IsFirst, joined_members}
+use Rattle.key_walk.specs.Passing.{PassesBelow}
 use Rattle.key_walk.specs.declared.pass.Passed.{Passed}
-use Rattle.key_walk.specs.Open.{end_key}
+use Rattle.jsonb_spec.specs.SortKey.Open.{end_key}
 use Rattle.key_walk.proofs.Finds.{readable_inside}
 use Rattle.key_walk.proofs.Passing.{below_others, ended}
 use Rattle.jsonb_spec.specs.Keys.{IsBelowKeys, KeysAscend}
@@ -19,8 +20,9 @@ use Rattle.jsonb_spec.specs.Text.Appending.{Appends}
 use Rattle.jsonb_spec.specs.Text.Range.{IsWithin, HaveWithin}
 use Rattle.jsonb_spec.specs.Tree.{Tree, Members, no_members, more_members, put}
 use Rattle.jsonb_core.proofs.Trees.MembersInOrder.{turned}
-use Rattle.key_edit.specs.Edit.{merged_members}
-use Rattle.key_edit.specs.Merging.{AreFirst, ComeFirst, IsLast, IsStep, StepsOn, keys_of_members}
+use Rattle.jsonb_spec.specs.Edit.{merged_members}
+use Rattle.jsonb_spec.specs.Edit.Merging.{AreFirst, keys_of_members}
+use Rattle.key_edit.specs.Merging.{ComeFirst, IsLast, IsStep, StepsOn}
 use Rattle.key_edit.specs.declared.merge.Step.{Step}
 
 -- ---- members, merged

@@ -11,8 +11,8 @@ use Rattle.jsonb_spec.specs.Keys.{IsBelowKeys, KeysAscend}
 use Rattle.jsonb_spec.specs.Order.{bytes_cmp}
 use Rattle.jsonb_spec.specs.Proper.{IsProper, AreProper, HaveProperParts}
 use Rattle.jsonb_spec.specs.Tree.{Tree, array, object, Trees, no_trees, more_trees, Members, no_members, more_members, put}
-use Rattle.key_edit.specs.Edit.{Outcome, stays, goes, becomes, as_items, changed_at, changed_at_step, changed_item, changed_member, changed_part, item_before, joined_items, member_before, merge, merged_members, part_with, remove, set_to, step_named, with_item, with_member, with_part, within, without_part}
-use Rattle.key_edit.specs.Insert.{add, changed_between, changed_slot, changed_slot_at, slot_index, with_inserted}
+use Rattle.jsonb_spec.specs.Edit.{Outcome, stays, goes, becomes, as_items, changed_at, changed_at_step, changed_item, changed_member, changed_part, item_before, joined_items, member_before, merge, merged_members, part_with, remove, set_to, step_named, with_item, with_member, with_part, within, without_part}
+use Rattle.jsonb_spec.specs.Edit.Insert.{add, changed_between, changed_slot, changed_slot_at, slot_index, with_inserted}
 
 -- what a change makes of a well-formed part is well-formed
 abbrev IsGood : Outcome → Type 0

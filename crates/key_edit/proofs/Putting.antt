@@ -2,15 +2,17 @@
 use Rattle.std.proofs.Common.{◌≡◌, ℕ, ◌+◌, ◌<◌, ◌↔◌, Bool, true, false, List, ◌++◌, Option, Some, None, MatchBool, MatchOption, Result, Ok, Err, is_err, length, Vec, vec_len, Global, refl, sym, ap, subst, ◌∙◌, append_assoc}
 use Rattle.std.specs.Vec.{vec_capacity}
 use Rattle.std.specs.declared.alloc.AllocError.{AllocError}
-use Rattle.key_value.specs.Readable.{IsAnyNumber}
-use Rattle.key_walk.specs.Open.{name_key}
+use Rattle.jsonb_spec.specs.SortKey.Readable.{IsAnyNumber}
+use Rattle.jsonb_spec.specs.SortKey.Open.{name_key}
 use Rattle.jsonb_spec.specs.Grammar.{max_depth}
 use Rattle.jsonb_spec.specs.SortKey.{key_of}
 use Rattle.jsonb_spec.specs.Text.Appending.{AppendsAllOrNothing}
 use Rattle.jsonb_spec.specs.Text.Range.{IsWithin}
 use Rattle.jsonb_spec.specs.Tree.{Tree}
-use Rattle.key_edit.specs.Edit.{Outcome, becomes, changed_at, set_to, AppendsKey, Edits}
-use Rattle.key_edit.specs.Spots.{Answers, SlotIn, SpotIn, Occurs}
+use Rattle.jsonb_spec.specs.Edit.{Outcome, becomes, changed_at, set_to}
+use Rattle.key_edit.specs.Edit.{AppendsKey, Edits}
+use Rattle.jsonb_spec.specs.Edit.Spots.{Answers}
+use Rattle.key_edit.specs.Spots.{SlotIn, SpotIn, Occurs}
 use Rattle.key_edit.specs.declared.error.EditError.{EditError}
 use Rattle.key_edit.specs.declared.slot.Slot.{Slot}
 use Rattle.key_edit.specs.declared.spot.Spot.{Spot}

@@ -3,9 +3,9 @@ use Rattle.std.proofs.Common.{◌≡◌, ℕ, suc, ◌+◌, ◌-◌, ◌<◌, Bo
 use Rattle.std.proofs.lemmas.Bool.{le-ltb, lt-ltb}
 use Rattle.std.specs.Option.{option_and_then}
 use Rattle.std.specs.Ordering.{match_ordering}
-use Rattle.key_value.specs.Readable.{IsAnyNumber, IsReadable}
+use Rattle.jsonb_spec.specs.SortKey.Readable.{IsAnyNumber, IsReadable}
 use Rattle.key_walk.specs.Found.{IsNext}
-use Rattle.key_walk.specs.Open.{Open, items, members, is_object, open_key, end_key, IsOpen}
+use Rattle.jsonb_spec.specs.SortKey.Open.{Open, items, members, is_object, open_key, end_key, IsOpen}
 use Rattle.key_walk.specs.declared.find.NoKey.{NoKey}
 use Rattle.key_walk.proofs.Finds.{readable_inside}
 use Rattle.key_walk.proofs.Occurrence.{NextOccurs, next_over}
@@ -15,8 +15,9 @@ use Rattle.jsonb_spec.specs.Proper.{AreProper, HaveProperParts}
 use Rattle.jsonb_spec.specs.SortKey.{key_of, items_key, members_key, text_key}
 use Rattle.jsonb_spec.specs.Text.Range.{IsWithin, AreWithin, HaveWithin}
 use Rattle.jsonb_spec.specs.Tree.{Tree, Trees, no_trees, more_trees, Members, no_members, more_members}
-use Rattle.key_edit.specs.Edit.{Outcome, stays, goes, becomes, changed_at_step, changed_item, changed_item_back, changed_member, item_before, member_before, step_named}
-use Rattle.key_edit.specs.Spots.{Answers, FindsItemSpot, OpenWithin, SpotIn, OccursFirst, changed_open}
+use Rattle.jsonb_spec.specs.Edit.{Outcome, stays, goes, becomes, changed_at_step, changed_item, changed_item_back, changed_member, item_before, member_before, step_named}
+use Rattle.jsonb_spec.specs.Edit.Spots.{Answers}
+use Rattle.key_edit.specs.Spots.{FindsItemSpot, OpenWithin, SpotIn, OccursFirst, changed_open}
 use Rattle.key_edit.specs.declared.spot.Spot.{Spot}
 use Rattle.key_edit.proofs.Lifting.{Lifts, lifted, lifts_same, lifts_through}
 

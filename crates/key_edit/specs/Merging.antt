@@ -1,33 +1,17 @@
 -- One step of a merge of members, and the keys of items.
-use Rattle.std.specs.Prelude.{◌≡◌, ◌⊎◌, List, [], ℕ, ⊤, ◌++◌, MatchBool}
-use Rattle.key_walk.specs.Checked.{HaveReadable}
-use Rattle.key_walk.specs.Passing.{joined_members}
-use Rattle.jsonb_spec.specs.Keys.{IsBelowKeys}
-use Rattle.jsonb_spec.specs.SortKey.{key_of, members_key, text_key}
-use Rattle.jsonb_spec.specs.Tree.{Trees, no_trees, more_trees, Members, no_members, more_members}
-use Rattle.key_edit.specs.Edit.{merged_members}
+use Rattle.std.specs.Prelude.{◌≡◌, ◌⊎◌, List, [], ℕ, ◌++◌, MatchBool}
+use Rattle.jsonb_spec.specs.SortKey.Checked.{HaveReadable}
+use Rattle.jsonb_spec.specs.SortKey.Passing.{joined_members}
+use Rattle.jsonb_spec.specs.SortKey.{key_of, members_key}
+use Rattle.jsonb_spec.specs.Tree.{Trees, no_trees, more_trees, Members, no_members}
+use Rattle.jsonb_spec.specs.Edit.{merged_members}
 use Rattle.key_edit.specs.declared.merge.Step.{Step}
+use Rattle.jsonb_spec.specs.Edit.Merging.{keys_of_members, AreFirst, AreReplaced}
 
 -- the keys of the items, without the end of an array
 abbrev pub keys_of_items : Trees → List ℕ
 keys_of_items no_trees = []
 keys_of_items (more_trees t ts) = key_of t ++ keys_of_items ts
-
--- the names and the keys of the members, without the end of an object
-abbrev pub keys_of_members : Members → List ℕ
-keys_of_members no_members = []
-keys_of_members (more_members name t ms) = text_key name ++ (key_of t ++ keys_of_members ms)
-
--- each of the first ones has a name that is below all names of the others
-abbrev pub AreFirst : Members → Members → Type 0
-AreFirst no_members ns = ⊤
-AreFirst (more_members name t ms) ns = IsBelowKeys name ns × AreFirst ms ns
-
--- there is none, or one that has the name of the first of the others
-abbrev pub AreReplaced : Members → Members → Type 0
-AreReplaced no_members ns = ⊤
-AreReplaced (more_members name t ms) no_members = ⊥
-AreReplaced (more_members name t ms) (more_members other u ns) = (name ≡ other) × (ms ≡ no_members)
 
 -- Some of the members come before all of the others, and those behind them are left.
 pub record ComeFirst (ms ns : Members) (rest : List ℕ) : Type 0 where

@@ -1,17 +1,18 @@
 -- Where in the bytes a part is, or would be.
-use Rattle.std.specs.Prelude.{◌≡◌, ℕ, ◌↔◌, Bool, true, false, List, ◌++◌, Option, Some, None, option_map, IfSome, MatchResult, Result, Ok, ⊤}
+use Rattle.std.specs.Prelude.{◌≡◌, ℕ, Bool, true, false, List, ◌++◌, Option, Some, None, option_map, IfSome, MatchResult, Result, Ok, ⊤}
 use Rattle.std.specs.Borrow.{Bor}
-use Rattle.key_value.specs.Readable.{IsAnyNumber, IsReadable}
+use Rattle.jsonb_spec.specs.SortKey.Readable.{IsAnyNumber, IsReadable}
 use Rattle.key_walk.specs.AtKeys.{AtItems}
-use Rattle.key_walk.specs.Open.{Open, items, members, name_key, open_key}
+use Rattle.jsonb_spec.specs.SortKey.Open.{Open, items, members, name_key, open_key}
 use Rattle.key_walk.specs.declared.find.NoKey.{NoKey}
 use Rattle.jsonb_spec.specs.Grammar.{max_depth}
 use Rattle.jsonb_spec.specs.SortKey.{key_of, items_key, members_key}
 use Rattle.jsonb_spec.specs.Text.Range.{IsWithin, AreWithin, HaveWithin}
 use Rattle.jsonb_spec.specs.Tree.{Tree, Trees, no_trees, more_trees, no_members, more_members}
-use Rattle.key_edit.specs.Edit.{Outcome, stays, goes, becomes, changed_member, changed_items}
+use Rattle.jsonb_spec.specs.Edit.{Outcome, changed_member, changed_items}
 use Rattle.key_edit.specs.declared.slot.Slot.{Slot}
 use Rattle.key_edit.specs.declared.spot.Spot.{Spot}
+use Rattle.jsonb_spec.specs.Edit.Spots.{Answers}
 
 -- what is left has no more arrays and objects in one another than the number
 abbrev pub OpenWithin : Open → ℕ → Type 0
@@ -42,17 +43,6 @@ Occurs object name spot behind None = (spot.found ≡ false) × (spot.entry.now 
 Occurs object name spot behind (Some t) =
     (spot.found ≡ true) × (spot.entry.now ≡ name_key object name ++ spot.value.now)
     × (spot.value.now ≡ key_of t ++ behind)
-
--- The answer by what becomes of the part there: its key is the front, what is there then, and what is behind.
-abbrev pub Answers : {A : Type 0} → (A → List ℕ) → (A → Type 0) → Bool → List ℕ → List ℕ → List ℕ → ℕ → Outcome
-    → Option A → Type 0
-Answers key Fits object name front behind depth_left stays None = ⊤
-Answers key Fits object name front behind depth_left stays (Some a) = ⊥
-Answers key Fits object name front behind depth_left goes None = ⊥
-Answers key Fits object name front behind depth_left goes (Some a) = (key a ≡ front ++ behind) × Fits a
-Answers key Fits object name front behind depth_left (becomes t) None = ⊥
-Answers key Fits object name front behind depth_left (becomes t) (Some a) =
-    (key a ≡ front ++ (name_key object name ++ (key_of t ++ behind))) × (Fits a ↔ IsWithin IsAnyNumber t depth_left)
 
 -- The spot in the bytes at which changes are made: whatever becomes of the part there, what is answered is so.
 pub record SpotIn {A : Type 0} (key : A → List ℕ) (Fits : A → Type 0) (changed : (Option Tree → Outcome) → Option A)

@@ -1,13 +1,14 @@
 //! Objects and arrays with a part more.
 
 ghost use Rattle.std.specs.Prelude.{◌≡◌, Ok, false};
-ghost use Rattle.key_value.specs.Readable.{IsAnyNumber};
+ghost use Rattle.jsonb_spec.specs.SortKey.Readable.{IsAnyNumber};
 ghost use Rattle.jsonb_spec.specs.SortKey.{items_key};
 ghost use Rattle.jsonb_spec.specs.Text.Appending.{Extends};
 ghost use Rattle.jsonb_spec.specs.Text.Range.{AreWithin};
 ghost use Rattle.jsonb_spec.specs.Tree.{Trees, array, more_trees, no_trees};
-ghost use Rattle.key_edit.specs.Edit.{joined_items, with_item, with_member, AppendsKey, EditsKeys, PreservesOnError};
-ghost use Rattle.key_walk.specs.AtKeys.{OfKey};
+ghost use Rattle.jsonb_spec.specs.Edit.{joined_items, with_item, with_member, PreservesOnError};
+ghost use Rattle.key_edit.specs.Edit.{AppendsKey, EditsKeys};
+ghost use Rattle.jsonb_spec.specs.SortKey.AtKeys.{OfKey};
 
 use crate::edit::put_part;
 use crate::error::EditError;

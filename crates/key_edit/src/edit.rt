@@ -1,13 +1,14 @@
 //! Parts of keys, set and removed.
 
 ghost use Rattle.std.specs.Prelude.{◌≡◌, ◌≤◌, ◌++◌, List, ℕ, map, string_bytes, Option, None, MatchOption};
-ghost use Rattle.key_value.specs.Readable.{IsReadable};
+ghost use Rattle.jsonb_spec.specs.SortKey.Readable.{IsReadable};
 ghost use Rattle.jsonb_spec.specs.SortKey.{key_of};
 ghost use Rattle.jsonb_spec.specs.Text.Appending.{AppendsAllOrNothing, Extends};
 ghost use Rattle.jsonb_spec.specs.Tree.{Tree};
-ghost use Rattle.key_edit.specs.Edit.{Outcome, becomes, with_part, without_part, AppendsKey, Edits, EditsKeys, PreservesOnError};
-ghost use Rattle.key_walk.specs.AtKeys.{OfKey};
-ghost use Rattle.key_walk.specs.Open.{name_key};
+ghost use Rattle.jsonb_spec.specs.Edit.{Outcome, becomes, with_part, without_part, PreservesOnError};
+ghost use Rattle.key_edit.specs.Edit.{AppendsKey, Edits, EditsKeys};
+ghost use Rattle.jsonb_spec.specs.SortKey.AtKeys.{OfKey};
+ghost use Rattle.jsonb_spec.specs.SortKey.Open.{name_key};
 ghost use Rattle.key_edit.specs.Spots.{SlotIn, Occurs};
 
 use crate::error::EditError;

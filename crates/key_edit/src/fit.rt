@@ -1,8 +1,8 @@
 //! How deep a value is.
 
 ghost use Rattle.std.specs.Prelude.{◌<◌, ◌≤◌};
-ghost use Rattle.key_value.specs.Readable.{IsAnyNumber};
-ghost use Rattle.key_walk.specs.AtKeys.{AtKey, AtParts};
+ghost use Rattle.jsonb_spec.specs.SortKey.Readable.{IsAnyNumber};
+ghost use Rattle.jsonb_spec.specs.SortKey.AtKeys.{AtKey, AtParts};
 ghost use Rattle.jsonb_spec.specs.Text.Range.{IsWithin};
 ghost use Rattle.key_edit.specs.Edit.{ReportsWhether};
 ghost use Rattle.key_edit.specs.Spots.{OpenWithin};

@@ -1,15 +1,17 @@
 //! The slot at which a part is inserted: between the items of an array, or among the members of an object.
 
 ghost use Rattle.std.specs.Prelude.{◌≡◌, ◌≤◌, ◌+◌, ◌++◌, List, ℕ, length, map, string_bytes, Bool, Option, None, Some, IfOk, IfSome, IsTrue, MatchBool, MatchResult, MatchOption};
-ghost use Rattle.key_value.specs.Readable.{IsAnyNumber};
-ghost use Rattle.key_walk.specs.AtKeys.{AtItems, AtKey, OfKey};
+ghost use Rattle.jsonb_spec.specs.SortKey.Readable.{IsAnyNumber};
+ghost use Rattle.key_walk.specs.AtKeys.{AtItems};
+ghost use Rattle.jsonb_spec.specs.SortKey.AtKeys.{AtKey, OfKey};
 ghost use Rattle.jsonb_spec.specs.Accessors.{trees_len};
 ghost use Rattle.jsonb_spec.specs.Proper.{AreProper};
 ghost use Rattle.jsonb_spec.specs.SortKey.{items_key, key_of};
 ghost use Rattle.jsonb_spec.specs.Text.Range.{AreWithin, IsWithin};
 ghost use Rattle.jsonb_spec.specs.Tree.{Tree, Trees, array};
-ghost use Rattle.key_edit.specs.Edit.{Outcome, step_named};
-ghost use Rattle.key_edit.specs.Insert.{changed_slot, changed_slot_at, items_from, one_more, slot_index, SlotBefore};
+ghost use Rattle.jsonb_spec.specs.Edit.{Outcome, step_named};
+ghost use Rattle.jsonb_spec.specs.Edit.Insert.{changed_slot, changed_slot_at, one_more, slot_index};
+ghost use Rattle.key_edit.specs.Insert.{items_from, SlotBefore};
 ghost use Rattle.key_edit.specs.Spots.{ReportsBehind, SlotIn};
 
 use crate::slot::{Slot, part_from};

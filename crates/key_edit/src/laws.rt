@@ -4,8 +4,8 @@ ghost use Rattle.std.specs.Prelude.{◌≡◌, Bool, List, ℕ, Some, IsUtf8};
 ghost use Rattle.std.specs.List.{AllByRecursion};
 ghost use Rattle.jsonb_spec.specs.Proper.{IsProper};
 ghost use Rattle.jsonb_spec.specs.Tree.{Tree};
-ghost use Rattle.key_edit.specs.Edit.{merge, with_item, with_member, with_part, without_part};
-ghost use Rattle.key_edit.specs.Insert.{with_inserted};
+ghost use Rattle.jsonb_spec.specs.Edit.{merge, with_item, with_member, with_part, without_part};
+ghost use Rattle.jsonb_spec.specs.Edit.Insert.{with_inserted};
 
 /// A well-formed value is well-formed when it is changed: its texts are UTF-8, its numbers fit their forms, and the
 /// names of each object ascend. So the key that a change appends is the sort key of a value, and may be changed again.

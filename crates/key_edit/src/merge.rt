@@ -2,16 +2,17 @@
 
 ghost use Rattle.std.specs.Prelude.{◌≡◌, ◌+◌, ◌<◌, ◌≤◌, ◌++◌, ◌∷◌, [], List, ℕ, length, true, false, IfOk, MatchBool, MatchOption, MatchResult, Ok};
 ghost use Rattle.std.specs.Vec.{vec_capacity};
-ghost use Rattle.key_value.specs.Readable.{IsAnyNumber, IsReadable};
-ghost use Rattle.key_walk.specs.Checked.{HaveReadable};
+ghost use Rattle.jsonb_spec.specs.SortKey.Readable.{IsAnyNumber, IsReadable};
+ghost use Rattle.jsonb_spec.specs.SortKey.Checked.{HaveReadable};
 ghost use Rattle.jsonb_spec.specs.Order.{bytes_cmp};
 ghost use Rattle.jsonb_spec.specs.SortKey.{key_of, members_key, text_key};
 ghost use Rattle.jsonb_spec.specs.SortKey.Kind as kind;
 ghost use Rattle.jsonb_spec.specs.Text.Appending.{Extends};
 ghost use Rattle.jsonb_spec.specs.Text.Range.{IsWithin, AreWithin};
 ghost use Rattle.jsonb_spec.specs.Tree.{Tree, Members, array, more_members, no_members, object};
-ghost use Rattle.key_edit.specs.Edit.{as_items, joined_items, merge, AppendsBoth, AppendsMembersOfBoth, FitsInside, PreservesOnError};
-ghost use Rattle.key_walk.specs.AtKeys.{OfKey};
+ghost use Rattle.jsonb_spec.specs.Edit.{as_items, joined_items, merge, PreservesOnError};
+ghost use Rattle.key_edit.specs.Edit.{AppendsBoth, AppendsMembersOfBoth, FitsInside};
+ghost use Rattle.jsonb_spec.specs.SortKey.AtKeys.{OfKey};
 ghost use Rattle.key_edit.specs.Merging.{keys_of_items, ComeFirst, IsStep};
 
 use crate::error::EditError;

@@ -1,11 +1,11 @@
 //! The slot in a key that a path leads to.
 
 ghost use Rattle.std.specs.Prelude.{◌≡◌, ◌≤◌, ◌+◌, map, string_bytes, Option, None, IfOk, IfSome, MatchResult, MatchOption};
-ghost use Rattle.key_value.specs.Readable.{IsAnyNumber};
-ghost use Rattle.key_walk.specs.AtKeys.{AtKey, OfKey};
+ghost use Rattle.jsonb_spec.specs.SortKey.Readable.{IsAnyNumber};
+ghost use Rattle.jsonb_spec.specs.SortKey.AtKeys.{AtKey, OfKey};
 ghost use Rattle.jsonb_spec.specs.Text.Range.{IsWithin};
 ghost use Rattle.jsonb_spec.specs.Tree.{Tree};
-ghost use Rattle.key_edit.specs.Edit.{Outcome, changed_at, changed_at_member, changed_part};
+ghost use Rattle.jsonb_spec.specs.Edit.{Outcome, changed_at, changed_at_member, changed_part};
 ghost use Rattle.key_edit.specs.Insert.{changed_within, IsPartWithin, SlotBefore};
 ghost use Rattle.key_edit.specs.Spots.{SlotIn};
 

@@ -1,12 +1,13 @@
 //! Where a part is among the parts of an array or an object, or would be.
 
 ghost use Rattle.std.specs.Prelude.{◌≡◌, ◌<◌, ◌≤◌, ◌++◌, Bool, IsTrue, List, ℕ, length, option_map, true, false, None, Option, IfOk, IfSome, MatchResult, MatchOption};
-ghost use Rattle.key_value.specs.Readable.{IsAnyNumber, IsReadable};
-ghost use Rattle.key_walk.specs.AtKeys.{AtKey, AtMembers, AtParts};
-ghost use Rattle.key_walk.specs.Open.{Open, members};
+ghost use Rattle.jsonb_spec.specs.SortKey.Readable.{IsAnyNumber, IsReadable};
+ghost use Rattle.jsonb_spec.specs.SortKey.AtKeys.{AtKey, AtParts};
+ghost use Rattle.key_walk.specs.AtKeys.{AtMembers};
+ghost use Rattle.jsonb_spec.specs.SortKey.Open.{Open, members};
 ghost use Rattle.jsonb_spec.specs.Text.Range.{HaveWithin};
 ghost use Rattle.jsonb_spec.specs.Tree.{Tree};
-ghost use Rattle.key_edit.specs.Edit.{Outcome, changed_at_step, changed_item, changed_item_back, changed_member};
+ghost use Rattle.jsonb_spec.specs.Edit.{Outcome, changed_at_step, changed_item, changed_item_back, changed_member};
 ghost use Rattle.key_edit.specs.Spots.{changed_open, FindsItemSpot, OpenSpotIn, OpenWithin, Occurs, OccursFirst, ReportsBehind};
 
 use crate::step::step_of;

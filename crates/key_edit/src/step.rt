@@ -1,7 +1,7 @@
 //! Indices of items, as steps of paths encode them.
 
 ghost use Rattle.std.specs.Prelude.{◌≡◌, ◌<◌, option_map, true, IfSome, IsTrue};
-ghost use Rattle.key_edit.specs.Edit.{back_named, step_named};
+ghost use Rattle.jsonb_spec.specs.Edit.{back_named, step_named};
 
 use jsonb_path::index_of;
 

@@ -3,13 +3,13 @@ use Rattle.std.proofs.Common.{◌≡◌, ℕ, ◌+◌, ◌*◌, ◌<◌, ◌≤�
 use Rattle.std.proofs.lemmas.Bool.{le-leb, lt-leb, ltb-true, ltb-false, leb-true}
 use Rattle.std.specs.Int.{is_in_range}
 use Rattle.std.specs.List.{flat_map}
-use Rattle.key_value.specs.Readable.{IsReadable}
+use Rattle.jsonb_spec.specs.SortKey.Readable.{IsReadable}
 use Rattle.jsonb_spec.specs.SortKey.{byte_key, key_of, members_key, text_key}
 use Rattle.jsonb_spec.specs.Tree.{Tree, object, Members, no_members, more_members}
-use Rattle.key_walk.specs.Found.{members_len}
+use Rattle.jsonb_spec.specs.SortKey.Found.{members_len}
 use Rattle.key_walk.proofs.Occurrence.{true_false}
 use Rattle.key_table.specs.Entries.{IsObjectOf, OfMembers}
-use Rattle.key_table.specs.Table.{has_table, in_two, member_offsets, table_mark, table_of, table_of_members}
+use Rattle.jsonb_spec.specs.Table.{has_table, in_two, member_offsets, table_mark, table_of, table_of_members}
 
 pub table_none : (t : Tree) → has_table t ≡ false → table_of t ≡ []
 table_none (object ms) none = ap (λ b. if b then table_of_members ms else []) none

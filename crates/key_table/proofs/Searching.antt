@@ -5,7 +5,7 @@ use Rattle.std.specs.Cmp.Lexicographic.{nat_list_cmp_total}
 use Rattle.std.specs.List.{flat_map}
 use Rattle.std.specs.Ordering.{is_eq, ordering_reverse}
 use Rattle.std.specs.Str.{bytes_eq}
-use Rattle.key_value.specs.Readable.{IsReadable}
+use Rattle.jsonb_spec.specs.SortKey.Readable.{IsReadable}
 use Rattle.jsonb_spec.specs.Accessors.{find_member, get_by_name}
 use Rattle.jsonb_spec.specs.Keys.{IsBelowKeys, KeysAscend}
 use Rattle.jsonb_spec.specs.Order.{bytes_cmp}
@@ -13,12 +13,12 @@ use Rattle.jsonb_spec.specs.SortKey.{key_of, members_key, text_key}
 use Rattle.jsonb_spec.specs.Tree.{Tree, object, Members, no_members, more_members}
 use Rattle.jsonb_core.proofs.Trees.MembersInOrder.{turned}
 use Rattle.key_value.proofs.Texts.{none_some, some_same}
-use Rattle.key_walk.specs.AtKeys.{OfKey}
-use Rattle.key_walk.specs.Found.{members_len, IsRange}
+use Rattle.jsonb_spec.specs.SortKey.AtKeys.{OfKey}
+use Rattle.jsonb_spec.specs.SortKey.Found.{members_len, IsRange}
 use Rattle.key_walk.specs.declared.find.NoKey.{NoKey}
 use Rattle.key_walk.proofs.Occurrence.{below_all, equal_names, true_false}
 use Rattle.key_table.specs.Results.{ReportsRange, GivesRange}
-use Rattle.key_table.specs.Table.{has_table, in_two, member_offsets, table_mark, table_of, table_of_members}
+use Rattle.jsonb_spec.specs.Table.{has_table, in_two, member_offsets, table_mark, table_of, table_of_members}
 use Rattle.key_table.proofs.Having.{entries_long, most_size, table_some}
 
 -- ---- the member of an index

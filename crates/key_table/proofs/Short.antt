@@ -5,8 +5,8 @@ use Rattle.jsonb_spec.specs.Proper.{IsProper, HaveProperParts}
 use Rattle.jsonb_spec.specs.SortKey.{byte_key, key_of, members_key, text_key}
 use Rattle.jsonb_spec.specs.Tree.{Tree, object, Members, no_members, more_members}
 use Rattle.jsonb_core.proofs.SortKeys.Kinds.{begins}
-use Rattle.key_walk.specs.Found.{members_len}
-use Rattle.key_table.specs.Table.{has_table, in_two, member_offsets, table_of}
+use Rattle.jsonb_spec.specs.SortKey.Found.{members_len}
+use Rattle.jsonb_spec.specs.Table.{has_table, in_two, member_offsets, table_of}
 use Rattle.key_table.proofs.Having.{entries_long, table_none, table_some}
 
 three_each : (ms : Members) → HaveProperParts ms → 3 * members_len ms + 2 ≤ length (members_key ms)

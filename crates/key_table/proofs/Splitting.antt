@@ -5,10 +5,10 @@ use Rattle.std.proofs.lemmas.List.{append_cancel_left}
 use Rattle.std.proofs.lemmas.Bool.{eqb-true}
 use Rattle.jsonb_spec.specs.Tree.{Tree, Members}
 use Rattle.key_value.proofs.Texts.{none_some, some_same}
-use Rattle.key_walk.specs.AtKeys.{Leaves}
+use Rattle.jsonb_spec.specs.SortKey.AtKeys.{Leaves}
 use Rattle.key_walk.proofs.Occurrence.{true_false}
 use Rattle.key_table.specs.Entries.{OfMembers}
-use Rattle.key_table.specs.Table.{in_two, table_mark, table_of, table_of_members}
+use Rattle.jsonb_spec.specs.Table.{in_two, table_mark, table_of, table_of_members}
 use Rattle.key_table.proofs.Having.{TableParts}
 use Rattle.key_table.proofs.Walking.{Walked}
 

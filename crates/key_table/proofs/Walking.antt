@@ -3,20 +3,21 @@ use Rattle.std.proofs.Common.{◌≡◌, ℕ, zero, suc, ◌+◌, ◌<◌, ◌�
 use Rattle.std.proofs.lemmas.Nat.{be_bytes_2}
 use Rattle.std.specs.Int.{w16, from_be_bytes}
 use Rattle.std.specs.List.{flat_map}
-use Rattle.key_value.specs.Readable.{IsAnyNumber, IsReadable}
+use Rattle.jsonb_spec.specs.SortKey.Readable.{IsAnyNumber, IsReadable}
 use Rattle.key_value.proofs.Texts.{none_some}
 use Rattle.jsonb_spec.specs.Proper.{HaveProperParts}
 use Rattle.jsonb_spec.specs.SortKey.{key_of, members_key, text_key}
 use Rattle.jsonb_spec.specs.Text.Range.{HaveWithin}
 use Rattle.jsonb_spec.specs.Tree.{Tree, object, no_trees, more_trees, Members, no_members, more_members}
-use Rattle.key_walk.specs.AtKeys.{Leaves}
-use Rattle.key_walk.specs.Found.{members_len, IsNext}
-use Rattle.key_walk.specs.Open.{Open, items, members}
+use Rattle.jsonb_spec.specs.SortKey.AtKeys.{Leaves}
+use Rattle.jsonb_spec.specs.SortKey.Found.{members_len}
+use Rattle.key_walk.specs.Found.{IsNext}
+use Rattle.jsonb_spec.specs.SortKey.Open.{Open, items, members}
 use Rattle.key_walk.specs.declared.find.NoKey.{NoKey}
 use Rattle.key_walk.proofs.Finds.{parent_of}
 use Rattle.key_walk.proofs.Occurrence.{left_of, object_left}
 use Rattle.key_table.specs.Entries.{LeavesMembers}
-use Rattle.key_table.specs.Table.{has_table, in_two, member_offsets, table_mark, table_of_members}
+use Rattle.jsonb_spec.specs.Table.{has_table, in_two, member_offsets, table_mark, table_of_members}
 
 -- ---- numbers in two bytes
 

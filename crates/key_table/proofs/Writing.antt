@@ -5,7 +5,7 @@ use Rattle.std.specs.declared.alloc.Global.{Global}
 use Rattle.jsonb_spec.specs.Tree.{Members}
 use Rattle.key_walk.specs.declared.find.NoKey.{NoKey}
 use Rattle.key_table.specs.Entries.{OfMembers, WritesTable}
-use Rattle.key_table.specs.Table.{table_of_members}
+use Rattle.jsonb_spec.specs.Table.{table_of_members}
 use Rattle.key_table.specs.declared.error.TableError.{TableError}
 use Rattle.key_table.specs.declared.error.TableError.TheVariants.{OutOfMemory}
 use Rattle.key_table.proofs.Walking.{Walked}

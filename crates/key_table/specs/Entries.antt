@@ -2,14 +2,14 @@
 use Rattle.std.specs.Prelude.{◌≡◌, ◌≤◌, ℕ, Bool, false, List, ◌++◌, length, nat_le, Option, Result, IsTrue, MatchOption, MatchResult, Vec}
 use Rattle.std.specs.Borrow.{Bor}
 use Rattle.std.specs.declared.alloc.Global.{Global}
-use Rattle.key_value.specs.Readable.{IsAnyNumber}
+use Rattle.jsonb_spec.specs.SortKey.Readable.{IsAnyNumber}
 use Rattle.jsonb_spec.specs.Proper.{HaveProperParts}
 use Rattle.jsonb_spec.specs.SortKey.{key_of, members_key}
 use Rattle.jsonb_spec.specs.Text.Range.{HaveWithin}
 use Rattle.jsonb_spec.specs.Tree.{Tree, object, Members}
-use Rattle.key_text.specs.Writes.{LacksCapacity}
-use Rattle.key_walk.specs.Found.{members_len}
-use Rattle.key_table.specs.Table.{has_table, table_of_members}
+use Rattle.jsonb_spec.specs.SortKey.Text.{LacksCapacity}
+use Rattle.jsonb_spec.specs.SortKey.Found.{members_len}
+use Rattle.jsonb_spec.specs.Table.{has_table, table_of_members}
 use Rattle.key_table.specs.declared.error.TableError.{TableError}
 use Rattle.key_table.specs.declared.error.TableError.TheVariants.{OutOfMemory}
 

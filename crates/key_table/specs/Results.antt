@@ -5,11 +5,11 @@ use Rattle.jsonb_spec.specs.Accessors.{get_by_name}
 use Rattle.jsonb_spec.specs.SortKey.{key_of}
 use Rattle.jsonb_spec.specs.Text.Appending.{Extends}
 use Rattle.jsonb_spec.specs.Tree.{Tree}
-use Rattle.key_text.specs.Writes.{LacksCapacity}
-use Rattle.key_walk.specs.AtKeys.{OfKey}
-use Rattle.key_walk.specs.Found.{IsRange}
+use Rattle.jsonb_spec.specs.SortKey.Text.{LacksCapacity}
+use Rattle.jsonb_spec.specs.SortKey.AtKeys.{OfKey}
+use Rattle.jsonb_spec.specs.SortKey.Found.{IsRange}
 use Rattle.key_walk.specs.declared.find.NoKey.{NoKey}
-use Rattle.key_table.specs.Table.{has_table, table_of}
+use Rattle.jsonb_spec.specs.Table.{has_table, table_of}
 use Rattle.key_table.specs.declared.error.TableError.{TableError}
 use Rattle.key_table.specs.declared.error.TableError.TheVariants.{OutOfMemory}
 

@@ -1,10 +1,10 @@
 //! Whether bytes are the table of a value.
 
 ghost use Rattle.std.specs.Prelude.{◌≡◌, ◌<◌, ◌≤◌, ◌↔◌, ◌++◌, ◌∷◌, [], ℕ, length, IsTrue};
-ghost use Rattle.key_walk.specs.AtKeys.{OfKey};
-ghost use Rattle.key_walk.specs.Found.{members_len};
+ghost use Rattle.jsonb_spec.specs.SortKey.AtKeys.{OfKey};
+ghost use Rattle.jsonb_spec.specs.SortKey.Found.{members_len};
 ghost use Rattle.key_table.specs.Entries.{OfMembers};
-ghost use Rattle.key_table.specs.Table.{has_table, in_two, table_mark, table_of, table_of_members};
+ghost use Rattle.jsonb_spec.specs.Table.{has_table, in_two, table_mark, table_of, table_of_members};
 
 use crate::entry::{LEAST_MEMBERS, TABLE_MARK, after_two, members_within};
 use key_walk::find::next_part;

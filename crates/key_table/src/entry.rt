@@ -3,9 +3,9 @@
 ghost use Rattle.std.specs.Prelude.{◌≡◌, ◌↔◌, ◌<◌, ◌≤◌, ◌+◌, ◌/◌, ◌-◌, ◌^◌, ◌++◌, List, ℕ, length, IfSome};
 ghost use Rattle.jsonb_spec.specs.SortKey.{key_of};
 ghost use Rattle.jsonb_spec.specs.Text.Appending.{Appends};
-ghost use Rattle.key_walk.specs.AtKeys.{Leaves, OfKey};
+ghost use Rattle.jsonb_spec.specs.SortKey.AtKeys.{Leaves, OfKey};
 ghost use Rattle.key_table.specs.Entries.{LeavesMembers};
-ghost use Rattle.key_table.specs.Table.{in_two};
+ghost use Rattle.jsonb_spec.specs.Table.{in_two};
 
 use key_walk::walk::members_of;
 use std::alloc::AllocError;

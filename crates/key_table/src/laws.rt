@@ -1,12 +1,12 @@
 //! What is known of tables beside their functions.
 
 ghost use Rattle.std.specs.Prelude.{◌≤◌, ◌+◌, ◌*◌, length};
-ghost use Rattle.key_value.specs.Readable.{IsReadable};
+ghost use Rattle.jsonb_spec.specs.SortKey.Readable.{IsReadable};
 ghost use Rattle.jsonb_spec.specs.Proper.{IsProper};
 ghost use Rattle.jsonb_spec.specs.SortKey.{key_of};
 ghost use Rattle.jsonb_spec.specs.Tree.{Tree};
-ghost use Rattle.key_document.specs.Document.{document_of};
-ghost use Rattle.key_table.specs.Table.{table_of, IsUnmarked};
+ghost use Rattle.jsonb_spec.specs.Document.{document_of};
+ghost use Rattle.jsonb_spec.specs.Table.{table_of, IsUnmarked};
 
 /// No document ends with the byte with which tables do. So the last byte says whether a table is behind one.
 pub fn documents_end_unlike_tables()

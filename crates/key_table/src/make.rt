@@ -1,10 +1,10 @@
 //! Tables made of keys.
 
 ghost use Rattle.std.specs.Prelude.{◌≡◌, ◌<◌, nat_lt, length};
-ghost use Rattle.key_walk.specs.AtKeys.{OfKey};
-ghost use Rattle.key_text.specs.Writes.{Preserves};
+ghost use Rattle.jsonb_spec.specs.SortKey.AtKeys.{OfKey};
+ghost use Rattle.jsonb_spec.specs.SortKey.Text.{Preserves};
 ghost use Rattle.jsonb_spec.specs.Tree.{Members, object};
-ghost use Rattle.key_walk.specs.Found.{members_len};
+ghost use Rattle.jsonb_spec.specs.SortKey.Found.{members_len};
 ghost use Rattle.key_table.specs.Entries.{OfMembers, WritesTable};
 ghost use Rattle.key_table.specs.Results.{AppendsTable, PreservesUnlessTable};
 

@@ -1,11 +1,11 @@
 //! Members found by a table.
 
 ghost use Rattle.std.specs.Prelude.{◌≡◌, ◌<◌, ◌≤◌, ◌+◌, ◌-◌, ◌*◌, ◌/◌, ◌^◌, ◌++◌, List, ℕ, length, IfOk, IfSome};
-ghost use Rattle.key_walk.specs.AtKeys.{Leaves};
-ghost use Rattle.key_walk.specs.Frames.{AreNoZeros};
+ghost use Rattle.jsonb_spec.specs.SortKey.AtKeys.{Leaves};
+ghost use Rattle.jsonb_spec.specs.SortKey.Front.{AreNoZeros};
 ghost use Rattle.key_walk.specs.Fronts.{IsFront};
 ghost use Rattle.key_table.specs.Results.{FindsByTable, GivesRange};
-ghost use Rattle.key_table.specs.Table.{in_two};
+ghost use Rattle.jsonb_spec.specs.Table.{in_two};
 
 use crate::entry::{behind, entry_count, two_at};
 use key_walk::find::NoKey;

@@ -2,7 +2,7 @@
 
 ghost use Rattle.std.specs.Prelude.{◌≡◌, ◌++◌, ◌∷◌, [], IsTrue, List, ℕ};
 ghost use Rattle.jsonb_spec.specs.Tree.{Tree};
-ghost use Rattle.key_table.specs.Table.{has_table, table_of, IsUnmarked};
+ghost use Rattle.jsonb_spec.specs.Table.{has_table, table_of, IsUnmarked};
 
 use crate::entry::{END_SIZE, TABLE_MARK, two_at};
 

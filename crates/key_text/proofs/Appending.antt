@@ -5,7 +5,8 @@ use Rattle.std.specs.declared.alloc.Global.{Global}
 use Rattle.key_value.specs.declared.error.KeyError.{KeyError}
 use Rattle.key_value.specs.declared.error.KeyError.TheVariants.{OutOfMemory}
 use Rattle.jsonb_spec.specs.Text.Appending.{Appends}
-use Rattle.key_text.specs.Writes.{Preserves, Writes}
+use Rattle.jsonb_spec.specs.SortKey.Text.{Preserves}
+use Rattle.key_text.specs.Writes.{Writes}
 
 -- ---- two pieces
 

@@ -6,9 +6,10 @@ use Rattle.jsonb_spec.specs.SortKey.{key_of, items_key, members_key, number_key,
 use Rattle.jsonb_spec.specs.Tree.{Num, Tree, null, boolean, string, number, array, object, binary, date, timestamp, timestamp_tz, interval, Trees, no_trees, more_trees, Members, no_members, more_members}
 use Rattle.jsonb_core.proofs.SortKeys.Kinds.{is_small, number_begins}
 use Rattle.jsonb_core.proofs.Trees.Runs.{heads, tails}
-use Rattle.key_text.specs.Counts.{counts_at, counts_at_items, counts_at_members, counts_open, opens_counts, AreZeros, IsDue}
-use Rattle.key_walk.specs.Open.{Open, items, members, open_key, IsOpen}
-use Rattle.key_walk.specs.Steps.{opens_key, AreOpen}
+use Rattle.jsonb_spec.specs.Document.Counts.{counts_at, counts_at_items, counts_at_members, counts_open, opens_counts, AreZeros}
+use Rattle.key_text.specs.Counts.{IsDue}
+use Rattle.jsonb_spec.specs.SortKey.Open.{Open, items, members, open_key, IsOpen}
+use Rattle.jsonb_spec.specs.SortKey.Steps.{opens_key, AreOpen}
 
 mutual
   pub one_each : (t : Tree) → IsProper t → length (counts_at t) ≡ length (key_of t)

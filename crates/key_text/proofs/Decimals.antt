@@ -13,8 +13,8 @@ use Rattle.jsonb_spec.specs.Tree.{Num}
 use Rattle.jsonb_core.proofs.Numbers.Nearest.{unsigned_abs-signed}
 use Rattle.jsonb_core.proofs.Numbers.Pointed.{is_negative-pos}
 use Rattle.jsonb_core.proofs.SortKeys.Kinds.{is_small}
-use Rattle.key_text.specs.Counts.{ending_text}
-use Rattle.key_text.specs.FewestDigits.{fewest_digits, spare_zeros}
+use Rattle.jsonb_spec.specs.Document.Counts.{ending_text}
+use Rattle.jsonb_spec.specs.SortKey.FewestDigits.{fewest_digits, spare_zeros}
 use Rattle.key_text.proofs.LastDigits.{zeros_behind}
 use Rattle.key_text.proofs.Spares.{are_spare, divided_less}
 

@@ -1,7 +1,7 @@
 -- The text of a checked key is an extended document of a value with that key.
 use Rattle.std.proofs.Common.{◌≡◌, ℕ, ◌^◌, ◌/◌, List, ◌++◌, unsigned_abs, sym, ◌∙◌, arith}
 use Rattle.std.specs.Int.{is_negative}
-use Rattle.key_walk.specs.Checked.{IsSortKey}
+use Rattle.jsonb_spec.specs.SortKey.Checked.{IsSortKey}
 use Rattle.jsonb_spec.specs.Grammar.{max_depth}
 use Rattle.jsonb_spec.specs.Mode.{extended}
 use Rattle.jsonb_spec.specs.Proper.{IsProper}
@@ -10,8 +10,8 @@ use Rattle.jsonb_spec.specs.Tree.{Num}
 use Rattle.jsonb_core.proofs.Numbers.Nearest.{unsigned_abs-signed}
 use Rattle.jsonb_core.proofs.SortKeys.Trees.{keys_same}
 use Rattle.jsonb_core.proofs.Trees.RangeTexts.{text_in_range, range_reads_back, document_in_range}
-use Rattle.key_text.specs.FewestDigits.{spare_zeros, fewest_digits, with_fewest_digits, AppendsDocumentWithKey}
-use Rattle.key_text.specs.Writes.{value_text}
+use Rattle.jsonb_spec.specs.SortKey.FewestDigits.{spare_zeros, fewest_digits, with_fewest_digits, AppendsDocumentWithKey}
+use Rattle.jsonb_spec.specs.SortKey.Text.{value_text}
 use Rattle.key_text.proofs.Spares.{divided_less}
 use Rattle.key_text.proofs.Whole.{key_retained, proper_retained, within_retained}
 

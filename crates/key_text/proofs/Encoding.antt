@@ -3,7 +3,7 @@ use Rattle.std.proofs.Common.{◌≡◌, ◌≢◌, ℕ, suc, ◌+◌, ◌-◌, 
 use Rattle.std.proofs.Math.Seq.{set-append_seam}
 use Rattle.jsonb_spec.specs.SortKey.{digits_key, invert_if}
 use Rattle.jsonb_core.proofs.SortKeys.Digits.{ten, hundred}
-use Rattle.key_value.specs.Reading.{DigitsLeft, IsLastPair}
+use Rattle.jsonb_spec.specs.SortKey.Reading.{DigitsLeft, IsLastPair}
 use Rattle.key_value.proofs.Numbers.{Ends, GoesOn, next_pair, all_digits as digits_ended, no_zeros, pair_below_all, no_bytes}
 use Rattle.key_text.specs.Writes.{IsEncoded, last_digits}
 use Rattle.key_text.proofs.LastDigits.{digits_long, one_more, two_more, no_digits}

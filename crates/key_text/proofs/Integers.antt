@@ -7,8 +7,8 @@ use Rattle.jsonb_spec.specs.Proper.{IsProperNumber}
 use Rattle.jsonb_spec.specs.SortKey.{number_key, digits_key, invert_if}
 use Rattle.jsonb_spec.specs.Text.NumberText.{number_text}
 use Rattle.jsonb_spec.specs.Tree.{Num}
-use Rattle.key_value.specs.Reading.{exponent_of, read_as}
-use Rattle.key_text.specs.FewestDigits.{fewest_digits}
+use Rattle.jsonb_spec.specs.SortKey.Reading.{exponent_of, read_as}
+use Rattle.jsonb_spec.specs.SortKey.FewestDigits.{fewest_digits}
 use Rattle.key_text.specs.Writes.{AppendsPair, TakesInteger, TakesIntegerOf, scaled_text}
 use Rattle.key_text.proofs.Encoding.{Encodes, none_encoded, pair_small, two_encoded, one_encoded}
 use Rattle.key_text.proofs.KeyNumbers.{signed, is_exponent_key}

@@ -7,7 +7,7 @@ use Rattle.jsonb_spec.specs.Tree.{Num}
 use Rattle.jsonb_core.proofs.SortKeys.Kinds.{is_small}
 use Rattle.jsonb_core.proofs.SortKeys.Numbers.{positive, negative, head_of}
 use Rattle.jsonb_core.proofs.Trees.Runs.{heads}
-use Rattle.key_value.specs.Reading.{exponent_of, read_as}
+use Rattle.jsonb_spec.specs.SortKey.Reading.{exponent_of, read_as}
 use Rattle.key_value.proofs.Numbers.{exponent_read}
 use Rattle.key_value.proofs.Signs.{IsSigned, signed_read}
 use Rattle.key_value.proofs.Texts.{none_some, some_pair}

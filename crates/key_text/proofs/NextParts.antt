@@ -5,7 +5,7 @@ use Rattle.key_text.specs.NextParts.{BeginsNext, NoEnd}
 use Rattle.key_text.specs.Writes.{name_text}
 use Rattle.key_text.specs.declared.write.Next.{Next}
 use Rattle.key_text.specs.declared.write.Next.TheVariants as next
-use Rattle.key_walk.specs.Open.{end_key, name_key}
+use Rattle.jsonb_spec.specs.SortKey.Open.{end_key, name_key}
 
 pub end_next : (object first : Bool) (bytes : List ℕ) (n : Next) (others : Bor (List ℕ)) (old new : Vec ℕ Global) → n ≡ next.End others → BeginsNext object first bytes (Ok n) old new
     → (bytes ≡ end_key object ++ others.now) × ((tail : List ℕ) → bytes ≡ end_key object ++ tail → others.now ≡ tail) × (new.items ≡ old.items)

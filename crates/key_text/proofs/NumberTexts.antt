@@ -19,7 +19,7 @@ use Rattle.jsonb_core.proofs.SortKeys.Counts.{power_le}
 use Rattle.std.proofs.lemmas.Fmt.{decimal_digit}
 use Rattle.key_value.proofs.Numbers.{cancel}
 use Rattle.key_value.proofs.Signs.{IsSigned}
-use Rattle.key_text.specs.FewestDigits.{spare_zeros, fewest_digits}
+use Rattle.jsonb_spec.specs.SortKey.FewestDigits.{spare_zeros, fewest_digits}
 use Rattle.key_text.specs.Writes.{IsEncoded, last_digits, scaled_text}
 use Rattle.key_text.proofs.LastDigits.{all_digits, digits_long, zeros_behind}
 use Rattle.key_text.proofs.Spares.{all_spare, some_spare}

@@ -2,7 +2,7 @@
 use Rattle.std.proofs.Common.{◌≡◌, ℕ, suc, ◌+◌, ◌≤◌, Bool, true, List, [], ◌∷◌, ◌++◌, get_or, set, drop, take, length, refl, sym, subst, ap, ap₂, ◌∙◌, arith, append_assoc, drop-cons, drop_of_length-le}
 use Rattle.std.proofs.lemmas.List.{take-take, length-take-le}
 use Rattle.std.specs.List.{flat_map}
-use Rattle.key_walk.specs.Open.{name_key}
+use Rattle.jsonb_spec.specs.SortKey.Open.{name_key}
 use Rattle.jsonb_spec.specs.Text.StringText.{ArePlain, byte_text}
 use Rattle.key_text.specs.Writes.{closing_quote, name_text}
 use Rattle.key_text.proofs.Strings.{closed_row, short_string}

@@ -1,18 +1,18 @@
 -- The texts of words, strings and numbers, by the first byte of their keys, and of what is opened.
 use Rattle.std.proofs.Common.{◌≡◌, ◌≢◌, ℕ, suc, Bool, true, false, List, ◌∷◌, ◌++◌, length, refl, sym, ap, ◌∙◌, arith}
 use Rattle.std.specs.Prelude.{codes}
-use Rattle.key_value.specs.Readable.{IsReadableAt}
+use Rattle.jsonb_spec.specs.SortKey.Readable.{IsReadableAt}
 use Rattle.jsonb_spec.specs.Text.{tree_text}
 use Rattle.jsonb_spec.specs.Text.StringText.{quoted_text}
-use Rattle.key_walk.specs.Open.{IsScalar, Open, items, members, is_object, open_key, IsOpen, opening_byte}
-use Rattle.key_walk.specs.Parts.{opened_tree}
+use Rattle.jsonb_spec.specs.SortKey.Open.{IsScalar, Open, items, members, is_object, open_key, IsOpen, opening_byte}
+use Rattle.jsonb_spec.specs.SortKey.Parts.{opened_tree}
 use Rattle.key_walk.proofs.Stepping.{opening_there}
 use Rattle.jsonb_spec.specs.Proper.{IsProperNumber}
 use Rattle.jsonb_spec.specs.SortKey.{key_of, items_key, members_key, text_key}
 use Rattle.jsonb_spec.specs.Tree.{Num, Tree, null, boolean, string, number, array, object}
 use Rattle.jsonb_core.proofs.SortKeys.Kinds.{is_small, number_begins}
 use Rattle.jsonb_core.proofs.Trees.Runs.{heads, tails}
-use Rattle.key_text.specs.Counts.{counts_at, counts_open, AreZeros}
+use Rattle.jsonb_spec.specs.Document.Counts.{counts_at, counts_open, AreZeros}
 use Rattle.key_text.specs.Writes.{open_text, opening_text}
 use Rattle.key_text.proofs.Whole.{array_text, object_text}
 

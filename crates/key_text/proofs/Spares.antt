@@ -10,11 +10,11 @@ use Rattle.jsonb_spec.specs.SortKey.{number_key}
 use Rattle.jsonb_spec.specs.Tree.{Form, int64, uint64, decimal64, decimal128, Num}
 use Rattle.jsonb_core.proofs.Numbers.Nearest.{unsigned_abs-signed}
 use Rattle.jsonb_core.proofs.Numbers.Pointed.{is_negative-pos}
-use Rattle.key_value.specs.Readable.{HasFewestDigits}
+use Rattle.jsonb_spec.specs.SortKey.Readable.{HasFewestDigits}
 use Rattle.key_value.proofs.Signs.{same_keys}
 use Rattle.key_value.proofs.Wholes.{same_number}
-use Rattle.key_text.specs.Counts.{count_of}
-use Rattle.key_text.specs.FewestDigits.{spare_zeros, fewest_digits}
+use Rattle.jsonb_spec.specs.Document.Counts.{count_of}
+use Rattle.jsonb_spec.specs.SortKey.FewestDigits.{spare_zeros, fewest_digits}
 
 one_spare : (scale m : ℕ) → m % 10 ≡ 0 → spare_zeros (suc scale) m ≡ suc (spare_zeros scale (m / 10))
 unfolding spare_zeros

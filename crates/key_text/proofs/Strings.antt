@@ -4,7 +4,7 @@ use Rattle.std.proofs.Math.Seq.{drop-append_seam, set-append_seam, take-append-a
 use Rattle.std.proofs.lemmas.List.{take-append-drop, take-take, get_or-take, length-take, length-take-le}
 use Rattle.std.proofs.lemmas.Grind.{flat_map-append}
 use Rattle.std.specs.List.{flat_map}
-use Rattle.key_value.specs.Reading.{byte_of, read_as}
+use Rattle.jsonb_spec.specs.SortKey.Reading.{byte_of, read_as}
 use Rattle.key_value.proofs.Texts.{text_begun, byte_read, text_ended}
 use Rattle.jsonb_spec.specs.SortKey.{text_key}
 use Rattle.jsonb_spec.specs.Text.StringText.{ArePlain, byte_text}

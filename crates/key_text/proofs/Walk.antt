@@ -1,16 +1,17 @@
 -- The text of what is open while a key is walked.
 use Rattle.std.proofs.Common.{◌≡◌, ℕ, zero, suc, ◌+◌, ◌<◌, ◌≤◌, ◌⊎◌, inl, inr, Bool, true, false, List, [], ◌∷◌, ◌++◌, get_or, set, length, replicate, refl, sym, ap, subst, ◌∙◌, arith, append_assoc, append-nil, length-append}
-use Rattle.key_walk.specs.Open.{Open, items, members, is_object, open_key, IsOpen, end_key}
+use Rattle.jsonb_spec.specs.SortKey.Open.{Open, items, members, is_object, open_key, IsOpen, end_key}
 use Rattle.std.proofs.lemmas.List.{get_or-set_same}
 use Rattle.key_walk.proofs.Opens.{Next, no_end, stack_retained}
-use Rattle.key_walk.specs.Steps.{opens_key, AreOpen, Stacks}
+use Rattle.jsonb_spec.specs.SortKey.Steps.{opens_key, AreOpen, Stacks}
 use Rattle.jsonb_spec.specs.SortKey.{key_of, items_key, members_key, text_key}
 use Rattle.jsonb_spec.specs.Text.{tree_text}
 use Rattle.jsonb_spec.specs.Text.Appending.{comma_before}
 use Rattle.jsonb_spec.specs.Tree.{no_trees, more_trees, no_members, more_members}
 use Rattle.jsonb_core.proofs.Appending.Appended.{IsUnderway, goes_on, fits}
 use Rattle.key_text.proofs.Counts.{due_as, due_behind, opens_each}
-use Rattle.key_text.specs.Counts.{counts_at, counts_at_items, counts_at_members, counts_open, opens_counts, IsDue}
+use Rattle.jsonb_spec.specs.Document.Counts.{counts_at, counts_at_items, counts_at_members, counts_open, opens_counts}
+use Rattle.key_text.specs.Counts.{IsDue}
 use Rattle.key_text.specs.Writes.{items_left, members_left, open_text, name_text, opening_text, closing_text}
 
 -- what is left of the texts of those that are open

@@ -1,6 +1,6 @@
 -- The text of a tree, piece by piece, and the tree with the fewest digits.
 use Rattle.std.proofs.Common.{◌≡◌, ℕ, zero, suc, Bool, true, false, ◌&&◌, ◌+◌, ◌-◌, List, [], ◌∷◌, ◌++◌, Some, None, if◌then◌else◌, length, replicate, refl, ap, ap₂, ◌∙◌, append_assoc, arith}
-use Rattle.key_value.specs.Readable.{HasFewestDigits, IsAnyNumber, IsReadable}
+use Rattle.jsonb_spec.specs.SortKey.Readable.{HasFewestDigits, IsAnyNumber, IsReadable}
 use Rattle.jsonb_spec.specs.Grammar.{max_depth}
 use Rattle.jsonb_spec.specs.Proper.{IsProper, AreProper, HaveProperParts}
 use Rattle.jsonb_spec.specs.SortKey.{key_of, number_key, items_key, members_key, text_key}
@@ -11,9 +11,10 @@ use Rattle.jsonb_spec.specs.Text.Range.{IsWithin, AreWithin, HaveWithin}
 use Rattle.jsonb_spec.specs.Text.StringText.{quoted_text}
 use Rattle.jsonb_spec.specs.Tree.{Num, Tree, null, boolean, string, number, array, object, binary, date, timestamp, timestamp_tz, interval, Trees, no_trees, more_trees, Members, no_members, more_members}
 use Rattle.jsonb_core.proofs.Appending.Pieces.{texts_left, texts_left-comma, key_split}
-use Rattle.key_text.specs.Counts.{counts_at, counts_at_items, counts_at_members, AreZeros}
-use Rattle.key_text.specs.FewestDigits.{fewest_digits, with_fewest_digits, items_with_fewest_digits, members_with_fewest_digits, AppendsTextOf}
-use Rattle.key_text.specs.Writes.{value_text, items_left, members_left, name_text}
+use Rattle.jsonb_spec.specs.Document.Counts.{counts_at, counts_at_items, counts_at_members, AreZeros}
+use Rattle.jsonb_spec.specs.SortKey.FewestDigits.{fewest_digits, with_fewest_digits, items_with_fewest_digits, members_with_fewest_digits, AppendsTextOf}
+use Rattle.jsonb_spec.specs.SortKey.Text.{value_text}
+use Rattle.key_text.specs.Writes.{items_left, members_left, name_text}
 use Rattle.key_text.proofs.Spares.{fewest_key, fewest_has, fewest_proper, none_to_spare}
 
 -- ---- the text

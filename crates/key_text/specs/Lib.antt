@@ -1,4 +1,3 @@
-pub mod FewestDigits
 pub mod Counts
 pub mod NextParts
 pub mod Writes

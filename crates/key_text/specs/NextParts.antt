@@ -8,7 +8,7 @@ use Rattle.key_text.specs.declared.write.Next.{Next}
 use Rattle.key_text.specs.declared.write.Next.TheVariants as next
 use Rattle.key_value.specs.declared.error.KeyError.{KeyError}
 use Rattle.key_value.specs.declared.error.KeyError.TheVariants.{OutOfMemory}
-use Rattle.key_walk.specs.Open.{end_key, name_key}
+use Rattle.jsonb_spec.specs.SortKey.Open.{end_key, name_key}
 
 -- The bytes don't begin with the end.
 abbrev pub NoEnd : Bool → List ℕ → Type 0

@@ -5,21 +5,16 @@ use Rattle.std.specs.List.{flat_map}
 use Rattle.std.specs.declared.alloc.Global.{Global}
 use Rattle.key_value.specs.declared.error.KeyError.{KeyError}
 use Rattle.key_value.specs.declared.error.KeyError.TheVariants.{OutOfMemory}
-use Rattle.key_value.specs.Reading.{IsDigits}
-use Rattle.key_walk.specs.Open.{Open, items, members}
+use Rattle.jsonb_spec.specs.SortKey.Reading.{IsDigits}
+use Rattle.jsonb_spec.specs.SortKey.Open.{Open, items, members}
 use Rattle.jsonb_spec.specs.Ascii as ascii
 use Rattle.jsonb_spec.specs.SortKey.{text_key, digits_key, invert_if}
 use Rattle.jsonb_spec.specs.SortKey.Kind as kind
-use Rattle.jsonb_spec.specs.Text.Appending.{Extends, comma_before}
+use Rattle.jsonb_spec.specs.Text.Appending.{comma_before}
 use Rattle.jsonb_spec.specs.Text.StringText.{byte_text, quoted_text}
 use Rattle.jsonb_spec.specs.Text.{tree_text}
-use Rattle.jsonb_spec.specs.Tree.{Tree, Trees, no_trees, more_trees, Members, no_members, more_members}
-use Rattle.key_text.specs.FewestDigits.{with_fewest_digits}
-
--- Nothing that was there is lost.
-pub record Preserves (old new : Vec ℕ Global) : Type 0 where
-  pub retained : Extends old.items new.items
-  pub capacity : vec_capacity old ≤ vec_capacity new
+use Rattle.jsonb_spec.specs.Tree.{Trees, no_trees, more_trees, Members, no_members, more_members}
+use Rattle.jsonb_spec.specs.SortKey.Text.{Preserves}
 
 -- The text is appended, and these bytes are left. Else memory ran out, as the capacity for all of the text is missing.
 abbrev pub Writes : {X : Type 0} → (X → List ℕ) → Result X KeyError → Vec ℕ Global → Vec ℕ Global → List ℕ → List ℕ
@@ -47,14 +42,6 @@ pub record TakesSome (bytes : List ℕ) (count : ℕ) (old new : Vec ℕ Global)
   pub none : count ≡ 0 → new.items ≡ old.items
   pub within : count ≤ length bytes
   pub preserves : Preserves old new
-
--- The capacity for these bytes is missing.
-abbrev pub LacksCapacity : Vec ℕ Global → List ℕ → Type 0
-LacksCapacity buf bytes = vec_capacity buf < vec_len buf + length bytes
-
--- the text of a value with the fewest digits
-abbrev pub value_text : Tree → List ℕ
-value_text t = tree_text (with_fewest_digits t)
 
 -- what is left of an array's text
 abbrev pub items_left : Bool → Trees → List ℕ

@@ -7,8 +7,9 @@ ghost use Rattle.jsonb_spec.specs.SortKey.{number_key, digits_key, invert_if};
 ghost use Rattle.jsonb_spec.specs.Text.Appending.{Appends};
 ghost use Rattle.jsonb_spec.specs.Text.NumberText.{number_text};
 ghost use Rattle.jsonb_spec.specs.Tree.{Num};
-ghost use Rattle.key_text.specs.FewestDigits.{fewest_digits};
-ghost use Rattle.key_text.specs.Writes.{IsEncoded, HasPairs, Preserves, AppendsLeaving, AppendsPair, Takes, TakesInteger, TakesSome, scaled_text};
+ghost use Rattle.jsonb_spec.specs.SortKey.FewestDigits.{fewest_digits};
+ghost use Rattle.key_text.specs.Writes.{IsEncoded, HasPairs, AppendsLeaving, AppendsPair, Takes, TakesInteger, TakesSome, scaled_text};
+ghost use Rattle.jsonb_spec.specs.SortKey.Text.{Preserves};
 
 use crate::append::{append_chunk, append_within};
 use jsonb_core::sort_key::kind;

@@ -1,11 +1,12 @@
 //! The bytes of a string from its key, with their escapes.
 ghost use Rattle.std.specs.Prelude.{◌≡◌, ◌+◌, ◌<◌, ◌≤◌, ◌++◌, ◌∷◌, [], ℕ, List, length, take, get_or, true, IsTrue, IfOk};
-ghost use Rattle.key_walk.specs.Open.{name_key, end_key};
+ghost use Rattle.jsonb_spec.specs.SortKey.Open.{name_key, end_key};
 ghost use Rattle.jsonb_spec.specs.Ascii as ascii;
 ghost use Rattle.jsonb_spec.specs.SortKey.{text_key};
 ghost use Rattle.jsonb_spec.specs.Text.Appending.{Appends, comma_before};
 ghost use Rattle.jsonb_spec.specs.Text.StringText.{ArePlain, quoted_text};
-ghost use Rattle.key_text.specs.Writes.{closing_quote, name_text, AppendsLeaving, AppendsOrNot, Preserves, Takes, TakesSome, WritesString};
+ghost use Rattle.key_text.specs.Writes.{closing_quote, name_text, AppendsLeaving, AppendsOrNot, Takes, TakesSome, WritesString};
+ghost use Rattle.jsonb_spec.specs.SortKey.Text.{Preserves};
 
 use crate::append::{append_first, append_within};
 use jsonb_core::plain::{append_byte, plain_len, run_of_sixteen};

@@ -2,19 +2,21 @@
 
 ghost use Rattle.std.specs.Prelude.{◌≡◌, ◌<◌, ◌≤◌, ◌++◌, ◌∷◌, [], List, ℕ, length, true, IsTrue, IsFalse, IfOk, IfErr, OnErr, OnOk};
 ghost use Rattle.std.specs.Vec.{vec_capacity};
-ghost use Rattle.key_value.specs.Readable.{IsReadableAt};
-ghost use Rattle.key_walk.specs.AtKeys.{AtKey, AtParts, OfKey};
-ghost use Rattle.key_walk.specs.Checked.{IsSortKey};
-ghost use Rattle.key_walk.specs.Open.{name_key, IsScalar};
+ghost use Rattle.jsonb_spec.specs.SortKey.Readable.{IsReadableAt};
+ghost use Rattle.jsonb_spec.specs.SortKey.AtKeys.{AtKey, AtParts, OfKey};
+ghost use Rattle.jsonb_spec.specs.SortKey.Checked.{IsSortKey};
+ghost use Rattle.jsonb_spec.specs.SortKey.Open.{name_key, IsScalar};
 ghost use Rattle.jsonb_spec.specs.Ascii as ascii;
 ghost use Rattle.jsonb_spec.specs.SortKey.{key_of};
 ghost use Rattle.jsonb_spec.specs.Text.Appending.{Appends, comma_before};
 ghost use Rattle.jsonb_spec.specs.Text.{tree_text};
 ghost use Rattle.jsonb_spec.specs.Tree.{Tree};
-ghost use Rattle.key_text.specs.Counts.{counts_at, counts_open, IsDue, WhereDue};
-ghost use Rattle.key_text.specs.FewestDigits.{AppendsTextOf, AppendsDocumentWithKey};
+ghost use Rattle.jsonb_spec.specs.Document.Counts.{counts_at, counts_open};
+ghost use Rattle.key_text.specs.Counts.{IsDue, WhereDue};
+ghost use Rattle.jsonb_spec.specs.SortKey.FewestDigits.{AppendsTextOf, AppendsDocumentWithKey};
 ghost use Rattle.key_text.specs.NextParts.{BeginsNext, NextIsWithin};
-ghost use Rattle.key_text.specs.Writes.{AppendsWord, Preserves, LacksCapacity, AppendsLeaving, name_text, opening_text, open_text, closing_text, value_text};
+ghost use Rattle.key_text.specs.Writes.{AppendsWord, AppendsLeaving, name_text, opening_text, open_text, closing_text};
+ghost use Rattle.jsonb_spec.specs.SortKey.Text.{Preserves, LacksCapacity, value_text};
 
 use crate::append::{append_one, append_within};
 use crate::number::{append_integer, append_number};

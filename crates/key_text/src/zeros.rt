@@ -4,9 +4,10 @@ ghost use Rattle.std.specs.Prelude.{◌≡◌, ◌++◌, ◌∷◌, ℕ, suc, Li
 ghost use Rattle.jsonb_spec.specs.Proper.{IsProperNumber};
 ghost use Rattle.jsonb_spec.specs.Text.NumberText.{number_text};
 ghost use Rattle.jsonb_spec.specs.Tree.{Num};
-ghost use Rattle.key_text.specs.Counts.{count_of, AreZeros, Completes};
-ghost use Rattle.key_text.specs.FewestDigits.{fewest_digits};
-ghost use Rattle.key_text.specs.Writes.{Preserves};
+ghost use Rattle.jsonb_spec.specs.Document.Counts.{count_of, AreZeros};
+ghost use Rattle.key_text.specs.Counts.{Completes};
+ghost use Rattle.jsonb_spec.specs.SortKey.FewestDigits.{fewest_digits};
+ghost use Rattle.jsonb_spec.specs.SortKey.Text.{Preserves};
 
 use key_value::KeyError;
 

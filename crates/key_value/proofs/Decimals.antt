@@ -11,8 +11,8 @@ use Rattle.jsonb_core.proofs.Numbers.Nearest.{signed_multiple, signed_parts, uns
 use Rattle.jsonb_core.proofs.SortKeys.Digits.{ten}
 use Rattle.jsonb_spec.specs.Number.Signed.{signed_by}
 use Rattle.jsonb_spec.specs.Tree.{Num}
-use Rattle.key_value.specs.Decimals.{HasFewDigits, HasManyDigits}
-use Rattle.key_value.specs.Reading.{IsPointed}
+use Rattle.jsonb_spec.specs.SortKey.Decimals.{HasFewDigits, HasManyDigits}
+use Rattle.jsonb_spec.specs.SortKey.Reading.{IsPointed}
 use Rattle.key_value.proofs.Numbers.{cancel}
 use Rattle.key_value.proofs.Texts.{none_some}
 use Rattle.key_value.proofs.Wholes.{with_point, HasParts}

@@ -18,7 +18,7 @@ use Rattle.std.specs.declared.cmp.Ordering.TheVariants.{Equal}
 use Rattle.std.proofs.lemmas.Map.Lookups.{exact_bytes}
 use Rattle.jsonb_core.proofs.Trees.Runs.{heads}
 use Rattle.key_value.proofs.Numbers.{turned_twice, far_exponent, near_exponent}
-use Rattle.key_value.specs.Reading.{IsLastPair}
+use Rattle.jsonb_spec.specs.SortKey.Reading.{IsLastPair}
 
 -- what holds of the value holds of it in another form
 pub if_some : {A : Type 0} {P Q : A → Type 0} (o : Option A) → IfSome o P → ((a : A) → P a → Q a) → IfSome o Q

@@ -7,7 +7,7 @@ use Rattle.jsonb_spec.specs.Tree.{Num, Tree, null, boolean, string, number, arra
 use Rattle.jsonb_core.proofs.SortKeys.Kinds.{begins, is_small, number_begins}
 use Rattle.jsonb_core.proofs.SortKeys.Texts.{text_key-other}
 use Rattle.jsonb_core.proofs.Trees.Runs.{heads, tails}
-use Rattle.key_value.specs.Readable.{IsAnyNumber, IsReadableAt}
+use Rattle.jsonb_spec.specs.SortKey.Readable.{IsAnyNumber, IsReadableAt}
 
 -- what the first byte and the bytes after it are, by the kind
 abbrev Begun : ℕ → Tree → ℕ → List ℕ → List ℕ → Type 0

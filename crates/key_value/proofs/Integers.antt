@@ -19,7 +19,7 @@ use Rattle.std.proofs.lemmas.Nat.{pow-add}
 use Rattle.jsonb_core.proofs.SortKeys.Digits.{ten}
 use Rattle.jsonb_core.proofs.Numbers.Nearest.{unsigned_abs-signed}
 use Rattle.jsonb_core.proofs.Numbers.Quotients.{ten_positive}
-use Rattle.key_value.specs.Reading.{exponent_of, read_as, IsDigits, ReadsDigits}
+use Rattle.jsonb_spec.specs.SortKey.Reading.{exponent_of, read_as, IsDigits, ReadsDigits}
 use Rattle.key_value.proofs.Numbers.{all_with_last, cancel}
 use Rattle.key_value.proofs.Signs.{is_exponent, signed_read, some_exponent, IsSigned}
 use Rattle.key_value.proofs.Wholes.{most, same_number, HasParts}

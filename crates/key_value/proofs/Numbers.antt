@@ -7,7 +7,7 @@ use Rattle.std.specs.Bool.{nat_lt}
 use Rattle.jsonb_spec.specs.SortKey.{invert_if, exponent_key, digits_key}
 use Rattle.jsonb_core.proofs.SortKeys.Digits.{ten, hundred, mul-pos, last_pair, more_pairs}
 use Rattle.jsonb_core.proofs.Trees.Runs.{heads, tails}
-use Rattle.key_value.specs.Reading.{exponent_of, read_as, DigitsLeft, ReadsDigits, IsDigits, IsLastPair, IsNoLastPair}
+use Rattle.jsonb_spec.specs.SortKey.Reading.{exponent_of, read_as, DigitsLeft, ReadsDigits, IsDigits, IsLastPair, IsNoLastPair}
 
 -- ---- the exponent
 

@@ -13,7 +13,7 @@ use Rattle.jsonb_core.proofs.SortKeys.Kinds.{is_small, number_begins}
 use Rattle.jsonb_core.proofs.SortKeys.Numbers.{positive, negative, nothing_there, head_of, magnitude_split}
 use Rattle.jsonb_core.proofs.SortKeys.Trees.{keys_same}
 use Rattle.jsonb_core.proofs.Trees.Runs.{heads, tails}
-use Rattle.key_value.specs.Reading.{exponent_of, read_as}
+use Rattle.jsonb_spec.specs.SortKey.Reading.{exponent_of, read_as}
 use Rattle.key_value.proofs.Numbers.{exponent_read}
 use Rattle.key_value.proofs.Texts.{none_some, some_pair}
 

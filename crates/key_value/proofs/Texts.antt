@@ -3,7 +3,7 @@ use Rattle.std.proofs.Common.{◌≡◌, ℕ, zero, suc, List, [], ◌∷◌, �
 use Rattle.std.proofs.lemmas.Bool.{ne_eqb, cond-false}
 use Rattle.jsonb_spec.specs.SortKey.{text_key}
 use Rattle.jsonb_core.proofs.SortKeys.Texts.{text_key-other}
-use Rattle.key_value.specs.Reading.{byte_of, read_as}
+use Rattle.jsonb_spec.specs.SortKey.Reading.{byte_of, read_as}
 
 -- ---- what equations say
 

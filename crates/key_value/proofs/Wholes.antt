@@ -16,7 +16,7 @@ use Rattle.jsonb_spec.specs.Order.{decimal_cmp, num_cmp}
 use Rattle.jsonb_spec.specs.Proper.{FitsWhole, IsProperNumber}
 use Rattle.jsonb_spec.specs.Tree.{Form, int64, uint64, decimal64, decimal128, Num}
 use Rattle.jsonb_core.proofs.SortKeys.Digits.{ten}
-use Rattle.key_value.specs.Reading.{IsDigits, IsPointed}
+use Rattle.jsonb_spec.specs.SortKey.Reading.{IsDigits, IsPointed}
 use Rattle.key_value.proofs.Numbers.{cancel}
 
 -- ---- how large a number is

@@ -1,3 +1,1 @@
-pub mod Readable
-pub mod Reading
-pub mod Decimals
+pub mod ErrorText

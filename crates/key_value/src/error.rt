@@ -13,7 +13,7 @@ pub enum KeyError {
 
 impl fmt::Display for KeyError {
     ghost use Rattle.std.specs.Prelude.{Some};
-    ghost use Rattle.key_value.specs.Readable.{key_error_text};
+    ghost use Rattle.key_value.specs.ErrorText.{key_error_text};
 
     ghost output = { λ error. Some (key_error_text error) };
 

@@ -7,8 +7,8 @@ ghost use Rattle.jsonb_spec.specs.Number.Signed.{signed_by};
 ghost use Rattle.jsonb_spec.specs.Proper.{IsProperNumber};
 ghost use Rattle.jsonb_spec.specs.SortKey.{number_key, digits_key, invert_if};
 ghost use Rattle.jsonb_spec.specs.Tree.{Num};
-ghost use Rattle.key_value.specs.Decimals.{HasFewDigits, HasManyDigits};
-ghost use Rattle.key_value.specs.Reading.{exponent_of, second_of, ExponentOccurs, IsDigits, IsLastPair, IsNoLastPair, IsPointed, ReadsDigits};
+ghost use Rattle.jsonb_spec.specs.SortKey.Decimals.{HasFewDigits, HasManyDigits};
+ghost use Rattle.jsonb_spec.specs.SortKey.Reading.{exponent_of, second_of, ExponentOccurs, IsDigits, IsLastPair, IsNoLastPair, IsPointed, ReadsDigits};
 
 use jsonb_core::sort_key::kind;
 

@@ -1,7 +1,7 @@
 //! The bytes of the texts of sort keys.
 
 ghost use Rattle.std.specs.Prelude.{◌≡◌, ◌<◌, ◌∷◌, List, ℕ, length, IfSome, option_map, Some};
-ghost use Rattle.key_value.specs.Reading.{byte_of, escape_of};
+ghost use Rattle.jsonb_spec.specs.SortKey.Reading.{byte_of, escape_of};
 
 use jsonb_core::sort_key::kind;
 

@@ -1,10 +1,10 @@
 -- Two keys that are walked side by side: members and items, up to where they were walked.
 use Rattle.std.proofs.Common.{◌≡◌, ℕ, ◌≤◌, ◌⊎◌, inl, inr, true, false, ◌&&◌, ◌||◌, List, [], ◌++◌, None, Less, Equal, Greater, refl, sym, ap, subst, ◌∙◌, append_assoc}
 use Rattle.std.specs.Str.{bytes_eq}
-use Rattle.key_value.specs.Readable.{IsReadableAt}
+use Rattle.jsonb_spec.specs.SortKey.Readable.{IsReadableAt}
 use Rattle.key_walk.specs.declared.containment.Walk.{Walk}
 use Rattle.jsonb_spec.specs.Containment.{any_item, holds, holds_members}
-use Rattle.key_walk.specs.Open.{items, end_key}
+use Rattle.jsonb_spec.specs.SortKey.Open.{items, end_key}
 use Rattle.key_walk.specs.SideBySide.{AreReadableAt, HaveReadableAt, IsLeft, Occurs, OccursInside}
 use Rattle.key_walk.proofs.Holding.{below_more, drop_below, none_past, one_passed, first_found, items_open}
 use Rattle.key_walk.proofs.Opens.{no_end}

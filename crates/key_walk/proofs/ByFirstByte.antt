@@ -2,12 +2,13 @@
 use Rattle.std.proofs.Common.{◌↔◌, subst, length, ◌≡◌, ◌≢◌, inl, inr, Bool, true, false, if◌then◌else◌, ℕ, ◌+◌, ◌-◌, ◌<◌, ◌≤◌, ◌∷◌, ◌++◌, List, map, unsigned_abs, Option, Some, None, MatchOption, refl, sym, ap, ◌∙◌, arith}
 use Rattle.std.proofs.lemmas.Bool.{cases_lt, cases_eq}
 use Rattle.std.specs.Bool.{nat_lt}
-use Rattle.key_value.specs.Readable.{IsReadable}
+use Rattle.jsonb_spec.specs.SortKey.Readable.{IsReadable}
 use Rattle.key_value.proofs.Numbers.{far_exponent, near_exponent}
 use Rattle.key_value.proofs.Signs.{signed_read}
 use Rattle.key_walk.specs.declared.walk.Kind.{Kind}
 use Rattle.key_walk.specs.declared.walk.Kind.TheVariants as kind
-use Rattle.key_walk.specs.Parts.{BeginsNoKey, IsFirstByte, IsNumberByte, kind_of_tree}
+use Rattle.key_walk.specs.Parts.{BeginsNoKey, IsFirstByte, kind_of_tree}
+use Rattle.jsonb_spec.specs.SortKey.Parts.{IsNumberByte}
 use Rattle.jsonb_spec.specs.Accessors.{as_boolean}
 use Rattle.jsonb_spec.specs.Proper.{IsProperNumber}
 use Rattle.jsonb_spec.specs.SortKey.{key_of, number_key, digits_key, invert_if, items_key, members_key, text_key}

@@ -1,12 +1,12 @@
 -- What the child of a value is, and arrays and objects by the first bytes of their keys.
 use Rattle.std.proofs.Common.{◌≡◌, ℕ, ◌≤◌, Bool, true, false, List, ◌∷◌, ◌++◌, Option, Some, None, refl, sym, ap, ◌∙◌, arith}
 use Rattle.std.specs.Option.{option_and_then}
-use Rattle.key_value.specs.Readable.{IsAnyNumber, IsReadable, IsReadableAt}
+use Rattle.jsonb_spec.specs.SortKey.Readable.{IsAnyNumber, IsReadable, IsReadableAt}
 use Rattle.jsonb_spec.specs.PartAt.{IsChild, child_at, index_named}
 use Rattle.jsonb_path.proofs.PartIndex.{names_index}
 use Rattle.jsonb_path.proofs.PartsReadBack.{deeper}
-use Rattle.key_walk.specs.Open.{Open, items, members, is_object, open_key, IsOpen, opening_byte}
-use Rattle.key_walk.specs.Parts.{opened_tree}
+use Rattle.jsonb_spec.specs.SortKey.Open.{Open, items, members, is_object, open_key, IsOpen, opening_byte}
+use Rattle.jsonb_spec.specs.SortKey.Parts.{opened_tree}
 use Rattle.jsonb_spec.specs.Accessors.{item_at}
 use Rattle.jsonb_spec.specs.SortKey.{key_of, items_key, members_key, text_key}
 use Rattle.jsonb_spec.specs.Tree.{Tree, null, boolean, string, number, array, object, Trees}

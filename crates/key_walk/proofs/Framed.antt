@@ -10,10 +10,10 @@ use Rattle.std.specs.declared.cmp.Ordering.TheVariants.{Less, Equal, Greater}
 use Rattle.std.proofs.lemmas.Cmp.{nat_list_cmp_total, tied_itself}
 use Rattle.std.proofs.lemmas.Map.Lookups.{exact_bytes}
 use Rattle.key_value.proofs.FirstBytes.{no_key}
-use Rattle.key_walk.specs.Checked.{IsSortKey}
+use Rattle.jsonb_spec.specs.SortKey.Checked.{IsSortKey}
 use Rattle.key_walk.specs.Frames.{IsInRangeAt, KeyFirst, ScalarFirst, PartsFirst, Frame, in_array, in_object, is_object_frame, new_frame, IsAbove, NameFirst, frame_behind}
-use Rattle.key_walk.specs.Open.{Open, items, members, is_object, open_key, IsOpenWith, end_key, opening_byte, IsScalar}
-use Rattle.key_walk.specs.Parts.{opened_tree}
+use Rattle.jsonb_spec.specs.SortKey.Open.{Open, items, members, is_object, open_key, IsOpenWith, end_key, opening_byte, IsScalar}
+use Rattle.jsonb_spec.specs.SortKey.Parts.{opened_tree}
 use Rattle.key_walk.proofs.InRange.{readable_at, array_in_range, object_in_range}
 use Rattle.key_walk.proofs.Opens.{no_end}
 use Rattle.key_walk.proofs.Scalars.{scalar_there}

@@ -13,8 +13,7 @@ use Rattle.jsonb_spec.specs.Order.{bytes_cmp}
 use Rattle.jsonb_spec.specs.SortKey.{text_key}
 use Rattle.jsonb_core.proofs.SortKeys.Texts.{text_compares, text_key-other}
 use Rattle.jsonb_core.proofs.Trees.MembersInOrder.{turned}
-use Rattle.key_walk.specs.Frames.{AreNoZeros}
-use Rattle.key_walk.specs.Fronts.{number_of}
+use Rattle.jsonb_spec.specs.SortKey.Front.{AreNoZeros, number_of}
 
 abbrev pub AreBytes : List ℕ → Type 0
 AreBytes bytes = (k : ℕ) → get_or bytes k 0 < 256

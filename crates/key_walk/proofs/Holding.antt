@@ -5,10 +5,10 @@ use Rattle.std.specs.Cmp.Lexicographic.{nat_list_cmp_total}
 use Rattle.std.specs.Ordering.{is_eq, ordering_reverse}
 use Rattle.std.specs.Option.{option_map_or}
 use Rattle.std.specs.Str.{bytes_eq}
-use Rattle.key_value.specs.Readable.{IsAnyNumber, IsReadableAt}
+use Rattle.jsonb_spec.specs.SortKey.Readable.{IsAnyNumber, IsReadableAt}
 use Rattle.jsonb_path.proofs.PartsReadBack.{deeper}
 use Rattle.jsonb_spec.specs.Containment.{holds, holds_members}
-use Rattle.key_walk.specs.Open.{items, members, IsOpen}
+use Rattle.jsonb_spec.specs.SortKey.Open.{items, members, IsOpen}
 use Rattle.key_walk.specs.SideBySide.{AreReadableAt, HaveReadableAt}
 use Rattle.key_walk.proofs.Occurrence.{equal_names, below_all}
 use Rattle.jsonb_spec.specs.Accessors.{find_member}

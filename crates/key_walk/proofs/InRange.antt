@@ -1,7 +1,7 @@
 -- Values in range: they are of JSON's kinds, and what the first byte of a key says of them.
 use Rattle.std.proofs.Common.{◌≡◌, ◌≢◌, ℕ, true, false, List, ◌∷◌, ◌++◌, sym, ap, ◌∙◌, arith}
-use Rattle.key_value.specs.Readable.{IsAnyNumber, IsReadable, IsReadableAt}
-use Rattle.key_walk.specs.Checked.{IsSortKey}
+use Rattle.jsonb_spec.specs.SortKey.Readable.{IsAnyNumber, IsReadable, IsReadableAt}
+use Rattle.jsonb_spec.specs.SortKey.Checked.{IsSortKey}
 use Rattle.key_walk.specs.Frames.{IsInRangeAt}
 use Rattle.jsonb_spec.specs.Proper.{IsProperNumber}
 use Rattle.jsonb_spec.specs.SortKey.{key_of, number_key, items_key, members_key, text_key}

@@ -11,7 +11,7 @@ use Rattle.jsonb_spec.specs.SortKey.{text_key}
 use Rattle.jsonb_core.proofs.SortKeys.Texts.{text_compares, text_key-other}
 use Rattle.key_value.proofs.FirstBytes.{no_pair}
 use Rattle.key_walk.proofs.Fronts.{AreBytes}
-use Rattle.key_walk.specs.Fronts.{number_of}
+use Rattle.jsonb_spec.specs.SortKey.Front.{number_of}
 
 -- a name is bytes where its key is
 pub name_bytes : (name : List ℕ) → AreBytes (text_key name) → AreBytes name

@@ -4,7 +4,7 @@ use Rattle.std.proofs.lemmas.Bool.{cases_lt, le-ltb, lt-ltb}
 use Rattle.std.proofs.lemmas.List.{get_or-map, length-map}
 use Rattle.std.proofs.lemmas.Simd.{get_or-chunk, get_or-sel_l, get_or-zip2, length-zip2}
 use Rattle.std.specs.Simd.Lanes.{chunk, sel_l, top, zip2, Each1}
-use Rattle.key_walk.specs.Frames.{AreNoZeros}
+use Rattle.jsonb_spec.specs.SortKey.Front.{AreNoZeros}
 
 -- the lesser of two is no zero
 both_none : (a b : ℕ) → cond (ltb a b) a b ≢ 0 → (a ≢ 0) × (b ≢ 0)

@@ -1,13 +1,13 @@
 -- What the bytes begin with, which are left of an array or an object.
 use Rattle.std.proofs.Common.{◌≡◌, ◌≢◌, ℕ, ◌⊎◌, inl, inr, Bool, List, [], ◌∷◌, ◌++◌, Some, None, refl, sym, ap, subst, ◌∙◌, append_assoc}
-use Rattle.key_value.specs.Readable.{IsReadable, IsReadableAt}
+use Rattle.jsonb_spec.specs.SortKey.Readable.{IsReadable, IsReadableAt}
 use Rattle.key_value.proofs.Texts.{none_some, some_same}
 use Rattle.jsonb_spec.specs.SortKey.{key_of, items_key, members_key, text_key}
 use Rattle.jsonb_spec.specs.Tree.{Tree, null, boolean, string, number, array, object, no_trees, more_trees, no_members, more_members}
-use Rattle.key_walk.specs.Open.{Open, items, members, end_key, is_object, name_key, open_key, opening_byte, IsOpen, IsScalar}
-use Rattle.key_walk.specs.NextPart.{BeginsWithEnd, BeginsWithOpening, BeginsWithScalar}
+use Rattle.jsonb_spec.specs.SortKey.Open.{Open, items, members, end_key, is_object, name_key, open_key, opening_byte, IsOpen, IsScalar}
+use Rattle.jsonb_spec.specs.SortKey.Steps.{BeginsWithEnd, IsOver, IsPart}
+use Rattle.key_walk.specs.NextPart.{BeginsWithOpening, BeginsWithScalar}
 use Rattle.key_walk.specs.Parts.{kind_of_tree}
-use Rattle.key_walk.specs.Steps.{IsOver, IsPart}
 use Rattle.key_walk.specs.declared.part.Opened.{Opened}
 use Rattle.key_walk.specs.declared.part.ScalarPart.{ScalarPart}
 use Rattle.key_walk.specs.declared.walk.Kind.{Kind}

@@ -13,7 +13,7 @@ use Rattle.std.specs.Prelude.{FitsSigned}
 use Rattle.std.specs.Ordering.{ordering_then}
 use Rattle.std.specs.declared.cmp.Ordering.{Ordering}
 use Rattle.std.specs.declared.cmp.Ordering.TheVariants.{Less, Equal, Greater}
-use Rattle.key_value.specs.Reading.{IsLastPair, ReadsDigits}
+use Rattle.jsonb_spec.specs.SortKey.Reading.{IsLastPair, ReadsDigits}
 use Rattle.key_value.proofs.Exact.{DigitsRead, none_read, one_pair_read, last_pair_read, first_digit, digit_there, up_key, down_key}
 use Rattle.key_value.proofs.Numbers.{digits_begun, last_none, last_some, pair_read, pair_small, not_over}
 use Rattle.key_value.proofs.Signs.{IsSigned, signed_read}

@@ -7,14 +7,16 @@ use Rattle.std.specs.Cmp.Lexicographic.{slice_cmp, nat_list_cmp_total}
 use Rattle.std.specs.Option.{option_and_then}
 use Rattle.std.specs.Ordering.{is_eq, nat_cmp}
 use Rattle.std.specs.Str.{bytes_eq}
-use Rattle.key_value.specs.Readable.{IsAnyNumber, IsReadable}
+use Rattle.jsonb_spec.specs.SortKey.Readable.{IsAnyNumber, IsReadable}
 use Rattle.key_value.proofs.Texts.{none_some, some_same}
 use Rattle.jsonb_spec.specs.PartAt.{child_at, part_at}
 use Rattle.key_walk.specs.declared.find.NoKey.{NoKey}
 use Rattle.key_walk.specs.declared.walk.Kind.TheVariants as kind
-use Rattle.key_walk.specs.Found.{item_back, item_from, open_len, Finds, IsLeftOf, IsNext, PartOccurs}
-use Rattle.key_walk.specs.Open.{Open, items, members, is_object, open_key, IsOpen, end_key, name_key}
-use Rattle.key_walk.specs.Parts.{kind_of_tree, opened_tree}
+use Rattle.jsonb_spec.specs.SortKey.Found.{item_back, item_from, IsLeftOf, PartOccurs}
+use Rattle.key_walk.specs.Found.{open_len, Finds, IsNext}
+use Rattle.jsonb_spec.specs.SortKey.Open.{Open, items, members, is_object, open_key, IsOpen, end_key, name_key}
+use Rattle.key_walk.specs.Parts.{kind_of_tree}
+use Rattle.jsonb_spec.specs.SortKey.Parts.{opened_tree}
 use Rattle.key_walk.proofs.Finds.{Parent, readable_inside}
 use Rattle.key_walk.proofs.Opens.{no_end}
 use Rattle.jsonb_spec.specs.Accessors.{find_member, item_at, trees_len}

@@ -1,10 +1,10 @@
 -- Arrays and objects that are open while a key is walked, and what is left of their keys.
 use Rattle.std.proofs.Common.{◌≡◌, ◌≢◌, ℕ, zero, suc, ◌+◌, ◌<◌, ◌≤◌, ◌⊎◌, inl, inr, Bool, true, false, List, [], ◌∷◌, ◌++◌, Some, None, get_or, set, length, refl, sym, ap, subst, ◌∙◌, arith, append_assoc, append-nil}
 use Rattle.std.proofs.lemmas.List.{get_or-set_same, get_or-set_other}
-use Rattle.key_value.specs.Readable.{IsReadableAt}
+use Rattle.jsonb_spec.specs.SortKey.Readable.{IsReadableAt}
 use Rattle.key_value.proofs.FirstBytes.{no_pair, no_zero}
-use Rattle.key_walk.specs.Open.{Open, items, members, is_object, open_key, IsOpen, end_key, name_key}
-use Rattle.key_walk.specs.Steps.{AreOpen, Stacks, opens_key}
+use Rattle.jsonb_spec.specs.SortKey.Open.{Open, items, members, is_object, open_key, IsOpen, end_key, name_key}
+use Rattle.jsonb_spec.specs.SortKey.Steps.{AreOpen, Stacks, opens_key}
 use Rattle.jsonb_spec.specs.SortKey.{key_of}
 use Rattle.jsonb_spec.specs.Tree.{Tree, no_trees, more_trees, no_members, more_members}
 

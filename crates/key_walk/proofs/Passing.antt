@@ -6,10 +6,11 @@ use Rattle.jsonb_spec.specs.Keys.{IsBelowKeys}
 use Rattle.jsonb_spec.specs.Order.{bytes_cmp}
 use Rattle.jsonb_spec.specs.SortKey.{key_of, members_key, text_key}
 use Rattle.jsonb_spec.specs.Tree.{Tree, Members, no_members, more_members}
-use Rattle.key_value.specs.Readable.{IsReadable}
-use Rattle.key_walk.specs.Checked.{HaveReadable}
-use Rattle.key_walk.specs.Open.{end_key}
-use Rattle.key_walk.specs.Passing.{AreBelow, PassesBelow, joined_members}
+use Rattle.jsonb_spec.specs.SortKey.Readable.{IsReadable}
+use Rattle.jsonb_spec.specs.SortKey.Checked.{HaveReadable}
+use Rattle.jsonb_spec.specs.SortKey.Open.{end_key}
+use Rattle.jsonb_spec.specs.SortKey.Passing.{AreBelow, joined_members}
+use Rattle.key_walk.specs.Passing.{PassesBelow}
 use Rattle.key_walk.proofs.Finds.{readable_inside}
 use Rattle.key_walk.proofs.KeyFronts.{same_names}
 use Rattle.key_walk.proofs.Opens.{no_end}

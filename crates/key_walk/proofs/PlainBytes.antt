@@ -9,7 +9,8 @@ use Rattle.std.specs.Int.{trailing_zeros, w64}
 use Rattle.std.specs.List.{prefix_len}
 use Rattle.std.specs.Simd.Lanes.{chunk, mask_l, top}
 use Rattle.memchr.specs.Find.{IsFirstByte, is_byte}
-use Rattle.key_walk.specs.Frames.{AreNoZeros, ArePlain, TextFirst, Utf8UpTo}
+use Rattle.jsonb_spec.specs.SortKey.Front.{AreNoZeros}
+use Rattle.key_walk.specs.Frames.{ArePlain, TextFirst, Utf8UpTo}
 use Rattle.key_walk.proofs.AfterTexts.{some_zero, is_zero}
 use Rattle.key_walk.proofs.CheckedTexts.{zero_up_to, run_is_utf8}
 

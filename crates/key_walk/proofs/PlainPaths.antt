@@ -2,15 +2,16 @@
 use Rattle.std.proofs.Common.{◌≡◌, ℕ, List, [], ◌∷◌, ◌++◌, Bor, Option, Some, None, Result, Ok, Err, IsUtf8, eqb, false, length, true≢false, refl, sym, ap, subst, ◌∙◌}
 use Rattle.std.specs.List.{AllByRecursion}
 use Rattle.std.specs.Option.{option_and_then}
-use Rattle.key_value.specs.Readable.{IsReadable}
+use Rattle.jsonb_spec.specs.SortKey.Readable.{IsReadable}
 use Rattle.jsonb_path.proofs.KeyEncoding.{after_key, path_alone}
-use Rattle.jsonb_path.specs.KeyEncoding.{BeginsPlain, Reads}
-use Rattle.jsonb_path.specs.Path.{IsPath, IsPlainKey, IsPlainPath, encoded_keys}
+use Rattle.jsonb_spec.specs.Path.KeyEncoding.{BeginsPlain, Reads}
+use Rattle.jsonb_spec.specs.Path.{IsPath, IsPlainKey, IsPlainPath, encoded_keys}
 use Rattle.jsonb_spec.specs.PartAt.{child_at, part_at}
 use Rattle.jsonb_spec.specs.SortKey.{key_of}
 use Rattle.jsonb_spec.specs.Tree.{Tree}
 use Rattle.key_walk.specs.declared.find.NoKey.{NoKey}
-use Rattle.key_walk.specs.Found.{Finds, PartOccurs}
+use Rattle.key_walk.specs.Found.{Finds}
+use Rattle.jsonb_spec.specs.SortKey.Found.{PartOccurs}
 use Rattle.key_walk.proofs.Occurrence.{inside_of}
 
 -- what is found of a path of which so much is read

@@ -1,7 +1,7 @@
 -- Keys of values that are no arrays and no objects, by their first byte.
 use Rattle.std.proofs.Common.{◌≡◌, ◌≢◌, ◌⊎◌, inl, inr, Bool, true, false, ℕ, zero, suc, ◌∷◌, ◌++◌, List, refl, sym, ap, subst, ◌∙◌, arith}
-use Rattle.key_value.specs.Readable.{IsReadableAt}
-use Rattle.key_walk.specs.Open.{IsScalar, Open, items, members, IsOpen, is_object, open_key, opening_byte}
+use Rattle.jsonb_spec.specs.SortKey.Readable.{IsReadableAt}
+use Rattle.jsonb_spec.specs.SortKey.Open.{IsScalar, Open, items, members, IsOpen, is_object, open_key, opening_byte}
 use Rattle.jsonb_spec.specs.SortKey.{key_of, items_key, members_key, text_key}
 use Rattle.jsonb_spec.specs.Tree.{Tree, null, boolean, string, number, array, object, Trees, Members}
 use Rattle.key_value.proofs.FirstBytes.{one_byte, number_there, array_there, object_there}

@@ -4,7 +4,7 @@ use Rattle.std.specs.Bool.{⊤}
 use Rattle.std.proofs.lemmas.List.{get_or-set_same, get_or-set_other}
 use Rattle.key_value.proofs.Texts.{none_some, some_same}
 use Rattle.key_walk.specs.Frames.{ScalarFirst, PartsFirst, Frame, in_array, in_object, is_object_frame, new_frame, NameFirst, frame_behind, IsFrame}
-use Rattle.key_walk.specs.Open.{end_key, opening_byte}
+use Rattle.jsonb_spec.specs.SortKey.Open.{end_key, opening_byte}
 use Rattle.key_walk.proofs.Checks.{through}
 use Rattle.key_walk.proofs.Framed.{Ends, Due, parts_first, end_passed, name_passed, no_name, scalar_passed, no_scalar_due, no_value, opening_passed, too_deep_due}
 use Rattle.jsonb_spec.specs.SortKey.{key_of, text_key}

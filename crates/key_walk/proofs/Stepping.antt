@@ -1,13 +1,14 @@
 -- What is first where a walk over all that is in an array or an object is.
 use Rattle.std.proofs.Common.{◌≡◌, Err, length, ℕ, zero, suc, ◌+◌, ◌<◌, ◌≤◌, inl, inr, Bool, true, false, List, [], ◌∷◌, ◌++◌, Some, None, get_or, set, refl, sym, ap, subst, ◌∙◌, arith, append_assoc, Option, Result, Ok}
 use Rattle.std.proofs.lemmas.List.{get_or-set_same}
-use Rattle.key_value.specs.Readable.{IsReadableAt}
+use Rattle.jsonb_spec.specs.SortKey.Readable.{IsReadableAt}
 use Rattle.jsonb_spec.specs.SortKey.{key_of, items_key, members_key, text_key}
 use Rattle.jsonb_spec.specs.Tree.{Tree, null, boolean, string, number, array, object, no_trees, more_trees, no_members, more_members}
-use Rattle.key_walk.specs.Open.{Open, items, members, is_object, open_key, opening_byte, IsOpen, end_key, name_key}
-use Rattle.key_walk.specs.NextPart.{BeginsWithEnd, BeginsWithOpening, BeginsWithPart, BeginsWithScalar}
-use Rattle.key_walk.specs.Parts.{opened_tree}
-use Rattle.key_walk.specs.Steps.{AreOpen, IsAmid, IsPart, IsWithin, PassesEnd, PassesOpening, PassesScalar, Stacks, StepsOver, opens_key}
+use Rattle.jsonb_spec.specs.SortKey.Open.{Open, items, members, is_object, open_key, opening_byte, IsOpen, end_key, name_key}
+use Rattle.jsonb_spec.specs.SortKey.Steps.{BeginsWithEnd, AreOpen, IsPart, Stacks, opens_key}
+use Rattle.key_walk.specs.NextPart.{BeginsWithOpening, BeginsWithPart, BeginsWithScalar}
+use Rattle.jsonb_spec.specs.SortKey.Parts.{opened_tree}
+use Rattle.key_walk.specs.Steps.{IsAmid, IsWithin, PassesEnd, PassesOpening, PassesScalar, StepsOver}
 use Rattle.key_walk.specs.declared.find.NoKey.{NoKey}
 use Rattle.key_walk.specs.declared.part.Opened.{Opened}
 use Rattle.key_walk.specs.declared.part.Part.{Part}

@@ -2,7 +2,7 @@
 use Rattle.std.proofs.Common.{refl, ◌≡◌, ◌≢◌, ℕ, zero, suc, take, ◌+◌, ◌<◌, List, [], ◌∷◌, ◌++◌, None, drop, get_or, length, slice_set, sym, ap, ◌∙◌, arith, append_assoc, append-nil}
 use Rattle.std.proofs.Math.Seq.{drop-cons, set-append_seam}
 use Rattle.std.proofs.lemmas.List.{length-append}
-use Rattle.key_value.specs.Reading.{byte_of}
+use Rattle.jsonb_spec.specs.SortKey.Reading.{byte_of}
 use Rattle.key_value.proofs.Texts.{ReadsText, text_ended}
 use Rattle.std.specs.List.{flat_map}
 use Rattle.jsonb_spec.specs.SortKey.{byte_key, text_key}

@@ -2,12 +2,12 @@
 use Rattle.std.proofs.Common.{◌≡◌, ◌≢◌, ℕ, zero, suc, ◌≤◌, ◌⊎◌, inl, inr, Bool, true, false, ◌&&◌, List, [], ◌∷◌, ◌++◌, Option, Some, None, Result, Ok, Err, length, refl, sym, ap, subst, ◌∙◌, arith, append_assoc}
 use Rattle.std.specs.Option.{MatchOption, is_some, option_map_or}
 use Rattle.std.specs.Str.{bytes_eq}
-use Rattle.key_value.specs.Readable.{IsReadableAt}
+use Rattle.jsonb_spec.specs.SortKey.Readable.{IsReadableAt}
 use Rattle.key_walk.specs.declared.containment.Walk.{Walk}
 use Rattle.key_walk.specs.declared.find.NoKey.{NoKey}
 use Rattle.jsonb_spec.specs.Containment.{any_item, contains, holds, holds_items, holds_members}
-use Rattle.key_walk.specs.Open.{Open, items, members, is_object, open_key, end_key, IsScalar, opening_byte}
-use Rattle.key_walk.specs.Parts.{opened_tree}
+use Rattle.jsonb_spec.specs.SortKey.Open.{Open, items, members, is_object, open_key, end_key, IsScalar, opening_byte}
+use Rattle.jsonb_spec.specs.SortKey.Parts.{opened_tree}
 use Rattle.key_walk.specs.SideBySide.{AreReadableAt, HaveReadableAt, EndsWith, IsLeft, Occurs, OccursInside, Reported, MemberFound, FindsMember}
 use Rattle.key_walk.proofs.Beside.{ItemsAhead}
 use Rattle.key_walk.proofs.Opens.{no_end}

@@ -6,9 +6,9 @@ use Rattle.std.specs.Cmp.{tied_itself}
 use Rattle.std.specs.Cmp.Lexicographic.{pointwise, nat_list_cmp_total, same_text, other_text}
 use Rattle.std.specs.declared.cmp.Ordering.{Ordering}
 use Rattle.std.specs.Ordering.{is_eq, ordering_then}
-use Rattle.key_value.specs.Readable.{IsReadableAt}
+use Rattle.jsonb_spec.specs.SortKey.Readable.{IsReadableAt}
 use Rattle.jsonb_spec.specs.Containment.{holds}
-use Rattle.key_walk.specs.Open.{Open, is_object, open_key, IsOpen, end_key, IsScalar}
+use Rattle.jsonb_spec.specs.SortKey.Open.{Open, is_object, open_key, IsOpen, end_key, IsScalar}
 use Rattle.key_walk.specs.SideBySide.{EndsWith, IsLeft}
 use Rattle.key_walk.proofs.Opens.{no_end}
 use Rattle.key_walk.proofs.Occurrence.{over_or_first, regroup, true_false}

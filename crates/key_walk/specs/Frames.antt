@@ -4,13 +4,14 @@ use Rattle.std.specs.Ordering.{nat_cmp}
 use Rattle.std.specs.Cmp.Lexicographic.{slice_cmp}
 use Rattle.std.specs.declared.cmp.Ordering.TheVariants.{Less}
 use Rattle.jsonb_spec.specs.Ascii as ascii
-use Rattle.key_walk.specs.Open.{Open, is_object, open_key, IsScalar}
-use Rattle.key_walk.specs.Parts.{opened_tree}
+use Rattle.jsonb_spec.specs.SortKey.Open.{Open, is_object, open_key, IsScalar}
+use Rattle.jsonb_spec.specs.SortKey.Parts.{opened_tree}
 use Rattle.jsonb_spec.specs.Grammar.{max_depth}
 use Rattle.jsonb_spec.specs.Proper.{IsProper, IsProperNumber}
 use Rattle.jsonb_spec.specs.SortKey.{key_of, number_key, digits_key, text_key, invert_if}
 use Rattle.jsonb_spec.specs.Text.Range.{HasFewDigits, IsWithin}
 use Rattle.jsonb_spec.specs.Tree.{Num, Tree}
+use Rattle.jsonb_spec.specs.SortKey.Front.{AreNoZeros}
 
 -- The tree of a value in range, with arrays and objects nested no deeper than the number.
 pub record IsInRangeAt (depth : ℕ) (t : Tree) : Type 0 where
@@ -102,10 +103,6 @@ ArePlain bytes count = (k : ℕ) → k < count → (get_or bytes k 0 ≢ 0) × (
 pub record PlainRun (bytes : List ℕ) (count : ℕ) : Type 0 where
   pub within : count ≤ length bytes
   pub plain : ArePlain bytes count
-
--- none of the first bytes is a zero
-abbrev pub AreNoZeros : List ℕ → ℕ → Type 0
-AreNoZeros bytes count = (k : ℕ) → k < count → get_or bytes k 0 ≢ 0
 
 -- So many of the first bytes are no zeros.
 pub record RunBeforeZero (bytes : List ℕ) (count : ℕ) : Type 0 where

@@ -1,14 +1,8 @@
 -- The first bytes of the key of a name as a number.
-use Rattle.std.specs.Prelude.{◌≡◌, ◌≢◌, ℕ, zero, suc, ◌+◌, ◌*◌, ◌^◌, ◌<◌, ◌≤◌, List, [], ◌∷◌, length, drop}
+use Rattle.std.specs.Prelude.{◌≡◌, ◌≢◌, ℕ, ◌+◌, ◌*◌, ◌<◌, ◌≤◌, List, length, drop}
 use Rattle.jsonb_spec.specs.SortKey.{text_key}
 use Rattle.key_walk.specs.declared.names.Front.{Front}
-use Rattle.key_walk.specs.Frames.{AreNoZeros}
-
--- the first bytes as a number of which the first is the highest, with zeros in place of bytes that aren't there
-unfoldable pub number_of : ℕ → List ℕ → ℕ
-number_of zero bytes = 0
-number_of (suc count) [] = 0
-number_of (suc count) (byte ∷ bytes) = byte * 256 ^ count + number_of count bytes
+use Rattle.jsonb_spec.specs.SortKey.Front.{AreNoZeros, number_of}
 
 -- The front is that of the key: the number of so many first bytes of it, and either these are the whole key, or no size
 -- of it is held.

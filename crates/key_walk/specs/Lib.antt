@@ -1,12 +1,9 @@
 pub mod AtKeys
 pub mod Found
-pub mod Checked
 pub mod Frames
 pub mod Fronts
-pub mod Open
 pub mod Parts
 pub mod Steps
 pub mod Passing
 pub mod SideBySide
 pub mod NextPart
-pub mod Events

@@ -1,6 +1,6 @@
 -- What the bytes that are left of an array or an object begin with: its end, or a part of it.
 use Rattle.std.specs.Prelude.{◌≡◌, ◌<◌, ◌≤◌, ℕ, suc, List, ◌∷◌, ◌++◌, length, Result, Ok, Err, Some}
-use Rattle.key_value.specs.Readable.{IsReadableAt}
+use Rattle.jsonb_spec.specs.SortKey.Readable.{IsReadableAt}
 use Rattle.jsonb_spec.specs.SortKey.{key_of}
 use Rattle.jsonb_spec.specs.Tree.{Tree}
 use Rattle.key_walk.specs.declared.find.NoKey.{NoKey}
@@ -8,15 +8,10 @@ use Rattle.key_walk.specs.declared.part.Opened.{Opened}
 use Rattle.key_walk.specs.declared.part.Part.{Part}
 use Rattle.key_walk.specs.declared.part.Part.TheVariants as found
 use Rattle.key_walk.specs.declared.part.ScalarPart.{ScalarPart}
-use Rattle.key_walk.specs.Open.{Open, end_key, is_object, name_key, open_key, opening_byte, IsOpen, IsScalar}
-use Rattle.key_walk.specs.Parts.{kind_of_tree, opened_tree}
-use Rattle.key_walk.specs.Steps.{IsOver, IsPart}
-
--- It is over, and behind its end are these bytes.
-pub record BeginsWithEnd (o : Open) (more bytes after : List ℕ) : Type 0 where
-  pub is_over : IsOver o
-  pub passed : bytes ≡ end_key (is_object o) ++ after
-  pub behind : after ≡ more
+use Rattle.jsonb_spec.specs.SortKey.Open.{Open, is_object, name_key, open_key, opening_byte, IsOpen, IsScalar}
+use Rattle.key_walk.specs.Parts.{kind_of_tree}
+use Rattle.jsonb_spec.specs.SortKey.Parts.{opened_tree}
+use Rattle.jsonb_spec.specs.SortKey.Steps.{IsPart, BeginsWithEnd}
 
 -- Its next part is an array or an object, behind whose first byte its own parts are.
 pub record BeginsWithOpening (o : Open) (left : ℕ) (more bytes : List ℕ) (opened : Opened) : Type 0 where

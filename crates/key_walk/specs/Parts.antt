@@ -1,10 +1,10 @@
--- Parts of values, found in their keys.
-use Rattle.std.specs.Prelude.{◌≡◌, ◌≢◌, ℕ, ◌≤◌, ◌⊎◌, List, ◌∷◌, Option, Some, None}
+-- The kinds of values, by the first bytes of their keys.
+use Rattle.std.specs.Prelude.{◌≡◌, ℕ, ◌⊎◌, List, ◌∷◌, Option, Some, None}
 use Rattle.key_walk.specs.declared.walk.Kind.{Kind}
 use Rattle.key_walk.specs.declared.walk.Kind.TheVariants as variants
-use Rattle.key_walk.specs.Open.{Open, items, members}
 use Rattle.jsonb_spec.specs.SortKey.Kind as kind
 use Rattle.jsonb_spec.specs.Tree.{Tree, null, boolean, string, number, array, object}
+use Rattle.jsonb_spec.specs.SortKey.Parts.{IsNumberByte}
 
 -- the kind of a value of JSON's kinds
 abbrev pub kind_of_tree : Tree → Option Kind
@@ -15,10 +15,6 @@ kind_of_tree (string mark bytes) = Some variants.String
 kind_of_tree (array ts) = Some variants.Array
 kind_of_tree (object ms) = Some variants.Object
 kind_of_tree t = None
-
--- The keys of numbers begin with this byte: those of negative ones with 0x38 to 0x7E, and the others with 0x80 to 0xC7.
-abbrev pub IsNumberByte : ℕ → Type 0
-IsNumberByte first = (0x38 ≤ first) × (first ≤ 0xC7) × (first ≢ 0x7F)
 
 -- The keys of the kind begin with this byte.
 abbrev pub IsFirstByte : Kind → ℕ → Type 0
@@ -32,8 +28,3 @@ IsFirstByte variants.Null first = first ≡ kind.null
 -- The bytes begin with none of these bytes, or there are none.
 abbrev pub BeginsNoKey : List ℕ → Type 0
 BeginsNoKey bytes = (first : ℕ) → (rest : List ℕ) → bytes ≡ first ∷ rest → (kind : Kind) → IsFirstByte kind first → ⊥
-
--- the array or the object of which all is left
-abbrev pub opened_tree : Open → Tree
-opened_tree (items ts) = array ts
-opened_tree (members ms) = object ms

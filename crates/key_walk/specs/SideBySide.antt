@@ -1,11 +1,11 @@
 -- Two keys that are walked side by side.
 use Rattle.std.specs.Prelude.{◌≡◌, ◌<◌, ◌≤◌, ℕ, length, IfOk, Bool, true, false, List, ◌++◌, ◌&&◌, None, Result, Ok, Err, IsTrue}
 use Rattle.std.specs.Str.{bytes_eq}
-use Rattle.key_value.specs.Readable.{IsAnyNumber, IsReadableAt}
+use Rattle.jsonb_spec.specs.SortKey.Readable.{IsAnyNumber, IsReadableAt}
 use Rattle.key_walk.specs.declared.containment.Walk.{Walk}
 use Rattle.key_walk.specs.declared.find.NoKey.{NoKey}
 use Rattle.jsonb_spec.specs.Containment.{holds, holds_members}
-use Rattle.key_walk.specs.Open.{Open, is_object, open_key, IsOpen}
+use Rattle.jsonb_spec.specs.SortKey.Open.{Open, is_object, open_key, IsOpen}
 use Rattle.jsonb_spec.specs.Accessors.{find_member}
 use Rattle.jsonb_spec.specs.Keys.{IsBelowKeys, KeysAscend}
 use Rattle.jsonb_spec.specs.Proper.{AreProper, HaveProperParts}

@@ -1,32 +1,16 @@
--- A walk over all that is in an array or an object: what is open, and what a step passes.
-use Rattle.std.specs.Prelude.{◌≡◌, ◌⊎◌, ℕ, zero, suc, ◌+◌, Bool, false, List, [], ◌∷◌, ◌++◌, get_or, set, Option, Some, None, Result, Ok, Err, ⊤}
-use Rattle.key_value.specs.Readable.{IsReadableAt}
+-- A walk over all that is in an array or an object: what a step passes.
+use Rattle.std.specs.Prelude.{◌≡◌, ◌⊎◌, ℕ, ◌+◌, Bool, List, [], ◌∷◌, ◌++◌, set, Option, Some, None, Result, Ok, Err}
+use Rattle.jsonb_spec.specs.SortKey.Readable.{IsReadableAt}
 use Rattle.jsonb_spec.specs.SortKey.{key_of}
-use Rattle.jsonb_spec.specs.Tree.{Tree, no_trees, more_trees, no_members, more_members}
+use Rattle.jsonb_spec.specs.Tree.{Tree}
 use Rattle.key_walk.specs.declared.find.NoKey.{NoKey}
 use Rattle.key_walk.specs.declared.part.ScalarPart.{ScalarPart}
 use Rattle.key_walk.specs.declared.steps.Step.{Step}
 use Rattle.key_walk.specs.declared.steps.Step.TheVariants as step
 use Rattle.key_walk.specs.declared.steps.Steps.{Steps}
-use Rattle.key_walk.specs.Open.{Open, items, members, end_key, is_object, name_key, open_key, opening_byte, IsOpen, IsScalar}
-use Rattle.key_walk.specs.Parts.{opened_tree}
-
--- what is left of those that are open, the innermost first
-abbrev pub opens_key : List Open → List ℕ
-opens_key [] = []
-opens_key (o ∷ os) = open_key o ++ opens_key os
-
--- each is well-formed, with as many levels left
-abbrev pub AreOpen : List Open → ℕ → Type 0
-AreOpen [] left = ⊤
-AreOpen (o ∷ os) left = IsOpen o left × AreOpen os (suc left)
-
--- which of them are objects is in a list, the outermost first
-abbrev pub Stacks : List Open → List Bool → ℕ → Type 0
-Stacks [] objects zero = ⊤
-Stacks [] objects (suc depth) = ⊥
-Stacks (o ∷ os) objects zero = ⊥
-Stacks (o ∷ os) objects (suc depth) = (get_or objects depth false ≡ is_object o) × Stacks os objects depth
+use Rattle.jsonb_spec.specs.SortKey.Open.{Open, end_key, is_object, name_key, opening_byte, IsScalar}
+use Rattle.jsonb_spec.specs.SortKey.Parts.{opened_tree}
+use Rattle.jsonb_spec.specs.SortKey.Steps.{opens_key, AreOpen, Stacks, IsOver, IsPart}
 
 -- The walk is where these are open, and behind them are these bytes.
 pub record IsAmid (opens : List Open) (more : List ℕ) (steps : Steps) : Type 0 where
@@ -35,20 +19,6 @@ pub record IsAmid (opens : List Open) (more : List ℕ) (steps : Steps) : Type 0
   pub are_open : AreOpen opens left
   pub stacked : Stacks opens steps.objects steps.depth
   pub occurs : steps.rest.now ≡ opens_key opens ++ more
-
--- It has no part left.
-abbrev pub IsOver : Open → Type 0
-IsOver (items no_trees) = ⊤
-IsOver (items (more_trees t ts)) = ⊥
-IsOver (members no_members) = ⊤
-IsOver (members (more_members k t ms)) = ⊥
-
--- its next part, and the others
-abbrev pub IsPart : Open → List ℕ → Tree → Open → Type 0
-IsPart (items no_trees) name value others = ⊥
-IsPart (items (more_trees t ts)) name value others = (name ≡ []) × (value ≡ t) × (others ≡ items ts)
-IsPart (members no_members) name value others = ⊥
-IsPart (members (more_members k t ms)) name value others = (name ≡ k) × (value ≡ t) × (others ≡ members ms)
 
 -- The end of the innermost is passed.
 pub record PassesEnd (o : Open) (under : List Open) (more : List ℕ) (old new : Steps) : Type 0 where

@@ -3,7 +3,8 @@
 ghost use Rattle.std.specs.Prelude.{◌≡◌, ◌≢◌, ◌<◌, ◌≤◌, ◌↔◌, ◌==◌, ℕ, List, length, get_or, if◌then◌else◌, MatchOption, IsTrue, IsUtf8};
 ghost use Rattle.std.specs.Int.{trailing_zeros, w64};
 ghost use Rattle.memchr.specs.Find.{IsFirstByte, is_byte};
-ghost use Rattle.key_walk.specs.Frames.{AreNoZeros, ArePlain, PlainRun, RunBeforeZero, TextFirst, Utf8UpTo};
+ghost use Rattle.jsonb_spec.specs.SortKey.Front.{AreNoZeros};
+ghost use Rattle.key_walk.specs.Frames.{ArePlain, PlainRun, RunBeforeZero, TextFirst, Utf8UpTo};
 
 use jsonb_core::plain::first_set;
 use memchr::memchr;

@@ -1,8 +1,9 @@
 //! Whether bytes are a sort key.
 
 ghost use Rattle.std.specs.Prelude.{◌≡◌, ◌<◌, ◌≤◌, ◌++◌, ◌↔◌, List, ℕ, length, get_or, true, IsTrue, IfOk, IfErr, IfSome, Option};
-ghost use Rattle.key_walk.specs.AtKeys.{Checks, Leaves};
-ghost use Rattle.key_walk.specs.Checked.{IsSortKey};
+ghost use Rattle.key_walk.specs.AtKeys.{Checks};
+ghost use Rattle.jsonb_spec.specs.SortKey.AtKeys.{Leaves};
+ghost use Rattle.jsonb_spec.specs.SortKey.Checked.{IsSortKey};
 ghost use Rattle.key_walk.specs.Frames.{KeyFirst, ScalarFirst, TextFirst, PartsFirst, Frame, in_object, is_object_frame, new_frame, IsAbove, NameFirst, frame_behind, IsFrame};
 ghost use Rattle.jsonb_spec.specs.SortKey.{text_key};
 

@@ -1,11 +1,11 @@
 //! Whether a value contains another, straight from their keys.
 
 ghost use Rattle.std.specs.Prelude.{Bool, ◌≡◌, ◌<◌, ◌≤◌, ◌++◌, List, ℕ, suc, length, true, false, IsTrue, IfOk, IfSome, Ok};
-ghost use Rattle.key_value.specs.Readable.{IsReadable, IsReadableAt};
+ghost use Rattle.jsonb_spec.specs.SortKey.Readable.{IsReadable, IsReadableAt};
 ghost use Rattle.jsonb_spec.specs.Containment.{contains, holds, holds_items, holds_members, any_item};
-ghost use Rattle.key_walk.specs.AtKeys.{AtParts, Leaves, ReportsOrder};
-ghost use Rattle.key_walk.specs.Open.{Open, is_object, open_key, IsOpen, IsScalar};
-ghost use Rattle.key_walk.specs.Parts.{opened_tree};
+ghost use Rattle.jsonb_spec.specs.SortKey.AtKeys.{AtParts, Leaves, ReportsOrder};
+ghost use Rattle.jsonb_spec.specs.SortKey.Open.{Open, is_object, open_key, IsOpen, IsScalar};
+ghost use Rattle.jsonb_spec.specs.SortKey.Parts.{opened_tree};
 ghost use Rattle.key_walk.specs.SideBySide.{AreReadableAt, HaveReadableAt, EndsWith, IsLeft, FindsMember, IsPassed, SameKeys, Occurs, OccursInside, EndsInside, ReportsHeld, Reported, Walks};
 ghost use Rattle.jsonb_spec.specs.Order.{bytes_cmp};
 ghost use Rattle.jsonb_spec.specs.SortKey.{key_of, items_key, members_key, text_key};

@@ -3,9 +3,9 @@
 ghost use Rattle.std.specs.Prelude.{◌≡◌, ◌≢◌, ◌<◌, ◌≤◌, ◌+◌, ◌*◌, ◌++◌, List, ℕ, length, drop, take, get_or, IfSome, IsTrue};
 ghost use Rattle.std.specs.declared.cmp.Ordering.TheVariants.{Equal};
 ghost use Rattle.jsonb_spec.specs.SortKey.{text_key};
-ghost use Rattle.key_walk.specs.AtKeys.{ComparesName, Leaves, NoMembersEnd};
+ghost use Rattle.jsonb_spec.specs.SortKey.AtKeys.{ComparesName, Leaves, NoMembersEnd};
 ghost use Rattle.key_walk.specs.Fronts.{BeginAlike, IsFront, IsKeyFront, IsMade, IsNext};
-ghost use Rattle.key_walk.specs.Frames.{AreNoZeros};
+ghost use Rattle.jsonb_spec.specs.SortKey.Front.{AreNoZeros};
 
 use crate::find::compare_name;
 use crate::skip::{after_text, is_over, split_text};

@@ -2,7 +2,7 @@
 
 ghost use Rattle.std.specs.Prelude.{◌≡◌, ◌++◌, List, ℕ, IfOk};
 ghost use Rattle.key_walk.specs.NextPart.{BeginsWithPart, IsPartOf};
-ghost use Rattle.key_walk.specs.Open.{Open, is_object, open_key, IsOpen};
+ghost use Rattle.jsonb_spec.specs.SortKey.Open.{Open, is_object, open_key, IsOpen};
 
 use crate::find::NoKey;
 use crate::skip::{after_end, after_name, after_scalar, opening};

@@ -4,8 +4,8 @@ ghost use Rattle.std.specs.Prelude.{◌≡◌, ◌<◌, ◌≤◌, ◌++◌, Lis
 ghost use Rattle.jsonb_spec.specs.Keys.{IsBelowKeys};
 ghost use Rattle.jsonb_spec.specs.SortKey.{members_key, text_key};
 ghost use Rattle.jsonb_spec.specs.Tree.{Members};
-ghost use Rattle.key_walk.specs.AtKeys.{Leaves};
-ghost use Rattle.key_walk.specs.Checked.{HaveReadable};
+ghost use Rattle.jsonb_spec.specs.SortKey.AtKeys.{Leaves};
+ghost use Rattle.jsonb_spec.specs.SortKey.Checked.{HaveReadable};
 ghost use Rattle.key_walk.specs.Fronts.{IsKeyFront};
 ghost use Rattle.key_walk.specs.Passing.{PassesBelow};
 

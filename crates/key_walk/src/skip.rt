@@ -1,10 +1,11 @@
 //! Where the key of a value ends.
 
 ghost use Rattle.std.specs.Prelude.{◌≡◌, ◌<◌, ◌≤◌, ◌^◌, ◌++◌, ◌∷◌, ◌≢◌, List, ℕ, length, drop, map, true, nat_lt, IfErr, IfOk, IfSome, IsTrue, IsFalse, MatchOption, get_or, false, Some};
-ghost use Rattle.key_value.specs.Readable.{IsReadableAt};
-ghost use Rattle.key_value.specs.Reading.{exponent_of};
-ghost use Rattle.key_walk.specs.AtKeys.{AtKey, AtParts, IsNoWord, IsWord, Leaves, NoMembersEnd};
-ghost use Rattle.key_walk.specs.Open.{end_key, name_key, opening_byte, IsScalar};
+ghost use Rattle.jsonb_spec.specs.SortKey.Readable.{IsReadableAt};
+ghost use Rattle.jsonb_spec.specs.SortKey.Reading.{exponent_of};
+ghost use Rattle.jsonb_spec.specs.SortKey.AtKeys.{AtKey, AtParts, Leaves, NoMembersEnd};
+ghost use Rattle.key_walk.specs.AtKeys.{IsNoWord, IsWord};
+ghost use Rattle.jsonb_spec.specs.SortKey.Open.{end_key, name_key, opening_byte, IsScalar};
 ghost use Rattle.jsonb_spec.specs.Proper.{IsProperNumber};
 ghost use Rattle.jsonb_spec.specs.SortKey.{key_of, number_key, digits_key, text_key, invert_if};
 ghost use Rattle.jsonb_spec.specs.SortKey.Kind as kind;

@@ -1,7 +1,7 @@
 //! All that is in an array or an object, one step after the other.
 
 ghost use Rattle.std.specs.Prelude.{◌≡◌, ◌≢◌, ◌<◌, ◌≤◌, ◌+◌, ◌++◌, ◌∷◌, [], List, ℕ, length, IfErr, IfOk, IfSome, OnOk};
-ghost use Rattle.key_walk.specs.Open.{Open, is_object, open_key, IsOpen};
+ghost use Rattle.jsonb_spec.specs.SortKey.Open.{Open, is_object, open_key, IsOpen};
 
 use crate::find::NoKey;
 use crate::part::{Part, ScalarPart, read_part};

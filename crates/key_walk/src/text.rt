@@ -1,7 +1,7 @@
 //! Texts of strings and names, from their keys.
 
 ghost use Rattle.std.specs.Prelude.{◌≡◌, ◌≤◌, ◌++◌, ◌∷◌, List, ℕ, length, drop, IfSome, Some};
-ghost use Rattle.key_walk.specs.AtKeys.{Leaves};
+ghost use Rattle.jsonb_spec.specs.SortKey.AtKeys.{Leaves};
 ghost use Rattle.jsonb_spec.specs.SortKey.{text_key};
 ghost use Rattle.jsonb_spec.specs.SortKey.Kind as kind;
 

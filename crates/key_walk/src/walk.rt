@@ -1,8 +1,8 @@
 //! The items and the members of a key, one after the other.
 
 ghost use Rattle.std.specs.Prelude.{◌≡◌, ◌≢◌, ◌↔◌, ◌<◌, ◌++◌, ◌∷◌, ◌⊎◌, List, ℕ, length, IfSome, MatchOption, None, if◌then◌else◌};
-ghost use Rattle.key_value.specs.Readable.{IsReadable};
-ghost use Rattle.key_walk.specs.AtKeys.{AtKey, Leaves, Splits, SplitsNamed};
+ghost use Rattle.jsonb_spec.specs.SortKey.Readable.{IsReadable};
+ghost use Rattle.jsonb_spec.specs.SortKey.AtKeys.{AtKey, Leaves, Splits, SplitsNamed};
 ghost use Rattle.key_walk.specs.Parts.{BeginsNoKey, IsFirstByte, kind_of_tree};
 ghost use Rattle.jsonb_spec.specs.Accessors.{as_boolean};
 ghost use Rattle.jsonb_spec.specs.SortKey.{key_of, items_key, members_key, text_key};

@@ -1,11 +1,11 @@
 -- The zeros of the numbers that are left in a text.
 use Rattle.std.proofs.Common.{◌≡◌, ℕ, ◌<◌, Bool, List, ◌++◌, length, sym, subst, ap, arith, length-append}
-use Rattle.key_value.specs.Readable.{IsReadable}
+use Rattle.jsonb_spec.specs.SortKey.Readable.{IsReadable}
 use Rattle.jsonb_spec.specs.Text.{tree_text}
 use Rattle.jsonb_spec.specs.Text.NumberText.{number_text}
 use Rattle.jsonb_spec.specs.Tree.{Tree}
 use Rattle.key_zeros.specs.Scan.{ZerosAhead}
-use Rattle.key_zeros.specs.Zeros.{counts_in}
+use Rattle.jsonb_spec.specs.Document.Zeros.{counts_in}
 use Rattle.key_text.proofs.Decimals.{few}
 use Rattle.key_zeros.proofs.Decimals.{text_begins, text_passed}
 use Rattle.key_zeros.proofs.Finding.{none_found, number_found}

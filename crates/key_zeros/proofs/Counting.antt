@@ -2,13 +2,13 @@
 use Rattle.std.proofs.Common.{◌≡◌, ℕ, ◌+◌, ◌<◌, ◌≤◌, ◌⊎◌, inl, inr, Bool, true, false, ◌&&◌, if◌then◌else◌, List, ◌∷◌, ◌++◌, length, refl, sym, ap, ◌∙◌, arith, length-append}
 use Rattle.std.specs.Bool.{nat_lt}
 use Rattle.std.proofs.lemmas.Bool.{cond-false, lt-ltb, le-ltb}
-use Rattle.key_value.specs.Readable.{IsReadableAt}
-use Rattle.key_walk.specs.Open.{IsScalar}
+use Rattle.jsonb_spec.specs.SortKey.Readable.{IsReadableAt}
+use Rattle.jsonb_spec.specs.SortKey.Open.{IsScalar}
 use Rattle.jsonb_spec.specs.SortKey.{key_of, text_key}
 use Rattle.jsonb_core.proofs.SortKeys.Kinds.{is_small, number_begins}
 use Rattle.jsonb_core.proofs.Trees.Runs.{heads}
 use Rattle.jsonb_spec.specs.Tree.{Tree, null, boolean, string, number, array, object}
-use Rattle.key_zeros.specs.PartsOf.{numbers_in, number_count}
+use Rattle.jsonb_spec.specs.Document.PartsOf.{numbers_in, number_count}
 
 -- one for the first byte of a number
 other_byte : (first : ℕ) → (first ≤ 22) ⊎ (208 ≤ first) → number_count first ≡ 0

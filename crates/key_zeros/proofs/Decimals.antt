@@ -11,10 +11,10 @@ use Rattle.std.specs.Str.Parse.{AllDigits}
 use Rattle.jsonb_spec.specs.Proper.{IsProperNumber}
 use Rattle.jsonb_spec.specs.Text.NumberText.{number_text, with_point, zero_padded}
 use Rattle.jsonb_spec.specs.Tree.{Num}
-use Rattle.key_text.specs.Counts.{ending_text}
+use Rattle.jsonb_spec.specs.Document.Counts.{ending_text}
 use Rattle.key_text.proofs.Decimals.{at_least, count, digits_of, full, left, left_small, no_point, none_spare, pointed, scale_left, shortest, some_point, some_spare}
 use Rattle.key_text.proofs.Spares.{are_spare}
-use Rattle.key_zeros.specs.Scan.{is_number_byte, ending_of, zeros_with}
+use Rattle.jsonb_spec.specs.Document.Scan.{is_number_byte, ending_of, zeros_with}
 use Rattle.key_zeros.proofs.NumberedTexts.{shortest_text, EndsNumber}
 
 -- ---- digits

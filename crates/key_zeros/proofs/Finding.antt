@@ -3,7 +3,8 @@ use Rattle.std.proofs.Common.{◌≡◌, ℕ, Bool, true, false, List, [], ◌�
 use Rattle.std.proofs.lemmas.Bool.{cond-true, cond-false, ne_eqb}
 use Rattle.jsonb_spec.specs.Text.NumberText.{number_text}
 use Rattle.jsonb_spec.specs.Tree.{Num}
-use Rattle.key_zeros.specs.Scan.{is_number_byte, from_number, ending_of, behind_number, next_number}
+use Rattle.jsonb_spec.specs.Document.Scan.{is_number_byte, ending_of}
+use Rattle.key_zeros.specs.Scan.{from_number, behind_number, next_number}
 use Rattle.key_zeros.proofs.Scanning.{IsGap}
 use Rattle.key_zeros.proofs.NumberedTexts.{NumberedText, gap_then, bytes_with, shortest_text, IsNumbered, ends_number}
 use Rattle.key_text.proofs.Decimals.{pointed}

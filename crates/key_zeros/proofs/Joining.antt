@@ -1,6 +1,6 @@
 -- The zeros of numbers that are put together.
 use Rattle.std.proofs.Common.{◌≡◌, ℕ, List, [], ◌∷◌, ◌++◌, refl, sym, ap, ◌∙◌, append_assoc}
-use Rattle.key_zeros.specs.Zeros.{entry_of, plain_behind, zeros_of, plain_at_end}
+use Rattle.jsonb_spec.specs.Document.Zeros.{entry_of, plain_behind, zeros_of, plain_at_end}
 
 pub zeros_joined : (plain : ℕ) (front back : List ℕ) → zeros_of plain (front ++ back) ≡ zeros_of plain front ++ zeros_of (plain_at_end plain front) back
 zeros_joined plain [] back = refl

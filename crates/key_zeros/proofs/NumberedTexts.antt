@@ -1,7 +1,7 @@
 -- The text of a tree as its numbers, and what is before each and behind the last.
 use Rattle.std.proofs.Common.{◌≡◌, ℕ, zero, suc, Bool, true, false, List, [], ◌∷◌, ◌++◌, codes, unsigned_abs, refl, sym, ap, ◌∙◌, append_assoc, append-nil}
 use Rattle.std.specs.Bool.{⊤}
-use Rattle.key_value.specs.Readable.{IsAnyNumber, IsReadable}
+use Rattle.jsonb_spec.specs.SortKey.Readable.{IsAnyNumber, IsReadable}
 use Rattle.jsonb_spec.specs.Proper.{IsProper, AreProper, HaveProperParts, IsProperNumber}
 use Rattle.jsonb_spec.specs.Text.{tree_text, item_texts, member_texts}
 use Rattle.jsonb_spec.specs.Text.Appending.{comma_before}
@@ -10,9 +10,9 @@ use Rattle.jsonb_spec.specs.Text.Range.{IsWithin, AreWithin, HaveWithin}
 use Rattle.jsonb_spec.specs.Text.StringText.{quoted_text}
 use Rattle.jsonb_spec.specs.Tree.{Num, Tree, null, boolean, string, number, array, object, binary, date, timestamp, timestamp_tz, interval, Trees, no_trees, more_trees, Members, no_members, more_members}
 use Rattle.jsonb_core.proofs.Appending.Pieces.{texts_left, texts_left-comma, key_split}
-use Rattle.key_text.specs.FewestDigits.{spare_zeros, fewest_digits, with_fewest_digits, items_with_fewest_digits, members_with_fewest_digits}
-use Rattle.key_zeros.specs.Scan.{is_number_byte}
-use Rattle.key_zeros.specs.Zeros.{counts_in, counts_in_items, counts_in_members}
+use Rattle.jsonb_spec.specs.SortKey.FewestDigits.{spare_zeros, fewest_digits, with_fewest_digits, items_with_fewest_digits, members_with_fewest_digits}
+use Rattle.jsonb_spec.specs.Document.Scan.{is_number_byte}
+use Rattle.jsonb_spec.specs.Document.Zeros.{counts_in, counts_in_items, counts_in_members}
 use Rattle.key_zeros.proofs.Scanning.{IsGap, quoted_gap, gaps}
 use Rattle.key_text.proofs.Whole.{within_retained}
 

@@ -5,7 +5,7 @@ use Rattle.std.proofs.lemmas.Bool.{cond-true, cond-false, cases_lt, lt-ltb, le-l
 use Rattle.std.specs.Bool.{nat_lt}
 use Rattle.jsonb_core.proofs.Appending.Appended.{IsUnderway, begun, goes_on, fits}
 use Rattle.jsonb_core.proofs.Trees.Runs.{heads, tails}
-use Rattle.key_zeros.specs.Zeros.{in_sevens}
+use Rattle.jsonb_spec.specs.Document.Zeros.{in_sevens}
 
 pub few : (more n : ℕ) → n < 128 → in_sevens more n ≡ n ∷ []
 unfolding in_sevens

@@ -5,9 +5,9 @@ use Rattle.std.proofs.lemmas.Bool.{cond-false, cases_eq, ne_eqb}
 use Rattle.jsonb_spec.specs.Proper.{IsProperNumber}
 use Rattle.jsonb_spec.specs.Text.NumberText.{number_text}
 use Rattle.jsonb_spec.specs.Tree.{Num}
-use Rattle.key_text.specs.Counts.{ending_text}
+use Rattle.jsonb_spec.specs.Document.Counts.{ending_text}
 use Rattle.key_zeros.specs.Scan.{after_numbers}
-use Rattle.key_zeros.specs.Zeros.{in_sevens, zeros_of}
+use Rattle.jsonb_spec.specs.Document.Zeros.{in_sevens, zeros_of}
 use Rattle.key_zeros.proofs.NumberedTexts.{NumberedText, last_gap, gap_then, bytes_with, counts_of, shortest_text, IsNumbered}
 use Rattle.key_text.proofs.Decimals.{count, pointed, none_spare, some_spare}
 use Rattle.key_zeros.proofs.Decimals.{shortest_begins}

@@ -3,8 +3,8 @@ use Rattle.std.proofs.Common.{◌≡◌, ℕ, zero, suc, ◌+◌, ◌-◌, ◌^�
 use Rattle.std.proofs.lemmas.Bool.{cases_eq, cond-false, ne_eqb}
 use Rattle.std.proofs.lemmas.List.{take-append-le, take-replicate, length-replicate}
 use Rattle.jsonb_core.proofs.Appending.Appended.{IsUnderway, begun, goes_on, fits}
-use Rattle.key_zeros.specs.Numbers.{PendsAt}
-use Rattle.key_zeros.specs.Zeros.{in_sevens, entry_of, plain_behind, zeros_of, plain_at_end}
+use Rattle.jsonb_spec.specs.Document.Numbers.{PendsAt}
+use Rattle.jsonb_spec.specs.Document.Zeros.{in_sevens, entry_of, plain_behind, zeros_of, plain_at_end}
 use Rattle.key_zeros.proofs.Sevens.{some_sevens}
 use Rattle.key_zeros.proofs.Splitting.{plain_first, entry_first}
 

@@ -2,15 +2,15 @@
 use Rattle.std.proofs.Common.{◌≡◌, ℕ, zero, suc, ◌+◌, ◌/◌, ◌%◌, ◌<◌, inl, inr, List, ◌∷◌, ◌++◌, length, sym, ap, ◌∙◌, arith, length-append}
 use Rattle.std.proofs.lemmas.Bool.{cases_lt}
 use Rattle.std.proofs.lemmas.List.{append_cancel_right}
-use Rattle.key_value.specs.Readable.{IsReadable}
+use Rattle.jsonb_spec.specs.SortKey.Readable.{IsReadable}
 use Rattle.jsonb_spec.specs.Text.{tree_text}
 use Rattle.jsonb_spec.specs.Text.NumberText.{number_text}
 use Rattle.jsonb_spec.specs.Tree.{Tree}
 use Rattle.jsonb_core.proofs.Trees.Runs.{heads, tails}
-use Rattle.key_text.specs.FewestDigits.{with_fewest_digits}
-use Rattle.key_text.specs.Counts.{ending_text}
+use Rattle.jsonb_spec.specs.SortKey.FewestDigits.{with_fewest_digits}
+use Rattle.jsonb_spec.specs.Document.Counts.{ending_text}
 use Rattle.key_zeros.specs.Scan.{after_numbers}
-use Rattle.key_zeros.specs.Zeros.{in_sevens, zeros_of, zeros_in}
+use Rattle.jsonb_spec.specs.Document.Zeros.{in_sevens, zeros_of, zeros_in}
 use Rattle.key_zeros.proofs.NumberedTexts.{NumberedText, bytes_with, counts_of, shortest_text, IsNumbered, numbers_of}
 use Rattle.key_zeros.proofs.Sevens.{few, many, last, some_sevens}
 use Rattle.key_zeros.proofs.Splitting.{NextEntry, split}

@@ -1,6 +1,3 @@
-pub mod Zeros
 pub mod Scan
 pub mod ErrorText
 pub mod Appending
-pub mod PartsOf
-pub mod Numbers

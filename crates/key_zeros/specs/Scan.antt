@@ -1,11 +1,7 @@
 -- Numbers in the bytes of texts, found from left to right.
-use Rattle.std.specs.Prelude.{◌≡◌, ◌<◌, ◌≤◌, ⊤, ℕ, zero, suc, ◌+◌, ◌==◌, nat_lt, Bool, true, false, ◌&&◌, ◌||◌, if◌then◌else◌, List, [], ◌∷◌, length, Option, Some, None, option_and_then}
+use Rattle.std.specs.Prelude.{◌≡◌, ◌<◌, ◌≤◌, ⊤, ℕ, zero, suc, ◌==◌, Bool, true, false, if◌then◌else◌, List, [], ◌∷◌, length, Option, Some, None, option_and_then}
 use Rattle.jsonb_spec.specs.Ascii as ascii
-
--- a minus, a point or a digit
-abbrev pub is_number_byte : ℕ → Bool
-is_number_byte byte =
-    byte == ascii.minus || (byte == ascii.point || (nat_lt ascii.slash byte && nat_lt byte ascii.colon))
+use Rattle.jsonb_spec.specs.Document.Scan.{is_number_byte, ending_of}
 
 abbrev mutual
   -- the bytes from the next number on, or none; nothing where a string doesn't end
@@ -29,17 +25,6 @@ abbrev mutual
 abbrev pub BeginsNumber : List ℕ → Type 0
 BeginsNumber [] = ⊤
 BeginsNumber (byte ∷ bytes) = is_number_byte byte ≡ true
-
--- how many zeros end the digits behind a point with one more byte
-abbrev pub zeros_with : Bool → ℕ → ℕ → ℕ
-zeros_with pointed zeros byte = if pointed && byte == ascii.digit_zero then zeros + 1 else 0
-
--- whether a number has a point, how many zeros end its digits behind that, and the bytes after it
-abbrev pub ending_of : Bool → ℕ → List ℕ → Bool × (ℕ × List ℕ)
-ending_of pointed zeros [] = (pointed, (zeros, []))
-ending_of pointed zeros (byte ∷ bytes) =
-    if is_number_byte byte then ending_of (pointed || byte == ascii.point) (zeros_with pointed zeros byte) bytes
-    else (pointed, (zeros, byte ∷ bytes))
 
 -- whether the number that the bytes begin with has a point, and the bytes behind it; nothing where there is none
 abbrev pub behind_number : Option (List ℕ) → Option (Bool × List ℕ)

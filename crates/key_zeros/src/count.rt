@@ -1,7 +1,7 @@
 //! Which bytes begin the keys of numbers.
 
 ghost use Rattle.std.specs.Prelude.{◌≡◌, ◌≤◌};
-ghost use Rattle.key_zeros.specs.PartsOf.{number_count};
+ghost use Rattle.jsonb_spec.specs.Document.PartsOf.{number_count};
 
 use jsonb_core::sort_key::kind;
 

@@ -2,8 +2,8 @@
 
 ghost use Rattle.std.specs.Prelude.{◌≡◌, ◌<◌, ◌≤◌, ◌^◌, ◌+◌, ◌++◌, ◌∷◌, ℕ, List, length, IfOk, IfSome, MatchOption};
 ghost use Rattle.jsonb_spec.specs.Text.Appending.{Appends};
-ghost use Rattle.key_text.specs.Writes.{Preserves};
-ghost use Rattle.key_zeros.specs.Zeros.{in_sevens, entry_of, plain_behind};
+ghost use Rattle.jsonb_spec.specs.SortKey.Text.{Preserves};
+ghost use Rattle.jsonb_spec.specs.Document.Zeros.{in_sevens, entry_of, plain_behind};
 
 use std::alloc::AllocError;
 

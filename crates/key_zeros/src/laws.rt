@@ -1,11 +1,11 @@
 //! What is known of zeros beside texts.
 
 ghost use Rattle.std.specs.Prelude.{◌≡◌};
-ghost use Rattle.key_value.specs.Readable.{IsReadable};
+ghost use Rattle.jsonb_spec.specs.SortKey.Readable.{IsReadable};
 ghost use Rattle.jsonb_spec.specs.Text.{tree_text};
 ghost use Rattle.jsonb_spec.specs.Tree.{Tree};
-ghost use Rattle.key_text.specs.FewestDigits.{with_fewest_digits};
-ghost use Rattle.key_zeros.specs.Zeros.{zeros_in};
+ghost use Rattle.jsonb_spec.specs.SortKey.FewestDigits.{with_fewest_digits};
+ghost use Rattle.jsonb_spec.specs.Document.Zeros.{zeros_in};
 
 /// Values that have one text with the fewest digits, and the same zeros, have one text. So nothing of a text is lost
 /// where that one and the zeros are held.

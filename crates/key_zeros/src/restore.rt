@@ -5,9 +5,10 @@ ghost use Rattle.std.specs.Vec.{vec_capacity};
 ghost use Rattle.jsonb_spec.specs.Ascii as ascii;
 ghost use Rattle.jsonb_spec.specs.Text.{tree_text};
 ghost use Rattle.jsonb_spec.specs.Text.Appending.{Appends};
-ghost use Rattle.key_text.specs.Counts.{ending_text};
-ghost use Rattle.key_text.specs.Writes.{Preserves, LacksCapacity};
-ghost use Rattle.key_zeros.specs.Appending.{AppendsOr, OfTextAndZeros};
+ghost use Rattle.jsonb_spec.specs.Document.Counts.{ending_text};
+ghost use Rattle.jsonb_spec.specs.SortKey.Text.{Preserves, LacksCapacity};
+ghost use Rattle.key_zeros.specs.Appending.{AppendsOr};
+ghost use Rattle.jsonb_spec.specs.Document.TextAndZeros.{OfTextAndZeros};
 
 use crate::entry::next_entry;
 use crate::error::ZerosError;

@@ -1,7 +1,8 @@
 //! Numbers in the bytes of a text.
 
 ghost use Rattle.std.specs.Prelude.{◌≡◌, ◌<◌, ◌≤◌, ◌+◌, length, ◌^◌, option_map, MatchOption, IfSome, None, false};
-ghost use Rattle.key_zeros.specs.Scan.{is_number_byte, from_number, from_number_behind, zeros_with, ending_of, after_numbers, next_number, BeginsNumber};
+ghost use Rattle.jsonb_spec.specs.Document.Scan.{is_number_byte, zeros_with, ending_of};
+ghost use Rattle.key_zeros.specs.Scan.{from_number, from_number_behind, after_numbers, next_number, BeginsNumber};
 
 use jsonb_core::plain::plain_len;
 

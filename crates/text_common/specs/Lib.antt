@@ -1,5 +1,2 @@
 pub mod VerbatimScalar
-pub mod JsonString
-pub mod SourceText
 pub mod EncodedNumber
-pub mod Open

@@ -5,10 +5,11 @@ use Rattle.std.proofs.lemmas.List.{length-take-le, take-append-drop}
 use Rattle.std.specs.Str.{IsUtf8}
 use Rattle.jsonb_spec.specs.Text.{in_quotes}
 use Rattle.jsonb_spec.specs.Tree.{Mark}
-use Rattle.text_common.specs.Open.{Open, members_so_far}
+use Rattle.jsonb_spec.specs.Source.Open.{Open, members_so_far}
 use Rattle.jsonb_spec.specs.Source.{Found, Source, Spot, first_repeat, found_member, spot_of}
 use Rattle.text_members.specs.MemberStarts.{AreEntries, MemberStart, IsVerbatim}
-use Rattle.text_members.specs.Members.{AreInOrder, AreKeyed, AreWritten, Piece, SpotsAscend, HoldFrom, ReportsRepeat, between, bytes_of_pieces, join_pieces, pieces_of, spot_at, spot_in, spots_of_pieces}
+use Rattle.text_members.specs.Members.{AreInOrder, AreKeyed, AreWritten, Piece, SpotsAscend, HoldFrom, ReportsRepeat, bytes_of_pieces, pieces_of, spot_at, spot_in, spots_of_pieces}
+use Rattle.jsonb_spec.specs.SortKey.Joined.{between, join_pieces}
 use Rattle.text_members.specs.OpenMembers.{AreOf, AreSame, Begins, Closes, EndIn, FindsRepeat, KeysAscendFrom, Layout, PutsInOrder, ReportsRepeatOf, all_starts, next_in, next_start, repeat_among, spot_at_repeat, starts_from, starts_in}
 use Rattle.text_members.specs.declared.members.Member.{Member}
 use Rattle.text_members.specs.declared.open_members.OpenMembers.{OpenMembers}

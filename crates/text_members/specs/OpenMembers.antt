@@ -2,10 +2,11 @@
 use Rattle.std.specs.Prelude.{◌≡◌, ℕ, ◌+◌, ◌≤◌, Bool, true, false, List, [], ◌∷◌, ◌++◌, length, map, drop, take, Option, Some, None, MatchOption}
 use Rattle.std.specs.Option.{option_map}
 use Rattle.std.specs.Str.{IsUtf8}
-use Rattle.text_common.specs.Open.{Open, elements_so_far, members_so_far}
+use Rattle.jsonb_spec.specs.Source.Open.{Open, elements_so_far, members_so_far}
 use Rattle.jsonb_spec.specs.Source.{Found, Source, Spot, first_repeat, object_source_of, sort_by, spot_of}
 use Rattle.text_members.specs.MemberStarts.{AreEntries, MemberStart, IsVerbatim}
-use Rattle.text_members.specs.Members.{AreKeyed, SpotsAscend, between, join_pieces, spot_at, spot_in}
+use Rattle.text_members.specs.Members.{AreKeyed, SpotsAscend, spot_at, spot_in}
+use Rattle.jsonb_spec.specs.SortKey.Joined.{between, join_pieces}
 use Rattle.text_members.specs.declared.members.Member.{Member}
 use Rattle.text_members.specs.declared.open_members.OpenMembers.{OpenMembers}
 use Rattle.text_members.specs.declared.open_members.Repeat.{Repeat}

@@ -9,9 +9,9 @@ use Rattle.jsonb_spec.specs.Mode.{Mode, strictness, IsLenient}
 use Rattle.text_scan.specs.Answer.{grammar_of}
 use Rattle.text_parse.specs.Parser.{Advances, rest_of, size_of}
 use Rattle.jsonb_spec.specs.Source.{Source, null_source}
-use Rattle.text_scan.specs.Parsing.{Fault, fault, ◌>>=◌}
-use Rattle.text_scan.specs.Parsing.Whitespace.{opens_comment, skip_closed_whitespace}
-use Rattle.text_scan.specs.Parsing.Document.{at_end, comment_at, nothing_at, source_from, value_at, value_to_end}
+use Rattle.jsonb_spec.specs.Parsing.{Fault, fault, ◌>>=◌}
+use Rattle.jsonb_spec.specs.Parsing.Whitespace.{opens_comment, skip_closed_whitespace}
+use Rattle.jsonb_spec.specs.Parsing.Document.{at_end, comment_at, nothing_at, source_from, value_at, value_to_end}
 use Rattle.text_parse.proofs.Steps.Cursors.{nothing_left}
 use Rattle.text_parse.proofs.Steps.Outcomes.{same_size}
 

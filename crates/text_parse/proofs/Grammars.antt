@@ -5,7 +5,7 @@ use Rattle.jsonb_spec.specs.Mode.{Mode, standard, extended, json, extended_json,
 use Rattle.text_scan.specs.Answer.{mode_of, grammar_of}
 use Rattle.text_scan.specs.declared.parser.Mode as parser
 use Rattle.text_scan.specs.declared.parser.Mode.TheVariants.{Standard, Extended}
-use Rattle.text_scan.specs.Parsing.String.{body_of}
+use Rattle.jsonb_spec.specs.Parsing.String.{body_of}
 use Rattle.text_scan.proofs.Steps.Modes.{code_goes_beyond}
 use Rattle.text_scan.proofs.Strings.Rows.{body-beyond}
 use Rattle.text_parse.specs.Grammars.{is_json, may_cut, takes_decimals}

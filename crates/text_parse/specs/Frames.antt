@@ -11,13 +11,13 @@ use Rattle.text_parse.specs.declared.parser.Parser.{Parser}
 use Rattle.text_parse.specs.declared.parser.frame.Frame.{Frame}
 use Rattle.text_scan.specs.Answer.{grammar_of}
 use Rattle.text_parse.specs.Parser.{rest_of, size_of}
-use Rattle.text_scan.specs.Parsing.{Parse, begins, ◌>>=◌}
-use Rattle.text_scan.specs.Parsing.Container.{is_left_out}
-use Rattle.text_scan.specs.Parsing.Scalar.{scalar_at}
-use Rattle.text_scan.specs.Parsing.Document.{value_at}
+use Rattle.jsonb_spec.specs.Parsing.{Parse, begins, ◌>>=◌}
+use Rattle.jsonb_spec.specs.Parsing.Container.{is_left_out}
+use Rattle.jsonb_spec.specs.Parsing.Scalar.{scalar_at}
+use Rattle.jsonb_spec.specs.Parsing.Document.{value_at}
 use Rattle.jsonb_spec.specs.Source.{Source, null_source, source_alone}
 use Rattle.text_parse.specs.Stack.{array_end, finish_open, next_part_at, object_end, resume}
-use Rattle.text_common.specs.Open.{Open, add_part, elements_so_far, members_so_far}
+use Rattle.jsonb_spec.specs.Source.Open.{Open, add_part, elements_so_far, members_so_far}
 use Rattle.text_parse.specs.Slots.{Fits, is_due}
 
 -- an array or an object begins here

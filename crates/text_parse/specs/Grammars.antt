@@ -1,9 +1,9 @@
 -- What the parser asks of the grammar.
 use Rattle.std.specs.Prelude.{ℕ, Bool, true, false, not, List, [], ◌∷◌}
 use Rattle.jsonb_spec.specs.Mode.{Mode, standard, extended, json, extended_json, Strictness, strict, lenient}
-use Rattle.text_scan.specs.Parsing.ExactNumber.{exact_to, extended_json_scan}
-use Rattle.text_scan.specs.Parsing.ExtendedNumber.{Scanned}
-use Rattle.text_scan.specs.Parsing.Number.{standard_end}
+use Rattle.jsonb_spec.specs.Parsing.ExactNumber.{exact_to, extended_json_scan}
+use Rattle.jsonb_spec.specs.Parsing.ExtendedNumber.{Scanned}
+use Rattle.jsonb_spec.specs.Parsing.Number.{standard_end}
 
 -- RFC 8259 to the letter
 abbrev pub is_json : Mode → Bool

@@ -9,9 +9,9 @@ use Rattle.text_parse.specs.declared.parser.frame.Frame.{Frame}
 use Rattle.text_parse.specs.declared.parser.frame.Frame.TheVariants as variants
 use Rattle.text_parse.specs.declared.parser.frame.OpenObject.{OpenObject}
 use Rattle.text_scan.specs.Answer.{Fails}
-use Rattle.text_common.specs.Open.{Open, elements_so_far, members_so_far}
-use Rattle.text_scan.specs.Parsing.{Fault, Parse}
-use Rattle.text_scan.specs.Parsing.String.{Body}
+use Rattle.jsonb_spec.specs.Source.Open.{Open, elements_so_far, members_so_far}
+use Rattle.jsonb_spec.specs.Parsing.{Fault, Parse}
+use Rattle.jsonb_spec.specs.Parsing.String.{Body}
 use Rattle.jsonb_spec.specs.Source.{Source, Found, array_source_of, found_member, number_source, string_source, source_alone}
 
 -- ---- how a call fails

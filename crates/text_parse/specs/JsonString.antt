@@ -8,9 +8,9 @@ use Rattle.jsonb_spec.specs.Text.StringText.{byte_text}
 use Rattle.jsonb_spec.specs.Tree.{Mark, string}
 use Rattle.text_parse.specs.Parser.{parse_at, rest_of}
 use Rattle.text_parse.specs.declared.parser.Parser.{Parser}
-use Rattle.text_scan.specs.Parsing.Scalar.{quoted_at}
+use Rattle.jsonb_spec.specs.Parsing.Scalar.{quoted_at}
 use Rattle.text_common.specs.VerbatimScalar.{IsVerbatimAt}
-use Rattle.text_common.specs.JsonString.{IsJsonItem}
+use Rattle.jsonb_spec.specs.Text.JsonString.{IsJsonItem}
 use Rattle.text_common.specs.declared.verbatim.Verbatim.{Verbatim}
 
 -- what the item means is written by the bytes that encode it

@@ -12,14 +12,14 @@ use Rattle.text_common.specs.declared.verbatim.Verbatim.TheVariants.{Integer, De
 use Rattle.jsonb_core.specs.declared.error.Error.{Error}
 use Rattle.jsonb_core.specs.declared.error.Error.TheVariants.{OutOfMemory}
 use Rattle.text_parse.specs.declared.parser.Parser.{Parser}
-use Rattle.text_scan.specs.Decoding.{ReportsBackslash}
-use Rattle.text_scan.specs.Parsing.{Fault, Parse}
-use Rattle.text_scan.specs.Parsing.String.{quote_end, string_at}
-use Rattle.text_scan.specs.Parsing.Scalar.{scalar_at}
-use Rattle.text_scan.specs.Parsing.Document.{source_from}
-use Rattle.text_scan.specs.Parsing.Whitespace.{skip_closed_whitespace}
+use Rattle.jsonb_spec.specs.Parsing.Decoding.{ReportsBackslash}
+use Rattle.jsonb_spec.specs.Parsing.{Fault, Parse}
+use Rattle.jsonb_spec.specs.Parsing.String.{quote_end, string_at}
+use Rattle.jsonb_spec.specs.Parsing.Scalar.{scalar_at}
+use Rattle.jsonb_spec.specs.Parsing.Document.{source_from}
+use Rattle.jsonb_spec.specs.Parsing.Whitespace.{skip_closed_whitespace}
 use Rattle.text_scan.specs.Answer.{grammar_of, Gives}
-use Rattle.text_scan.specs.VerbatimNumber.{IsBeforePoint}
+use Rattle.jsonb_spec.specs.Text.VerbatimNumber.{IsBeforePoint}
 use Rattle.text_scan.specs.declared.parser.integer.StrictFront.{StrictFront}
 use Rattle.text_scan.specs.declared.parser.integer.StrictFront.TheVariants as front
 

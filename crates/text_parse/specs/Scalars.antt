@@ -9,7 +9,7 @@ use Rattle.text_parse.specs.declared.parser.text.Scalar.{Scalar}
 use Rattle.text_parse.specs.declared.parser.text.Scalar.TheVariants as scalars
 use Rattle.text_parse.specs.declared.parser.text.Text.{Text}
 use Rattle.text_parse.specs.declared.parser.text.Text.TheVariants as texts
-use Rattle.text_scan.specs.Encoded.{IsEncodedAt, KeyHoldsAt}
+use Rattle.jsonb_spec.specs.Text.Encoded.{IsEncodedAt, KeyHoldsAt}
 use Rattle.jsonb_spec.specs.Text.StringText.{ArePlain}
 use Rattle.text_common.specs.VerbatimScalar.{IsVerbatimAt}
 use Rattle.text_common.specs.declared.verbatim.Verbatim.{Verbatim}

@@ -2,7 +2,7 @@
 use Rattle.std.specs.Prelude.{ℕ, Bool, true, false, List, ◌∷◌}
 use Rattle.text_parse.specs.declared.parser.frame.Frame.{Frame}
 use Rattle.text_parse.specs.declared.parser.frame.Frame.TheVariants as variants
-use Rattle.text_common.specs.Open.{Open, add_part, elements_so_far, members_so_far}
+use Rattle.jsonb_spec.specs.Source.Open.{Open, add_part, elements_so_far, members_so_far}
 use Rattle.jsonb_spec.specs.Source.{Source}
 
 -- the container is an array

@@ -5,13 +5,13 @@ use Rattle.jsonb_spec.specs.Code.{Code}
 use Rattle.jsonb_spec.specs.Code.Code.{expected_array_comma_or_end, expected_colon, expected_object_comma_or_end}
 use Rattle.jsonb_spec.specs.Mode.{Mode}
 use Rattle.jsonb_spec.specs.Tree.{Mark}
-use Rattle.text_common.specs.Open.{Open, add_part, elements_so_far, members_so_far}
+use Rattle.jsonb_spec.specs.Source.Open.{Open, add_part, elements_so_far, members_so_far}
 use Rattle.jsonb_spec.specs.Source.{Source, Found, spot_of, first_repeat, array_source_of}
-use Rattle.text_scan.specs.Parsing.{Parse, on_byte, reject, ◌>>=◌}
-use Rattle.text_scan.specs.Parsing.Whitespace.{skip_whitespace}
-use Rattle.text_scan.specs.Parsing.Container.{array_at, element_at, joined_at, member_at, object_at, object_or_fault}
-use Rattle.text_scan.specs.Parsing.Document.{too_deep, value_at}
-use Rattle.text_scan.specs.Parsing.Scalar.{key_at}
+use Rattle.jsonb_spec.specs.Parsing.{Parse, on_byte, reject, ◌>>=◌}
+use Rattle.jsonb_spec.specs.Parsing.Whitespace.{skip_whitespace}
+use Rattle.jsonb_spec.specs.Parsing.Container.{array_at, element_at, joined_at, member_at, object_at, object_or_fault}
+use Rattle.jsonb_spec.specs.Parsing.Document.{too_deep, value_at}
+use Rattle.jsonb_spec.specs.Parsing.Scalar.{key_at}
 
 -- ---- parts joined by commas, after those that were parsed
 

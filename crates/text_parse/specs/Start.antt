@@ -4,8 +4,8 @@ use Rattle.jsonb_spec.specs.Ascii as ascii
 use Rattle.jsonb_spec.specs.Code.{expected_some_value}
 use Rattle.jsonb_spec.specs.Mode.{Mode, Strictness, strictness}
 use Rattle.jsonb_spec.specs.Tree.{Tree, boolean}
-use Rattle.text_scan.specs.Parsing.{Parse, begins, reject}
-use Rattle.text_scan.specs.Parsing.Scalar.{null_at, number_value_at, quoted_at, scalar_at, word_at}
+use Rattle.jsonb_spec.specs.Parsing.{Parse, begins, reject}
+use Rattle.jsonb_spec.specs.Parsing.Scalar.{null_at, number_value_at, quoted_at, scalar_at, word_at}
 use Rattle.text_parse.specs.declared.parser.start.Start.{Start}
 use Rattle.text_parse.specs.declared.parser.start.Start.TheVariants as variants
 

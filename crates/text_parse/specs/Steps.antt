@@ -8,10 +8,10 @@ use Rattle.jsonb_spec.specs.Tree.{Mark, Tree}
 use Rattle.jsonb_spec.specs.Source.{Source}
 use Rattle.jsonb_core.specs.declared.error.Error.TheVariants.{OutOfMemory}
 use Rattle.text_scan.specs.Answer.{grammar_of}
-use Rattle.text_common.specs.Open.{Open}
-use Rattle.text_scan.specs.Parsing.{Parse, begins}
-use Rattle.text_scan.specs.Parsing.Container.{is_left_out}
-use Rattle.text_scan.specs.Parsing.Whitespace.{skip_whitespace}
+use Rattle.jsonb_spec.specs.Source.Open.{Open}
+use Rattle.jsonb_spec.specs.Parsing.{Parse, begins}
+use Rattle.jsonb_spec.specs.Parsing.Container.{is_left_out}
+use Rattle.jsonb_spec.specs.Parsing.Whitespace.{skip_whitespace}
 use Rattle.text_parse.specs.Frames.{AtPart, IsPut, OpensContainer, ParsesParts, TakesTree, scalar_or_null}
 use Rattle.text_parse.specs.Handler.{AsKey, AsScalar, Begins, Builds, ElseFails, IsUnreported, Misses}
 use Rattle.text_parse.specs.Parser.{Advances, AdvancesOver, Skips, parse_at, rest_of, size_of}

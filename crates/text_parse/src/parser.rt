@@ -2,10 +2,11 @@
 
 ghost use Rattle.std.specs.Prelude.{◌≡◌, ◌≢◌, ◌+◌, ◌<◌, ◌≤◌, ℕ, List, [], ◌∷◌, drop, take, ◌⊎◌, MatchOption, IfOk, IfErr, IfSome, Err, None, Ok, Some, true, length};
 ghost use Rattle.jsonb_core.specs.Error.CodeView.{code_of};
-ghost use Rattle.text_scan.specs.Answer.{grammar_of, mode_of, NamesFault, Gives, MayAllocate};
-ghost use Rattle.text_scan.specs.Parsing.{begins, fault_at};
-ghost use Rattle.text_scan.specs.Parsing.Whitespace.{skip_closed_whitespace};
-ghost use Rattle.text_scan.specs.Parsing.Document.{at_end, comment_at, source_of};
+ghost use Rattle.text_scan.specs.Answer.{grammar_of, mode_of, NamesFault, Gives};
+ghost use Rattle.jsonb_spec.specs.Parsing.Memory.{MayAllocate};
+ghost use Rattle.jsonb_spec.specs.Parsing.{begins, fault_at};
+ghost use Rattle.jsonb_spec.specs.Parsing.Whitespace.{skip_closed_whitespace};
+ghost use Rattle.jsonb_spec.specs.Parsing.Document.{at_end, comment_at, source_of};
 ghost use Rattle.jsonb_spec.specs.Mode.{strictness};
 ghost use Rattle.jsonb_spec.specs.Source.{Source};
 ghost use Rattle.text_parse.specs.Handler.{BuildsAll, ElseFails, IsWritten, Misses};
@@ -118,7 +119,7 @@ struct Parser<'a> {
 impl<'a> Parser<'a> {
     ghost use Rattle.text_parse.specs.Parser.{Advances, IsTextOf, TakesByte, Reports, rest_of, size_of, source_at};
     ghost use Rattle.text_parse.specs.Steps.{MakesScalar};
-    ghost use Rattle.text_scan.specs.Parsing.Scalar.{scalar_at};
+    ghost use Rattle.jsonb_spec.specs.Parsing.Scalar.{scalar_at};
 
     // The next byte.
     fn peek(&self) -> Option<u8>

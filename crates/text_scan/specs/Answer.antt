@@ -1,6 +1,5 @@
 -- The grammar of the code's modes, and how a result relates to the executable specification.
-use Rattle.std.specs.Prelude.{◌≡◌, ◌⊎◌, ℕ, List, Contains, Result, Ok, Err}
-use Rattle.jsonb_spec.specs.Ascii as ascii
+use Rattle.std.specs.Prelude.{◌≡◌, Result, Ok, Err}
 use Rattle.jsonb_spec.specs.Mode.{Mode, standard, extended, json, extended_json}
 use Rattle.jsonb_core.specs.Error.CodeView.{code_of}
 use Rattle.jsonb_core.specs.declared.error.Error.{Error}
@@ -9,7 +8,7 @@ use Rattle.text_scan.specs.declared.parser.Grammar.{Grammar}
 use Rattle.text_scan.specs.declared.parser.Grammar.TheVariants as grammars
 use Rattle.text_scan.specs.declared.parser.Mode as parser
 use Rattle.text_scan.specs.declared.parser.Mode.TheVariants.{Standard, Extended}
-use Rattle.text_scan.specs.Parsing.{Fault}
+use Rattle.jsonb_spec.specs.Parsing.{Fault}
 
 -- the grammar that a parser's mode means
 abbrev pub mode_of : parser.Mode → Mode
@@ -44,8 +43,3 @@ abbrev pub IsTextError : Error → Type 0
 IsTextError (Syntax code offset) = Unit {0}
 IsTextError OutOfMemory = Unit {0}
 IsTextError other = ⊥
-
--- The input holds a bracket or a brace that opens, or a backslash: a parser that asks for memory has met one.
-abbrev pub MayAllocate : List ℕ → Type 0
-MayAllocate input =
-    Contains input ascii.open_bracket ⊎ (Contains input ascii.open_brace ⊎ Contains input ascii.backslash)

@@ -4,7 +4,7 @@ use Rattle.std.specs.Str.Parse.{digits_value}
 use Rattle.jsonb_spec.specs.Ascii as ascii
 use Rattle.text_scan.specs.declared.parser.exact.DecimalRead.{DecimalRead}
 use Rattle.text_scan.specs.declared.parser.exact.Shift.{Shift}
-use Rattle.text_scan.specs.Parsing.ExtendedNumber.{core_start, front_end, behind_end, scale_at, all_digits}
+use Rattle.jsonb_spec.specs.Parsing.ExtendedNumber.{core_start, front_end, behind_end, scale_at, all_digits}
 
 -- The first number means the second: they are the same, or both are too great to distinguish.
 abbrev pub IsClamped : ℕ → ℕ → Type 0

@@ -1,12 +1,8 @@
 pub mod Answer
-pub mod Decoding
 pub mod QuotedString
-pub mod Parsing
 pub mod ScannedNumber
 pub mod ExactRead
 pub mod ShortInteger
-pub mod Encoded
 pub mod StrictFront
 pub mod StrictString
 pub mod StringError
-pub mod VerbatimNumber

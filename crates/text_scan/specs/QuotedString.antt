@@ -1,14 +1,11 @@
 -- What the steps of parsing strings and unquoted keys guarantee.
-use Rattle.std.specs.Prelude.{◌≡◌, ◌≢◌, ◌⊎◌, ℕ, ◌+◌, ◌<◌, ◌≤◌, List, [], length, slice_index, Result, Ok, Err}
+use Rattle.std.specs.Prelude.{◌≡◌, ℕ, ◌+◌, ◌<◌, ◌≤◌, List, length, slice_index, Result, Ok, Err}
 use Rattle.std.specs.Cow.{cow_str_bytes}
 use Rattle.std.specs.Int.{bit_at}
 use Rattle.std.specs.declared.alloc.Global.{Global}
 use Rattle.std.specs.declared.borrow.CowStr.{CowStr}
-use Rattle.jsonb_spec.specs.Ascii as ascii
 use Rattle.jsonb_spec.specs.Tree.{Mark}
 use Rattle.jsonb_spec.specs.Tree.Mark.{escaped as escaped_mark}
-use Rattle.jsonb_spec.specs.Mode.{Mode}
-use Rattle.jsonb_spec.specs.Grammar.StringBody.{Item, meaning}
 use Rattle.jsonb_core.specs.Error.CodeView.{code_of}
 use Rattle.jsonb_core.specs.View.{mark_view}
 use Rattle.jsonb_core.specs.declared.error.Error.{Error}
@@ -17,9 +14,10 @@ use Rattle.text_scan.specs.declared.parser.string.StringEnd.{StringEnd}
 use Rattle.text_scan.specs.declared.parser.string.StringEnd.TheVariants.{Closed, Unclosed}
 use Rattle.text_scan.specs.declared.parser.key.KeyEnd.{KeyEnd}
 use Rattle.text_scan.specs.declared.parser.key.KeyEnd.TheVariants as key_ends
-use Rattle.text_scan.specs.Decoding.{ReportsBackslash}
-use Rattle.text_scan.specs.Parsing.BareKey.{key_end}
-use Rattle.text_scan.specs.Parsing.String.{Body, items_within, quote_end}
+use Rattle.jsonb_spec.specs.Parsing.Decoding.{ReportsBackslash}
+use Rattle.jsonb_spec.specs.Parsing.BareKey.{key_end}
+use Rattle.jsonb_spec.specs.Parsing.String.{Body, quote_end}
+use Rattle.jsonb_spec.specs.Parsing.Contents.{IsQuoteOrBackslash}
 
 -- the search ends where parsing does; and whether a backslash was passed
 abbrev pub EndsString : ℕ → List ℕ → StringEnd → Type 0
@@ -34,15 +32,6 @@ DecodesContents idx (Err (Syntax code offset)) read = (count : ℕ) × (read ≡
 DecodesContents idx (Err OutOfMemory) read = Unit {0}
 DecodesContents idx (Err other) read = ⊥
 
--- what the items mean that are parsed of a body
-abbrev pub meaning_of_body : Body (List Item) → List ℕ
-meaning_of_body (Ok items) = meaning items
-meaning_of_body (Err f) = []
-
--- what a body means, UTF-8 or not
-unfoldable pub decoded_text : Mode → List ℕ → List ℕ
-decoded_text mode bytes = meaning_of_body (items_within (length bytes) mode bytes)
-
 -- This text is parsed of a body with a backslash, or the fault is, where the check counts from `idx`.
 abbrev pub ChecksContents : ℕ → Result (Unit {0}) Error → List ℕ → Body (Mark × List ℕ) → Type 0
 ChecksContents idx (Ok done) text read = read ≡ Ok (escaped_mark, text)
@@ -54,14 +43,6 @@ ChecksContents idx (Err other) text read = ⊥
 abbrev pub EndsKey : List ℕ → KeyEnd → Type 0
 EndsKey bytes (key_ends.At end) = key_end bytes ≡ Ok end
 EndsKey bytes (key_ends.Past at) = (key_end bytes ≡ Err at) × (at < length bytes + 4)
-
-abbrev pub IsQuoteOrBackslash : ℕ → ℕ → Type 0
-IsQuoteOrBackslash quote b = (b ≡ quote) ⊎ (b ≡ ascii.backslash)
-
--- neither is from one index up to another
-abbrev pub IsClear : ℕ → List ℕ → ℕ → ℕ → Type 0
-IsClear quote bytes from to = (k : ℕ) → from ≤ k → k < to
-    → (slice_index bytes k ≢ quote) × (slice_index bytes k ≢ ascii.backslash)
 
 -- bit k says whether the byte at + k is the quote or a backslash, of those before end
 pub record ReportsMarks (quote : ℕ) (bytes : List ℕ) (at end bits : ℕ) : Type 0 where

@@ -8,7 +8,7 @@ use Rattle.jsonb_core.specs.declared.number.Number.{Number}
 use Rattle.text_scan.specs.declared.parser.extended_number.decimal.DecimalEnds.{DecimalEnds}
 use Rattle.text_scan.specs.declared.parser.extended_number.NumberFault.{NumberFault}
 use Rattle.text_scan.specs.declared.parser.extended_number.NumberText.{NumberText}
-use Rattle.text_scan.specs.Parsing.ExtendedNumber.{Scanned, core_start, zeros_end, front_end, point_end, behind_end}
+use Rattle.jsonb_spec.specs.Parsing.ExtendedNumber.{Scanned, core_start, zeros_end, front_end, point_end, behind_end}
 
 -- the number, if there is one
 abbrev pub number_views : Option Number → Option Num

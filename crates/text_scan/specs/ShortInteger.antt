@@ -1,7 +1,7 @@
 -- The integer that is made of a sign and a magnitude, and integers that are written as they are.
 use Rattle.std.specs.Prelude.{◌≡◌, ℕ, ◌<◌, true, List, drop, Ok, pos, neg_ℤ, if◌then◌else◌}
 use Rattle.jsonb_spec.specs.Tree.{Num, int64, uint64}
-use Rattle.text_scan.specs.Parsing.Number.{standard_number_at}
+use Rattle.jsonb_spec.specs.Parsing.Number.{standard_number_at}
 use Rattle.text_scan.specs.declared.parser.number.ShortInteger.{ShortInteger}
 
 abbrev pub short_view : ShortInteger → Num

@@ -1,7 +1,7 @@
 -- What numbers of strict texts begin with.
 use Rattle.std.specs.Prelude.{ℕ, List}
 use Rattle.text_scan.specs.ShortInteger.{IsVerbatimInteger}
-use Rattle.text_scan.specs.VerbatimNumber.{IsBeforePoint}
+use Rattle.jsonb_spec.specs.Text.VerbatimNumber.{IsBeforePoint}
 use Rattle.text_scan.specs.declared.parser.integer.StrictFront.{StrictFront}
 use Rattle.text_scan.specs.declared.parser.integer.StrictFront.TheVariants as front
 

@@ -8,7 +8,7 @@ use Rattle.jsonb_spec.specs.Grammar.StringBody.{Item, encoding}
 use Rattle.jsonb_core.specs.Error.CodeView.{code_of}
 use Rattle.jsonb_core.specs.declared.error.Error.{Error}
 use Rattle.jsonb_core.specs.declared.error.Error.TheVariants.{Syntax}
-use Rattle.text_scan.specs.Parsing.String.{Body, item_at}
+use Rattle.jsonb_spec.specs.Parsing.String.{Body, item_at}
 
 -- Of the first bytes none is a control character, and behind none that is a u an opening brace follows.
 abbrev pub AreClean : List ℕ → ℕ → Type 0

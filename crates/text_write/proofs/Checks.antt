@@ -3,7 +3,7 @@ use Rattle.std.proofs.Common.{◌≡◌, ℕ, Bool, true, false, List, [], ◌�
 use Rattle.std.specs.Option.{is_some}
 use Rattle.std.specs.Str.{IsUtf8}
 use Rattle.jsonb_spec.specs.Tree.{Mark}
-use Rattle.text_common.specs.Open.{Open, members_so_far}
+use Rattle.jsonb_spec.specs.Source.Open.{Open, members_so_far}
 use Rattle.jsonb_spec.specs.Source.{Found, Source, found_member}
 use Rattle.text_write.specs.CheckSink.{CheckEnds, CheckHolds, unwritten}
 use Rattle.text_write.specs.KeySink.{Held}

@@ -17,14 +17,14 @@ use Rattle.jsonb_spec.specs.Tree.{Num}
 use Rattle.jsonb_core.proofs.Numbers.DecimalTexts.{digits-after_zeros, digits-drop, digits-take, value-after_zeros}
 use Rattle.jsonb_core.proofs.Numbers.Pointed.{pointed_before, pointed_inside}
 use Rattle.jsonb_core.proofs.SortKeys.Numbers.{key_of_some, key_of_zero}
-use Rattle.text_common.specs.VerbatimScalar.{IsDecimalAt, IsShortDecimal}
-use Rattle.text_scan.specs.Parsing.Number.{has_minus, whole_start}
-use Rattle.text_common.specs.SourceText.{source_text}
+use Rattle.jsonb_spec.specs.Text.VerbatimScalar.{IsDecimalAt, IsShortDecimal}
+use Rattle.jsonb_spec.specs.Parsing.Number.{has_minus, whole_start}
+use Rattle.jsonb_spec.specs.Text.SourceText.{source_text}
 use Rattle.text_write.proofs.IntegerKeys.{leading_value}
 use Rattle.jsonb_core.proofs.SortKeys.Digits.{ten}
 use Rattle.text_write.specs.DecimalKey.{IsOnlyPoint, without_points}
 use Rattle.text_write.specs.KeySink.{Writes}
-use Rattle.text_members.specs.Members.{source_key}
+use Rattle.jsonb_spec.specs.SortKey.Joined.{source_key}
 use Rattle.text_write.specs.declared.key.KeySink.{KeySink}
 
 -- ---- bytes around points

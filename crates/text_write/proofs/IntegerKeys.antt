@@ -25,9 +25,9 @@ use Rattle.std.proofs.lemmas.Bool.Decides.{eqb_tells}
 use Rattle.std.proofs.lemmas.List.{drop-take, drop_all, drop_more, get_or-drop, get_or-take, length-drop, length-take-le, take-append-drop, take-map, take-take, take_rest}
 use Rattle.jsonb_spec.specs.Source.{Source}
 use Rattle.text_write.specs.KeySink.{Writes}
-use Rattle.text_members.specs.Members.{source_key}
+use Rattle.jsonb_spec.specs.SortKey.Joined.{source_key}
 use Rattle.text_write.specs.declared.key.KeySink.{KeySink}
-use Rattle.text_common.specs.VerbatimScalar.{IsIntegerAt}
+use Rattle.jsonb_spec.specs.Text.VerbatimScalar.{IsIntegerAt}
 use Rattle.text_write.specs.IntegerKey.{digit_bytes, last_byte, more_byte, more_bytes}
 
 -- ---- what digits are worth

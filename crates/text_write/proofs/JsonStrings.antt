@@ -13,10 +13,10 @@ use Rattle.jsonb_spec.specs.SortKey.{byte_key}
 use Rattle.jsonb_spec.specs.Source.{Source}
 use Rattle.jsonb_spec.specs.Text.{in_quotes}
 use Rattle.jsonb_spec.specs.Text.StringText.{ArePlain, byte_text}
-use Rattle.text_common.specs.VerbatimScalar.{IsJsonStringAt}
-use Rattle.text_common.specs.JsonString.{IsJsonBody, IsJsonItem}
-use Rattle.text_scan.specs.Decoding.{AreContents, SeesNoBackslash}
-use Rattle.text_scan.specs.QuotedString.{decoded_text}
+use Rattle.jsonb_spec.specs.Text.VerbatimScalar.{IsJsonStringAt}
+use Rattle.jsonb_spec.specs.Text.JsonString.{IsJsonBody, IsJsonItem}
+use Rattle.jsonb_spec.specs.Parsing.Decoding.{AreContents, SeesNoBackslash}
+use Rattle.jsonb_spec.specs.Parsing.Contents.{decoded_text}
 use Rattle.text_scan.proofs.Strings.Checks.{body_decoded}
 use Rattle.text_scan.proofs.Strings.Items.{body_contents}
 use Rattle.jsonb_core.proofs.Strings.Meaning.{meaning-raw, meaning-escape}

@@ -3,11 +3,12 @@ use Rattle.std.proofs.Common.{◌≡◌, ℕ, true, List, [], ◌∷◌, ◌++�
 use Rattle.jsonb_spec.specs.Text.{member_texts, tree_text, with_commas}
 use Rattle.jsonb_spec.specs.Text.StringText.{quoted_text}
 use Rattle.jsonb_spec.specs.Tree.{object}
-use Rattle.text_common.specs.Open.{Open}
+use Rattle.jsonb_spec.specs.Source.Open.{Open}
 use Rattle.jsonb_spec.specs.Source.{Found, first_repeat, object_source, object_source_of, sort_by, source_members_of, spot_of}
-use Rattle.text_members.specs.Members.{Piece, SpotsAscend, join_pieces}
-use Rattle.text_write.specs.OpenText.{member_text, open_text}
-use Rattle.text_common.specs.SourceText.{source_text}
+use Rattle.text_members.specs.Members.{Piece, SpotsAscend}
+use Rattle.jsonb_spec.specs.SortKey.Joined.{join_pieces}
+use Rattle.jsonb_spec.specs.Text.SoFar.{member_text, open_text}
+use Rattle.jsonb_spec.specs.Text.SourceText.{source_text}
 use Rattle.text_members.proofs.Objects.Closing as closing
 
 -- ---- the tree

@@ -4,10 +4,10 @@ use Rattle.std.proofs.lemmas.List.{map-append}
 use Rattle.std.proofs.lemmas.List.Concat.{flat_map-append}
 use Rattle.std.specs.List.{flat_map}
 use Rattle.jsonb_spec.specs.Text.{item_texts, with_commas}
-use Rattle.text_common.specs.Open.{Open, elements_so_far}
+use Rattle.jsonb_spec.specs.Source.Open.{Open, elements_so_far}
 use Rattle.jsonb_spec.specs.Source.{Source, array_source_of, sources_of, trees_of_sources}
-use Rattle.text_write.specs.OpenText.{comma_after, comma_unless, is_empty, lead_text, open_text, parts_text}
-use Rattle.text_common.specs.SourceText.{source_text}
+use Rattle.jsonb_spec.specs.Text.SoFar.{comma_after, comma_unless, is_empty, lead_text, open_text, parts_text}
+use Rattle.jsonb_spec.specs.Text.SourceText.{source_text}
 
 -- the comma behind parts is the one before the next
 pub comma_is : {A : Type 0} (b : Bool) (xs : List A) → b ≡ is_empty xs → comma_unless b ≡ comma_after xs

@@ -13,11 +13,12 @@ use Rattle.jsonb_spec.specs.Grammar.{AreDistinct}
 use Rattle.jsonb_spec.specs.Tree.{Mark, Tree}
 use Rattle.jsonb_core.proofs.Trees.MembersInOrder.{distinct_keys, IsNew}
 use Rattle.jsonb_spec.specs.Order.ByContent.{pairs_of}
-use Rattle.text_common.specs.Open.{Open, add_part, elements_so_far, members_so_far}
+use Rattle.jsonb_spec.specs.Source.Open.{Open, add_part, elements_so_far, members_so_far}
 use Rattle.jsonb_spec.specs.Source.{Found, Source, array_source_of, first_repeat, insert_by, object_source_of, sort_by, sources_of, spot_cmp, spot_of, tree_of_source, trees_of_sources}
 use Rattle.text_members.specs.Members.{SpotsAscend}
 use Rattle.jsonb_spec.specs.PartAt.{index_named, part_at}
-use Rattle.text_write.specs.PartSink.{first_key, follow, in_items, in_members, path_behind, other_keys, part_inside, part_of_ended, part_with_inside, part_with_value, within}
+use Rattle.text_write.specs.PartSink.{first_key, other_keys, part_with_inside}
+use Rattle.jsonb_spec.specs.PartAt.SoFar.{follow, in_items, in_members, path_behind, part_inside, part_of_ended, part_with_value, within}
 use Rattle.text_members.proofs.Objects.Closing.{listed, listed_ascend, put_listed, sort_ascends}
 use Rattle.text_common.proofs.Shuffles.{IsShuffle, distinct-shuffle, shuffle-map, same, preserve, exchange, follow as in_turn}
 

@@ -9,10 +9,10 @@ use Rattle.std.proofs.lemmas.Bool.Decides.{nat_tests}
 use Rattle.jsonb_spec.specs.Text.{tree_text}
 use Rattle.jsonb_spec.specs.Tree.{Mark, Tree}
 use Rattle.jsonb_spec.specs.Tree.Mark.{plain}
-use Rattle.text_common.specs.Open.{Open, elements_so_far, members_so_far}
+use Rattle.jsonb_spec.specs.Source.Open.{Open, elements_so_far, members_so_far}
 use Rattle.jsonb_spec.specs.Source.{Found, Source, array_source_of, first_repeat, found_member, object_source_of, spot_of, tree_of_source}
 use Rattle.text_common.specs.VerbatimScalar.{IsVerbatimAt}
-use Rattle.text_common.specs.SourceText.{source_text}
+use Rattle.jsonb_spec.specs.Text.SourceText.{source_text}
 use Rattle.text_common.specs.declared.verbatim.Verbatim.{Verbatim}
 use Rattle.text_common.specs.declared.verbatim.Verbatim.TheVariants as verbatim
 use Rattle.jsonb_spec.specs.PartAt.{index_named, part_at}
@@ -21,7 +21,8 @@ use Rattle.text_write.specs.CheckSink.{CheckHolds, unwritten}
 use Rattle.text_write.specs.KeySink as key
 use Rattle.text_members.specs.OpenMembers.{EndsObject, ReportsRepeatOf, all_starts}
 use Rattle.text_members.specs.declared.open_members.Repeat.{Repeat}
-use Rattle.text_write.specs.PartSink.{EndsAt, FilledAt, HasNoParts, HeldFits, InnerEnds, IsAhead, IsAround, IsInPart, IsOutside, IsSeeking, IsWritten, Leads, PartFilled, PartHeld, PartHolds, HoldsAt, check_held, first_index, follow, follow_key, array_held, keys_of, path_behind, object_held, other_keys, part_inside, part_of, part_of_ended, part_with_value, less, rest_at, text_held, waits_at, within, ahead_of, level_of}
+use Rattle.text_write.specs.PartSink.{EndsAt, FilledAt, HeldFits, InnerEnds, IsAhead, IsAround, IsInPart, IsOutside, IsSeeking, IsWritten, Leads, PartFilled, PartHeld, PartHolds, HoldsAt, check_held, first_index, follow_key, array_held, keys_of, object_held, other_keys, part_of, less, rest_at, text_held, ahead_of, level_of}
+use Rattle.jsonb_spec.specs.PartAt.SoFar.{HasNoParts, follow, path_behind, part_inside, part_of_ended, part_with_value, waits_at, within}
 use Rattle.text_write.specs.TextSink as text
 use Rattle.text_write.specs.TextSink.{SeesPart, TextFilled, TextHolds, base_of}
 use Rattle.text_write.specs.declared.check.CheckSink.{CheckSink}

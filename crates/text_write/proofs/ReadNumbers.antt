@@ -3,7 +3,7 @@ use Rattle.std.proofs.Common.{◌≡◌, ℕ, ◌-◌, ◌≤◌, List, length, 
 use Rattle.std.proofs.Math.Seq.{take-append_seam}
 use Rattle.jsonb_spec.specs.Grammar.StandardNumber.{IsStandardNumber}
 use Rattle.jsonb_spec.specs.Tree.{Num}
-use Rattle.text_scan.specs.Parsing.Number.{standard_number_at}
+use Rattle.jsonb_spec.specs.Parsing.Number.{standard_number_at}
 use Rattle.text_scan.proofs.Numbers.Standard.{number_sound}
 
 pub number_there : (text : List ℕ) (from to size : ℕ) (n : Num) → from ≤ to → to ≤ length text → standard_number_at size (drop from text) ≡ Ok (n, drop to text) → IsStandardNumber (slice_range text from to) n

@@ -6,12 +6,12 @@ use Rattle.std.specs.Str.{IsUtf8}
 use Rattle.jsonb_spec.specs.Text.{in_quotes, with_commas}
 use Rattle.jsonb_spec.specs.Text.StringText.{ArePlain, quoted_text}
 use Rattle.jsonb_spec.specs.Tree.{Mark}
-use Rattle.text_common.specs.Open.{Open, members_so_far}
+use Rattle.jsonb_spec.specs.Source.Open.{Open, members_so_far}
 use Rattle.jsonb_spec.specs.Source.{Found, Source, found_member}
 use Rattle.text_members.specs.OpenMembers.{AreOf, all_starts, next_start, starts_in}
 use Rattle.text_members.specs.OpenMembers.{Begins as Begun}
-use Rattle.text_write.specs.OpenText.{comma_after, comma_unless, key_text, member_text, open_text}
-use Rattle.text_common.specs.SourceText.{source_text}
+use Rattle.jsonb_spec.specs.Text.SoFar.{comma_after, comma_unless, key_text, member_text, open_text}
+use Rattle.jsonb_spec.specs.Text.SourceText.{source_text}
 use Rattle.text_write.specs.TextSink.{Begins, Held, HeldFits, IsSinkWith, TextHolds, Writes, base_of, members, text_layout}
 use Rattle.text_write.specs.Written.{bytes_of}
 use Rattle.text_write.specs.declared.text.TextSink.{TextSink}

@@ -4,12 +4,12 @@ use Rattle.std.proofs.lemmas.List.{length-take-le}
 use Rattle.std.specs.Option.{is_some}
 use Rattle.jsonb_spec.specs.Text.{with_commas}
 use Rattle.jsonb_spec.specs.Tree.{Mark}
-use Rattle.text_common.specs.Open.{Open, members_so_far}
+use Rattle.jsonb_spec.specs.Source.Open.{Open, members_so_far}
 use Rattle.jsonb_spec.specs.Source.{Found, sort_by, spot_of}
-use Rattle.text_members.specs.Members.{join_pieces}
+use Rattle.jsonb_spec.specs.SortKey.Joined.{join_pieces}
 use Rattle.text_members.specs.OpenMembers.{AreOf, AreSettled, EndIn, EndsObject, KeysAscendFrom, PutsInOrder, ReportsRepeatOf}
 use Rattle.text_members.specs.declared.open_members.Repeat.{Repeat}
-use Rattle.text_write.specs.OpenText.{member_text, open_text}
+use Rattle.jsonb_spec.specs.Text.SoFar.{member_text, open_text}
 use Rattle.text_write.specs.TextSink.{Closes, Held, HeldFits, IsSettled, PreservesMembers, TextFilled, TextHolds, base_of, members, text_layout}
 use Rattle.text_write.specs.Written.{bytes_of}
 use Rattle.text_write.specs.declared.text.TextSink.{TextSink}

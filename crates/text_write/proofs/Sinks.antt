@@ -1,10 +1,10 @@
 -- The sink after bytes were written.
 use Rattle.std.proofs.Common.{◌≡◌, ℕ, Bool, true, false, List, [], ◌∷◌, ◌++◌, refl, sym, ap, ap₂, subst, ◌∙◌, append_assoc, append-nil}
-use Rattle.text_common.specs.Open.{Open, elements_so_far}
+use Rattle.jsonb_spec.specs.Source.Open.{Open, elements_so_far}
 use Rattle.jsonb_spec.specs.Source.{Source}
 use Rattle.text_members.specs.OpenMembers.{AreOf, all_starts}
-use Rattle.text_write.specs.OpenText.{comma_unless, open_text}
-use Rattle.text_common.specs.SourceText.{source_text}
+use Rattle.jsonb_spec.specs.Text.SoFar.{comma_unless, open_text}
+use Rattle.jsonb_spec.specs.Text.SourceText.{source_text}
 use Rattle.text_write.specs.Written.{bytes_of}
 use Rattle.text_members.proofs.OpenMembers.{same, stay}
 use Rattle.text_write.proofs.OpenTexts.{comma_is, led}

@@ -1,6 +1,6 @@
 -- What is held of a text that is only checked, while arrays and objects are open.
 use Rattle.std.specs.Prelude.{ℕ, Bool, true, false, List, []}
-use Rattle.text_common.specs.Open.{Open}
+use Rattle.jsonb_spec.specs.Source.Open.{Open}
 use Rattle.jsonb_spec.specs.Source.{Found}
 use Rattle.text_write.specs.KeySink.{Held, HeldFits}
 use Rattle.text_members.specs.OpenMembers.{AreOf, EndsObject, Layout}

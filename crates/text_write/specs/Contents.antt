@@ -6,8 +6,8 @@ use Rattle.jsonb_spec.specs.Tree.Mark.{escaped}
 use Rattle.jsonb_core.specs.declared.error.Error.{Error}
 use Rattle.jsonb_core.specs.declared.error.Error.TheVariants.{Syntax}
 use Rattle.text_scan.specs.Answer.{mode_of}
-use Rattle.text_scan.specs.QuotedString.{decoded_text}
-use Rattle.text_scan.specs.Parsing.String.{Body}
+use Rattle.jsonb_spec.specs.Parsing.Contents.{decoded_text}
+use Rattle.jsonb_spec.specs.Parsing.String.{Body}
 use Rattle.text_write.specs.declared.contents.Contents.{Contents}
 
 -- what the contents mean

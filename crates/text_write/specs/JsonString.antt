@@ -4,7 +4,7 @@ use Rattle.std.specs.List.{flat_map}
 use Rattle.jsonb_spec.specs.Ascii as ascii
 use Rattle.jsonb_spec.specs.SortKey.{byte_key}
 use Rattle.jsonb_spec.specs.Text.StringText.{byte_text}
-use Rattle.text_common.specs.JsonString.{IsJsonBody}
+use Rattle.jsonb_spec.specs.Text.JsonString.{IsJsonBody}
 
 -- a byte: with the escape that a text needs (true), or as it is
 abbrev pub written_byte : Bool → ℕ → List ℕ

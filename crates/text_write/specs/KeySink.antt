@@ -6,13 +6,13 @@ use Rattle.jsonb_spec.specs.SortKey.Kind as kind
 use Rattle.jsonb_spec.specs.Tree.{plain, null, boolean, string, number}
 use Rattle.jsonb_spec.specs.Tree.Mark.{escaped}
 use Rattle.jsonb_core.specs.View.{mark_view, number_view}
-use Rattle.text_common.specs.Open.{Open, elements_so_far, members_so_far}
+use Rattle.jsonb_spec.specs.Source.Open.{Open, elements_so_far, members_so_far}
 use Rattle.jsonb_spec.specs.Source.{Found, Source, first_repeat, sort_by, spot_of}
 use Rattle.text_write.specs.Contents.{text_of_contents}
-use Rattle.text_members.specs.Members.{member_key, source_key}
+use Rattle.jsonb_spec.specs.SortKey.Joined.{member_key, source_key}
 use Rattle.text_members.specs.OpenMembers as opened
 use Rattle.text_members.specs.OpenMembers.{AreOf, AreSame, Layout, all_starts}
-use Rattle.text_write.specs.OpenKey.{keys_joined, open_key}
+use Rattle.jsonb_spec.specs.SortKey.SoFar.{keys_joined, open_key}
 use Rattle.text_write.specs.declared.key.KeySink.{KeySink}
 use Rattle.text_write.specs.declared.text.Part.{Part}
 use Rattle.text_write.specs.declared.text.Part.TheVariants as part

@@ -4,8 +4,6 @@ pub mod DecimalKey
 pub mod IntegerKey
 pub mod JsonString
 pub mod KeySink
-pub mod OpenKey
-pub mod OpenText
 pub mod PartSink
 pub mod TextSink
 pub mod Written

@@ -12,13 +12,13 @@ use Rattle.jsonb_spec.specs.Text.StringText.{ArePlain, quoted_text}
 use Rattle.jsonb_spec.specs.Tree.Mark.{escaped}
 use Rattle.jsonb_spec.specs.Tree.{plain}
 use Rattle.jsonb_core.specs.View.{mark_view, number_view}
-use Rattle.text_common.specs.Open.{Open, elements_so_far, members_so_far}
+use Rattle.jsonb_spec.specs.Source.Open.{Open, elements_so_far, members_so_far}
 use Rattle.jsonb_spec.specs.Source.{Found, Source, null_source, boolean_source, string_source, number_source, first_repeat, sort_by, spot_of}
 use Rattle.text_write.specs.Contents.{text_of_contents}
 use Rattle.text_members.specs.OpenMembers as opened
 use Rattle.text_members.specs.OpenMembers.{AreOf, AreSame, Layout, all_starts}
-use Rattle.text_write.specs.OpenText.{is_empty, member_text, open_text}
-use Rattle.text_common.specs.SourceText.{source_text}
+use Rattle.jsonb_spec.specs.Text.SoFar.{is_empty, member_text, open_text}
+use Rattle.jsonb_spec.specs.Text.SourceText.{source_text}
 use Rattle.text_write.specs.Written.{bytes_of}
 use Rattle.text_write.specs.declared.text.Part.{Part}
 use Rattle.text_write.specs.declared.text.Part.TheVariants as part

@@ -11,8 +11,8 @@ pub struct CheckSink<'a> {
 }
 
 impl<'a> CheckSink<'a> {
-    ghost use Rattle.text_common.specs.Open.{Open};
-    ghost use Rattle.text_common.specs.Open.Open.{members_so_far};
+    ghost use Rattle.jsonb_spec.specs.Source.Open.{Open};
+    ghost use Rattle.jsonb_spec.specs.Source.Open.Open.{members_so_far};
     ghost use Rattle.jsonb_spec.specs.Source.{Found};
     ghost use Rattle.jsonb_spec.specs.Text.{in_quotes};
     ghost use Rattle.jsonb_spec.specs.Tree.{Mark};

@@ -1,7 +1,7 @@
 //! Contents of strings with escapes, which are decoded where they are written.
 ghost use Rattle.std.specs.Prelude.{◌+◌, ◌^◌, ◌<◌, length, true};
 ghost use Rattle.text_scan.specs.Answer.{mode_of};
-ghost use Rattle.text_scan.specs.Decoding.{AreContents};
+ghost use Rattle.jsonb_spec.specs.Parsing.Decoding.{AreContents};
 
 use jsonb_core::error::Result;
 use text_scan::parser::Mode;
@@ -16,8 +16,8 @@ pub struct Contents<'a> {
 }
 
 impl<'a> Contents<'a> {
-    ghost use Rattle.text_scan.specs.Decoding.{ReportsBackslash};
-    ghost use Rattle.text_scan.specs.Parsing.String.{body_of};
+    ghost use Rattle.jsonb_spec.specs.Parsing.Decoding.{ReportsBackslash};
+    ghost use Rattle.jsonb_spec.specs.Parsing.String.{body_of};
     ghost use Rattle.text_write.specs.Contents.{ChecksAs};
 
     /// The contents of a string, which have a backslash. `idx` is the index after the opening quote and one more, from

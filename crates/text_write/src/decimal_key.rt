@@ -6,7 +6,7 @@ ghost use Rattle.jsonb_spec.specs.SortKey.{invert_if, magnitude_key, number_key}
 ghost use Rattle.jsonb_spec.specs.Text.Appending.{Extends};
 ghost use Rattle.jsonb_spec.specs.Text.NumberText.{number_text};
 ghost use Rattle.jsonb_spec.specs.Tree.{Num};
-ghost use Rattle.text_common.specs.VerbatimScalar.{IsShortDecimal};
+ghost use Rattle.jsonb_spec.specs.Text.VerbatimScalar.{IsShortDecimal};
 ghost use Rattle.text_write.specs.DecimalKey.{IsOnlyPoint, without_points};
 
 use crate::integer_key::{append_pairs, invert_if, significant_len};

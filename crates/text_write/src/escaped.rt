@@ -4,8 +4,8 @@ ghost use Rattle.std.specs.List.{flat_map};
 ghost use Rattle.jsonb_spec.specs.Text.Appending.{Extends};
 ghost use Rattle.jsonb_spec.specs.Text.StringText.{byte_text};
 ghost use Rattle.text_scan.specs.Answer.{mode_of};
-ghost use Rattle.text_scan.specs.Decoding.{AreContents};
-ghost use Rattle.text_scan.specs.QuotedString.{decoded_text};
+ghost use Rattle.jsonb_spec.specs.Parsing.Decoding.{AreContents};
+ghost use Rattle.jsonb_spec.specs.Parsing.Contents.{decoded_text};
 
 use jsonb_core::parts;
 use jsonb_core::plain::is_plain;

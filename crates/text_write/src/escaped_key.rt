@@ -3,8 +3,8 @@ ghost use Rattle.std.specs.Prelude.{◌≡◌, ◌≤◌, ◌++◌, drop, length
 ghost use Rattle.jsonb_spec.specs.SortKey.{text_key};
 ghost use Rattle.jsonb_spec.specs.Text.Appending.{Extends};
 ghost use Rattle.text_scan.specs.Answer.{mode_of};
-ghost use Rattle.text_scan.specs.Decoding.{AreContents};
-ghost use Rattle.text_scan.specs.QuotedString.{decoded_text};
+ghost use Rattle.jsonb_spec.specs.Parsing.Decoding.{AreContents};
+ghost use Rattle.jsonb_spec.specs.Parsing.Contents.{decoded_text};
 
 use crate::escaped::append_decoded;
 use crate::key_text::append_end;

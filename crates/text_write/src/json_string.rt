@@ -5,13 +5,13 @@ ghost use Rattle.std.specs.List.{flat_map};
 ghost use Rattle.jsonb_spec.specs.SortKey.{text_key};
 ghost use Rattle.jsonb_spec.specs.Source.{Source};
 ghost use Rattle.jsonb_spec.specs.Text.Appending.{Extends};
-ghost use Rattle.text_members.specs.Members.{source_key};
+ghost use Rattle.jsonb_spec.specs.SortKey.Joined.{source_key};
 ghost use Rattle.text_write.specs.JsonString.{HasNoZero, IsVerbatimLetter, written_byte, written_bytes};
-ghost use Rattle.text_common.specs.VerbatimScalar.{IsJsonStringAt};
-ghost use Rattle.text_common.specs.JsonString.{IsJsonBody};
+ghost use Rattle.jsonb_spec.specs.Text.VerbatimScalar.{IsJsonStringAt};
+ghost use Rattle.jsonb_spec.specs.Text.JsonString.{IsJsonBody};
 ghost use Rattle.jsonb_spec.specs.Grammar.StringBody.{standard_escape};
 ghost use Rattle.jsonb_spec.specs.Text.StringText.{byte_text};
-ghost use Rattle.text_common.specs.SourceText.{source_text};
+ghost use Rattle.jsonb_spec.specs.Text.SourceText.{source_text};
 
 use crate::escaped::append_contents;
 use crate::escaped_key::append_contents_key;

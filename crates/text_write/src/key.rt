@@ -28,8 +28,8 @@ pub struct KeySink<'a> {
 }
 
 impl<'a> KeySink<'a> {
-    ghost use Rattle.text_common.specs.Open.{Open};
-    ghost use Rattle.text_common.specs.Open.Open.{members_so_far};
+    ghost use Rattle.jsonb_spec.specs.Source.Open.{Open};
+    ghost use Rattle.jsonb_spec.specs.Source.Open.Open.{members_so_far};
     ghost use Rattle.jsonb_spec.specs.Source.{Found, Source};
     ghost use Rattle.jsonb_spec.specs.SortKey.Kind as kind;
     ghost use Rattle.jsonb_spec.specs.SortKey.{number_key, text_key};
@@ -40,7 +40,7 @@ impl<'a> KeySink<'a> {
     ghost use Rattle.text_write.specs.Contents.{text_of_contents};
     ghost use Rattle.text_write.specs.KeySink.{Closes, Held, IsSettled, PreservesMembers, KeyFilled, KeyHolds, Writes, base_of, part_key};
     ghost use Rattle.text_write.specs.KeySink.Held.{items, members};
-    ghost use Rattle.text_members.specs.Members.{source_key};
+    ghost use Rattle.jsonb_spec.specs.SortKey.Joined.{source_key};
     ghost use Rattle.text_members.specs.OpenMembers.{ReportsRepeatOf};
     ghost use Rattle.jsonb_spec.specs.Text.StringText.{ArePlain};
     ghost use Rattle.text_write.specs.TextSink.{IsEncoded};

@@ -108,10 +108,11 @@ pub struct PartSink<'a> {
 }
 
 impl<'a> PartSink<'a> {
-    ghost use Rattle.text_common.specs.Open.{Open};
-    ghost use Rattle.text_common.specs.Open.Open.{elements_so_far};
+    ghost use Rattle.jsonb_spec.specs.Source.Open.{Open};
+    ghost use Rattle.jsonb_spec.specs.Source.Open.Open.{elements_so_far};
     ghost use Rattle.jsonb_spec.specs.Source.{Source};
-    ghost use Rattle.text_write.specs.PartSink.{InnerEnds, IsAhead, IsAround, IsWritten, Leads, PartFilled, PartHeld, PartHolds, ahead_of, base_and_keys, first_index, first_key, follow_key, keys_of, level_of, path_behind, other_keys, part_of, rest_at};
+    ghost use Rattle.text_write.specs.PartSink.{InnerEnds, IsAhead, IsAround, IsWritten, Leads, PartFilled, PartHeld, PartHolds, ahead_of, base_and_keys, first_index, first_key, follow_key, keys_of, level_of, other_keys, part_of, rest_at};
+    ghost use Rattle.jsonb_spec.specs.PartAt.SoFar.{path_behind};
     ghost use Rattle.text_write.specs.PartSink.PartHeld.{array_held, object_held};
     ghost use Rattle.text_write.specs.TextSink.{base_of};
 

@@ -1,9 +1,9 @@
 //! What is written while a text is parsed: serialized text, a sort key, or the text of a part.
 ghost use Rattle.std.specs.Prelude.{◌≡◌, ◌+◌, ◌-◌, ◌^◌, ◌<◌, ◌++◌, ◌∷◌, [], ℕ, List, Bool, true, false, length, slice_range, IfOk, MatchBool, MatchOption, OnOk};
 ghost use Rattle.text_scan.specs.Answer.{mode_of};
-ghost use Rattle.text_scan.specs.Decoding.{ReportsBackslash};
-ghost use Rattle.text_common.specs.Open.{Open, elements_so_far, members_so_far};
-ghost use Rattle.text_scan.specs.Parsing.String.{body_of};
+ghost use Rattle.jsonb_spec.specs.Parsing.Decoding.{ReportsBackslash};
+ghost use Rattle.jsonb_spec.specs.Source.Open.{Open, elements_so_far, members_so_far};
+ghost use Rattle.jsonb_spec.specs.Parsing.String.{body_of};
 ghost use Rattle.jsonb_spec.specs.Source.{Found, Source, array_source_of, found_member};
 ghost use Rattle.jsonb_spec.specs.Text.{in_quotes};
 ghost use Rattle.jsonb_spec.specs.Text.StringText.{ArePlain};
@@ -11,7 +11,7 @@ ghost use Rattle.jsonb_spec.specs.Tree.{Mark};
 ghost use Rattle.jsonb_spec.specs.Tree.Mark.{plain};
 ghost use Rattle.text_write.specs.Contents.{ChecksAs};
 ghost use Rattle.text_members.specs.OpenMembers.{EndsObject, ReportsRepeatOf};
-ghost use Rattle.text_write.specs.PartSink.{HasNoParts};
+ghost use Rattle.jsonb_spec.specs.PartAt.SoFar.{HasNoParts};
 ghost use Rattle.text_write.specs.TextSink.{IsEncoded, SeesPart};
 ghost use Rattle.text_members.specs.declared.open_members.OpenMembers.{OpenMembers};
 ghost use Rattle.text_common.specs.VerbatimScalar.{IsVerbatimAt};

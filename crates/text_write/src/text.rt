@@ -51,8 +51,8 @@ fn is_verbatim(number: &Number) -> bool
 }
 
 impl<'a> TextSink<'a> {
-    ghost use Rattle.text_common.specs.Open.{Open};
-    ghost use Rattle.text_common.specs.Open.Open.{members_so_far};
+    ghost use Rattle.jsonb_spec.specs.Source.Open.{Open};
+    ghost use Rattle.jsonb_spec.specs.Source.Open.Open.{members_so_far};
     ghost use Rattle.jsonb_spec.specs.Source.{Found, Source};
     ghost use Rattle.jsonb_spec.specs.Grammar.StandardNumber.{IsStandardNumber};
     ghost use Rattle.jsonb_spec.specs.Text.{in_quotes};
@@ -61,8 +61,8 @@ impl<'a> TextSink<'a> {
     ghost use Rattle.jsonb_spec.specs.Tree.{Mark};
     ghost use Rattle.jsonb_spec.specs.Tree.Mark.{plain};
     ghost use Rattle.jsonb_core.specs.View.{number_view};
-    ghost use Rattle.text_write.specs.OpenText.{comma_unless};
-    ghost use Rattle.text_common.specs.SourceText.{source_text};
+    ghost use Rattle.jsonb_spec.specs.Text.SoFar.{comma_unless};
+    ghost use Rattle.jsonb_spec.specs.Text.SourceText.{source_text};
     ghost use Rattle.text_members.specs.OpenMembers.{ReportsRepeatOf};
     ghost use Rattle.text_write.specs.TextSink.{Closes, Held, IsSettled, PreservesMembers, IsEncoded, TextFilled, TextHolds, Writes, base_of, part_text};
     ghost use Rattle.text_write.specs.TextSink.Held.{items, members};

@@ -10,7 +10,7 @@ use text_common::verbatim::Verbatim;
 
 impl<'a> TextSink<'a> {
     ghost use Rattle.text_write.specs.TextSink.{Writes, base_of};
-    ghost use Rattle.text_common.specs.SourceText.{source_text};
+    ghost use Rattle.jsonb_spec.specs.Text.SourceText.{source_text};
 
     // Writes a scalar that is there in the text.
     #[inline(always)]
@@ -35,7 +35,7 @@ impl<'a> TextSink<'a> {
 
 impl<'a> KeySink<'a> {
     ghost use Rattle.text_write.specs.KeySink.{Writes, base_of};
-    ghost use Rattle.text_members.specs.Members.{source_key};
+    ghost use Rattle.jsonb_spec.specs.SortKey.Joined.{source_key};
 
     // Writes a scalar that is there in the text.
     #[inline(always)]

@@ -10,11 +10,12 @@ use Rattle.jsonb_spec.specs.Tree.{Tree}
 use Rattle.text_scan.specs.Answer.{grammar_of}
 use Rattle.text_scan.specs.declared.parser.Grammar.{Grammar}
 use Rattle.text_parse.proofs.Containers.Values.{document_sound}
-use Rattle.text_scan.specs.Parsing.{Fault}
-use Rattle.text_scan.specs.Parsing.Document.{document_of}
+use Rattle.jsonb_spec.specs.Parsing.{Fault}
+use Rattle.jsonb_spec.specs.Parsing.Document.{document_of}
 use Rattle.vjson_text.specs.Texts.{IsTextOf}
 use Rattle.vjson_run.specs.Chosen.{Chooses, Holds, IsLeftOut, allows, holds, holds_of, leaves_out}
-use Rattle.vjson_run.specs.Keys.{HasPartKey, keys_of, part_key}
+use Rattle.vjson_run.specs.Keys.{HasPartKey}
+use Rattle.jsonb_spec.specs.Program.Keys.{keys_of, part_key}
 use Rattle.vjson_run.specs.declared.options.Command.{Command}
 use Rattle.vjson_run.specs.declared.options.Command.TheVariants.{Check}
 use Rattle.vjson_run.specs.declared.options.Condition.{Condition}

@@ -8,7 +8,7 @@ use Rattle.std.proofs.BufReadLemmas.{take_through-append, drop_through-append}
 use Rattle.std.specs.Io.BufRead.{take_through, drop_through, ends_with_byte}
 use Rattle.std.specs.List.{slice_split}
 use Rattle.std.specs.Str.Lines.{lines, lines_of_parts, strip_carriage_return}
-use Rattle.vjson_run.specs.Input.{without_end}
+use Rattle.jsonb_spec.specs.Program.Input.{without_end}
 
 -- no line feed
 abbrev HasNone : List ℕ → Type 0

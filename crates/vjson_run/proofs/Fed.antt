@@ -4,7 +4,7 @@ use Rattle.std.specs.Io.BufRead.{DropsThrough, take_through, drop_through}
 use Rattle.std.specs.Io.KnownBytes.{IsAtEnd}
 use Rattle.vjson_run.proofs.Reading.{first_step, texts_step}
 use Rattle.vjson_run.proofs.Troubled.{advances_nowhere, advances_over, advances_then}
-use Rattle.vjson_run.specs.Input.{is_blank_line, text_lines, without_end, without_mark}
+use Rattle.jsonb_spec.specs.Program.Input.{is_blank_line, text_lines, without_end, without_mark}
 use Rattle.vjson_run.specs.Runs.{line_texts}
 use Rattle.vjson_run.specs.Trouble.{Advances}
 use Rattle.vjson_run.specs.declared.session.Session.{Session}

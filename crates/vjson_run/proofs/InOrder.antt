@@ -10,7 +10,8 @@ use Rattle.std.specs.declared.alloc.Global.{Global}
 use Rattle.vjson_text.specs.Texts.{IsNoTextOf}
 use Rattle.vjson_run.proofs.Lists.{any_before, any_last, zipped_more}
 use Rattle.vjson_run.specs.Keys.{IsKeyOf}
-use Rattle.vjson_run.specs.InOrder.{key_order, Ascend, may_follow, AreOutOfOrder, AreInOrder, AreInOrderSoFar, is_wrong}
+use Rattle.jsonb_spec.specs.Program.InOrder.{key_order, Ascend, may_follow}
+use Rattle.vjson_run.specs.InOrder.{AreOutOfOrder, AreInOrder, AreInOrderSoFar, is_wrong}
 use Rattle.vjson_run.specs.declared.options.Options.{Options}
 
 -- ---- keys

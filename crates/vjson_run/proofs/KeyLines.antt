@@ -5,7 +5,7 @@ use Rattle.std.specs.Cmp.{nat_cmp_is}
 use Rattle.std.specs.List.{flat_map}
 use Rattle.std.specs.Ordering.{nat_cmp, ordering_then}
 use Rattle.jsonb_spec.specs.Order.{bytes_cmp}
-use Rattle.vjson_run.specs.Lines.{hex_digit, hex_text, key_line}
+use Rattle.jsonb_spec.specs.Program.KeyLine.{hex_digit, hex_text, key_line}
 
 low_digit : (a : ℕ) → a < 10 → hex_digit a ≡ 48 + a
 low_digit a low = cond-true (nat_lt a 10) _ _ (lt-ltb a 10 low)

@@ -11,8 +11,10 @@ use Rattle.vjson_text.specs.Texts.{IsNoTextOf, IsTextOf}
 use Rattle.text_scan.specs.Answer.{grammar_of}
 use Rattle.text_scan.specs.declared.parser.Grammar.{Grammar}
 use Rattle.vjson_run.proofs.InOrder.{turned}
-use Rattle.vjson_run.specs.Keys.{IsKeyBy, IsKeyOf, IsPiece, IsTurned, keys_of, part_key}
-use Rattle.vjson_run.specs.InOrder.{key_order, Ascend, may_follow, AreOutOfOrder, AreInOrder}
+use Rattle.vjson_run.specs.Keys.{IsKeyBy, IsKeyOf, IsPiece}
+use Rattle.jsonb_spec.specs.Program.Keys.{IsTurned, keys_of, part_key}
+use Rattle.jsonb_spec.specs.Program.InOrder.{key_order, Ascend, may_follow}
+use Rattle.vjson_run.specs.InOrder.{AreOutOfOrder, AreInOrder}
 use Rattle.vjson_run.specs.declared.options.Options.{Options}
 use Rattle.vjson_run.specs.declared.options.Part.{Part}
 

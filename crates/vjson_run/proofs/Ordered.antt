@@ -18,7 +18,8 @@ use Rattle.vjson_text.specs.Texts.{IsTextOf}
 use Rattle.text_scan.specs.Answer.{grammar_of}
 use Rattle.text_scan.specs.declared.parser.Grammar.{Grammar}
 use Rattle.vjson_run.proofs.PartKeys.{IsSound, part_sound, text_sound}
-use Rattle.vjson_run.specs.Keys.{IsKeyBy, IsKeyOf, IsPiece, IsTurned, by_part, by_parts, keys_of, part_cmp, part_key, sort_cmp}
+use Rattle.vjson_run.specs.Keys.{IsKeyBy, IsKeyOf, IsPiece, by_part, by_parts, sort_cmp}
+use Rattle.jsonb_spec.specs.Program.Keys.{IsTurned, keys_of, part_cmp, part_key}
 use Rattle.vjson_run.specs.Lines.{IsLineOf, line_cmp}
 use Rattle.vjson_run.specs.declared.lines.Line.{Line}
 use Rattle.vjson_run.specs.declared.options.Options.{Options}

@@ -7,7 +7,7 @@ use Rattle.std.specs.Prelude.{String, Vec, is_some, map, string_bytes}
 use Rattle.jsonb.proofs.Documents.Encodings.{document_unique}
 use Rattle.jsonb_spec.specs.Indented.{indented_text}
 use Rattle.jsonb_spec.specs.Tree.{Tree}
-use Rattle.vjson_text.specs.Raw.{AppendsRaw, IsRaw}
+use Rattle.jsonb_spec.specs.Program.Raw.{AppendsRaw, IsRaw}
 use Rattle.vjson_text.specs.Texts.{AppendsKeyOf, AppendsLaidOut, AppendsPartOf, AppendsTextOf, IsTextOf}
 use Rattle.text_scan.specs.Answer.{grammar_of}
 use Rattle.text_scan.specs.declared.parser.Grammar.{Grammar}
@@ -16,9 +16,11 @@ use Rattle.vjson_text.specs.declared.reader.Layout.{Layout}
 use Rattle.vjson_text.specs.declared.reader.Layout.TheVariants.{Compact, Indent}
 use Rattle.vjson_run.proofs.Lists.{any_behind, zipped_more}
 use Rattle.vjson_run.proofs.PartKeys.{part_key_is}
-use Rattle.vjson_run.specs.Answers.{AppendsCell, AppendsLine, AppendsOne, IsCell, IsRawCell, IsFound, IsLaidOut, IsLineText, IsOne, IsShown, LacksSome, Prints, PrintsKeyed, cell_byte, first_keys, given_default, layout_of, printed, row_of, separated, separator, shown_part}
-use Rattle.vjson_run.specs.Keys.{AppendsPiece, AppendsTurned, HasPartKey, IsKeyBy, IsKeyOf, IsPartOf, IsPiece, IsTurned, LacksPart, keys_of, part_key}
-use Rattle.vjson_run.specs.Lines.{key_line}
+use Rattle.vjson_run.specs.Answers.{AppendsCell, AppendsLine, AppendsOne, IsCell, IsRawCell, IsFound, IsLaidOut, IsLineText, IsOne, IsShown, LacksSome, PrintsKeyed, given_default, layout_of, shown_part}
+use Rattle.jsonb_spec.specs.Program.Printed.{Prints, cell_byte, first_keys, printed, row_of, separated, separator}
+use Rattle.vjson_run.specs.Keys.{AppendsPiece, AppendsTurned, HasPartKey, IsKeyBy, IsKeyOf, IsPartOf, IsPiece, LacksPart}
+use Rattle.jsonb_spec.specs.Program.Keys.{IsTurned, keys_of, part_key}
+use Rattle.jsonb_spec.specs.Program.KeyLine.{key_line}
 use Rattle.vjson_run.specs.declared.options.Options.{Options}
 use Rattle.vjson_run.specs.declared.options.Part.{Part}
 

@@ -5,7 +5,7 @@ use Rattle.std.specs.Io.BufRead.{take_through, drop_through}
 use Rattle.std.specs.List.{filter}
 use Rattle.std.specs.Str.Lines.{lines}
 use Rattle.vjson_run.proofs.Cuts.{lines_step}
-use Rattle.vjson_run.specs.Input.{is_blank_line, text_lines, without_end, without_mark}
+use Rattle.jsonb_spec.specs.Program.Input.{is_blank_line, text_lines, without_end, without_mark}
 use Rattle.vjson_run.specs.Runs.{line_texts}
 
 is_text : List ℕ → Bool

@@ -9,12 +9,14 @@ use Rattle.std.specs.List.{flat_map, list_all}
 use Rattle.vjson_text.specs.Texts.{AppendsKeyOf, IsNoTextOf}
 use Rattle.vjson_run.proofs.InOrder.{disordered_more, in_order_more, out_of_order, rejected_order}
 use Rattle.vjson_run.proofs.Lists.{any_before, any_last, zipped_more}
-use Rattle.vjson_run.specs.Answers.{Answers, IsFound, IsLaidOut, IsOne, LacksSome, Prints, PrintsKeyed, asked, checked, checks_order, found, keyed, lacking, laid_out, printed, rejected}
+use Rattle.vjson_run.specs.Answers.{Answers, IsFound, IsLaidOut, IsOne, LacksSome, PrintsKeyed, asked, checked, checks_order, found, keyed, lacking, laid_out, rejected}
+use Rattle.jsonb_spec.specs.Program.Printed.{Prints, printed}
 use Rattle.vjson_run.specs.InOrder.{AreInOrderSoFar, is_wrong}
-use Rattle.vjson_run.specs.Lines.{key_line}
+use Rattle.jsonb_spec.specs.Program.KeyLine.{key_line}
 use Rattle.vjson_run.specs.Output.{output, PrintsNothing, PrintsPart}
 use Rattle.vjson_run.specs.declared.report.Output.{Output}
-use Rattle.vjson_run.specs.Runs.{Answer, AreAnswered, AreLinesFor, IsAnswer, IsLineFor, HasMade, HasTaken, Gets, AddsLine, AreEqual, AreEqualSoFar, ChecksOrder, Compares, Differs, IsRetained, IsSame, Takes, denied, is_yes}
+use Rattle.jsonb_spec.specs.Program.Answer.{Answer}
+use Rattle.vjson_run.specs.Runs.{AreAnswered, AreLinesFor, IsAnswer, IsLineFor, HasMade, HasTaken, Gets, AddsLine, AreEqual, AreEqualSoFar, ChecksOrder, Compares, Differs, IsRetained, IsSame, Takes, denied, is_yes}
 use Rattle.vjson_run.specs.declared.lines.Line.{Line}
 use Rattle.vjson_run.specs.declared.options.Command.{Command}
 use Rattle.vjson_run.specs.declared.options.Command.TheVariants.{Check, Format, Get, Sort, Equal, Keys}

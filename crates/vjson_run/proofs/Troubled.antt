@@ -3,7 +3,7 @@ use Rattle.std.proofs.Common.{◌≡◌, ◌⊎◌, inl, inr, ℕ, Bool, true, f
 use Rattle.std.proofs.lemmas.List.Elements.{filter-append}
 use Rattle.std.specs.List.{Any, filter}
 use Rattle.jsonb_spec.specs.Tree.{Tree}
-use Rattle.text_scan.specs.Answer.{MayAllocate}
+use Rattle.jsonb_spec.specs.Parsing.Memory.{MayAllocate}
 use Rattle.vjson_text.specs.Texts.{IsNoTextOf}
 use Rattle.vjson_text.specs.Memory.{LacksSpace, LacksSpaceForPart}
 use Rattle.text_scan.specs.declared.parser.Grammar.{Grammar}

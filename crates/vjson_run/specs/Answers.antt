@@ -1,23 +1,20 @@
 -- What a command makes of one text: yes or no, and the part of the output that is the text's.
-use Rattle.std.specs.Prelude.{◌≡◌, ℕ, nat_lt, ◌==◌, Bool, true, false, if◌then◌else◌, List, [], ◌∷◌, ◌++◌, drop, length, map, None, Some, Option, string_bytes, String, MatchBool, Vec, unwrap_or}
+use Rattle.std.specs.Prelude.{◌≡◌, ℕ, nat_lt, Bool, true, false, if◌then◌else◌, List, [], ◌∷◌, ◌++◌, drop, length, map, None, Some, string_bytes, String, MatchBool, unwrap_or}
 use Rattle.std.specs.List.{AllZip, Any, flat_map}
 use Rattle.std.specs.declared.alloc.Global.{Global}
-use Rattle.jsonb_spec.specs.Ascii as ascii
 use Rattle.jsonb_spec.specs.Tree.{Tree}
 use Rattle.vjson_text.specs.Texts.{AppendsTextOf, IsTextOf, IsNoTextOf}
-use Rattle.vjson_text.specs.Raw.{IsRaw}
+use Rattle.jsonb_spec.specs.Program.Raw.{IsRaw}
 use Rattle.text_scan.specs.declared.parser.Grammar.{Grammar}
 use Rattle.vjson_text.specs.declared.reader.Layout.{Layout}
 use Rattle.vjson_text.specs.declared.reader.Layout.TheVariants.{Compact, Indent}
-use Rattle.vjson_run.specs.Keys.{IsKeyOf, IsPartOf, LacksPart, keys_of}
-use Rattle.vjson_run.specs.Lines.{key_line}
+use Rattle.vjson_run.specs.Keys.{IsKeyOf, IsPartOf, LacksPart}
+use Rattle.jsonb_spec.specs.Program.Keys.{keys_of}
+use Rattle.jsonb_spec.specs.Program.KeyLine.{key_line}
 use Rattle.vjson_run.specs.declared.options.Command.{Command}
 use Rattle.vjson_run.specs.declared.options.Command.TheVariants.{Check, Format, Get, Sort, Keys}
 use Rattle.vjson_run.specs.declared.options.Options.{Options}
-
--- what is printed of a text, and a line feed
-abbrev pub printed : List ℕ → List ℕ
-printed bytes = bytes ++ ascii.line_feed ∷ []
+use Rattle.jsonb_spec.specs.Program.Printed.{printed, first_keys, cell_byte, separator, separated, row_of}
 
 -- by `sort --check`
 abbrev pub asked : Command → Bool → Bool
@@ -36,11 +33,6 @@ checks_order options = asked options.command options.check
 abbrev pub layout_of : Options → Layout
 layout_of options = unwrap_or options.layout (if options.lines then Compact else Indent 2)
 
--- the keys of the first path, if there is one
-abbrev pub first_keys : List (Vec (String Global) Global) → List (List ℕ)
-first_keys [] = []
-first_keys (path ∷ paths) = keys_of path
-
 -- the paths at which `get` asks for parts: that of the whole where none is given
 abbrev pub paths_of : Options → List (List (List ℕ))
 paths_of options = first_keys options.paths.items ∷ map keys_of (drop 1 options.paths.items)
@@ -48,23 +40,6 @@ paths_of options = first_keys options.paths.items ∷ map keys_of (drop 1 option
 -- What `format` prints: the text laid out.
 abbrev pub IsLaidOut : Options → List ℕ → List ℕ → Type 0
 IsLaidOut options text bytes = AppendsTextOf options.grammar (layout_of options) text [] bytes
-
--- the letter by which a cell has what ends cells and lines, and a backslash
-abbrev pub cell_letter : ℕ → Option ℕ
-cell_letter byte =
-    if byte == ascii.tab then Some ascii.lower_t
-    else if byte == ascii.line_feed then Some ascii.lower_n
-    else if byte == ascii.carriage_return then Some ascii.lower_r
-    else if byte == ascii.backslash then Some ascii.backslash
-    else None
-
--- a byte of a cell: that letter behind a backslash, or the byte
-abbrev pub lettered : ℕ → Option ℕ → List ℕ
-lettered byte None = byte ∷ []
-lettered byte (Some letter) = ascii.backslash ∷ letter ∷ []
-
-abbrev pub cell_byte : ℕ → List ℕ
-cell_byte byte = lettered byte (cell_letter byte)
 
 -- one part alone as it is, and of several each as a cell
 abbrev pub cell_of : Options → List ℕ → List ℕ
@@ -86,19 +61,6 @@ pub data IsCell (options : Options) (text : List ℕ) (keys : List (List ℕ)) (
   given_default : (given : String Global) → LacksPart options.grammar keys text → options.default ≡ Some given
       → bytes ≡ string_bytes given → IsCell options text keys bytes
 
--- between two parts: a tab, or in an array a comma
-abbrev pub separator : Bool → ℕ
-separator array = if array then ascii.comma else ascii.tab
-
--- each cell behind a separator
-abbrev pub separated : Bool → List (List ℕ) → List ℕ
-separated array cells = flat_map (λ cell. separator array ∷ cell) cells
-
--- the cells between separators, or with `--array` between brackets
-abbrev pub row_of : Bool → List ℕ → List ℕ
-row_of array bytes =
-    if array then ascii.open_bracket ∷ (drop 1 bytes ++ ascii.close_bracket ∷ []) else drop 1 bytes
-
 -- What `get` prints of a text: a row with a cell for each path.
 pub record IsFound (options : Options) (text bytes : List ℕ) : Type 0 where
   pub cells : List (List ℕ)
@@ -118,12 +80,6 @@ IsLineText options text line =
 pub record IsKeyed (options : Options) (text key line : List ℕ) : Type 0 where
   pub is_key : IsKeyOf options text key
   pub is_line : IsLineText options text line
-
--- new is old with what is printed at its end, and a line feed
-pub record Prints (IsPrinted : List ℕ → Type 0) (old new : List ℕ) : Type 0 where
-  pub bytes : List ℕ
-  pub is_printed : IsPrinted bytes
-  pub appended : new ≡ old ++ printed bytes
 
 -- new is old with what is shown at its end
 pub record AppendsOne (IsOneOf : List ℕ → Type 0) (old new : List ℕ) : Type 0 where

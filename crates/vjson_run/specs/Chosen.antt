@@ -9,7 +9,7 @@ use Rattle.jsonb_spec.specs.SortKey.{key_of}
 use Rattle.jsonb_spec.specs.Tree.{Tree}
 use Rattle.vjson_text.specs.Texts.{IsTextOf}
 use Rattle.text_scan.specs.declared.parser.Grammar.{Grammar}
-use Rattle.vjson_run.specs.Keys.{keys_of}
+use Rattle.jsonb_spec.specs.Program.Keys.{keys_of}
 use Rattle.vjson_run.specs.declared.options.Command.{Command}
 use Rattle.vjson_run.specs.declared.options.Command.TheVariants.{Check}
 use Rattle.vjson_run.specs.declared.options.Condition.{Condition}

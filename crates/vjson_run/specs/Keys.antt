@@ -1,10 +1,9 @@
 -- The parts of a text, the key that it is sorted by, and the order that this gives.
-use Rattle.std.specs.Prelude.{◌≡◌, ℕ, ◌+◌, Bool, if◌then◌else◌, List, [], ◌∷◌, ◌++◌, map, None, Some, Option, string_bytes, String, MatchBool, Vec, is_some}
+use Rattle.std.specs.Prelude.{◌≡◌, ℕ, Bool, if◌then◌else◌, List, [], ◌∷◌, ◌++◌, None, Some, is_some}
 use Rattle.std.specs.List.{AllZip, flat_map}
 use Rattle.std.specs.Ordering.{ordering_reverse, ordering_then}
-use Rattle.std.specs.declared.alloc.Global.{Global}
 use Rattle.std.specs.declared.cmp.Ordering.{Ordering}
-use Rattle.std.specs.declared.cmp.Ordering.TheVariants.{Less, Equal, Greater}
+use Rattle.std.specs.declared.cmp.Ordering.TheVariants.{Equal}
 use Rattle.jsonb_spec.specs.Order.{tree_cmp}
 use Rattle.jsonb_spec.specs.PartAt.{part_at}
 use Rattle.jsonb_spec.specs.SortKey.{key_of}
@@ -14,10 +13,7 @@ use Rattle.vjson_text.specs.Texts.{IsTextOf}
 use Rattle.text_scan.specs.declared.parser.Grammar.{Grammar}
 use Rattle.vjson_run.specs.declared.options.Options.{Options}
 use Rattle.vjson_run.specs.declared.options.Part.{Part}
-
--- the keys of a path
-abbrev pub keys_of : Vec (String Global) Global → List (List ℕ)
-keys_of path = map string_bytes path.items
+use Rattle.jsonb_spec.specs.Program.Keys.{keys_of, part_key, IsTurned, part_cmp}
 
 -- The text is one of the grammar, and this is the serialized form of its part at the keys.
 pub record IsPartOf (grammar : Grammar) (keys : List (List ℕ)) (text bytes : List ℕ) : Type 0 where
@@ -33,15 +29,6 @@ pub record LacksPart (grammar : Grammar) (keys : List (List ℕ)) (text : List �
   pub is_text : IsTextOf grammar text tree
   pub lacks : part_at keys tree ≡ None
 
--- the sort key of a part, and where it is absent a byte below those with which sort keys begin
-abbrev pub part_key : Option Tree → List ℕ
-part_key None = 0 ∷ []
-part_key (Some part) = key_of part
-
--- the same bytes, or downwards each turned round: it and the other make 255
-abbrev pub IsTurned : Bool → List ℕ → List ℕ → Type 0
-IsTurned down key bytes = MatchBool down (AllZip (λ byte turned. byte + turned ≡ 255) key bytes) (bytes ≡ key)
-
 -- what a part that lines are sorted by has in the key of this tree
 abbrev pub IsPiece : Tree → Part → List ℕ → Type 0
 IsPiece tree part bytes = IsTurned part.down (part_key (part_at (keys_of part.path) tree)) bytes
@@ -56,13 +43,6 @@ pub record IsKeyOf (options : Options) (text key : List ℕ) : Type 0 where
   pub tree : Tree
   pub is_text : IsTextOf options.grammar text tree
   pub is_key : IsKeyBy options.by.items tree key
-
--- the order of two parts, either of which may be absent: what is absent comes first
-abbrev pub part_cmp : Option Tree → Option Tree → Ordering
-part_cmp None None = Equal
-part_cmp None (Some u) = Less
-part_cmp (Some t) None = Greater
-part_cmp (Some t) (Some u) = tree_cmp t u
 
 -- the order of two trees by one part, up or down
 abbrev pub by_part : Part → Tree → Tree → Ordering

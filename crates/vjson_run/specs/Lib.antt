@@ -1,7 +1,6 @@
 pub mod Answers
 pub mod Chosen
 pub mod InOrder
-pub mod Input
 pub mod Keys
 pub mod Lines
 pub mod Output

@@ -1,6 +1,6 @@
 -- Lines with the keys that they are sorted by, and which order of them is right.
-use Rattle.std.specs.Prelude.{◌≡◌, ℕ, ◌+◌, ◌-◌, ◌/◌, ◌%◌, nat_lt, Bool, true, false, if◌then◌else◌, List, [], ◌∷◌, ◌++◌, Some}
-use Rattle.std.specs.List.{All, Any, Contains, find, flat_map}
+use Rattle.std.specs.Prelude.{◌≡◌, ℕ, Bool, true, false, List, [], ◌∷◌, ◌++◌, Some}
+use Rattle.std.specs.List.{All, Any, Contains, find}
 use Rattle.std.specs.List.Sorted.{IsPermutation, IsSorted, IsStable, IsStrictlySortedBy}
 use Rattle.std.specs.Ordering.{flip_args, is_eq}
 use Rattle.std.specs.declared.cmp.Ordering.{Ordering}
@@ -55,19 +55,3 @@ IsArranged down true given sorted = IsFirstOfEach (order_of down) given sorted
 -- a line with a line feed
 abbrev pub line_text : Line → List ℕ
 line_text line = line.text.items ++ ascii.line_feed ∷ []
-
--- the letter of the digit 10
-abbrev pub letter_of_ten : ℕ
-letter_of_ten = 97
-
--- a digit of base 16, in small letters
-abbrev pub hex_digit : ℕ → ℕ
-hex_digit half = if nat_lt half 10 then ascii.digit_zero + half else letter_of_ten + (half - 10)
-
--- the two digits of a byte
-abbrev pub hex_text : ℕ → List ℕ
-hex_text byte = hex_digit (byte / 16) ∷ hex_digit (byte % 16) ∷ []
-
--- a text with a line feed, behind a key in hexadecimal and a tab
-abbrev pub key_line : List ℕ → List ℕ → List ℕ
-key_line key text = flat_map hex_text key ++ ascii.tab ∷ (text ++ ascii.line_feed ∷ [])

@@ -4,9 +4,10 @@ use Rattle.std.specs.Io.KnownBytes.{Appends}
 use Rattle.std.specs.List.{All, AllZip, Any, filter, flat_map, list_all}
 use Rattle.std.specs.declared.alloc.Global.{Global}
 use Rattle.vjson_text.specs.Texts.{AppendsKeyOf, IsNoTextOf}
-use Rattle.vjson_run.specs.Answers.{Answers, IsFound, IsKeyed, LacksSome, Prints}
+use Rattle.vjson_run.specs.Answers.{Answers, IsFound, IsKeyed, LacksSome}
+use Rattle.jsonb_spec.specs.Program.Printed.{Prints}
 use Rattle.vjson_run.specs.Chosen.{Chooses}
-use Rattle.vjson_run.specs.Input.{is_blank_line, without_end}
+use Rattle.jsonb_spec.specs.Program.Input.{is_blank_line, without_end}
 use Rattle.vjson_run.specs.InOrder.{AreInOrder, AreInOrderSoFar, is_wrong}
 use Rattle.vjson_run.specs.Keys.{IsKeyOf}
 use Rattle.vjson_run.specs.Lines.{IsArranged, line_text}
@@ -18,11 +19,7 @@ use Rattle.vjson_run.specs.declared.options.Options.{Options}
 use Rattle.vjson_run.specs.declared.session.Session.{Session}
 use Rattle.vjson_run.specs.declared.session.Status.{Status}
 use Rattle.vjson_run.specs.declared.session.Status.TheVariants.{Yes, No, Trouble}
-
--- what the command answers to a text, and prints of it
-pub record Answer : Type 0 where
-  pub yes : Bool
-  pub part : List ℕ
+use Rattle.jsonb_spec.specs.Program.Answer.{Answer}
 
 -- the command answers so
 abbrev pub IsAnswer : Options → List ℕ → Answer → Type 0

@@ -1,7 +1,7 @@
 -- What a run may end in trouble for: a text, and what is left to do at its end.
 use Rattle.std.specs.Prelude.{◌≡◌, ◌≢◌, ◌⊎◌, ℕ, true, List, Option, None}
 use Rattle.std.specs.List.{Any}
-use Rattle.text_scan.specs.Answer.{MayAllocate}
+use Rattle.jsonb_spec.specs.Parsing.Memory.{MayAllocate}
 use Rattle.text_scan.specs.declared.parser.Grammar.{Grammar}
 use Rattle.vjson_text.specs.Texts.{IsNoTextOf}
 use Rattle.vjson_run.specs.Answers.{IsOne}

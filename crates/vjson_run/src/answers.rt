@@ -5,27 +5,12 @@ ghost use Rattle.std.specs.List.{flat_map};
 ghost use Rattle.vjson_text.specs.Texts.{AppendsKeyOf, AppendsPartOf, Rejects};
 ghost use Rattle.text_scan.specs.declared.parser.Grammar.{Grammar};
 ghost use Rattle.vjson_run.specs.Trouble.{MayRunOutBy, MayTakeMemory};
-ghost use Rattle.vjson_run.specs.Answers.{
-  AppendsCell,
-  AppendsLine,
-  AppendsOne,
-  IsFound,
-  IsLaidOut,
-  IsShown,
-  LacksSome,
-  Prints,
-  PrintsKeyed,
-  cell_byte,
-  cell_letter,
-  first_keys,
-  layout_of,
-  printed,
-  row_of,
-  separator,
-};
+ghost use Rattle.vjson_run.specs.Answers.{AppendsCell, AppendsLine, AppendsOne, IsFound, IsLaidOut, IsShown, LacksSome, PrintsKeyed, layout_of};
+ghost use Rattle.jsonb_spec.specs.Program.Printed.{Prints, cell_byte, cell_letter, first_keys, printed, row_of, separator};
 ghost use Rattle.vjson_run.specs.Chosen.{Chooses, Holds, IsLeftOut, allows, leaves_out};
 ghost use Rattle.vjson_run.specs.declared.options.Options.{Options};
-ghost use Rattle.vjson_run.specs.Keys.{AppendsPiece, AppendsTurned, HasPartKey, IsKeyOf, LacksPart, keys_of};
+ghost use Rattle.vjson_run.specs.Keys.{AppendsPiece, AppendsTurned, HasPartKey, IsKeyOf, LacksPart};
+ghost use Rattle.jsonb_spec.specs.Program.Keys.{keys_of};
 
 use crate::lines::{append_key_line, append_line as append_row};
 use crate::options::{Command, Condition, Options, Part};

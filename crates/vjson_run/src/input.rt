@@ -5,7 +5,7 @@ ghost use Rattle.std.specs.Io.BufRead.{take_through, drop_through, DropsThrough}
 ghost use Rattle.std.specs.Io.KnownBytes.{IsAtEnd, Keeps};
 ghost use Rattle.std.specs.Str.Lines.{lines};
 ghost use Rattle.jsonb_spec.specs.Ascii as ascii;
-ghost use Rattle.vjson_run.specs.Input.{is_blank, is_blank_line, without_end, without_mark};
+ghost use Rattle.jsonb_spec.specs.Program.Input.{is_blank, is_blank_line, without_end, without_mark};
 
 use memchr::memchr;
 use std::io;

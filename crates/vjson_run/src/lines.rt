@@ -8,18 +8,11 @@ ghost use Rattle.jsonb_spec.specs.Order.{bytes_cmp, tree_cmp};
 ghost use Rattle.jsonb_spec.specs.Tree.{Tree};
 ghost use Rattle.text_scan.specs.declared.parser.Grammar.{Grammar};
 ghost use Rattle.vjson_run.specs.declared.options.Options.{Options};
-ghost use Rattle.vjson_run.specs.InOrder.{AreInOrder, key_order, may_follow};
+ghost use Rattle.vjson_run.specs.InOrder.{AreInOrder};
+ghost use Rattle.jsonb_spec.specs.Program.InOrder.{key_order, may_follow};
 ghost use Rattle.vjson_run.specs.Keys.{IsKeyOf, sort_cmp};
-ghost use Rattle.vjson_run.specs.Lines.{
-  Arranges,
-  IsArranged,
-  IsLineOf,
-  hex_digit,
-  hex_text,
-  key_line,
-  line_cmp,
-  order_of,
-};
+ghost use Rattle.vjson_run.specs.Lines.{Arranges, IsArranged, IsLineOf, line_cmp, order_of};
+ghost use Rattle.jsonb_spec.specs.Program.KeyLine.{hex_digit, hex_text, key_line};
 
 use std::alloc::AllocError;
 use std::cmp::Ordering;

@@ -1,11 +1,12 @@
 //! A run of the program over its files.
 
 ghost use Rattle.std.specs.Prelude.{◌≡◌, ◌≢◌, ◌⊎◌, ◌≤◌, ◌∷◌, ◌==◌, [], List, ℕ, Option, OnOk, IfErr, IfSome, Err, None, Some, if◌then◌else◌, true, false};
-ghost use Rattle.text_scan.specs.Answer.{MayAllocate};
+ghost use Rattle.jsonb_spec.specs.Parsing.Memory.{MayAllocate};
 ghost use Rattle.vjson_text.specs.Texts.{IsNoTextOf, Rejects};
-ghost use Rattle.vjson_run.specs.Answers.{IsLaidOut, IsOne, Prints, PrintsKeyed, checks_order};
+ghost use Rattle.vjson_run.specs.Answers.{IsLaidOut, IsOne, PrintsKeyed, checks_order};
+ghost use Rattle.jsonb_spec.specs.Program.Printed.{Prints};
 ghost use Rattle.vjson_run.specs.InOrder.{is_wrong};
-ghost use Rattle.vjson_run.specs.Input.{text_lines, texts_of, without_mark};
+ghost use Rattle.jsonb_spec.specs.Program.Input.{text_lines, texts_of, without_mark};
 ghost use Rattle.vjson_run.specs.Output.{IsWritten};
 ghost use Rattle.vjson_run.specs.Trouble.{Advances, MayRunOutBy, MayTakeMemory, MayTroubleAtEnd, Troubles};
 ghost use Rattle.vjson_run.specs.Runs.{

@@ -1,13 +1,14 @@
 -- Where a buffer has no space, from what the library says of its calls.
 use Rattle.std.proofs.Common.{◌≡◌, ◌⊎◌, inl, inr, ℕ, ◌+◌, ◌<◌, List, length, Some, None}
 use Rattle.jsonb.proofs.Documents.Straight.{text_there}
-use Rattle.jsonb.specs.Appends.{LacksCapacityForKey, LacksCapacityForText}
+use Rattle.jsonb_spec.specs.Parsing.Appends.{LacksCapacityForKey, LacksCapacityForText}
 use Rattle.jsonb_spec.specs.SortKey.{key_of}
 use Rattle.jsonb_spec.specs.Text.{text_of, tree_text}
 use Rattle.jsonb_spec.specs.Tree.{Tree}
 use Rattle.jsonb_core.specs.declared.error.Error.{Error}
 use Rattle.jsonb_core.specs.declared.error.Error.TheVariants.{OutOfMemory, UnexpectedType}
-use Rattle.text_scan.specs.Answer.{grammar_of, MayAllocate}
+use Rattle.text_scan.specs.Answer.{grammar_of}
+use Rattle.jsonb_spec.specs.Parsing.Memory.{MayAllocate}
 use Rattle.text_scan.specs.declared.parser.Grammar.{Grammar}
 use Rattle.vjson_text.specs.Memory.{LacksSpace}
 use Rattle.vjson_text.specs.Texts.{IsTextOf}

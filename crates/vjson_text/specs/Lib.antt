@@ -1,3 +1,2 @@
 pub mod Memory
-pub mod Raw
 pub mod Texts

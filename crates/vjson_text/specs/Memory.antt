@@ -5,7 +5,6 @@ use Rattle.jsonb_spec.specs.PartAt.{part_at}
 use Rattle.jsonb_spec.specs.Text.{tree_text}
 use Rattle.jsonb_spec.specs.Tree.{Tree}
 use Rattle.text_scan.specs.declared.parser.Grammar.{Grammar}
-use Rattle.vjson_text.specs.Raw.{IsRaw}
 use Rattle.vjson_text.specs.Texts.{IsTextOf}
 use Rattle.vjson_text.specs.declared.reader.Layout.{Layout}
 use Rattle.vjson_text.specs.declared.reader.Layout.TheVariants.{Compact, Indent}
@@ -30,10 +29,3 @@ pub record LacksSpaceForPart (grammar : Grammar) (keys : List (List ℕ)) (text 
     pub part : Tree
     pub there : part_at keys tree ≡ Some part
     pub too_short : capacity < len + length (tree_text part)
-
--- Such a buffer has no space for the characters of a string, of which this is the serialized form, or for what has no
--- quotes.
-pub record LacksSpaceForRaw (text : List ℕ) (capacity len : ℕ) : Type 0 where
-  pub raw : List ℕ
-  pub is_raw : IsRaw text raw
-  pub too_short : capacity < len + length raw

@@ -1,6 +1,6 @@
 -- Which texts the program takes, and what is appended of them.
 use Rattle.std.specs.Prelude.{◌≡◌, ◌≢◌, ℕ, Bool, MatchBool, List, ◌++◌, None, Result, IfErr}
-use Rattle.jsonb.specs.Appends.{AppendsPart}
+use Rattle.jsonb_spec.specs.Parsing.Appends.{AppendsPart}
 use Rattle.jsonb_spec.specs.Grammar.{IsDocument}
 use Rattle.jsonb_spec.specs.Indented.{indented_text}
 use Rattle.jsonb_spec.specs.PartAt.{part_at}

@@ -6,9 +6,9 @@ ghost use Rattle.jsonb_spec.specs.Indented.{indented_text};
 ghost use Rattle.jsonb_spec.specs.Mode.{extended};
 ghost use Rattle.jsonb_spec.specs.SortKey.{key_of};
 ghost use Rattle.jsonb_spec.specs.Tree.{Tree};
-ghost use Rattle.text_scan.specs.Answer.{MayAllocate};
-ghost use Rattle.vjson_text.specs.Memory.{LacksSpace, LacksSpaceForPart, LacksSpaceForRaw, laid_out};
-ghost use Rattle.vjson_text.specs.Raw.{AppendsRaw};
+ghost use Rattle.jsonb_spec.specs.Parsing.Memory.{MayAllocate};
+ghost use Rattle.vjson_text.specs.Memory.{LacksSpace, LacksSpaceForPart, laid_out};
+ghost use Rattle.jsonb_spec.specs.Program.Raw.{LacksSpaceForRaw, AppendsRaw};
 ghost use Rattle.vjson_text.specs.Texts.{AppendsKeyOf, AppendsPartOf, AppendsTextOf, IsTextOf, Rejects};
 ghost use Rattle.vjson_text.specs.declared.reader.Layout.TheVariants.{Indent};
 

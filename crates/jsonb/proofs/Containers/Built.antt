@@ -19,7 +19,7 @@ use Rattle.text_parse.specs.Stack.{object_end}
 use Rattle.jsonb.specs.Source.{source_view}
 use Rattle.jsonb.specs.declared.parser.ast.JsonAst.{JsonAst}
 use Rattle.jsonb.specs.declared.parser.ast.JsonAst as ast
-use Rattle.text_scan.specs.Parsing.Container.{object_or_fault}
+use Rattle.jsonb_spec.specs.Parsing.Container.{object_or_fault}
 use Rattle.jsonb_spec.specs.Source.{Found, Source, Spot, array_source_of, member_of, object_source_of, spot_of, tree_of_source}
 use Rattle.text_common.proofs.Repeats.{no_repeat}
 use Rattle.text_parse.proofs.Containers.Sources.{array_tree, object_tree}

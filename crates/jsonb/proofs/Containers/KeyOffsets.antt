@@ -12,11 +12,11 @@ use Rattle.jsonb_spec.specs.Grammar.IsPadded.{padded}
 use Rattle.jsonb_spec.specs.Mode.{Mode}
 use Rattle.jsonb_spec.specs.Grammar.Scalar.{IsKey}
 use Rattle.jsonb_spec.specs.Tree.{Mark, Member}
-use Rattle.text_scan.specs.Parsing.{Parse, on_byte, reject, ◌>>=◌}
-use Rattle.text_scan.specs.Parsing.Whitespace.{skip_whitespace}
-use Rattle.text_scan.specs.Parsing.Container.{after_key, after_part, found_at, joined_at, member_at, padded_at}
+use Rattle.jsonb_spec.specs.Parsing.{Parse, on_byte, reject, ◌>>=◌}
+use Rattle.jsonb_spec.specs.Parsing.Whitespace.{skip_whitespace}
+use Rattle.jsonb_spec.specs.Parsing.Container.{after_key, after_part, found_at, joined_at, member_at, padded_at}
 use Rattle.jsonb_spec.specs.Source.{Found, Source, Spot, first_repeat, member_of, spot_of, tree_of_source}
-use Rattle.text_scan.specs.Parsing.Scalar.{key_at}
+use Rattle.jsonb_spec.specs.Parsing.Scalar.{key_at}
 use Rattle.jsonb_spec.specs.Errors.{ArePassed, IsEncoding, Repeats, times}
 use Rattle.jsonb_spec.specs.Errors.ArePassed.{no_parts, part_passed}
 use Rattle.text_scan.proofs.Steps.Tests.{bind_ok, rejected_fails, same_read}

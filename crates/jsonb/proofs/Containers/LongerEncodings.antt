@@ -9,7 +9,7 @@ use Rattle.jsonb_spec.specs.Grammar.Scalar.IsLiteral.{false_word, null_word, tru
 use Rattle.jsonb_spec.specs.Grammar.Scalar.IsScalar.{literal_value, number_value, string_value}
 use Rattle.jsonb_spec.specs.Tree.{Tree}
 use Rattle.jsonb_spec.specs.Tree.Tree.{number}
-use Rattle.text_scan.specs.Parsing.Scalar.{fold_letter}
+use Rattle.jsonb_spec.specs.Parsing.Scalar.{fold_letter}
 use Rattle.jsonb.proofs.Documents.Encodings.{whole_if_no_number}
 use Rattle.text_parse.proofs.Scalars.Encodings.{IsApart, IsNumberTree, StartsNumber, StartsWord, number_opens, quote_is, quoted_starts, word_starts}
 

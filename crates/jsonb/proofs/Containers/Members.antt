@@ -4,7 +4,7 @@ use Rattle.jsonb_spec.specs.Code.Code.{object_duplicate_key}
 use Rattle.jsonb_spec.specs.Grammar.{AreDistinct}
 use Rattle.jsonb.specs.AstView.{Written}
 use Rattle.jsonb.specs.Source.{found_of}
-use Rattle.text_scan.specs.Parsing.Container.{object_or_fault}
+use Rattle.jsonb_spec.specs.Parsing.Container.{object_or_fault}
 use Rattle.jsonb_spec.specs.Source.{Found, SpotsAreSorted, Spot, adjacent_repeat, first_repeat, object_source, sort_by, source_members_of, spot_of}
 use Rattle.text_common.proofs.Repeats.{distinct}
 use Rattle.text_common.proofs.Shuffles.{first_repeat-sorted, none_left, shuffle-map, shuffled, sort-ascending, sort-distinct}

@@ -8,12 +8,13 @@ use Rattle.jsonb_spec.specs.Grammar.{IsDocument, IsNoDocument}
 use Rattle.jsonb_spec.specs.Mode.{Mode}
 use Rattle.jsonb_spec.specs.Tree.{Tree}
 use Rattle.jsonb.specs.AstView.{ast_view}
-use Rattle.text_scan.specs.Answer.{Fails, Gives, IsTextError, MayAllocate}
+use Rattle.text_scan.specs.Answer.{Fails, Gives, IsTextError}
+use Rattle.jsonb_spec.specs.Parsing.Memory.{MayAllocate}
 use Rattle.jsonb.specs.Follows.{FailsAsSpecified, FollowsSpecification}
 use Rattle.jsonb.specs.Parses.{Parses, Rejects}
 use Rattle.jsonb_spec.specs.Source.{Source, tree_of_source}
-use Rattle.text_scan.specs.Parsing.{Fault, ◌>>=◌}
-use Rattle.text_scan.specs.Parsing.Document.{document_of, source_of}
+use Rattle.jsonb_spec.specs.Parsing.{Fault, ◌>>=◌}
+use Rattle.jsonb_spec.specs.Parsing.Document.{document_of, source_of}
 use Rattle.text_parse.specs.Handler.{IsWritten}
 use Rattle.jsonb.specs.Explained.{IsExplained}
 use Rattle.jsonb_spec.specs.Located.{IsLocated}

@@ -15,9 +15,9 @@ use Rattle.jsonb_spec.specs.Code.Code.{unexpected_trailing_characters}
 use Rattle.jsonb_spec.specs.Mode.{Mode, IsLenient, strictness}
 use Rattle.jsonb_spec.specs.Tree.{Member, Tree}
 use Rattle.jsonb_spec.specs.Source.{Source, null_source, tree_of_source}
-use Rattle.text_scan.specs.Parsing.{Fault, Parse, fault, ◌>>=◌}
-use Rattle.text_scan.specs.Parsing.Whitespace.{is_whitespace_start, opens_comment, skip_closed_whitespace}
-use Rattle.text_scan.specs.Parsing.Document.{at_end, comment_at, document_of, nothing_at, source_from, source_of, value_at, value_to_end}
+use Rattle.jsonb_spec.specs.Parsing.{Fault, Parse, fault, ◌>>=◌}
+use Rattle.jsonb_spec.specs.Parsing.Whitespace.{is_whitespace_start, opens_comment, skip_closed_whitespace}
+use Rattle.jsonb_spec.specs.Parsing.Document.{at_end, comment_at, document_of, nothing_at, source_from, source_of, value_at, value_to_end}
 use Rattle.text_scan.proofs.Steps.Tests.{same_ok, same_read}
 use Rattle.text_scan.proofs.Containers.JoinedParts.{Ends, ends-piece, ends_at, other}
 use Rattle.text_parse.proofs.Scalars.Encodings.{Follows, IsNumberTree}

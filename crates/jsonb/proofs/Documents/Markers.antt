@@ -8,8 +8,8 @@ use Rattle.jsonb_spec.specs.Mode.{Mode}
 use Rattle.jsonb_spec.specs.Grammar.Scalar.IsLiteral.{false_word, null_word, true_word}
 use Rattle.jsonb_spec.specs.Grammar.Scalar.IsScalar.{literal_value, number_value, string_value}
 use Rattle.jsonb_spec.specs.Tree.{Tree}
-use Rattle.jsonb.specs.AstView.{IsContainer}
-use Rattle.text_scan.specs.Answer.{MayAllocate}
+use Rattle.jsonb_spec.specs.Accessors.{IsContainer}
+use Rattle.jsonb_spec.specs.Parsing.Memory.{MayAllocate}
 
 contains_at : (front : List ℕ) (b : ℕ) (more : List ℕ) → Contains (front ++ b ∷ more) b
 contains_at front b more = (length front, omega (arith, length-append front (b ∷ more)), get_or_at front b more b (length front) refl)

@@ -13,7 +13,7 @@ use Rattle.jsonb_spec.specs.Text.{has_text, items_have_texts, members_have_texts
 use Rattle.jsonb_spec.specs.Tree.{Tree, array, object, Trees, no_trees, more_trees, Members, no_members, more_members}
 use Rattle.jsonb_core.proofs.Trees.DocumentTexts.{text_of-has_text}
 use Rattle.jsonb_spec.specs.PartAt.{child_at, index_named, part_at}
-use Rattle.jsonb.specs.Appends.{AppendsPart, AppendsPartOf, IsParsed, LacksCapacityForPart}
+use Rattle.jsonb_spec.specs.Parsing.Appends.{AppendsPart, AppendsPartOf, IsParsed, LacksCapacityForPart}
 use Rattle.jsonb.proofs.Documents.Straight.{text_there}
 
 same_tree : (t u : Tree) → Some t ≡ Some u → t ≡ u

@@ -9,9 +9,9 @@ use Rattle.jsonb_spec.specs.Mode.{Mode}
 use Rattle.jsonb_spec.specs.Text.{text_of, tree_text}
 use Rattle.jsonb_spec.specs.Tree.{Tree}
 use Rattle.jsonb_core.proofs.Trees.DocumentTexts.{document_has_text, some_text}
-use Rattle.text_scan.specs.Parsing.Document.{source_of}
+use Rattle.jsonb_spec.specs.Parsing.Document.{source_of}
 use Rattle.jsonb_spec.specs.Source.{Source, tree_of_source}
-use Rattle.jsonb.specs.Appends.{IsParsed, LacksCapacityForText}
+use Rattle.jsonb_spec.specs.Parsing.Appends.{IsParsed, LacksCapacityForText}
 use Rattle.text_parse.proofs.Containers.Values.{document_sound}
 use Rattle.jsonb.proofs.Documents.Agreement.{document_built}
 use Rattle.jsonb.proofs.Documents.Encodings.{document_unique}

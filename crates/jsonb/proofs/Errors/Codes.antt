@@ -2,7 +2,7 @@
 use Rattle.std.proofs.Common.{◌≡◌, ℕ, ◌+◌, ◌-◌, ◌⊎◌, inl, inr, List, [], ◌∷◌, length, Result, Ok, Err, refl, sym, ap, subst}
 use Rattle.jsonb_spec.specs.Code.{Code}
 use Rattle.jsonb_spec.specs.Code.Code.{depth_limit_exceeded, expected_some_value, invalid_eof, number_not_carried, object_duplicate_key, unexpected_trailing_characters}
-use Rattle.text_scan.specs.Parsing.{Fault, fault, reject, ◌>>=◌}
+use Rattle.jsonb_spec.specs.Parsing.{Fault, fault, reject, ◌>>=◌}
 
 -- the codes of which `Applies` says something
 abbrev pub IsReported : Code → Type 0

@@ -9,12 +9,12 @@ use Rattle.jsonb_spec.specs.Grammar.IsValue.{empty_array, empty_object, full_arr
 use Rattle.jsonb_spec.specs.Mode.{Mode, strictness}
 use Rattle.jsonb_spec.specs.Grammar.Scalar.{IsKey, IsScalar}
 use Rattle.jsonb_spec.specs.Tree.{Mark, Member, Tree}
-use Rattle.text_scan.specs.Parsing.{Fault, Parse, begins, on_byte, reject, ◌>>=◌}
-use Rattle.text_scan.specs.Parsing.Whitespace.{skip_whitespace}
-use Rattle.text_scan.specs.Parsing.Container.{after_key, after_part, array_at, element_at, elements_at, found_at, is_left_out, joined_at, member_at, members_at, object_at, object_or_fault, padded_at, value_or_null}
+use Rattle.jsonb_spec.specs.Parsing.{Fault, Parse, begins, on_byte, reject, ◌>>=◌}
+use Rattle.jsonb_spec.specs.Parsing.Whitespace.{skip_whitespace}
+use Rattle.jsonb_spec.specs.Parsing.Container.{after_key, after_part, array_at, element_at, elements_at, found_at, is_left_out, joined_at, member_at, members_at, object_at, object_or_fault, padded_at, value_or_null}
 use Rattle.jsonb_spec.specs.Source.{Found, Source, Spot, array_source, array_source_of, first_repeat, member_of, no_source_members, no_sources, null_source, object_source, object_source_of, source_alone, spot_of, tree_of_source}
-use Rattle.text_scan.specs.Parsing.Document.{alone_at, too_deep, value_at, value_with}
-use Rattle.text_scan.specs.Parsing.Scalar.{key_at, scalar_at}
+use Rattle.jsonb_spec.specs.Parsing.Document.{alone_at, too_deep, value_at, value_with}
+use Rattle.jsonb_spec.specs.Parsing.Scalar.{key_at, scalar_at}
 use Rattle.jsonb_spec.specs.Errors.{ArePassed, IsFront, IsEncoding, Repeats}
 use Rattle.jsonb_spec.specs.Errors.ArePassed.{no_parts, part_passed}
 use Rattle.jsonb_spec.specs.Errors.IsFront.{front_of_whitespace, in_array, in_object}

@@ -13,10 +13,10 @@ use Rattle.jsonb_spec.specs.Grammar.Scalar.IsScalar.{literal_value, number_value
 use Rattle.jsonb_spec.specs.Grammar.StringBody.{Item, escaped_byte, meaning, encoding}
 use Rattle.jsonb_spec.specs.Tree.{Mark, plain, Num, Tree}
 use Rattle.jsonb_spec.specs.Tree.Tree.{boolean, null, number, string}
-use Rattle.text_scan.specs.Parsing.{Fault, Parse, begins, fault, fault_at, goes_beyond_json, reject}
-use Rattle.text_scan.specs.Parsing.BareKey.{bare_key_at, key_end, key_to, text_key}
-use Rattle.text_scan.specs.Parsing.Scalar.{begins_letter, begins_number, false_at, fold_letter, key_at, letters_at, null_at, null_or, number_at, number_or_fault, number_value_at, on_single_quote, or_else, quoted_at, scalar_at, true_or_false_at, unquoted_at, word_at, words_at}
-use Rattle.text_scan.specs.Parsing.String.{Body, body_of, checked_unit, string_up_to, string_of_body, escape_at, item_at, items_within, known_escape, may_be_raw, meaning_of, non_digit, onto, quote_end, string_at, then_items, unit_at}
+use Rattle.jsonb_spec.specs.Parsing.{Fault, Parse, begins, fault, fault_at, goes_beyond_json, reject}
+use Rattle.jsonb_spec.specs.Parsing.BareKey.{bare_key_at, key_end, key_to, text_key}
+use Rattle.jsonb_spec.specs.Parsing.Scalar.{begins_letter, begins_number, false_at, fold_letter, key_at, letters_at, null_at, null_or, number_at, number_or_fault, number_value_at, on_single_quote, or_else, quoted_at, scalar_at, true_or_false_at, unquoted_at, word_at, words_at}
+use Rattle.jsonb_spec.specs.Parsing.String.{Body, body_of, checked_unit, string_up_to, string_of_body, escape_at, item_at, items_within, known_escape, may_be_raw, meaning_of, non_digit, onto, quote_end, string_at, then_items, unit_at}
 use Rattle.text_scan.proofs.Steps.Tests.{bind_ok, chosen, same_read}
 use Rattle.jsonb.proofs.Errors.Codes.{IsReported, bind_err, same_err, silent_fault, silent_rejected}
 use Rattle.text_scan.proofs.Containers.JoinedParts.{on_byte_cases}

@@ -13,11 +13,11 @@ use Rattle.jsonb_spec.specs.Mode.{Mode, Strictness, strict, lenient, strictness}
 use Rattle.jsonb_spec.specs.Grammar.Scalar.{IsScalar}
 use Rattle.jsonb_spec.specs.Tree.{Tree}
 use Rattle.jsonb_spec.specs.Source.{Source, null_source, source_alone, tree_of_source}
-use Rattle.text_scan.specs.Parsing.{Fault, Parse, begins, fault, on_byte, ◌>>=◌}
-use Rattle.text_scan.specs.Parsing.Whitespace.{opens_comment, skip_closed_whitespace, skip_whitespace}
-use Rattle.text_scan.specs.Parsing.Container.{array_at, object_at}
-use Rattle.text_scan.specs.Parsing.Document.{alone_at, at_end, comment_at, document_of, nothing_at, source_from, source_of, too_deep, value_at, value_to_end, value_with}
-use Rattle.text_scan.specs.Parsing.Scalar.{scalar_at}
+use Rattle.jsonb_spec.specs.Parsing.{Fault, Parse, begins, fault, on_byte, ◌>>=◌}
+use Rattle.jsonb_spec.specs.Parsing.Whitespace.{opens_comment, skip_closed_whitespace, skip_whitespace}
+use Rattle.jsonb_spec.specs.Parsing.Container.{array_at, object_at}
+use Rattle.jsonb_spec.specs.Parsing.Document.{alone_at, at_end, comment_at, document_of, nothing_at, source_from, source_of, too_deep, value_at, value_to_end, value_with}
+use Rattle.jsonb_spec.specs.Parsing.Scalar.{scalar_at}
 use Rattle.jsonb_spec.specs.Errors.{IsFront, Applies, Trails}
 use Rattle.text_scan.proofs.Steps.Tests.{bind_ok, chosen, same_read}
 use Rattle.jsonb.proofs.Errors.Codes.{IsReported, bind_err, same_err, silent_fault}

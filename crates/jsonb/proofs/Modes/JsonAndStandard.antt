@@ -14,12 +14,12 @@ use Rattle.jsonb_spec.specs.Mode.{standard, json, extended_json, strict, lenient
 use Rattle.jsonb_spec.specs.Order.{Same}
 use Rattle.jsonb_spec.specs.Source.{Source, array_source, no_sources, array_source_of, object_source, no_source_members, Found, found_member, spot_of, first_repeat, source_alone, tree_of_source}
 use Rattle.jsonb_spec.specs.Tree.{Mark, Num, Tree, number, array, object, no_members, trees_of, Member, put_all}
-use Rattle.text_scan.specs.Parsing.{Fault, Parse, ◌>>=◌, on_byte, begins, fault}
-use Rattle.text_scan.specs.Parsing.Container.{after_key, after_part, array_at, element_at, elements_at, found_at, joined_at, member_at, members_at, object_at, object_or_fault, padded_at, value_or_null}
-use Rattle.text_scan.specs.Parsing.Document.{alone_at, document_of, source_from, source_of, too_deep, value_at, value_to_end, value_with}
-use Rattle.text_scan.specs.Parsing.Number.{IsNumberBoundary, standard_number_at}
-use Rattle.text_scan.specs.Parsing.Scalar.{begins_number, key_at, number_value_at, other_scalar_at, quoted_at, scalar_at}
-use Rattle.text_scan.specs.Parsing.Whitespace.{skip_closed_whitespace, skip_whitespace}
+use Rattle.jsonb_spec.specs.Parsing.{Fault, Parse, ◌>>=◌, on_byte, begins, fault}
+use Rattle.jsonb_spec.specs.Parsing.Container.{after_key, after_part, array_at, element_at, elements_at, found_at, joined_at, member_at, members_at, object_at, object_or_fault, padded_at, value_or_null}
+use Rattle.jsonb_spec.specs.Parsing.Document.{alone_at, document_of, source_from, source_of, too_deep, value_at, value_to_end, value_with}
+use Rattle.jsonb_spec.specs.Parsing.Number.{IsNumberBoundary, standard_number_at}
+use Rattle.jsonb_spec.specs.Parsing.Scalar.{begins_number, key_at, number_value_at, other_scalar_at, quoted_at, scalar_at}
+use Rattle.jsonb_spec.specs.Parsing.Whitespace.{skip_closed_whitespace, skip_whitespace}
 use Rattle.text_scan.proofs.Containers.JoinedParts.{Ends, IsShown, Starts, ends-piece, ends-whitespace, ends_at, length-joined, joined-skip, on_byte-none, on_byte-other, other, padded_complete, skip-padded, skip-starts, starts-append}
 use Rattle.text_scan.proofs.Numbers.Read.{number_complete_of, number_faults_of, number_sound_of}
 use Rattle.text_scan.proofs.Numbers.Reading.{not_representable, no_number}

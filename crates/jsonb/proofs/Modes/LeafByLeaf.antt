@@ -8,7 +8,7 @@ use Rattle.jsonb_spec.specs.Grammar.Scalar.{IsLiteral, IsQuote, IsNumber, IsScal
 use Rattle.jsonb_spec.specs.Grammar.StringBody.{Item, IsItem}
 use Rattle.jsonb_spec.specs.Mode.{Mode, IsLenient, GoesBeyondJson, strictness}
 use Rattle.jsonb_spec.specs.Tree.{Mark, Num, Tree, Member}
-use Rattle.text_scan.specs.Parsing.Whitespace.{is_whitespace_start, skip_closed_whitespace}
+use Rattle.jsonb_spec.specs.Parsing.Whitespace.{is_whitespace_start, skip_closed_whitespace}
 use Rattle.text_scan.proofs.Text.Whitespace.{pass-whitespace, pass-stop, pass-nil}
 use Rattle.text_scan.proofs.Containers.JoinedParts.{Starts, other}
 use Rattle.text_parse.proofs.Containers.Values.{value_is_complete}

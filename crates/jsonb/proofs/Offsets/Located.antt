@@ -16,11 +16,11 @@ use Rattle.jsonb_spec.specs.Located.IsElementAt.{empty_element, whole_element}
 use Rattle.jsonb_spec.specs.Located.IsMemberAt.{key_and_value}
 use Rattle.jsonb_spec.specs.Located.IsLocated.{whitespace_alone, value_alone}
 use Rattle.jsonb_spec.specs.Located.IsValueAt.{empty_array, empty_object, full_array, full_object, scalar}
-use Rattle.text_scan.specs.Parsing.{Parse, begins, on_byte, reject, ◌>>=◌}
-use Rattle.text_scan.specs.Parsing.Whitespace.{opens_comment, skip_whitespace, skip_closed_whitespace}
-use Rattle.text_scan.specs.Parsing.Container.{after_key, after_part, array_at, element_at, elements_at, found_at, is_left_out, joined_at, member_at, members_at, object_at, object_or_fault, padded_at, value_or_null}
-use Rattle.text_scan.specs.Parsing.Document.{alone_at, at_end, comment_at, nothing_at, source_from, source_of, too_deep, value_at, value_to_end}
-use Rattle.text_scan.specs.Parsing.Scalar.{key_at, scalar_at}
+use Rattle.jsonb_spec.specs.Parsing.{Parse, begins, on_byte, reject, ◌>>=◌}
+use Rattle.jsonb_spec.specs.Parsing.Whitespace.{opens_comment, skip_whitespace, skip_closed_whitespace}
+use Rattle.jsonb_spec.specs.Parsing.Container.{after_key, after_part, array_at, element_at, elements_at, found_at, is_left_out, joined_at, member_at, members_at, object_at, object_or_fault, padded_at, value_or_null}
+use Rattle.jsonb_spec.specs.Parsing.Document.{alone_at, at_end, comment_at, nothing_at, source_from, source_of, too_deep, value_at, value_to_end}
+use Rattle.jsonb_spec.specs.Parsing.Scalar.{key_at, scalar_at}
 use Rattle.jsonb_spec.specs.Source.{Found, Source, adjacent_repeat, array_source, array_source_of, first_repeat, found_member, no_source_members, no_sources, null_source, object_source, sort_by, source_alone, source_members_of, spot_of}
 use Rattle.text_scan.proofs.Containers.JoinedParts.{IsSound, IsSoundBefore, joined-skip, joined_sound, on_byte_cases}
 use Rattle.text_scan.proofs.Steps.Tests.{bind_ok, chosen, rejected_fails, same_ok, same_read}

@@ -1,10 +1,12 @@
 //! Texts whose lines are texts of their own, which are parsed one after the other for their serialized forms.
 ghost use Rattle.std.specs.Prelude.{◌≡◌, ◌⊎◌, ◌+◌, ◌<◌, ◌≤◌, ℕ, [], ◌∷◌, length, Contains, Err, IfErr, OnErr, OnOk, vec_capacity, vec_len};
 ghost use Rattle.jsonb_spec.specs.Text.Appending.{Extends};
-ghost use Rattle.text_scan.specs.Answer.{grammar_of, MayAllocate};
-ghost use Rattle.jsonb.specs.Appends.{AppendsTextOf, LacksCapacityForText};
+ghost use Rattle.text_scan.specs.Answer.{grammar_of};
+ghost use Rattle.jsonb_spec.specs.Parsing.Memory.{MayAllocate};
+ghost use Rattle.jsonb_spec.specs.Parsing.Appends.{AppendsTextOf, LacksCapacityForText};
 ghost use Rattle.jsonb.specs.Follows.{FailsAsSpecified};
-ghost use Rattle.jsonb.specs.Lines.{AppendsTextOfLine, AppendsTextOfLines, LacksCapacityForLine, LacksCapacityForLines, RejectsLine, lines_of};
+ghost use Rattle.jsonb_spec.specs.Parsing.Lines.{AppendsTextOfLine, AppendsTextOfLines, LacksCapacityForLine, LacksCapacityForLines, lines_of};
+ghost use Rattle.jsonb.specs.Lines.{RejectsLine};
 ghost use Rattle.jsonb.specs.Parses.{AppendsParsed, Rejects};
 
 use super::Grammar;

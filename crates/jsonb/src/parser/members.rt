@@ -1,7 +1,7 @@
 //! The members of an object: their order, and repeated keys.
 ghost use Rattle.std.specs.Prelude.{◌≡◌, map, ℕ, List, IsPermutation};
 ghost use Rattle.text_scan.specs.Answer.{Gives};
-ghost use Rattle.text_scan.specs.Parsing.Container.{object_or_fault};
+ghost use Rattle.jsonb_spec.specs.Parsing.Container.{object_or_fault};
 ghost use Rattle.jsonb_spec.specs.Source.{first_repeat, object_source, source_members_of, spot_of, spot_cmp, SpotsAreSorted};
 ghost use Rattle.jsonb.specs.Source.{found_of};
 

@@ -1,8 +1,9 @@
 //! The text of one part of a document, with no value made of the document.
 ghost use Rattle.std.specs.Prelude.{◌≡◌, ◌⊎◌, map, string_bytes, vec_len, IfOk, OnErr, Err};
 ghost use Rattle.std.specs.Vec.{vec_capacity};
-ghost use Rattle.text_scan.specs.Answer.{grammar_of, MayAllocate};
-ghost use Rattle.jsonb.specs.Appends.{AppendsPartOf, LacksCapacityForPart};
+ghost use Rattle.text_scan.specs.Answer.{grammar_of};
+ghost use Rattle.jsonb_spec.specs.Parsing.Memory.{MayAllocate};
+ghost use Rattle.jsonb_spec.specs.Parsing.Appends.{AppendsPartOf, LacksCapacityForPart};
 ghost use Rattle.jsonb.specs.Follows.{FailsAsSpecified};
 ghost use Rattle.jsonb.specs.Parses.{Rejects};
 

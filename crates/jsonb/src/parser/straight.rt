@@ -2,9 +2,10 @@
 ghost use Rattle.std.specs.Prelude.{◌≡◌, [], true, MatchBool, OnErr, OnOk, Err};
 ghost use Rattle.jsonb_spec.specs.Tree.{Tree};
 ghost use Rattle.jsonb_value.specs.View.{view};
-ghost use Rattle.text_scan.specs.Answer.{grammar_of, MayAllocate};
+ghost use Rattle.text_scan.specs.Answer.{grammar_of};
+ghost use Rattle.jsonb_spec.specs.Parsing.Memory.{MayAllocate};
 ghost use Rattle.text_write.specs.TextSink.{TextHolds, base_of};
-ghost use Rattle.jsonb.specs.Appends.{AppendsKeyOf, AppendsTextOf, IsParsed, LacksCapacityForKey, LacksCapacityForText};
+ghost use Rattle.jsonb_spec.specs.Parsing.Appends.{AppendsKeyOf, AppendsTextOf, IsParsed, LacksCapacityForKey, LacksCapacityForText};
 ghost use Rattle.jsonb.specs.Follows.{FailsAsSpecified};
 ghost use Rattle.jsonb.specs.Parses.{AppendsParsed, Rejects};
 

@@ -1,4 +1,4 @@
-use Rattle.jsonb_c.specs.Interface.{standard_mode, extended_mode, json_mode, extended_json_mode}
+use Rattle.jsonb_spec.specs.Interface.{standard_mode, extended_mode, json_mode, extended_json_mode}
 use Rattle.jsonb_c.proofs.choose_grammar.Goals as goal
 
 pub returns-in-0 : goal.returns-in-0

@@ -1,10 +1,11 @@
 use Rattle.std.proofs.Common.{◌<◌, ◌^◌, ◌⊎◌, true, false, inl, inr, length, map, rules, string_bytes, subst}
 use Rattle.jsonb_spec.specs.Grammar.{IsDocument}
 use Rattle.jsonb_spec.specs.Tree.{Tree}
-use Rattle.jsonb.specs.Appends.{AppendsPartOf}
-use Rattle.text_scan.specs.Answer.{MayAllocate, grammar_of}
+use Rattle.jsonb_spec.specs.Parsing.Appends.{AppendsPartOf}
+use Rattle.jsonb_spec.specs.Parsing.Memory.{MayAllocate}
+use Rattle.text_scan.specs.Answer.{grammar_of}
 use Rattle.jsonb_c.proofs.DocumentParts.{IsNothingThere, IsTextThere, document_needs, nothing_there, text_there}
-use Rattle.jsonb_c.specs.Interface.{IsAccepted}
+use Rattle.jsonb_spec.specs.Interface.{IsAccepted}
 use Rattle.jsonb_c.proofs.Reasons.{memory_said, reason_says}
 use Rattle.jsonb_c.proofs.Texts.{document_accepted}
 use Rattle.jsonb_c.proofs.part_at_keys.Goals as goal

@@ -1,8 +1,8 @@
 use Rattle.std.proofs.Common.{rules, ◌⊎◌, ℕ, List, [], ◌∷◌, ◌++◌, IfSome, inl, inr, map, string_bytes, refl, subst, sym}
 use Rattle.std.proofs.lemmas.Result.{IfOk-weaker}
-use Rattle.text_scan.specs.Answer.{MayAllocate}
-use Rattle.jsonb_path.specs.Path.{IsPath, StartsKey, encoded_key, encoded_keys}
-use Rattle.jsonb_c.specs.Interface.{IsAccepted, HasPartAt}
+use Rattle.jsonb_spec.specs.Parsing.Memory.{MayAllocate}
+use Rattle.jsonb_spec.specs.Path.{IsPath, StartsKey, encoded_key, encoded_keys}
+use Rattle.jsonb_spec.specs.Interface.{IsAccepted, HasPartAt}
 use Rattle.jsonb_c.proofs.part_of.Goals as goal
 
 -- where memory ran out, the path has a key, or the part is the whole value

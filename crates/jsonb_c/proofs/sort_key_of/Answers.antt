@@ -1,12 +1,13 @@
 use Rattle.std.proofs.Common.{◌++◌, ◌⊎◌, inl, inr, ap, ◌∙◌}
 use Rattle.std.specs.Vec.{vec_capacity, vec_len}
 use Rattle.jsonb_spec.specs.SortKey.{key_of}
-use Rattle.jsonb.specs.Appends.{LacksCapacityForKey}
-use Rattle.text_scan.specs.Answer.{MayAllocate, grammar_of}
+use Rattle.jsonb_spec.specs.Parsing.Appends.{LacksCapacityForKey}
+use Rattle.jsonb_spec.specs.Parsing.Memory.{MayAllocate}
+use Rattle.text_scan.specs.Answer.{grammar_of}
 use Rattle.jsonb_c.proofs.Keys.{key_is}
 use Rattle.jsonb_c.proofs.Reasons.{memory_said, reason_says}
 use Rattle.jsonb_c.proofs.Texts.{document_accepted, parsed_accepted}
-use Rattle.jsonb_c.specs.Interface.{IsAccepted}
+use Rattle.jsonb_spec.specs.Interface.{IsAccepted}
 use Rattle.jsonb_c.proofs.sort_key_of.Goals as goal
 
 pub returns-in-Ok-clause-key : goal.returns-in-Ok-clause-key

@@ -1,6 +1,7 @@
 use Rattle.std.proofs.Common.{inr, subst}
 use Rattle.std.proofs.lemmas.Result.{err_from_is_err_and}
-use Rattle.jsonb_c.specs.Interface.{IsKeyOf, IsReason, IsRejected}
+use Rattle.jsonb_spec.specs.Interface.{IsKeyOf}
+use Rattle.jsonb_c.specs.Interface.{IsReason, IsRejected}
 use Rattle.jsonb_c.proofs.Keys.{key_of_form}
 use Rattle.jsonb_c.proofs.Texts.{form_reason}
 use Rattle.jsonb_c.proofs.text_and_key_of.Goals as goal

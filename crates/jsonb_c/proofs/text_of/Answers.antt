@@ -1,10 +1,11 @@
 use Rattle.std.proofs.Common.{◌⊎◌, inl, inr}
 use Rattle.std.specs.Vec.{vec_capacity, vec_len}
-use Rattle.jsonb.specs.Appends.{LacksCapacityForText}
-use Rattle.text_scan.specs.Answer.{MayAllocate, grammar_of}
+use Rattle.jsonb_spec.specs.Parsing.Appends.{LacksCapacityForText}
+use Rattle.jsonb_spec.specs.Parsing.Memory.{MayAllocate}
+use Rattle.text_scan.specs.Answer.{grammar_of}
 use Rattle.jsonb_c.proofs.Reasons.{memory_said, reason_says}
 use Rattle.jsonb_c.proofs.Texts.{document_accepted, parsed_accepted, text_is}
-use Rattle.jsonb_c.specs.Interface.{IsAccepted}
+use Rattle.jsonb_spec.specs.Interface.{IsAccepted}
 use Rattle.jsonb_c.proofs.text_of.Goals as goal
 
 pub returns-in-Ok-clause-text : goal.returns-in-Ok-clause-text

@@ -9,7 +9,8 @@ use Rattle.jsonb_core.specs.declared.error.Error.{Error}
 use Rattle.jsonb_core.specs.declared.number.arithmetic.Kind.{Kind}
 use Rattle.jsonb_core.proofs.Numbers.Pointed.{is_negative-pos}
 use Rattle.jsonb_core.specs.Number.Arithmetic.{whole_of}
-use Rattle.jsonb_core.specs.Number.Arithmetic.{common_kind, difference_overflow, AnswersInt64, IsDifference, IsRemainder}
+use Rattle.jsonb_core.specs.Number.Arithmetic.{common_kind, difference_overflow, AnswersInt64, IsDifference}
+use Rattle.jsonb_spec.specs.Number.Remainder.{IsRemainder}
 
 pub IsDifference-from : (x y : Number) (k : Kind) (left right : ℤ) (overflow : List ℕ) (r : Result Number Error) → common_kind x y ≡ Some k → left ≡ whole_of x → right ≡ whole_of y → overflow ≡ difference_overflow x y → AnswersInt64 overflow (left -ℤ right) r → IsDifference x y r
 IsDifference-from x y k left right overflow r kind l m text answer =

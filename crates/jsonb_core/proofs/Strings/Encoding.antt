@@ -6,7 +6,7 @@ use Rattle.jsonb_spec.specs.Mode.{Mode}
 use Rattle.jsonb_spec.specs.Mode.{Strictness, strict, lenient, strictness}
 use Rattle.jsonb_spec.specs.Grammar.StringBody.{Item, raw, escape, unit, after_u, encoding, IsItem, IsHexDigit, escaped_byte}
 use Rattle.jsonb_core.proofs.Strings.Units.{length-after_u}
-use Rattle.jsonb_core.specs.StringStep.{unit_step, escape_step, item_step}
+use Rattle.jsonb_spec.specs.Grammar.StringStep.{unit_step, escape_step, item_step}
 
 u_is_no_escape : (s : Strictness) → escaped_byte s 117 ≡ None
 u_is_no_escape strict = refl

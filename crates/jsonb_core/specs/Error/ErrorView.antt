@@ -1,38 +1,9 @@
--- Errors, independent of representation.
-use Rattle.std.specs.Prelude.{ℕ, List, string_bytes, ⊤}
-use Rattle.jsonb_spec.specs.Code.{Code, NamesNoKey}
+-- What an `Error` means.
+use Rattle.std.specs.Prelude.{string_bytes}
 use Rattle.jsonb_core.specs.Error.CodeView.{code_of}
 use Rattle.jsonb_core.specs.declared.error.Error.{Error}
 use Rattle.jsonb_core.specs.declared.error.Error.TheVariants as variants
-
--- an error, with its message, or with the code and the position of a fault of a text
-pub data ErrorView : Type 0 where
-  invalid_utf8 : ErrorView
-  invalid_eof : ErrorView
-  invalid_token : ErrorView
-  invalid_cast : ErrorView
-  invalid_json : ErrorView
-  invalid_jsonb : ErrorView
-  invalid_jsonb_header : ErrorView
-  invalid_jsonb_jentry : ErrorView
-  invalid_jsonb_number : ErrorView
-  invalid_jsonb_extension : ErrorView
-  invalid_json_path : ErrorView
-  invalid_json_path_predicate : ErrorView
-  invalid_key_path : ErrorView
-  invalid_json_type : ErrorView
-  invalid_object : ErrorView
-  object_duplicate_key : ErrorView
-  unexpected_type : ErrorView
-  message : List ℕ → ErrorView
-  syntax : Code → ℕ → ErrorView
-  out_of_memory : ErrorView
-
--- it holds no text, so that a copy takes no memory
-abbrev pub HoldsNoText : ErrorView → Type 0
-HoldsNoText (message text) = ⊥
-HoldsNoText (syntax code offset) = NamesNoKey code
-HoldsNoText error = ⊤
+use Rattle.jsonb_spec.specs.ErrorView.{ErrorView, invalid_utf8, invalid_eof, invalid_token, invalid_cast, invalid_json, invalid_jsonb, invalid_jsonb_header, invalid_jsonb_jentry, invalid_jsonb_number, invalid_jsonb_extension, invalid_json_path, invalid_json_path_predicate, invalid_key_path, invalid_json_type, invalid_object, object_duplicate_key, unexpected_type, message, syntax, out_of_memory}
 
 -- what an `Error` means
 abbrev pub error_view : Error → ErrorView

@@ -1,5 +1,5 @@
 -- Sums, differences, products, remainders, negations.
-use Rattle.std.specs.Prelude.{◌≡◌, ◌≢◌, ◌⊎◌, ℕ, ◌<◌, ◌≤◌, ◌^◌, List, codes, if◌then◌else◌, ℤ, pos, neg_ℤ, ◌+ℤ◌, ◌-ℤ◌, ◌*ℤ◌, ◌<ℤ◌, ◌≤ℤ◌, unsigned_abs, Option, Some, None, MatchOption, Result, Ok, Err, IsErrAnd, ⊤, FitsSigned, string_bytes}
+use Rattle.std.specs.Prelude.{◌≡◌, ◌≢◌, ℕ, ◌<◌, ◌≤◌, ◌^◌, List, codes, if◌then◌else◌, ℤ, pos, neg_ℤ, ◌+ℤ◌, ◌-ℤ◌, ◌*ℤ◌, ◌<ℤ◌, ◌≤ℤ◌, unsigned_abs, Option, Some, None, MatchOption, Result, Ok, Err, IsErrAnd, ⊤, FitsSigned, string_bytes}
 use Rattle.std.specs.Int.{w64, w128, is_negative, FitsUnsigned}
 use Rattle.jsonb_core.specs.declared.number.Number.{Number}
 use Rattle.jsonb_core.specs.declared.number.Number.TheVariants.{Int64, UInt64, Decimal64, Decimal128}
@@ -8,6 +8,7 @@ use Rattle.jsonb_core.specs.declared.error.Error.TheVariants.{UnexpectedType, Me
 use Rattle.jsonb_core.specs.declared.number.arithmetic.Kind.{Kind}
 use Rattle.jsonb_core.specs.declared.number.arithmetic.Kind.TheVariants.{Signed, Unsigned}
 use Rattle.jsonb_core.specs.View.{number_view}
+use Rattle.jsonb_spec.specs.Number.Remainder.{IsRemainder, IsLeastByMinusOne}
 
 -- the whole number of a number, which is its value where it is an integer
 abbrev pub whole_of : Number → ℤ
@@ -78,17 +79,6 @@ difference_overflow (Decimal128 d) y = codes "Int64 overflow"
 -- a difference is an `Int64`
 abbrev pub IsDifference : Number → Number → Result Number Error → Type 0
 IsDifference x y r = OfIntegers x y r (λ _. AnswersInt64 (difference_overflow x y) (whole_of x -ℤ whole_of y) r)
-
--- rest is what a whole number of b leaves of a, less than b and with the sign of a, signs aside
-pub record IsRemainder (a b rest : ℤ) : Type 0 where
-  pub quotient : ℤ
-  pub whole : a ≡ quotient *ℤ b +ℤ rest
-  pub less : unsigned_abs rest < unsigned_abs b
-  pub sign : (rest ≡ pos 0) ⊎ (is_negative rest ≡ is_negative a)
-
--- the one quotient of an `Int64` by an `Int64` that overflows
-abbrev pub IsLeastByMinusOne : ℤ → ℤ → Type 0
-IsLeastByMinusOne a b = (a ≡ neg_ℤ (pos (2 ^ 63))) × (b ≡ neg_ℤ (pos 1))
 
 -- the remainder of a by b, in this order: no divisor, the quotient's overflow, the remainder
 pub record AnswersRemainder (k : Kind) (a b : ℤ) (r : Result Number Error) : Type 0 where

@@ -2,7 +2,8 @@
 ghost use Rattle.std.specs.Prelude.{◌≡◌};
 ghost use Rattle.jsonb_core.specs.Error.CodeView.{code_of};
 ghost use Rattle.jsonb_spec.specs.Code.{NamesNoKey};
-ghost use Rattle.jsonb_core.specs.Error.ErrorView.{error_view, HoldsNoText};
+ghost use Rattle.jsonb_core.specs.Error.ErrorView.{error_view};
+ghost use Rattle.jsonb_spec.specs.ErrorView.{HoldsNoText};
 
 use super::{Error, ParseErrorCode};
 use std::alloc::AllocError;

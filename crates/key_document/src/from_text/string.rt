@@ -8,7 +8,7 @@ ghost use Rattle.jsonb_spec.specs.SortKey.Kind as kind;
 ghost use Rattle.jsonb_spec.specs.Text.Appending.{Appends};
 ghost use Rattle.jsonb_spec.specs.Text.StringText.{byte_text};
 ghost use Rattle.key_document.specs.FromText.{WritesPart, is_name, string_key};
-ghost use Rattle.key_text.specs.Writes.{Preserves};
+ghost use Rattle.jsonb_spec.specs.SortKey.Text.{Preserves};
 
 use super::item::{is_name, read_item};
 use crate::error::DocumentError;

@@ -10,7 +10,8 @@ use Rattle.jsonb_spec.specs.Text.{with_commas}
 use Rattle.jsonb_spec.specs.Tree.{Members, no_members, more_members, put, put_all, object}
 use Rattle.jsonb_core.proofs.Trees.MembersInOrder.{put_all-ascending}
 use Rattle.jsonb_spec.specs.Source.{Found, Spot, spot_of, spot_cmp, tree_of_source, source_members_of, object_source, put_source_members, sort_by, insert_by, adjacent_repeat, first_repeat}
-use Rattle.text_members.specs.Members.{SpotsAscend, between, between_after, join_pieces, others_joined, Piece, pieces_of, spots_of_pieces, bytes_of_pieces, pieces_in_order, source_key, member_key}
+use Rattle.text_members.specs.Members.{SpotsAscend, between_after, others_joined, Piece, pieces_of, spots_of_pieces, bytes_of_pieces, pieces_in_order}
+use Rattle.jsonb_spec.specs.SortKey.Joined.{between, join_pieces, source_key, member_key}
 use Rattle.text_members.proofs.Objects.Ascending.{ascending_sorted}
 use Rattle.text_common.proofs.Repeats.{AreSorted, apart, below, key_cmp, sort_spots, sorted-sort}
 use Rattle.text_common.proofs.Shuffles.{sort-ascending, spots-sort}

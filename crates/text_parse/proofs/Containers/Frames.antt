@@ -17,17 +17,17 @@ use Rattle.text_parse.specs.declared.parser.frame.Frame.TheVariants as variants
 use Rattle.text_parse.specs.Handler.{Builds, ElseFails, Misses}
 use Rattle.text_parse.specs.Frames.{AllFit, AtPart, BeforeValue, IsParsedToEnd, OpensContainer, ParsesParts, depth_within, finish_container, resume_part, resume_stack, resume_value, scalar_or_null}
 use Rattle.text_parse.specs.Slots.{Fits, IsArray, IsObject}
-use Rattle.text_scan.specs.Answer.{MayAllocate, grammar_of}
+use Rattle.jsonb_spec.specs.Parsing.Memory.{MayAllocate}
+use Rattle.text_scan.specs.Answer.{grammar_of}
 use Rattle.text_parse.specs.Parser.{Advances, parse_at, rest_of, size_of}
-use Rattle.text_scan.specs.Parsing.{Fault, Parse, begins, on_byte, reject, ◌>>=◌}
-use Rattle.text_scan.specs.Parsing.Whitespace.{skip_whitespace}
-use Rattle.text_scan.specs.Parsing.Container.{array_at, elements_at, is_left_out, members_at, object_at, object_or_fault, value_or_null}
+use Rattle.jsonb_spec.specs.Parsing.{Fault, Parse, begins, on_byte, reject, ◌>>=◌}
+use Rattle.jsonb_spec.specs.Parsing.Whitespace.{skip_whitespace}
+use Rattle.jsonb_spec.specs.Parsing.Container.{array_at, elements_at, is_left_out, members_at, object_at, object_or_fault, value_or_null}
 use Rattle.jsonb_spec.specs.Source.{Found, Source, array_source, found_member, no_source_members, no_sources, null_source, object_source, source_alone}
-use Rattle.text_scan.specs.Parsing.Document.{alone_at, value_at}
-use Rattle.text_scan.specs.Parsing.Scalar.{scalar_at}
+use Rattle.jsonb_spec.specs.Parsing.Document.{alone_at, value_at}
+use Rattle.jsonb_spec.specs.Parsing.Scalar.{scalar_at}
 use Rattle.text_parse.specs.Stack.{elements_from, finish_open, member_start, next_part_at, object_end, part_end, object_members_from, resume, resume_after_part}
-use Rattle.text_common.specs.Open.{Open, add_part}
-use Rattle.text_common.specs.Open.{elements_so_far, members_so_far}
+use Rattle.jsonb_spec.specs.Source.Open.{Open, add_part, elements_so_far, members_so_far}
 use Rattle.text_parse.proofs.Containers.OpenOnLists.{array-begun, array-value, element-due, elements-turn, members-turn, object-begun, object-value, on_byte-then, resume-none, resume-part, then-same, then-then, value_plain}
 use Rattle.text_common.proofs.Repeats.{no_repeat}
 use Rattle.text_parse.proofs.Steps.Advancing.{contains_next, goes_on, stays}

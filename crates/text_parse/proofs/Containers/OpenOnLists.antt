@@ -6,15 +6,14 @@ use Rattle.std.proofs.lemmas.Bool.{cases_lt, cond-false}
 use Rattle.jsonb_spec.specs.Grammar.{Derives, IsElement}
 use Rattle.jsonb_spec.specs.Mode.{Mode, strictness}
 use Rattle.jsonb_spec.specs.Tree.{Mark}
-use Rattle.text_scan.specs.Parsing.{Fault, Parse, begins, on_byte, reject, ◌>>=◌}
-use Rattle.text_scan.specs.Parsing.Whitespace.{skip_whitespace}
-use Rattle.text_scan.specs.Parsing.Container.{after_key, after_part, array_at, element_at, elements_at, found_at, is_left_out, joined_at, member_at, members_at, object_at, padded_at, value_or_null}
+use Rattle.jsonb_spec.specs.Parsing.{Fault, Parse, begins, on_byte, reject, ◌>>=◌}
+use Rattle.jsonb_spec.specs.Parsing.Whitespace.{skip_whitespace}
+use Rattle.jsonb_spec.specs.Parsing.Container.{after_key, after_part, array_at, element_at, elements_at, found_at, is_left_out, joined_at, member_at, members_at, object_at, padded_at, value_or_null}
 use Rattle.jsonb_spec.specs.Source.{Found, Source, array_source, no_source_members, no_sources, null_source, object_source}
-use Rattle.text_scan.specs.Parsing.Document.{alone_at, too_deep, value_at, value_with}
-use Rattle.text_scan.specs.Parsing.Scalar.{key_at, scalar_at}
+use Rattle.jsonb_spec.specs.Parsing.Document.{alone_at, too_deep, value_at, value_with}
+use Rattle.jsonb_spec.specs.Parsing.Scalar.{key_at, scalar_at}
 use Rattle.text_parse.specs.Stack.{array_end, array_within, elements_from, finish_open, member_start, object_members_from, object_end, object_within, parts_after, parts_from, resume}
-use Rattle.text_common.specs.Open.{Open}
-use Rattle.text_common.specs.Open.{elements_so_far, members_so_far}
+use Rattle.jsonb_spec.specs.Source.Open.{Open, elements_so_far, members_so_far}
 use Rattle.text_scan.proofs.Containers.JoinedParts.{IsSoundBefore, on_byte-none}
 use Rattle.text_scan.proofs.Text.Whitespace.{length-skip}
 use Rattle.text_parse.proofs.Containers.Values.{IsFound, Seen, element_sound, member_sound, value_sound}

@@ -14,13 +14,13 @@ use Rattle.jsonb_spec.specs.Grammar.Scalar.{IsKey, IsScalar}
 use Rattle.jsonb_spec.specs.Tree.{Mark, Member, Tree, put_all, trees_of}
 use Rattle.jsonb_spec.specs.Tree.Members.{no_members}
 use Rattle.jsonb_spec.specs.Tree.Tree.{array, object}
-use Rattle.text_scan.specs.Parsing.{Fault, Parse, begins, fault, on_byte, reject, ◌>>=◌}
-use Rattle.text_scan.specs.Parsing.Whitespace.{is_whitespace_start, is_break, opens_comment, skip_closed_whitespace, skip_whitespace}
-use Rattle.text_scan.specs.Parsing.Container.{after_key, array_at, element_at, elements_at, found_at, is_left_out, joined_at, member_at, members_at, object_at, object_or_fault, padded_at, value_or_null}
+use Rattle.jsonb_spec.specs.Parsing.{Fault, Parse, begins, fault, on_byte, reject, ◌>>=◌}
+use Rattle.jsonb_spec.specs.Parsing.Whitespace.{is_whitespace_start, is_break, opens_comment, skip_closed_whitespace, skip_whitespace}
+use Rattle.jsonb_spec.specs.Parsing.Container.{after_key, array_at, element_at, elements_at, found_at, is_left_out, joined_at, member_at, members_at, object_at, object_or_fault, padded_at, value_or_null}
 use Rattle.jsonb_spec.specs.Source.{Found, Source, Spot, array_source, array_source_of, first_repeat, found_member, member_of, no_source_members, no_sources, null_source, object_source, object_source_of, source_alone, spot_of, tree_of_source}
 use Rattle.text_parse.proofs.Containers.Sources.{alone_tree, array_tree, object_tree}
-use Rattle.text_scan.specs.Parsing.Document.{alone_at, at_end, comment_at, document_of, source_from, source_of, nothing_at, too_deep, value_at, value_to_end, value_with}
-use Rattle.text_scan.specs.Parsing.Scalar.{key_at, scalar_at}
+use Rattle.jsonb_spec.specs.Parsing.Document.{alone_at, at_end, comment_at, document_of, source_from, source_of, nothing_at, too_deep, value_at, value_to_end, value_with}
+use Rattle.jsonb_spec.specs.Parsing.Scalar.{key_at, scalar_at}
 use Rattle.text_scan.proofs.Steps.Tests.{SameRead, bind_ok, chosen, rejected_fails, same_ok, same_read}
 use Rattle.text_scan.proofs.Containers.JoinedParts.{IsOther, IsPartComplete, IsShown, IsSound, IsSoundBefore, SeenBy, Encoded, Starts, ends-whitespace, ends_at, joined-skip, joined_complete, joined_seen, joined_sound, length-joined, on_byte-none, on_byte-other, on_byte_cases, other, padded_complete, padded_seen, padded_sound, skip-padded}
 use Rattle.text_common.proofs.Repeats.{distinct, no_repeat}

@@ -10,14 +10,14 @@ use Rattle.text_scan.specs.declared.parser.number.ShortInteger.{ShortInteger}
 use Rattle.jsonb_spec.specs.Tree.{Mark, Num, Tree, int64, uint64, null, boolean, number, string}
 use Rattle.text_parse.specs.declared.parser.Parser.{Parser}
 use Rattle.text_scan.specs.Answer.{Fails, grammar_of}
-use Rattle.text_scan.specs.Parsing.{Fault, Parse, begins, ◌>>=◌}
-use Rattle.text_scan.specs.Parsing.Number.{is_number_start}
-use Rattle.text_scan.specs.Parsing.Scalar.{begins_number, letters_at, null_at, null_or, number_at, number_value_at, or_else, other_scalar_at, quoted_at, scalar_at}
-use Rattle.text_scan.specs.Parsing.String.{string_at}
-use Rattle.text_common.specs.Open.{Open}
+use Rattle.jsonb_spec.specs.Parsing.{Fault, Parse, begins, ◌>>=◌}
+use Rattle.jsonb_spec.specs.Parsing.Number.{is_number_start}
+use Rattle.jsonb_spec.specs.Parsing.Scalar.{begins_number, letters_at, null_at, null_or, number_at, number_value_at, or_else, other_scalar_at, quoted_at, scalar_at}
+use Rattle.jsonb_spec.specs.Parsing.String.{string_at}
+use Rattle.jsonb_spec.specs.Source.Open.{Open}
 use Rattle.jsonb_spec.specs.Source.{Source, number_source, source_alone}
 use Rattle.jsonb_spec.specs.Grammar.StandardNumber.{IsStandardNumber}
-use Rattle.text_scan.specs.Encoded.{IsEncoded, IsEncodedAt, KeyHoldsAt}
+use Rattle.jsonb_spec.specs.Text.Encoded.{IsEncoded, IsEncodedAt, KeyHoldsAt}
 use Rattle.jsonb_spec.specs.Source.{string_source}
 use Rattle.jsonb_spec.specs.Tree.Mark.{plain}
 use Rattle.text_common.specs.declared.verbatim.Verbatim.{Verbatim}
@@ -36,8 +36,8 @@ use Rattle.text_parse.specs.Parser.{Advances, IsBehind, rest_of, size_of}
 use Rattle.jsonb_spec.specs.Text.{in_quotes}
 use Rattle.jsonb_spec.specs.Text.NumberText.{number_text}
 use Rattle.std.proofs.lemmas.List.{drop_more}
-use Rattle.text_scan.specs.VerbatimNumber.{IsBeforePoint}
-use Rattle.text_common.specs.VerbatimScalar.{IsIntegerAt}
+use Rattle.jsonb_spec.specs.Text.VerbatimNumber.{IsBeforePoint}
+use Rattle.jsonb_spec.specs.Text.VerbatimScalar.{IsIntegerAt}
 use Rattle.text_common.specs.declared.verbatim.Verbatim.{Verbatim}
 use Rattle.text_parse.proofs.Scalars.Encodings.{null_or_word}
 use Rattle.text_parse.proofs.Scalars.FirstBytes.{number_here, scalar_as, scalar_is}

@@ -10,11 +10,12 @@ use Rattle.jsonb_spec.specs.Text.StringText.{ArePlain}
 use Rattle.jsonb_spec.specs.Tree.{Mark, string}
 use Rattle.jsonb_spec.specs.Tree.Mark.{plain}
 use Rattle.text_scan.specs.Answer.{Fails, grammar_of}
-use Rattle.text_scan.specs.Decoding.{ReportsBackslash, SeesBackslash}
-use Rattle.text_scan.specs.QuotedString.{DecodesContents, IsClear}
+use Rattle.jsonb_spec.specs.Parsing.Decoding.{ReportsBackslash, SeesBackslash}
+use Rattle.text_scan.specs.QuotedString.{DecodesContents}
+use Rattle.jsonb_spec.specs.Parsing.Contents.{IsClear}
 use Rattle.text_scan.specs.StrictString.{RejectsContents}
-use Rattle.text_scan.specs.Parsing.Scalar.{quoted_at}
-use Rattle.text_scan.specs.Parsing.String.{Body, body_of, quote_end, string_at}
+use Rattle.jsonb_spec.specs.Parsing.Scalar.{quoted_at}
+use Rattle.jsonb_spec.specs.Parsing.String.{Body, body_of, quote_end, string_at}
 use Rattle.jsonb_spec.specs.Source.{Source}
 use Rattle.text_scan.proofs.Strings.Bodies.{body-raw, body_fails, contains_after, found_end, reports_taken, search_start, search_to, string-closed}
 use Rattle.text_scan.proofs.Strings.Ends.{quote_split, quote_within}

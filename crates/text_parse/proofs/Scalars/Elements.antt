@@ -4,10 +4,10 @@ use Rattle.std.proofs.lemmas.Bool.{cond-false}
 use Rattle.jsonb_spec.specs.Mode.{Strictness, strict, lenient, strictness}
 use Rattle.jsonb_spec.specs.Tree.{null}
 use Rattle.text_scan.specs.Answer.{grammar_of}
-use Rattle.text_scan.specs.Parsing.{begins}
-use Rattle.text_scan.specs.Parsing.Container.{is_left_out}
-use Rattle.text_scan.specs.Parsing.Scalar.{quoted_at, scalar_at}
-use Rattle.text_scan.specs.Parsing.Whitespace.{skip_whitespace}
+use Rattle.jsonb_spec.specs.Parsing.{begins}
+use Rattle.jsonb_spec.specs.Parsing.Container.{is_left_out}
+use Rattle.jsonb_spec.specs.Parsing.Scalar.{quoted_at, scalar_at}
+use Rattle.jsonb_spec.specs.Parsing.Whitespace.{skip_whitespace}
 use Rattle.text_scan.proofs.Text.Whitespace.{skip-stop}
 use Rattle.text_parse.specs.declared.parser.Parser.{Parser}
 use Rattle.text_parse.specs.Frames.{scalar_or_null}

@@ -14,13 +14,13 @@ use Rattle.jsonb_spec.specs.Grammar.Scalar.IsScalar.{literal_value, number_value
 use Rattle.jsonb_spec.specs.Grammar.StandardNumber.{IsExponentMark}
 use Rattle.jsonb_spec.specs.Tree.{Mark, plain, Num, Tree}
 use Rattle.jsonb_spec.specs.Tree.Tree.{boolean, null, number, string}
-use Rattle.text_scan.specs.Parsing.{Fault, Parse, begins, on_byte, reject, ◌>>=◌}
-use Rattle.text_scan.specs.Parsing.BareKey.{bare_key_at, key_step}
-use Rattle.text_scan.specs.Parsing.Whitespace.{is_whitespace_start, is_break}
-use Rattle.text_scan.specs.Parsing.ExtendedNumber.{EndsExtended, ContinuesNumberExtended}
-use Rattle.text_scan.specs.Parsing.Number.{IsNumberBoundary, ContinuesNumber, is_number_start}
-use Rattle.text_scan.specs.Parsing.Scalar.{begins_letter, begins_number, false_at, fold_letter, key_at, letters_at, null_at, null_or, number_at, number_or_fault, number_value_at, on_letter, on_single_quote, or_else, quoted_at, scalar_at, true_or_false_at, unquoted_at, word_at, words_at}
-use Rattle.text_scan.specs.Parsing.String.{string_at}
+use Rattle.jsonb_spec.specs.Parsing.{Fault, Parse, begins, on_byte, reject, ◌>>=◌}
+use Rattle.jsonb_spec.specs.Parsing.BareKey.{bare_key_at, key_step}
+use Rattle.jsonb_spec.specs.Parsing.Whitespace.{is_whitespace_start, is_break}
+use Rattle.jsonb_spec.specs.Parsing.ExtendedNumber.{EndsExtended, ContinuesNumberExtended}
+use Rattle.jsonb_spec.specs.Parsing.Number.{IsNumberBoundary, ContinuesNumber, is_number_start}
+use Rattle.jsonb_spec.specs.Parsing.Scalar.{begins_letter, begins_number, false_at, fold_letter, key_at, letters_at, null_at, null_or, number_at, number_or_fault, number_value_at, on_letter, on_single_quote, or_else, quoted_at, scalar_at, true_or_false_at, unquoted_at, word_at, words_at}
+use Rattle.jsonb_spec.specs.Parsing.String.{string_at}
 use Rattle.text_scan.proofs.Strings.BareKeys.{bare_complete, bare_sound, bare_starts, break_stops}
 use Rattle.text_scan.proofs.Steps.Tests.{bind_ok, chosen, rejected_fails, same_read}
 use Rattle.text_scan.proofs.Numbers.Extended.{OpensNumber}

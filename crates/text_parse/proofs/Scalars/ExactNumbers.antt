@@ -7,11 +7,11 @@ use Rattle.jsonb_spec.specs.Code.{Code, invalid_number_value, number_not_carried
 use Rattle.jsonb_spec.specs.Grammar.ExactNumber.{IsJsonNumber}
 use Rattle.jsonb_spec.specs.Mode.{Mode, standard, extended, json, extended_json, Strictness, strict, lenient, strictness}
 use Rattle.jsonb_spec.specs.Tree.{Num}
-use Rattle.text_scan.specs.Parsing.{fault}
-use Rattle.text_scan.specs.Parsing.ExactNumber.{exact_at, exact_to, extended_json_scan, json_number_at, extended_json_number_at}
-use Rattle.text_scan.specs.Parsing.ExtendedNumber.{scanned_to}
-use Rattle.text_scan.specs.Parsing.Number.{End, digits_from, integer_at, number_to, representable_at, standard_end, standard_number_at, then_from, fraction_from, exponent_from, whole_from, whole_start}
-use Rattle.text_scan.specs.Parsing.Scalar.{number_at}
+use Rattle.jsonb_spec.specs.Parsing.{fault}
+use Rattle.jsonb_spec.specs.Parsing.ExactNumber.{exact_at, exact_to, extended_json_scan, json_number_at, extended_json_number_at}
+use Rattle.jsonb_spec.specs.Parsing.ExtendedNumber.{scanned_to}
+use Rattle.jsonb_spec.specs.Parsing.Number.{End, digits_from, integer_at, number_to, representable_at, standard_end, standard_number_at, then_from, fraction_from, exponent_from, whole_from, whole_start}
+use Rattle.jsonb_spec.specs.Parsing.Scalar.{number_at}
 use Rattle.text_scan.proofs.Numbers.ExactNumbers.{json_unique}
 use Rattle.text_scan.proofs.Numbers.Read.{number_faults_of, number_sound_of}
 use Rattle.text_scan.proofs.Numbers.Reading.{FaultRead, no_number, not_representable}

@@ -6,8 +6,8 @@ use Rattle.std.specs.Prelude.{◌||◌, ◌==◌}
 use Rattle.jsonb_spec.specs.Code.Code.{expected_some_value}
 use Rattle.jsonb_spec.specs.Mode.{Mode, Strictness, strict, lenient, strictness}
 use Rattle.jsonb_spec.specs.Tree.{Tree, boolean}
-use Rattle.text_scan.specs.Parsing.{Parse, on_byte, reject}
-use Rattle.text_scan.specs.Parsing.Scalar.{begins_letter, begins_number, begins_single_quote, null_or, number_or_fault, number_value_at, on_single_quote, other_scalar_at, quoted_at, scalar_at, word_at, words_at}
+use Rattle.jsonb_spec.specs.Parsing.{Parse, on_byte, reject}
+use Rattle.jsonb_spec.specs.Parsing.Scalar.{begins_letter, begins_number, begins_single_quote, null_or, number_or_fault, number_value_at, on_single_quote, other_scalar_at, quoted_at, scalar_at, word_at, words_at}
 use Rattle.text_parse.proofs.Steps.Outcomes.{words_number}
 use Rattle.text_parse.proofs.Scalars.Encodings.{IsApart, number_start_apart}
 use Rattle.text_parse.proofs.Steps.Advancing.{single-false}

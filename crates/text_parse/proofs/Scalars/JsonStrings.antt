@@ -11,14 +11,14 @@ use Rattle.jsonb_spec.specs.Grammar.Quoted.{mark_of}
 use Rattle.jsonb_spec.specs.Grammar.StringBody.{Item, raw, escape, unit, after_u, encoding, IsItem, meaning, standard_escape, escaped_byte}
 use Rattle.jsonb_spec.specs.Text.StringText.{ArePlain, byte_text, control_text}
 use Rattle.jsonb_core.proofs.Strings.Encoding.{item_step-encoding}
-use Rattle.text_scan.specs.Parsing.String.{body_of, further, quote_end}
+use Rattle.jsonb_spec.specs.Parsing.String.{body_of, further, quote_end}
 use Rattle.text_scan.proofs.Strings.Ends.{quote_end-here, quote_end-step}
 use Rattle.text_scan.proofs.Strings.Items.{body_complete}
 use Rattle.text_scan.proofs.Strings.Utf8.{meaning_utf8}
-use Rattle.text_common.specs.JsonString.{IsJsonBody, IsJsonItem}
+use Rattle.jsonb_spec.specs.Text.JsonString.{IsJsonBody, IsJsonItem}
 use Rattle.jsonb_core.proofs.Strings.Writing.{high_may_be_raw}
 use Rattle.jsonb_core.proofs.Strings.PlainTexts.{no_mark, one_plain, rest_plain}
-use Rattle.text_scan.specs.Decoding.{AreUnits, IsUnit}
+use Rattle.jsonb_spec.specs.Parsing.Decoding.{AreUnits, IsUnit}
 use Rattle.text_parse.specs.JsonString.{IsJsonEnd, IsJsonFront, IsSameItem, PassesJson}
 use Rattle.text_parse.specs.Parser.{IsBehind, rest_of, size_of}
 use Rattle.text_parse.specs.declared.parser.Parser.{Parser}

@@ -6,10 +6,10 @@ use Rattle.std.specs.Char.{to_ascii_lowercase}
 use Rattle.jsonb_spec.specs.Code.Code.{expected_some_value}
 use Rattle.jsonb_spec.specs.Mode.{Mode, Strictness, strict, lenient, strictness, IsLenient}
 use Rattle.jsonb_spec.specs.Tree.{boolean}
-use Rattle.text_scan.specs.Parsing.{begins, reject}
-use Rattle.text_scan.specs.Parsing.Number.{is_number_start}
-use Rattle.text_scan.specs.Parsing.ExtendedNumber.{is_extended_start}
-use Rattle.text_scan.specs.Parsing.Scalar.{begins_letter, begins_number, begins_single_quote, null_or, number_value_at, other_scalar_at, quoted_at, scalar_at, word_at, words_at}
+use Rattle.jsonb_spec.specs.Parsing.{begins, reject}
+use Rattle.jsonb_spec.specs.Parsing.Number.{is_number_start}
+use Rattle.jsonb_spec.specs.Parsing.ExtendedNumber.{is_extended_start}
+use Rattle.jsonb_spec.specs.Parsing.Scalar.{begins_letter, begins_number, begins_single_quote, null_or, number_value_at, other_scalar_at, quoted_at, scalar_at, word_at, words_at}
 use Rattle.text_parse.specs.Start.{IsStart}
 use Rattle.text_parse.specs.declared.parser.start.Start.TheVariants as variants
 use Rattle.text_scan.proofs.Containers.JoinedParts.{on_byte-none}

@@ -9,14 +9,14 @@ use Rattle.jsonb_spec.specs.Text.NumberText.{number_text, text_of_parts}
 use Rattle.jsonb_spec.specs.Text.Range.{HasFewDigits, IsIntegral}
 use Rattle.jsonb_spec.specs.Tree.{decimal64, Num, number}
 use Rattle.std.proofs.lemmas.List.{take-append-drop}
-use Rattle.text_common.specs.VerbatimScalar.{IsShortDecimal}
+use Rattle.jsonb_spec.specs.Text.VerbatimScalar.{IsShortDecimal}
 use Rattle.text_common.specs.declared.verbatim.Verbatim.TheVariants.{Integer, Decimal}
-use Rattle.text_scan.specs.VerbatimNumber.{IsVerbatimDecimal}
+use Rattle.jsonb_spec.specs.Text.VerbatimNumber.{IsVerbatimDecimal}
 use Rattle.jsonb_core.proofs.Numbers.InRange.{extended_reads_back, extended_json_reads_back, integer_reads_back, integral_in_texts, json_reads_back, small_signed, standard_number}
 use Rattle.jsonb_core.proofs.Trees.TextsReadBack.{EncodesSameNumber}
-use Rattle.text_scan.specs.Parsing.Whitespace.{is_break}
-use Rattle.text_scan.specs.Parsing.Number.{is_number_start}
-use Rattle.text_scan.specs.Parsing.Scalar.{number_at, scalar_at}
+use Rattle.jsonb_spec.specs.Parsing.Whitespace.{is_break}
+use Rattle.jsonb_spec.specs.Parsing.Number.{is_number_start}
+use Rattle.jsonb_spec.specs.Parsing.Scalar.{number_at, scalar_at}
 use Rattle.text_scan.specs.ShortInteger.{IsVerbatimInteger, short_view}
 use Rattle.text_scan.proofs.Numbers.Read.{number_complete_of}
 use Rattle.text_scan.proofs.Numbers.Reading.{EndsNumber, NumberRead}

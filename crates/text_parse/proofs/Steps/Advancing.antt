@@ -3,8 +3,8 @@ use Rattle.std.proofs.Common.{◌≡◌, ℕ, ◌+◌, true, false, true≢false
 use Rattle.jsonb_spec.specs.Code.Code.{expected_some_ident}
 use Rattle.text_scan.specs.Answer.{Fails, NamesFault}
 use Rattle.text_parse.specs.Parser.{Advances}
-use Rattle.text_scan.specs.Parsing.{Fault, reject}
-use Rattle.text_scan.specs.Parsing.Scalar.{begins_letter, begins_single_quote, fold_letter, letters_at, on_letter, on_single_quote}
+use Rattle.jsonb_spec.specs.Parsing.{Fault, reject}
+use Rattle.jsonb_spec.specs.Parsing.Scalar.{begins_letter, begins_single_quote, fold_letter, letters_at, on_letter, on_single_quote}
 use Rattle.jsonb_spec.specs.Mode.{Strictness, strict, lenient}
 use Rattle.text_scan.proofs.Steps.Tests.{chosen}
 use Rattle.text_scan.proofs.Containers.JoinedParts.{on_byte-none}

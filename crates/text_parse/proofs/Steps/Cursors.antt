@@ -2,7 +2,7 @@
 use Rattle.std.proofs.Common.{◌≡◌, ℕ, ◌+◌, ◌-◌, ◌<◌, ◌≤◌, List, [], ◌∷◌, length, drop, ap, arith, length-drop}
 use Rattle.std.proofs.lemmas.List.{nil_from_length}
 use Rattle.jsonb_spec.specs.Code.{Code}
-use Rattle.text_scan.specs.Parsing.{fault_at}
+use Rattle.jsonb_spec.specs.Parsing.{fault_at}
 
 fault-here : (size : ℕ) (code : Code) (step i : ℕ) (bytes : List ℕ) → length bytes + i ≡ size → 0 < length bytes → fault_at size code step bytes ≡ record { code = code; offset = i + step }
 fault-here size code step i [] e h = absurd (omega arith)

@@ -2,8 +2,8 @@
 use Rattle.std.proofs.Common.{◌≡◌, ℕ, true, false, List, ◌∷◌, Ok, refl, ap, ◌∙◌}
 use Rattle.jsonb_spec.specs.Code.{Code}
 use Rattle.jsonb_spec.specs.Mode.{Mode}
-use Rattle.text_scan.specs.Parsing.{begins, on_byte, reject}
-use Rattle.text_scan.specs.Parsing.Whitespace.{is_whitespace_start, skip_whitespace}
+use Rattle.jsonb_spec.specs.Parsing.{begins, on_byte, reject}
+use Rattle.jsonb_spec.specs.Parsing.Whitespace.{is_whitespace_start, skip_whitespace}
 use Rattle.text_parse.specs.Stack.{part_end}
 use Rattle.text_scan.proofs.Containers.JoinedParts.{on_byte-found, on_byte-none}
 use Rattle.text_scan.proofs.Text.Whitespace.{skip-stop}

@@ -4,8 +4,8 @@ use Rattle.jsonb_core.specs.declared.error.Error.{Error}
 use Rattle.jsonb_core.specs.declared.error.Error.TheVariants.{OutOfMemory}
 use Rattle.text_scan.specs.Answer.{Fails}
 use Rattle.jsonb_spec.specs.Tree.{Tree}
-use Rattle.text_common.specs.Open.{Open}
-use Rattle.text_scan.specs.Parsing.{Fault, Parse, ◌>>=◌}
+use Rattle.jsonb_spec.specs.Source.Open.{Open}
+use Rattle.jsonb_spec.specs.Parsing.{Fault, Parse, ◌>>=◌}
 use Rattle.jsonb_spec.specs.Source.{Source}
 use Rattle.text_parse.specs.Handler.{Builds, ElseFails, IsUnreported, IsWritten, Misses}
 use Rattle.text_parse.specs.Frames.{IsPut}

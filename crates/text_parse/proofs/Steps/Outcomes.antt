@@ -8,9 +8,9 @@ use Rattle.jsonb_spec.specs.Mode.{Mode, strictness}
 use Rattle.jsonb_spec.specs.Tree.Tree.{boolean}
 use Rattle.text_scan.specs.Answer.{Fails, grammar_of}
 use Rattle.text_parse.specs.Parser.{Advances, rest_of, size_of}
-use Rattle.text_scan.specs.Parsing.{Fault, begins, ◌>>=◌}
-use Rattle.text_scan.specs.Parsing.Scalar.{begins_letter, begins_single_quote, false_at, key_at, null_at, number_or_fault, on_single_quote, quoted_at, scalar_at, true_or_false_at, unquoted_at, word_at, words_at}
-use Rattle.text_scan.specs.Parsing.String.{string_at}
+use Rattle.jsonb_spec.specs.Parsing.{Fault, begins, ◌>>=◌}
+use Rattle.jsonb_spec.specs.Parsing.Scalar.{begins_letter, begins_single_quote, false_at, key_at, null_at, number_or_fault, on_single_quote, quoted_at, scalar_at, true_or_false_at, unquoted_at, word_at, words_at}
+use Rattle.jsonb_spec.specs.Parsing.String.{string_at}
 use Rattle.text_scan.proofs.Containers.JoinedParts.{on_byte-found, on_byte-none}
 use Rattle.text_parse.proofs.Steps.Advancing.{single-false, single-true}
 

@@ -4,8 +4,8 @@ ghost use Rattle.jsonb_core.specs.View.{number_view};
 ghost use Rattle.text_scan.specs.Answer.{grammar_of};
 ghost use Rattle.text_parse.specs.Grammars.{takes_decimals};
 ghost use Rattle.text_parse.specs.Parser.{PreservesDecimal, PreservesNumber, ParsesAtOffset, rest_of};
-ghost use Rattle.text_scan.specs.Parsing.ExtendedNumber.{extended_number_at};
-ghost use Rattle.text_scan.specs.VerbatimNumber.{IsBeforePoint};
+ghost use Rattle.jsonb_spec.specs.Parsing.ExtendedNumber.{extended_number_at};
+ghost use Rattle.jsonb_spec.specs.Text.VerbatimNumber.{IsBeforePoint};
 
 use super::Parser;
 use jsonb_core::error::{Error, ParseErrorCode, Result};

@@ -8,11 +8,11 @@ ghost use Rattle.text_parse.specs.Stack.{object_end};
 ghost use Rattle.text_parse.specs.declared.parser.frame.Frame.{Frame};
 ghost use Rattle.text_parse.specs.declared.parser.frame.Frame.TheVariants.{Array, Object};
 ghost use Rattle.text_scan.specs.Answer.{mode_of};
-ghost use Rattle.text_scan.specs.Decoding.{ReportsBackslash};
-ghost use Rattle.text_common.specs.Open.{Open, members_so_far};
-ghost use Rattle.text_scan.specs.Parsing.String.{body_of};
+ghost use Rattle.jsonb_spec.specs.Parsing.Decoding.{ReportsBackslash};
+ghost use Rattle.jsonb_spec.specs.Source.Open.{Open, members_so_far};
+ghost use Rattle.jsonb_spec.specs.Parsing.String.{body_of};
 ghost use Rattle.jsonb_spec.specs.Source.{Source, Found};
-ghost use Rattle.text_scan.specs.Encoded.{IsEncodedAt};
+ghost use Rattle.jsonb_spec.specs.Text.Encoded.{IsEncodedAt};
 ghost use Rattle.text_common.specs.declared.verbatim.Verbatim.{Verbatim};
 
 use super::Mode;

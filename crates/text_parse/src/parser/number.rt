@@ -8,9 +8,9 @@ ghost use Rattle.jsonb_spec.specs.Mode.{standard, strict, strictness};
 ghost use Rattle.jsonb_spec.specs.Grammar.StandardNumber.{IsStandardNumber};
 ghost use Rattle.jsonb_spec.specs.Tree.{number};
 ghost use Rattle.text_parse.specs.Parser.{Finds, PreservesFront, ParsesAtOffset, rest_of, size_of};
-ghost use Rattle.text_scan.specs.Parsing.Scalar.{scalar_at};
+ghost use Rattle.jsonb_spec.specs.Parsing.Scalar.{scalar_at};
 ghost use Rattle.text_scan.specs.ShortInteger.{short_view};
-ghost use Rattle.text_scan.specs.Parsing.Number.{ContinuesAfterInteger, digits_from, exponent_from, fraction_from, whole_start, then_from, number_to, standard_number_at};
+ghost use Rattle.jsonb_spec.specs.Parsing.Number.{ContinuesAfterInteger, digits_from, exponent_from, fraction_from, whole_start, then_from, number_to, standard_number_at};
 
 use super::Parser;
 use jsonb_core::bytes::byte_at;

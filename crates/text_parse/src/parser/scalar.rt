@@ -9,10 +9,10 @@ ghost use Rattle.text_parse.specs.Literals.{literal_text, literal_tree};
 ghost use Rattle.jsonb_spec.specs.Tree.{boolean, int64};
 ghost use Rattle.text_parse.specs.Grammars.{may_cut, takes_decimals};
 ghost use Rattle.text_parse.specs.Parser.{Advances, Finds, IsAfterQuote, IsBehind, IsTextOf, ParsesAtOffset, TakesByte, rest_of, size_of};
-ghost use Rattle.text_scan.specs.Parsing.{begins};
-ghost use Rattle.text_scan.specs.Parsing.Number.{is_number_start};
-ghost use Rattle.text_scan.specs.Parsing.Scalar.{number_value_at, begins_letter, begins_number, begins_single_quote, fold_letter, letters_at, null_at, number_at, quoted_at, scalar_at, word_at};
-ghost use Rattle.text_scan.specs.VerbatimNumber.{IsBeforePoint};
+ghost use Rattle.jsonb_spec.specs.Parsing.{begins};
+ghost use Rattle.jsonb_spec.specs.Parsing.Number.{is_number_start};
+ghost use Rattle.jsonb_spec.specs.Parsing.Scalar.{number_value_at, begins_letter, begins_number, begins_single_quote, fold_letter, letters_at, null_at, number_at, quoted_at, scalar_at, word_at};
+ghost use Rattle.jsonb_spec.specs.Text.VerbatimNumber.{IsBeforePoint};
 ghost use Rattle.text_parse.specs.Steps.{MakesScalar, Puts, PutsIn};
 
 use super::handler::{Failed, Handler};

@@ -8,7 +8,7 @@ ghost use Rattle.text_parse.specs.Grammars.{is_json, may_cut};
 ghost use Rattle.text_parse.specs.Parser.{Advances, CutsString, CutsTo, IsAfterQuote, IsBehind, IsTextOf, PassesContents, ParsesString, rest_of};
 ghost use Rattle.text_parse.specs.Scalars.{IsCut, text_view};
 ghost use Rattle.text_scan.specs.Answer.{grammar_of, mode_of};
-ghost use Rattle.text_scan.specs.Parsing.String.{body_of, string_at};
+ghost use Rattle.jsonb_spec.specs.Parsing.String.{body_of, string_at};
 ghost use Rattle.text_scan.specs.StrictString.{RejectsContents};
 
 use super::text::Text;

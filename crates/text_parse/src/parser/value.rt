@@ -11,13 +11,13 @@ ghost use Rattle.text_parse.specs.Frames.{AtEnd, AtNextPart, BeforeValue, IsPars
 ghost use Rattle.text_scan.specs.Answer.{grammar_of};
 ghost use Rattle.text_parse.specs.Grammars.{may_cut};
 ghost use Rattle.text_parse.specs.Parser.{Advances, AdvancesOver, IsBehind, IsTextOf, parse_at, rest_of, size_of};
-ghost use Rattle.text_scan.specs.Parsing.{begins};
-ghost use Rattle.text_scan.specs.Parsing.Whitespace.{is_whitespace_start, skip_whitespace};
-ghost use Rattle.text_scan.specs.Parsing.Container.{is_left_out};
-ghost use Rattle.text_scan.specs.Parsing.Document.{value_at};
-ghost use Rattle.text_scan.specs.Parsing.Scalar.{scalar_at};
+ghost use Rattle.jsonb_spec.specs.Parsing.{begins};
+ghost use Rattle.jsonb_spec.specs.Parsing.Whitespace.{is_whitespace_start, skip_whitespace};
+ghost use Rattle.jsonb_spec.specs.Parsing.Container.{is_left_out};
+ghost use Rattle.jsonb_spec.specs.Parsing.Document.{value_at};
+ghost use Rattle.jsonb_spec.specs.Parsing.Scalar.{scalar_at};
 ghost use Rattle.jsonb_spec.specs.Source.{Source};
-ghost use Rattle.text_common.specs.Open.{Open};
+ghost use Rattle.jsonb_spec.specs.Source.Open.{Open};
 ghost use Rattle.text_parse.specs.Slots.{Fits};
 ghost use Rattle.text_parse.specs.Steps.{EndsPart, FillsFrame, Puts, PutsNext, PutsOrStops, Turns};
 

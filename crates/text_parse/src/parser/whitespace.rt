@@ -3,7 +3,7 @@ ghost use Rattle.std.specs.Prelude.{◌≡◌, ◌+◌, ◌<◌, MatchBool};
 ghost use Rattle.jsonb_spec.specs.Mode.{strictness};
 ghost use Rattle.text_scan.specs.Answer.{grammar_of};
 ghost use Rattle.text_parse.specs.Parser.{Skips, SkipsSome, rest_of};
-ghost use Rattle.text_scan.specs.Parsing.Whitespace.{opens_comment, skip_closed_whitespace, skip_whitespace};
+ghost use Rattle.jsonb_spec.specs.Parsing.Whitespace.{opens_comment, skip_closed_whitespace, skip_whitespace};
 
 use super::{Mode, Parser};
 use std::simd::prelude::*;

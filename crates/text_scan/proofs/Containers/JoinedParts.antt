@@ -9,9 +9,9 @@ use Rattle.jsonb_spec.specs.Grammar.{IsJoined, IsPadded}
 use Rattle.jsonb_spec.specs.Grammar.IsJoined.{more_parts, one_part}
 use Rattle.jsonb_spec.specs.Grammar.IsPadded.{padded}
 use Rattle.jsonb_spec.specs.Mode.{Mode}
-use Rattle.text_scan.specs.Parsing.{Parse, begins, on_byte, reject, ◌>>=◌}
-use Rattle.text_scan.specs.Parsing.Whitespace.{is_whitespace_start, is_break, skip_whitespace}
-use Rattle.text_scan.specs.Parsing.Container.{after_part, joined_at, padded_at}
+use Rattle.jsonb_spec.specs.Parsing.{Parse, begins, on_byte, reject, ◌>>=◌}
+use Rattle.jsonb_spec.specs.Parsing.Whitespace.{is_whitespace_start, is_break, skip_whitespace}
+use Rattle.jsonb_spec.specs.Parsing.Container.{after_part, joined_at, padded_at}
 use Rattle.text_scan.proofs.Steps.Tests.{bind_ok, chosen, eqb_self, rejected_fails, same_read}
 use Rattle.text_scan.proofs.Text.Whitespace.{skip-whitespace, skip-stop, skips}
 

@@ -10,7 +10,7 @@ use Rattle.std.proofs.lemmas.Str.Parse.{digit_from_value}
 use Rattle.std.proofs.lemmas.Bool.{cases_lt, cases_eq, cases_Bool, false≢true}
 use Rattle.std.proofs.lemmas.List.{take_more, take-append-drop, take-take}
 use Rattle.jsonb_spec.specs.Grammar.StandardNumber.{IsWhole, IsFraction, IsExponentMark, IsSign, IsExponent, IsStandardText}
-use Rattle.text_scan.specs.Parsing.Number.{ContinuesNumber}
+use Rattle.jsonb_spec.specs.Parsing.Number.{ContinuesNumber}
 use Rattle.text_scan.proofs.Numbers.Steps.{digit_is, is_digit, is_no_digit, differs, is_mark, is_no_mark}
 use Rattle.text_scan.proofs.Numbers.TextParts.{HasParts, parts_of}
 

@@ -3,8 +3,8 @@ use Rattle.std.proofs.Common.{◌≡◌, ◌≢◌, ◌⊎◌, ℕ, ◌+◌, ◌
 use Rattle.std.specs.Prelude.{slice_index, ◌==◌, nat_lt}
 use Rattle.std.proofs.lemmas.Bool.{cases_eq, cases_lt, cases_Bool, and_parts}
 use Rattle.std.proofs.lemmas.Bool.Decides.{nat_tests}
-use Rattle.text_scan.specs.Parsing.Number.{digits_from, sign_end, exponent_from}
-use Rattle.text_scan.specs.Parsing.ExtendedNumber.{core_start, zeros_length, zeros_from, point_from, behind_from, zeros_end, front_end, point_end, behind_end, scale_at, precision_at, lacks_digits, has_second_point, decimal_end}
+use Rattle.jsonb_spec.specs.Parsing.Number.{digits_from, sign_end, exponent_from}
+use Rattle.jsonb_spec.specs.Parsing.ExtendedNumber.{core_start, zeros_length, zeros_from, point_from, behind_from, zeros_end, front_end, point_end, behind_end, scale_at, precision_at, lacks_digits, has_second_point, decimal_end}
 use Rattle.text_scan.proofs.Numbers.Runs.{run_ends, run_more, run_passes, run_stop, run_within}
 use Rattle.text_scan.proofs.Numbers.Steps.{differs, digits_more, ok_no_err}
 use Rattle.text_scan.proofs.Numbers.Scan.{IsDigitRun, IsExponentEnd, inside_of, digits_run, exponent_is, sign_end_within}

@@ -10,8 +10,8 @@ use Rattle.std.proofs.lemmas.List.Edits.{length-between, get_or-between}
 use Rattle.jsonb_core.proofs.Numbers.DecimalTexts.{value-after_zeros}
 use Rattle.jsonb_spec.specs.Grammar.ExtendedNumber.{decimal_number, IsDecimalNumber}
 use Rattle.jsonb_spec.specs.Number.Signed.{signed_by}
-use Rattle.text_scan.specs.Parsing.Number.{sign_end}
-use Rattle.text_scan.specs.Parsing.ExtendedNumber.{core_start, zeros_end, front_end, point_end, behind_end, scale_at, precision_at, decimal_end, all_digits, decimal_at}
+use Rattle.jsonb_spec.specs.Parsing.Number.{sign_end}
+use Rattle.jsonb_spec.specs.Parsing.ExtendedNumber.{core_start, zeros_end, front_end, point_end, behind_end, scale_at, precision_at, decimal_end, all_digits, decimal_at}
 use Rattle.text_scan.proofs.Numbers.Steps.{differs}
 use Rattle.text_scan.proofs.Numbers.Automaton.{DecimalStart}
 use Rattle.text_scan.proofs.Numbers.ScanStates.{exponent_stop}

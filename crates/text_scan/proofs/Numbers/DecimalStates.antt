@@ -9,7 +9,7 @@ use Rattle.std.proofs.lemmas.List.{append-nil, append_assoc, length-append}
 use Rattle.jsonb_core.proofs.Numbers.DecimalTexts.{digits-after_zeros}
 use Rattle.jsonb_spec.specs.Grammar.StandardNumber.{IsSign}
 use Rattle.jsonb_spec.specs.Grammar.ExtendedNumber.{IsDecimalText}
-use Rattle.text_scan.specs.Parsing.Number.{sign_end, ContinuesNumber}
+use Rattle.jsonb_spec.specs.Parsing.Number.{sign_end, ContinuesNumber}
 use Rattle.text_scan.proofs.Numbers.Steps.{differs, is_digit, is_no_digit}
 use Rattle.text_scan.proofs.Numbers.Scan.{IsDigitRun, IsBareMark}
 use Rattle.text_scan.proofs.Numbers.DecimalScan.{IsZeroRun, IsPointEnd}

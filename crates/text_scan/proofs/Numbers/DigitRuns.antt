@@ -7,7 +7,7 @@ use Rattle.std.specs.Char.{is_ascii_digit}
 use Rattle.std.specs.Int.{trailing_zeros, w64}
 use Rattle.std.specs.List.{prefix_len}
 use Rattle.std.specs.Simd.Lanes.{chunk, mask_l, top}
-use Rattle.text_scan.specs.Parsing.Number.{digits_length}
+use Rattle.jsonb_spec.specs.Parsing.Number.{digits_length}
 use Rattle.text_scan.proofs.Numbers.Steps.{digits_go_on}
 
 -- so many digits are the first ones

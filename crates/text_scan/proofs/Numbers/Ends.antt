@@ -6,7 +6,7 @@ use Rattle.std.proofs.lemmas.Bool.{cases_eq, cases_lt, cases_Bool}
 use Rattle.std.proofs.lemmas.Bool.Decides.{nat_tests}
 use Rattle.jsonb_spec.specs.Tree.{Num}
 use Rattle.jsonb_spec.specs.Grammar.StandardNumber.{IsInteger, IsStandardNumber, IsStandardText}
-use Rattle.text_scan.specs.Parsing.Number.{End, then_from, digits_length, sign_end, exponent_from, fraction_from, has_minus, whole_start, standard_end, integer_of, whole_digits, integer_at}
+use Rattle.jsonb_spec.specs.Parsing.Number.{End, then_from, digits_length, sign_end, exponent_from, fraction_from, has_minus, whole_start, standard_end, integer_of, whole_digits, integer_at}
 use Rattle.text_scan.proofs.Numbers.Steps.{differs, digits_more, ok_no_err, then_ok, by_digits, IsWholeAt, whole_end, HasWhole, whole_missing, whole_needless, whole_found}
 use Rattle.text_scan.proofs.Numbers.Scan.{IsDigitRun, IsScan, inside_of, digits_run, fraction_is, fraction_fault_is, exponent_is, exponent_fault_is}
 use Rattle.text_scan.proofs.Numbers.Automaton.{Start, state_at, NoneEnds, EndsWhole}

@@ -9,9 +9,9 @@ use Rattle.jsonb_spec.specs.Grammar.StandardNumber.{IsExponent}
 use Rattle.jsonb_spec.specs.Grammar.ExtendedNumber.{IsDecimalText}
 use Rattle.jsonb_spec.specs.Grammar.ExactNumber.{Moves, no_exponent, to_the_right, to_the_left, moved_number, IsExactDecimal}
 use Rattle.jsonb_spec.specs.Tree.{Num}
-use Rattle.text_scan.specs.Parsing.Number.{sign_end}
-use Rattle.text_scan.specs.Parsing.ExtendedNumber.{core_start, zeros_end, front_end, behind_end, scale_at, all_digits}
-use Rattle.text_scan.specs.Parsing.ExactNumber.{exponent_value, right_at, left_at, few_digits, exact_at}
+use Rattle.jsonb_spec.specs.Parsing.Number.{sign_end}
+use Rattle.jsonb_spec.specs.Parsing.ExtendedNumber.{core_start, zeros_end, front_end, behind_end, scale_at, all_digits}
+use Rattle.jsonb_spec.specs.Parsing.ExactNumber.{exponent_value, right_at, left_at, few_digits, exact_at}
 use Rattle.text_scan.proofs.Numbers.Steps.{differs, is_below, is_not_below, sign_end_ge}
 use Rattle.text_scan.proofs.Numbers.Scan.{IsExponentEnd}
 use Rattle.text_scan.proofs.Numbers.ScanText.{range_cons, range_none, run_numeral}

@@ -8,9 +8,9 @@ use Rattle.jsonb_spec.specs.Grammar.StandardNumber.{IsStandardText}
 use Rattle.jsonb_spec.specs.Grammar.Scalar.{IsNumber}
 use Rattle.jsonb_spec.specs.Mode.{json, extended_json, strict, lenient}
 use Rattle.jsonb_spec.specs.Tree.{Num}
-use Rattle.text_scan.specs.Parsing.Number.{End, whole_start, standard_end}
-use Rattle.text_scan.specs.Parsing.ExtendedNumber.{core_start, front_end, point_end, behind_end, decimal_end}
-use Rattle.text_scan.specs.Parsing.ExactNumber.{exact_at, exact_to, json_number_at, extended_json_scan, extended_json_number_at}
+use Rattle.jsonb_spec.specs.Parsing.Number.{End, whole_start, standard_end}
+use Rattle.jsonb_spec.specs.Parsing.ExtendedNumber.{core_start, front_end, point_end, behind_end, decimal_end}
+use Rattle.jsonb_spec.specs.Parsing.ExactNumber.{exact_at, exact_to, json_number_at, extended_json_scan, extended_json_number_at}
 use Rattle.text_scan.proofs.Numbers.Steps.{differs, whole_end}
 use Rattle.text_scan.proofs.Numbers.Scan.{IsDigitRun, IsFractionEnd, IsExponentEnd, IsScan}
 use Rattle.text_scan.proofs.Numbers.ScanText.{scan_end_within, scan_longest}

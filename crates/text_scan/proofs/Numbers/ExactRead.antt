@@ -13,9 +13,9 @@ use Rattle.text_scan.specs.ExactRead.{IsDecimalRead}
 use Rattle.text_scan.specs.ScannedNumber.{AreEnds}
 use Rattle.text_scan.specs.declared.parser.exact.DecimalRead.{DecimalRead}
 use Rattle.text_scan.specs.declared.parser.extended_number.decimal.DecimalEnds.{DecimalEnds}
-use Rattle.text_scan.specs.Parsing.Number.{End, then_from, digits_length, digits_from, sign_end, exponent_from, fraction_from, whole_from, whole_start, standard_end}
-use Rattle.text_scan.specs.Parsing.ExtendedNumber.{Scanned, core_start, front_end, point_end, behind_end, scale_at, precision_at, lacks_digits, has_second_point, decimal_end, all_digits}
-use Rattle.text_scan.specs.Parsing.ExactNumber.{right_at, left_at, few_digits, exact_at, exact_to, extended_json_scan}
+use Rattle.jsonb_spec.specs.Parsing.Number.{End, then_from, digits_length, digits_from, sign_end, exponent_from, fraction_from, whole_from, whole_start, standard_end}
+use Rattle.jsonb_spec.specs.Parsing.ExtendedNumber.{Scanned, core_start, front_end, point_end, behind_end, scale_at, precision_at, lacks_digits, has_second_point, decimal_end, all_digits}
+use Rattle.jsonb_spec.specs.Parsing.ExactNumber.{right_at, left_at, few_digits, exact_at, exact_to, extended_json_scan}
 use Rattle.text_scan.proofs.Numbers.DecimalScan.{core_digits, point_here, point_ordered, digits_tested, decimal_scanned}
 use Rattle.text_scan.proofs.Numbers.DigitValues.{value_after-append, value_after-take_le}
 use Rattle.text_scan.proofs.Numbers.Ends.{scanned, whole_cases, whole_start_within}

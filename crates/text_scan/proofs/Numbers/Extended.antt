@@ -12,8 +12,8 @@ use Rattle.jsonb_spec.specs.Code.{invalid_number_value}
 use Rattle.jsonb_spec.specs.Grammar.StandardNumber.{IsSign}
 use Rattle.jsonb_spec.specs.Grammar.ExtendedNumber.{IsDecimalNumber, IsDecimalText, IsHexadecimalNumber, IsExtendedNumber}
 use Rattle.jsonb_spec.specs.Tree.{Num}
-use Rattle.text_scan.specs.Parsing.Number.{End}
-use Rattle.text_scan.specs.Parsing.ExtendedNumber.{Scanned, core_start, core_byte, front_end, point_end, behind_end, decimal_end, decimal_at, decimal_to, decimal_scan, is_word_start, is_hexadecimal_start, extended_scan, extended_number_at, is_extended_start, scan_by_kind}
+use Rattle.jsonb_spec.specs.Parsing.Number.{End}
+use Rattle.jsonb_spec.specs.Parsing.ExtendedNumber.{Scanned, core_start, core_byte, front_end, point_end, behind_end, decimal_end, decimal_at, decimal_to, decimal_scan, is_word_start, is_hexadecimal_start, extended_scan, extended_number_at, is_extended_start, scan_by_kind}
 use Rattle.text_scan.proofs.Numbers.Steps.{is_digit}
 use Rattle.text_scan.proofs.Numbers.Scan.{exponent_fault_is}
 use Rattle.text_scan.proofs.Numbers.DecimalScan.{DecimalCase, no_digit, second, further, decimal_case, no_digits, second_point, core_within, core_digits, point_here, point_ordered}

@@ -9,7 +9,7 @@ use Rattle.jsonb_spec.specs.Grammar.StandardNumber.{IsSign, IsExponent, IsExpone
 use Rattle.jsonb_spec.specs.Grammar.ExtendedNumber.{decimal_number, IsDecimalNumber, IsDecimalText, HasHexadecimalParts, hexadecimal_number, IsHexadecimalNumber, IsHexadecimalText, IsWordText, IsExtendedNumber, IsExtendedText}
 use Rattle.jsonb_spec.specs.Mode.{lenient}
 use Rattle.jsonb_spec.specs.Tree.{Num}
-use Rattle.text_scan.specs.Parsing.ExtendedNumber.{core_byte}
+use Rattle.jsonb_spec.specs.Parsing.ExtendedNumber.{core_byte}
 use Rattle.text_scan.proofs.Numbers.DecimalScan.{core_within}
 use Rattle.text_scan.proofs.Numbers.HexadecimalTexts.{runs_end, same_front}
 use Rattle.text_scan.proofs.Numbers.Reading.{IsWithout}

@@ -9,8 +9,8 @@ use Rattle.std.proofs.lemmas.Str.{digit_value_digit}
 use Rattle.jsonb_spec.specs.Code.{Code, invalid_eof, invalid_number_value, expected_some_ident}
 use Rattle.jsonb_spec.specs.Grammar.StandardNumber.{IsSign}
 use Rattle.jsonb_spec.specs.Grammar.ExtendedNumber.{IsDecimalText, IsHexadecimalNumber, IsHexadecimalText, IsWordText, IsExtendedNumber, IsExtendedText}
-use Rattle.text_scan.specs.Parsing.Number.{sign_end, ContinuesNumber}
-use Rattle.text_scan.specs.Parsing.ExtendedNumber.{Scanned, core_byte, ContinuesNumberExtended}
+use Rattle.jsonb_spec.specs.Parsing.Number.{sign_end, ContinuesNumber}
+use Rattle.jsonb_spec.specs.Parsing.ExtendedNumber.{Scanned, core_byte, ContinuesNumberExtended}
 use Rattle.text_scan.proofs.Numbers.Steps.{differs}
 use Rattle.text_scan.proofs.Numbers.Automaton.{DecimalStart, Digits, Dead, next, state_at, StopsAt, accepted_ends}
 use Rattle.text_scan.proofs.Numbers.ScanStates.{alive_by}

@@ -8,7 +8,7 @@ use Rattle.std.proofs.lemmas.Bool.{cases_lt}
 use Rattle.std.proofs.lemmas.Bool.Decides.{nat_tests}
 use Rattle.jsonb_spec.specs.Tree.{Num}
 use Rattle.jsonb_spec.specs.Grammar.ExtendedNumber.{hexadecimal_number}
-use Rattle.text_scan.specs.Parsing.ExtendedNumber.{invalid, Scanned, hexadecimal_length, hexadecimal_fits, fraction_scan, hexadecimal_scan}
+use Rattle.jsonb_spec.specs.Parsing.ExtendedNumber.{invalid, Scanned, hexadecimal_length, hexadecimal_fits, fraction_scan, hexadecimal_scan}
 use Rattle.text_scan.proofs.Numbers.Steps.{is_below, is_not_below, is_zero}
 
 -- a text without a number that a form holds

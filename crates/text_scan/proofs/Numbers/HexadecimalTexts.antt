@@ -6,7 +6,7 @@ use Rattle.std.specs.Str.Parse.{AllDigits, IsNumeral, digits_value}
 use Rattle.std.proofs.lemmas.List.{append_assoc, take-append-drop, length-append, length-take-le, get_or-drop}
 use Rattle.jsonb_spec.specs.Grammar.StandardNumber.{IsSign}
 use Rattle.jsonb_spec.specs.Grammar.ExtendedNumber.{IsHexadecimalText}
-use Rattle.text_scan.specs.Parsing.ExtendedNumber.{ContinuesNumberExtended}
+use Rattle.jsonb_spec.specs.Parsing.ExtendedNumber.{ContinuesNumberExtended}
 use Rattle.jsonb_core.proofs.Numbers.Fractions.{fraction_digits, fraction_text}
 
 -- ---- runs of digits

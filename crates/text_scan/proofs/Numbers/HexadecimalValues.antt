@@ -7,7 +7,7 @@ use Rattle.std.proofs.lemmas.Bool.Decides.{nat_tests}
 use Rattle.jsonb_spec.specs.Number.Signed.{signed_by}
 use Rattle.jsonb_spec.specs.Tree.{int64, uint64, decimal128}
 use Rattle.jsonb_spec.specs.Grammar.ExtendedNumber.{hexadecimal_number}
-use Rattle.text_scan.specs.Parsing.ExtendedNumber.{hexadecimal_length}
+use Rattle.jsonb_spec.specs.Parsing.ExtendedNumber.{hexadecimal_length}
 use Rattle.text_scan.proofs.Numbers.Runs.{run_inside, run_more, run_stop}
 use Rattle.text_scan.proofs.Numbers.Steps.{is_below, is_not_below}
 

@@ -8,7 +8,7 @@ use Rattle.jsonb_spec.specs.Grammar.ExactNumber.{exact_number, moved_number}
 use Rattle.jsonb_spec.specs.Number.Signed.{signed_by}
 use Rattle.jsonb_spec.specs.Tree.{Num}
 use Rattle.text_scan.specs.ExactRead.{IsClamped, Shifts}
-use Rattle.text_scan.specs.Parsing.ExactNumber.{few_digits}
+use Rattle.jsonb_spec.specs.Parsing.ExactNumber.{few_digits}
 use Rattle.text_scan.specs.declared.parser.exact.Shift.{Shift}
 use Rattle.text_scan.proofs.Numbers.Forms.{size_is}
 use Rattle.text_scan.proofs.Numbers.Steps.{is_not_below}

@@ -6,9 +6,9 @@ use Rattle.std.proofs.lemmas.Bool.{or_cases}
 use Rattle.jsonb_spec.specs.Grammar.Scalar.{IsNumber, IsNumberText}
 use Rattle.jsonb_spec.specs.Mode.{Mode, standard, extended, json, extended_json, Strictness, strict, lenient, strictness}
 use Rattle.jsonb_spec.specs.Tree.{Num}
-use Rattle.text_scan.specs.Parsing.{Fault}
-use Rattle.text_scan.specs.Parsing.Number.{is_number_start}
-use Rattle.text_scan.specs.Parsing.Scalar.{begins_number, number_at}
+use Rattle.jsonb_spec.specs.Parsing.{Fault}
+use Rattle.jsonb_spec.specs.Parsing.Number.{is_number_start}
+use Rattle.jsonb_spec.specs.Parsing.Scalar.{begins_number, number_at}
 use Rattle.text_scan.proofs.Numbers.Steps.{digit_is}
 use Rattle.text_scan.proofs.Numbers.Reading.{EndsNumber, FaultRead, IsScanned, NumberRead, parsed_answer, scan_complete}
 use Rattle.text_scan.proofs.Numbers.Standard.{NumberStart, standard_is_text, standard_scanned, number_starts, number_unique}

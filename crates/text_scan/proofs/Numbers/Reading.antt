@@ -7,9 +7,9 @@ use Rattle.jsonb_spec.specs.Code.{Code, invalid_number_value, number_not_carried
 use Rattle.jsonb_spec.specs.Grammar.Scalar.{IsNumber, IsNumberText, IsUnrepresentable}
 use Rattle.jsonb_spec.specs.Mode.{Mode, Strictness, strict, lenient, strictness}
 use Rattle.jsonb_spec.specs.Tree.{Num}
-use Rattle.text_scan.specs.Parsing.{Fault, Parse}
-use Rattle.text_scan.specs.Parsing.Number.{ContinuesNumber, IsNumberBoundary}
-use Rattle.text_scan.specs.Parsing.ExtendedNumber.{Scanned, scanned_to, ContinuesNumberExtended, EndsExtended}
+use Rattle.jsonb_spec.specs.Parsing.{Fault, Parse}
+use Rattle.jsonb_spec.specs.Parsing.Number.{ContinuesNumber, IsNumberBoundary}
+use Rattle.jsonb_spec.specs.Parsing.ExtendedNumber.{Scanned, scanned_to, ContinuesNumberExtended, EndsExtended}
 use Rattle.text_scan.proofs.Numbers.ExtendedTexts.{IsNumberCode}
 
 -- ---- by strictness

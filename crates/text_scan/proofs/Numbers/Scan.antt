@@ -5,7 +5,7 @@ use Rattle.std.specs.Prelude.{slice_index, ◌==◌}
 use Rattle.std.specs.Int.{IsInRange}
 use Rattle.std.proofs.lemmas.Bool.{cases_eq, cases_Bool}
 use Rattle.jsonb_spec.specs.Grammar.StandardNumber.{IsExponentMark}
-use Rattle.text_scan.specs.Parsing.Number.{digits_length, digits_from, sign_end, exponent_from, fraction_from, whole_start}
+use Rattle.jsonb_spec.specs.Parsing.Number.{digits_length, digits_from, sign_end, exponent_from, fraction_from, whole_start}
 use Rattle.text_scan.proofs.Numbers.Runs.{run_ends, run_passes, run_within}
 use Rattle.text_scan.proofs.Numbers.Steps.{no_fraction, no_exponent, fraction_bare, fraction_some, exponent_bare, exponent_some, mark_or_not, by_digits, ok_same, ok_no_err, is_digit, digit_is}
 

@@ -6,7 +6,7 @@ use Rattle.std.proofs.lemmas.Bool.{cases_eq, cases_Bool, false≢true}
 use Rattle.std.proofs.lemmas.Bool.Decides.{nat_tests}
 use Rattle.jsonb_spec.specs.Grammar.StandardNumber.{IsExponentMark}
 use Rattle.text_scan.proofs.Numbers.Scan.{IsDigitRun, IsFractionEnd, IsBarePoint, IsExponentEnd, IsBareMark}
-use Rattle.text_scan.specs.Parsing.Number.{sign_end, ContinuesNumber}
+use Rattle.jsonb_spec.specs.Parsing.Number.{sign_end, ContinuesNumber}
 use Rattle.text_scan.proofs.Numbers.Steps.{differs, is_no_digit, is_no_mark, sign_end_ge}
 use Rattle.text_scan.proofs.Numbers.Automaton.{State, Start, Minus, Zero, Whole, Point, Fraction, Mark, MarkSign, Exponent, DecimalStart, Signed, Digits, BarePoint, Dead, next, from_first, is_accepting, state_at, state_at-next, state_over_digits, NoneEnds, zero_first, digit_first, no_digit_first, start_unsigned, whole_stays, fraction_stays, exponent_stays, point_digit, mark_digit, mark_sign_digit, EndsWhole, EndsDigits, EndsFraction, after_fraction_mark, StopsAt, ends_at, NoneEnds-from_stop, after_whole_point}
 

@@ -12,7 +12,7 @@ use Rattle.std.proofs.lemmas.Slice.{between_from_start}
 use Rattle.std.proofs.lemmas.List.Edits.{length-between, get_or-between, between_none}
 use Rattle.jsonb_spec.specs.Tree.{Num}
 use Rattle.jsonb_spec.specs.Grammar.StandardNumber.{IsWhole, IsFraction, IsSign, IsExponent, IsInteger, IsStandardNumber}
-use Rattle.text_scan.specs.Parsing.Number.{sign_end, has_minus, whole_start}
+use Rattle.jsonb_spec.specs.Parsing.Number.{sign_end, has_minus, whole_start}
 use Rattle.text_scan.proofs.Numbers.Steps.{sign_end_ge}
 use Rattle.text_scan.proofs.Numbers.Scan.{IsDigitRun, IsFractionEnd, IsExponentEnd, IsScan}
 use Rattle.text_scan.proofs.Numbers.Automaton.{Start, IsLongest, IsLongest-from_stop}

@@ -12,9 +12,9 @@ use Rattle.jsonb_spec.specs.Code.{Code, number_not_carried}
 use Rattle.jsonb_spec.specs.Grammar.ExtendedNumber.{decimal_number}
 use Rattle.jsonb_spec.specs.Number.Signed.{signed_by}
 use Rattle.jsonb_spec.specs.Tree.{Num}
-use Rattle.text_scan.specs.Parsing.{fault}
-use Rattle.text_scan.specs.Parsing.Number.{End, digits_from, exponent_from, sign_end}
-use Rattle.text_scan.specs.Parsing.ExtendedNumber.{Scanned, zeros_from, core_start, zeros_end, front_end, point_end, behind_end, scale_at, precision_at, lacks_digits, has_second_point, decimal_end, all_digits, decimal_at, scanned_to, extended_scan, extended_number_at}
+use Rattle.jsonb_spec.specs.Parsing.{fault}
+use Rattle.jsonb_spec.specs.Parsing.Number.{End, digits_from, exponent_from, sign_end}
+use Rattle.jsonb_spec.specs.Parsing.ExtendedNumber.{Scanned, zeros_from, core_start, zeros_end, front_end, point_end, behind_end, scale_at, precision_at, lacks_digits, has_second_point, decimal_end, all_digits, decimal_at, scanned_to, extended_scan, extended_number_at}
 use Rattle.text_scan.specs.ScannedNumber.{AreEnds}
 use Rattle.text_scan.specs.declared.parser.extended_number.decimal.DecimalEnds.{DecimalEnds}
 use Rattle.text_scan.proofs.Numbers.DecimalScan.{core_digits, counted_digits, point_here, point_ordered}

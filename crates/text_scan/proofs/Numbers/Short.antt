@@ -12,8 +12,8 @@ use Rattle.jsonb_spec.specs.Grammar.StandardNumber.{IsExponentMark}
 use Rattle.jsonb_spec.specs.Grammar.ExtendedNumber.{decimal_number}
 use Rattle.jsonb_spec.specs.Number.Signed.{signed_by}
 use Rattle.jsonb_spec.specs.Tree.{Num}
-use Rattle.text_scan.specs.Parsing.Number.{ContinuesAfterInteger, digits_length, digits_from, sign_end}
-use Rattle.text_scan.specs.Parsing.ExtendedNumber.{FollowsDigits, core_start, core_byte, zeros_end, front_end, point_end, behind_end, scale_at, precision_at, lacks_digits, has_second_point, decimal_end, all_digits, decimal_at, decimal_to, decimal_scan, is_word_start, is_hexadecimal_start, extended_scan}
+use Rattle.jsonb_spec.specs.Parsing.Number.{ContinuesAfterInteger, digits_length, digits_from, sign_end}
+use Rattle.jsonb_spec.specs.Parsing.ExtendedNumber.{FollowsDigits, core_start, core_byte, zeros_end, front_end, point_end, behind_end, scale_at, precision_at, lacks_digits, has_second_point, decimal_end, all_digits, decimal_at, decimal_to, decimal_scan, is_word_start, is_hexadecimal_start, extended_scan}
 use Rattle.text_scan.proofs.Numbers.DecimalScan.{HasDigits, core_zeros, core_digits, counted_digits, point_here, point_ordered, digits_tested}
 use Rattle.text_scan.proofs.Numbers.DecimalScanText.{behind_digits, digits_value_same}
 use Rattle.text_scan.proofs.Numbers.DigitValues.{value_after-append, value_after_lt}

@@ -8,8 +8,8 @@ use Rattle.std.proofs.lemmas.List.{append-nil}
 use Rattle.jsonb_spec.specs.Code.{invalid_number_value}
 use Rattle.jsonb_spec.specs.Tree.{Num}
 use Rattle.jsonb_spec.specs.Grammar.StandardNumber.{IsWhole, IsFraction, IsExponent, IsInteger, IsStandardNumber, IsStandardText}
-use Rattle.text_scan.specs.Parsing.Number.{ContinuesAfterInteger, is_number_start, End, standard_end, integer_at, number_to, standard_number_at}
-use Rattle.text_scan.specs.Parsing.ExtendedNumber.{Scanned, scanned_to}
+use Rattle.jsonb_spec.specs.Parsing.Number.{ContinuesAfterInteger, is_number_start, End, standard_end, integer_at, number_to, standard_number_at}
+use Rattle.jsonb_spec.specs.Parsing.ExtendedNumber.{Scanned, scanned_to}
 use Rattle.text_scan.proofs.Numbers.Steps.{is_digit}
 use Rattle.text_scan.proofs.Numbers.Reading.{FindsNumber, found_at, IsScanned, NumberRead, parsed_answer}
 use Rattle.text_scan.proofs.Numbers.ScanText.{scan_longest, scan_end_within}

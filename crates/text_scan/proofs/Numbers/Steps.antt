@@ -15,8 +15,8 @@ use Rattle.std.proofs.lemmas.Bool.Decides.{nat_tests}
 use Rattle.jsonb_spec.specs.Code.{invalid_number_value, number_not_carried}
 use Rattle.jsonb_spec.specs.Grammar.StandardNumber.{IsExponentMark}
 use Rattle.jsonb_spec.specs.Tree.{Num}
-use Rattle.text_scan.specs.Parsing.{fault}
-use Rattle.text_scan.specs.Parsing.Number.{ContinuesAfterInteger, ContinuesNumber, is_number_start, End, then_from, digits_length, digits_from, sign_end, exponent_from, fraction_from, whole_from, has_minus, whole_start, standard_end, integer_of, whole_digits, integer_at, representable_at, number_to, standard_number_at}
+use Rattle.jsonb_spec.specs.Parsing.{fault}
+use Rattle.jsonb_spec.specs.Parsing.Number.{ContinuesAfterInteger, ContinuesNumber, is_number_start, End, then_from, digits_length, digits_from, sign_end, exponent_from, fraction_from, whole_from, has_minus, whole_start, standard_end, integer_of, whole_digits, integer_at, representable_at, number_to, standard_number_at}
 use Rattle.text_scan.specs.ShortInteger.{short_view}
 use Rattle.text_scan.proofs.Numbers.Runs.{run_more, run_stop}
 

@@ -10,7 +10,7 @@ use Rattle.std.proofs.lemmas.List.{length-take-le}
 use Rattle.std.proofs.lemmas.Str.{digit_value_digit}
 use Rattle.std.proofs.lemmas.Str.Parse.{digits_value-take-le}
 use Rattle.std.proofs.Math.Nat.{pow-le-pow_right}
-use Rattle.text_scan.specs.Parsing.Number.{ContinuesNumber, digits_length, whole_start}
+use Rattle.jsonb_spec.specs.Parsing.Number.{ContinuesNumber, digits_length, whole_start}
 use Rattle.text_scan.specs.ShortInteger.{IsVerbatimInteger}
 use Rattle.text_scan.specs.declared.parser.number.ShortInteger.{ShortInteger}
 use Rattle.text_scan.proofs.Numbers.Steps.{all_digits, counted_all, digit_is, digits_stop, digits_within, is_digit, short_is, short_read}

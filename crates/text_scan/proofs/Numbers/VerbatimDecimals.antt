@@ -17,8 +17,8 @@ use Rattle.jsonb_core.proofs.Numbers.DecimalTexts.{digits-take}
 use Rattle.jsonb_core.proofs.Numbers.InRange.{decimals, digits-append}
 use Rattle.jsonb_core.proofs.Numbers.Nearest.{unsigned_abs-signed}
 use Rattle.jsonb_core.proofs.Numbers.Pointed.{is_negative-pos, pointed_inside, pointed_before}
-use Rattle.text_scan.specs.Parsing.Number.{digits_length, has_minus, whole_start}
-use Rattle.text_scan.specs.VerbatimNumber.{IsBeforePoint, IsDecimalBody, IsVerbatimDecimal}
+use Rattle.jsonb_spec.specs.Parsing.Number.{digits_length, has_minus, whole_start}
+use Rattle.jsonb_spec.specs.Text.VerbatimNumber.{IsBeforePoint, IsDecimalBody, IsVerbatimDecimal}
 use Rattle.text_scan.proofs.Numbers.Forms.{below_power}
 use Rattle.text_scan.proofs.Numbers.Steps.{all_digits, digits_stop, digits_within, is_some}
 use Rattle.text_scan.proofs.Numbers.Verbatim.{above_zero}

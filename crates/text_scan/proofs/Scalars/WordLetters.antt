@@ -6,7 +6,7 @@ use Rattle.std.proofs.lemmas.Bool.Decides.{nat_tests}
 use Rattle.std.specs.Char.{to_ascii_lowercase}
 use Rattle.std.proofs.lemmas.List.{drop_more, drop_all}
 use Rattle.jsonb_spec.specs.Code.{Code, invalid_eof, expected_some_ident}
-use Rattle.text_scan.specs.Parsing.ExtendedNumber.{encoded_from, word_scan, unrepresentable_word, invalid_word}
+use Rattle.jsonb_spec.specs.Parsing.ExtendedNumber.{encoded_from, word_scan, unrepresentable_word, invalid_word}
 
 -- the letters encode the word, each in either case
 abbrev pub Encodes : List ℕ → List ℕ → Type 0

@@ -6,8 +6,8 @@ use Rattle.std.proofs.lemmas.Bool.{cases_eq, cases_Bool, false≢true}
 use Rattle.std.proofs.lemmas.List.{append_assoc, take-append-drop, length-append, length-take-le, length-map, get_or-drop, drop-append-le, drop_all, take-append-le, take_all}
 use Rattle.jsonb_spec.specs.Code.{Code}
 use Rattle.jsonb_spec.specs.Grammar.ExtendedNumber.{IsNumberWord, IsExtendedText}
-use Rattle.text_scan.specs.Parsing.Number.{sign_end}
-use Rattle.text_scan.specs.Parsing.ExtendedNumber.{core_byte, encoded_from, word_scan, unrepresentable_word, invalid_word, ContinuesNumberExtended}
+use Rattle.jsonb_spec.specs.Parsing.Number.{sign_end}
+use Rattle.jsonb_spec.specs.Parsing.ExtendedNumber.{core_byte, encoded_from, word_scan, unrepresentable_word, invalid_word, ContinuesNumberExtended}
 use Rattle.text_scan.proofs.Scalars.WordLetters.{Letters, IsWordCode, WordAnswer, word_answer, words_nan_minus, words_nan_plus, words_infinity, Encodes}
 use Rattle.text_scan.proofs.Numbers.ExtendedTexts.{IsWordStart, NoExtendedEnds, IsNumberCode, ScansExtended, letter_is, sign_front, WordFound, word_found, hexadecimal_core, decimals_before_letter}
 use Rattle.std.specs.Str.Parse.{starts_with_minus}

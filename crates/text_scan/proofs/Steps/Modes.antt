@@ -6,8 +6,8 @@ use Rattle.jsonb_spec.specs.Mode.{Mode, standard, extended, json, extended_json,
 use Rattle.text_scan.specs.Answer.{mode_of}
 use Rattle.text_scan.specs.declared.parser.Mode as parser
 use Rattle.text_scan.specs.declared.parser.Mode.TheVariants.{Standard, Extended}
-use Rattle.text_scan.specs.Parsing.{goes_beyond_json}
-use Rattle.text_scan.specs.Parsing.String.{may_be_raw}
+use Rattle.jsonb_spec.specs.Parsing.{goes_beyond_json}
+use Rattle.jsonb_spec.specs.Parsing.String.{may_be_raw}
 
 -- ---- modes that go beyond JSON
 

@@ -1,7 +1,7 @@
 -- Conditions and steps that may fail, by their outcome.
 use Rattle.std.proofs.Common.{◌≡◌, ℕ, Bool, true, false, cond, ◌⊎◌, inl, inr, List, Result, Ok, Err, refl, ap, eqb, eq-eqb}
 use Rattle.jsonb_spec.specs.Code.{Code}
-use Rattle.text_scan.specs.Parsing.{Fault, Parse, reject, ◌>>=◌}
+use Rattle.jsonb_spec.specs.Parsing.{Fault, Parse, reject, ◌>>=◌}
 
 -- which way a choice went
 pub chosen : {A : Type 0} (b : Bool) (x y z : A) → cond b x y ≡ z → ((b ≡ true) × (x ≡ z)) ⊎ ((b ≡ false) × (y ≡ z))

@@ -11,10 +11,10 @@ use Rattle.std.specs.Char.{IsScalar, IsAsciiDigit, encode_utf8, is_ascii_digit, 
 use Rattle.jsonb_spec.specs.Grammar.BareKey.{IsBareKey, IsKeyCharacter}
 use Rattle.jsonb_spec.specs.Code.{invalid_eof, invalid_string_value, object_key_invalid_number, object_key_invalid_character}
 use Rattle.jsonb_spec.specs.Tree.{Mark, plain}
-use Rattle.text_scan.specs.Parsing.{Parse, fault}
-use Rattle.text_scan.specs.Parsing.BareKey.{bare_key_at, is_key_ascii, key_chosen, key_end, key_from, key_step, key_to, text_key}
-use Rattle.text_scan.specs.Parsing.Whitespace.{is_break}
-use Rattle.text_scan.specs.Parsing.String.{further}
+use Rattle.jsonb_spec.specs.Parsing.{Parse, fault}
+use Rattle.jsonb_spec.specs.Parsing.BareKey.{bare_key_at, is_key_ascii, key_chosen, key_end, key_from, key_step, key_to, text_key}
+use Rattle.jsonb_spec.specs.Parsing.Whitespace.{is_break}
+use Rattle.jsonb_spec.specs.Parsing.String.{further}
 use Rattle.text_scan.proofs.Steps.Tests.{chosen, same_read}
 use Rattle.text_scan.proofs.Containers.JoinedParts.{break_is}
 use Rattle.text_scan.proofs.Strings.Ends.{further-further, further-zero, ok_further}

@@ -10,16 +10,16 @@ use Rattle.jsonb_spec.specs.Tree.{Mark, plain, escaped}
 use Rattle.jsonb_core.specs.Error.CodeView.{code_of}
 use Rattle.jsonb_spec.specs.Code.{invalid_eof, invalid_string_value}
 use Rattle.jsonb_spec.specs.Grammar.StringBody.{Item, raw, escape, unit, encoding, IsItem, IsBody, Decodes, meaning}
-use Rattle.jsonb_core.specs.StringStep.{escape_step, item_step}
+use Rattle.jsonb_spec.specs.Grammar.StringStep.{escape_step, item_step}
 use Rattle.jsonb_spec.specs.Grammar.Quoted.{mark_of}
-use Rattle.text_scan.specs.Decoding.{SeesBackslash, SeesNoBackslash, ReportsBackslash}
+use Rattle.jsonb_spec.specs.Parsing.Decoding.{SeesBackslash, SeesNoBackslash, ReportsBackslash}
 use Rattle.jsonb_core.specs.declared.error.Error.{Error}
 use Rattle.jsonb_core.specs.declared.error.Error.TheVariants.{Syntax, OutOfMemory}
 use Rattle.text_scan.specs.StringError.{IsDecodingError}
 use Rattle.text_scan.specs.QuotedString.{DecodesContents}
 use Rattle.text_scan.specs.Answer.{Fails}
-use Rattle.text_scan.specs.Parsing.{fault}
-use Rattle.text_scan.specs.Parsing.String.{body_of, further, quote_from, quote_end, string_of_body, string_up_to, string_at}
+use Rattle.jsonb_spec.specs.Parsing.{fault}
+use Rattle.jsonb_spec.specs.Parsing.String.{body_of, further, quote_from, quote_end, string_of_body, string_up_to, string_at}
 use Rattle.text_scan.proofs.Strings.Decoding.{encoding-raw, items-raw}
 use Rattle.text_scan.proofs.Strings.Items.{body_complete, body_faulty}
 use Rattle.text_scan.proofs.Strings.Ends.{quote_end-step, further-zero, further-further, quote_end-here}

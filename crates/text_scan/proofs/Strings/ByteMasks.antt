@@ -6,7 +6,7 @@ use Rattle.std.proofs.Math.Seq.{take-append-add}
 use Rattle.std.proofs.lemmas.Bool.{cases_lt}
 use Rattle.std.specs.Int.{bit_at}
 use Rattle.std.specs.Simd.Lanes.{chunk, mask_l}
-use Rattle.text_scan.specs.Decoding.{SeesNoBackslash}
+use Rattle.jsonb_spec.specs.Parsing.Decoding.{SeesNoBackslash}
 
 pub within : (byte : ℕ) → 0 < byte → (bytes : List ℕ) (k : ℕ) → get_or bytes k 0 ≡ byte → k < length bytes
 within byte some [] k e = absurd (omega (arith, some, e))

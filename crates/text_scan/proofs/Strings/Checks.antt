@@ -7,9 +7,9 @@ use Rattle.std.specs.Str.{IsUtf8}
 use Rattle.jsonb_spec.specs.Mode.{Mode, GoesBeyondJson}
 use Rattle.jsonb_spec.specs.Tree.{escaped}
 use Rattle.jsonb_spec.specs.Grammar.StringBody.{Item, IsBody, encoding, meaning}
-use Rattle.text_scan.specs.Decoding.{DecodesUpTo, IsDecodedUpTo, SeesBackslash, SeesNoBackslash}
-use Rattle.text_scan.specs.QuotedString.{decoded_text, meaning_of_body}
-use Rattle.text_scan.specs.Parsing.String.{Body, body_of, items_within}
+use Rattle.jsonb_spec.specs.Parsing.Decoding.{DecodesUpTo, IsDecodedUpTo, SeesBackslash, SeesNoBackslash}
+use Rattle.jsonb_spec.specs.Parsing.Contents.{decoded_text, meaning_of_body}
+use Rattle.jsonb_spec.specs.Parsing.String.{Body, body_of, items_within}
 use Rattle.text_scan.proofs.Strings.Bodies.{body-decoded}
 use Rattle.text_scan.proofs.Strings.Decoding.{decodes_all, decoded_run, decoded_then, meaning-all}
 use Rattle.text_scan.proofs.Strings.Items.{items_complete, items_sound}

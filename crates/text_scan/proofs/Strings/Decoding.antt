@@ -9,8 +9,7 @@ use Rattle.jsonb_spec.specs.Code.{Code}
 use Rattle.jsonb_spec.specs.Code.{invalid_hex, invalid_escaped, invalid_string_value, unexpected_end_of_hex_escape}
 use Rattle.jsonb_spec.specs.Grammar.StringBody.{Item, raw, escape, unit, after_u, encoding, IsItem, IsBody, Decodes, escaped_byte, alone, together, meaning}
 use Rattle.jsonb_spec.specs.Grammar.StringFault.{IsFirstNonDigit, bad_digit, cut_escape, unknown_escape, bad_unit, IsFaultyBody}
-use Rattle.text_scan.specs.Decoding.{AreContents, SeesNoBackslash}
-use Rattle.text_scan.specs.Decoding.{SplitsUnit, ParsesUnit, DecodesUpTo, Adds, StopsInUnit, StopsAtEscape}
+use Rattle.jsonb_spec.specs.Parsing.Decoding.{AreContents, SeesNoBackslash, SplitsUnit, ParsesUnit, DecodesUpTo, Adds, StopsInUnit, StopsAtEscape}
 use Rattle.jsonb_core.proofs.Strings.Units.{length-alone, length-together, length-after_u}
 use Rattle.jsonb_core.proofs.Strings.Meaning.{each-append, meaning-raw, meaning-escape, meaning-together, meaning-alone, meaning-last}
 use Rattle.std.specs.Char.Utf16.{is_high_surrogate}

@@ -8,11 +8,11 @@ use Rattle.jsonb_spec.specs.Mode.{Mode}
 use Rattle.jsonb_spec.specs.Tree.{Mark}
 use Rattle.jsonb_spec.specs.Code.{invalid_eof}
 use Rattle.jsonb_spec.specs.Grammar.StringBody.{Item, raw, escape, unit, after_u, encoding, IsItem, meaning}
-use Rattle.jsonb_core.specs.StringStep.{item_step}
+use Rattle.jsonb_spec.specs.Grammar.StringStep.{item_step}
 use Rattle.jsonb_spec.specs.Grammar.Quoted.{Quoted}
 use Rattle.jsonb_core.proofs.Strings.Encoding.{item_step-encoding}
-use Rattle.text_scan.specs.Parsing.{Parse, fault}
-use Rattle.text_scan.specs.Parsing.String.{Body, body_of, further, quote_from, quote_end, string_of_body, string_up_to, string_at}
+use Rattle.jsonb_spec.specs.Parsing.{Parse, fault}
+use Rattle.jsonb_spec.specs.Parsing.String.{Body, body_of, further, quote_from, quote_end, string_of_body, string_up_to, string_at}
 use Rattle.text_scan.proofs.Steps.Tests.{chosen, eqb_self, same_read}
 use Rattle.text_scan.proofs.Strings.Items.{Means, length-encoding, body_complete, body_sound}
 

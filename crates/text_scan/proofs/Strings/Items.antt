@@ -15,9 +15,9 @@ use Rattle.jsonb_spec.specs.Grammar.StringFault.{IsUnitCut, BadUnit, cut_unit, b
 use Rattle.jsonb_spec.specs.Grammar.Quoted.{mark_of}
 use Rattle.jsonb_core.proofs.Strings.Encoding.{escape_is_not_u, encoding_not_empty}
 use Rattle.jsonb_core.proofs.Strings.Writing.{high_may_be_raw}
-use Rattle.text_scan.specs.Decoding.{AreContents}
-use Rattle.text_scan.specs.Parsing.{goes_beyond_json}
-use Rattle.text_scan.specs.Parsing.String.{Body, non_digit, checked_unit, unit_of, unit_at, known_escape, escape_at, may_be_raw, raw_at, item_at, onto, then_items, items_within, meaning_of, body_of}
+use Rattle.jsonb_spec.specs.Parsing.Decoding.{AreContents}
+use Rattle.jsonb_spec.specs.Parsing.{goes_beyond_json}
+use Rattle.jsonb_spec.specs.Parsing.String.{Body, non_digit, checked_unit, unit_of, unit_at, known_escape, escape_at, may_be_raw, raw_at, item_at, onto, then_items, items_within, meaning_of, body_of}
 use Rattle.text_scan.proofs.Steps.Modes.{beyond-true, true-beyond, raw-true, true-raw}
 use Rattle.text_scan.proofs.Steps.Tests.{chosen}
 

@@ -9,7 +9,7 @@ use Rattle.jsonb_spec.specs.Text.StringText.{ArePlain, byte_text, control_text}
 use Rattle.jsonb_spec.specs.Tree.{Mark, plain}
 use Rattle.jsonb_core.proofs.Strings.PlainTexts.{no_mark, one_plain, rest_plain}
 use Rattle.jsonb_core.proofs.Strings.Writing.{high_may_be_raw}
-use Rattle.text_scan.specs.Parsing.String.{body_of}
+use Rattle.jsonb_spec.specs.Parsing.String.{body_of}
 use Rattle.text_scan.proofs.Strings.Bodies.{meaning-raws, mark_of-raws}
 use Rattle.text_scan.proofs.Strings.Decoding.{encoding-raw}
 use Rattle.text_scan.proofs.Strings.Items.{body_complete}

@@ -7,7 +7,7 @@ use Rattle.jsonb_spec.specs.Mode.{Mode, Strictness, strictness, GoesBeyondJson}
 use Rattle.jsonb_spec.specs.Tree.{Mark}
 use Rattle.jsonb_core.specs.declared.error.Error.{Error}
 use Rattle.jsonb_core.specs.declared.error.Error.TheVariants.{Syntax, OutOfMemory}
-use Rattle.text_scan.specs.Parsing.String.{Body, unit_of, unit_at, known_escape, escape_at, item_at, onto, then_items, items_within, meaning_of, body_of}
+use Rattle.jsonb_spec.specs.Parsing.String.{Body, unit_of, unit_at, known_escape, escape_at, item_at, onto, then_items, items_within, meaning_of, body_of}
 use Rattle.text_scan.specs.QuotedString.{DecodesContents}
 use Rattle.text_scan.specs.StrictString.{RejectsContents}
 use Rattle.text_scan.proofs.Steps.Modes.{beyond-true, beyond-raw}

@@ -11,8 +11,8 @@ use Rattle.jsonb_spec.specs.Grammar.StringBody.{Item, raw, escape, unit, encodin
 use Rattle.jsonb_spec.specs.Grammar.StringFault.{cut_unit, bad_digit, cut_escape, unknown_escape, bad_unit, control_character}
 use Rattle.jsonb_spec.specs.Mode.{Mode, standard, json, strict}
 use Rattle.jsonb_core.proofs.Strings.Meaning.{each-append}
-use Rattle.text_scan.specs.Decoding.{ParsesUnit, StopsInUnit}
-use Rattle.text_scan.specs.Parsing.String.{Body, unit_at, escape_at, item_at, onto, then_items, items_within, meaning_of, body_of}
+use Rattle.jsonb_spec.specs.Parsing.Decoding.{ParsesUnit, StopsInUnit}
+use Rattle.jsonb_spec.specs.Parsing.String.{Body, unit_at, escape_at, item_at, onto, then_items, items_within, meaning_of, body_of}
 use Rattle.text_scan.specs.StrictString.{AreClean, ParsesItem, ParsesNoItem}
 use Rattle.text_scan.proofs.Strings.ByteMasks.{within}
 use Rattle.text_scan.proofs.Strings.Items.{long-bare, escape-letter, escape-u, item-backslash, item-raw, item_parsed, item_faulty, item_sound, items-step, length-encoding}

@@ -4,8 +4,8 @@ use Rattle.std.proofs.lemmas.Bool.{cases_Bool, cases_eq, cases_lt, cond-false, c
 use Rattle.std.proofs.lemmas.List.{drop_more, length-drop}
 use Rattle.memchr.specs.Find.{is_byte2}
 use Rattle.jsonb_spec.specs.Grammar.Whitespace.{EndsLine, IsOneLine, LacksCommentEnd}
-use Rattle.text_scan.specs.Parsing.{begins}
-use Rattle.text_scan.specs.Parsing.Whitespace.{longer_by, block_length, line_length}
+use Rattle.jsonb_spec.specs.Parsing.{begins}
+use Rattle.jsonb_spec.specs.Parsing.Whitespace.{longer_by, block_length, line_length}
 use Rattle.text_scan.proofs.Steps.Tests.{chosen}
 
 -- ---- lengths

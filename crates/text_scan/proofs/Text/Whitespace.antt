@@ -8,8 +8,8 @@ use Rattle.jsonb_spec.specs.Grammar.Whitespace.IsLastWhitespace.{whitespace_to_e
 use Rattle.jsonb_spec.specs.Grammar.Whitespace.IsWhitespacePiece.{space, tab, line_feed, form_feed, carriage_return, written_line_feed, written_carriage_return, written_tab, written_form_feed, block_comment, line_comment}
 use Rattle.jsonb_spec.specs.Grammar.Whitespace.IsWhitespace.{no_whitespace, more_whitespace}
 use Rattle.jsonb_spec.specs.Mode.{Mode, GoesBeyondJson, IsLenient, Strictness, strict, lenient, strictness}
-use Rattle.text_scan.specs.Parsing.{begins, goes_beyond_json}
-use Rattle.text_scan.specs.Parsing.Whitespace.{is_whitespace_start, piece_length, block_length, comment_length, line_length, slash_length, written_length, form_feed_length, longer_by, opens_comment, past_comment, pass_chosen, pass_from, skip_closed_whitespace, skip_whitespace}
+use Rattle.jsonb_spec.specs.Parsing.{begins, goes_beyond_json}
+use Rattle.jsonb_spec.specs.Parsing.Whitespace.{is_whitespace_start, piece_length, block_length, comment_length, line_length, slash_length, written_length, form_feed_length, longer_by, opens_comment, past_comment, pass_chosen, pass_from, skip_closed_whitespace, skip_whitespace}
 use Rattle.text_scan.proofs.Steps.Modes.{beyond-true, true-beyond}
 use Rattle.text_scan.proofs.Steps.Tests.{chosen}
 use Rattle.text_scan.proofs.Text.Comments.{block-found, block_ends, line-found, line-none, line-past, line_ends, no_line_end, longer-is, longer-longer, longer-some}

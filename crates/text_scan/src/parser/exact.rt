@@ -6,8 +6,8 @@ ghost use Rattle.jsonb_spec.specs.Grammar.ExactNumber.{exact_number, moved_numbe
 ghost use Rattle.jsonb_spec.specs.Number.Signed.{signed_by};
 ghost use Rattle.jsonb_core.specs.View.{number_view};
 ghost use Rattle.text_scan.specs.ExactRead.{IsClamped, IsDecimalRead, Shifts};
-ghost use Rattle.text_scan.specs.Parsing.ExactNumber.{exact_at, exact_to, extended_json_scan, few_digits, left_at, right_at};
-ghost use Rattle.text_scan.specs.Parsing.Number.{digits_from, exponent_from, standard_end, whole_from, whole_start};
+ghost use Rattle.jsonb_spec.specs.Parsing.ExactNumber.{exact_at, exact_to, extended_json_scan, few_digits, left_at, right_at};
+ghost use Rattle.jsonb_spec.specs.Parsing.Number.{digits_from, exponent_from, standard_end, whole_from, whole_start};
 ghost use Rattle.text_scan.specs.ScannedNumber.{AreEnds, number_views, scanned_view};
 
 use super::extended_number::decimal::{DecimalEnds, decimal_end, decimal_ends};

@@ -1,7 +1,7 @@
 //! The numbers of extended texts: decimals, hexadecimals, `nan` and `infinity`.
 ghost use Rattle.std.specs.Prelude.{◌≡◌, ◌+◌, ◌-◌, ◌*◌, ◌≤◌, ◌<◌, ◌^◌, length, Err, None, MatchOption, IfSome, IfOk, IfErr};
-ghost use Rattle.text_scan.specs.Parsing.Number.{sign_end};
-ghost use Rattle.text_scan.specs.Parsing.ExtendedNumber.{Scanned, encoded_from, word_scan, is_word_start, scan_by_kind, extended_scan, invalid};
+ghost use Rattle.jsonb_spec.specs.Parsing.Number.{sign_end};
+ghost use Rattle.jsonb_spec.specs.Parsing.ExtendedNumber.{Scanned, encoded_from, word_scan, is_word_start, scan_by_kind, extended_scan, invalid};
 ghost use Rattle.text_scan.specs.ScannedNumber.{scanned_view, letters_view};
 
 pub(super) mod decimal;

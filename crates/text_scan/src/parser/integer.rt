@@ -3,7 +3,7 @@ ghost use Rattle.std.specs.Prelude.{◌≡◌, ◌⊎◌, MatchBool, ◌+◌, �
 ghost use Rattle.std.specs.Char.{is_ascii_digit};
 ghost use Rattle.std.specs.Int.{w64, trailing_zeros};
 ghost use Rattle.std.specs.Str.Parse.{digits_value};
-ghost use Rattle.text_scan.specs.Parsing.Number.{digits_length, is_number_start};
+ghost use Rattle.jsonb_spec.specs.Parsing.Number.{digits_length, is_number_start};
 ghost use Rattle.text_scan.specs.StrictFront.{IsFrontOf, front_len};
 ghost use Rattle.jsonb_spec.specs.Ascii as ascii;
 

@@ -1,7 +1,7 @@
 //! Keys, in quotes and without.
 ghost use Rattle.std.specs.Prelude.{◌≡◌, ◌<◌, ◌≤◌, ◌+◌};
 ghost use Rattle.text_scan.specs.QuotedString.{EndsKey};
-ghost use Rattle.text_scan.specs.Parsing.BareKey.{key_step};
+ghost use Rattle.jsonb_spec.specs.Parsing.BareKey.{key_step};
 
 /// Where the search for the end of a key stops.
 #[derive(Clone, Copy)]

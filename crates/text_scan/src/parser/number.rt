@@ -7,7 +7,7 @@ ghost use Rattle.std.specs.Str.Parse.{AllDigits, digits_value, digits_value_afte
 ghost use Rattle.jsonb_spec.specs.Ascii as ascii;
 ghost use Rattle.jsonb_core.specs.View.{number_view};
 ghost use Rattle.text_scan.specs.ShortInteger.{short_view};
-ghost use Rattle.text_scan.specs.Parsing.Number.{ContinuesAfterInteger, ContinuesNumber, is_number_start, standard_number_at, digits_length, digits_from, sign_end, exponent_from, fraction_from, whole_start, then_from, integer_of};
+ghost use Rattle.jsonb_spec.specs.Parsing.Number.{ContinuesAfterInteger, ContinuesNumber, is_number_start, standard_number_at, digits_length, digits_from, sign_end, exponent_from, fraction_from, whole_start, then_from, integer_of};
 
 use crate::util::digit;
 use jsonb_core::bytes::byte_at;

@@ -1,11 +1,12 @@
 //! Quoted strings.
 ghost use Rattle.std.specs.Prelude.{◌≡◌, ◌≢◌, ◌==◌, IfSome, IfNone, ℕ, ◌+◌, ◌<◌, ◌≤◌, ◌^◌, length, slice_index, Err, true};
 ghost use Rattle.jsonb_spec.specs.Ascii as ascii;
-ghost use Rattle.jsonb_core.specs.StringStep.{escape_step};
-ghost use Rattle.text_scan.specs.Decoding.{ReportsBackslash};
+ghost use Rattle.jsonb_spec.specs.Grammar.StringStep.{escape_step};
+ghost use Rattle.jsonb_spec.specs.Parsing.Decoding.{ReportsBackslash};
 ghost use Rattle.text_scan.specs.Answer.{mode_of};
-ghost use Rattle.text_scan.specs.QuotedString.{EndsString, IsClear, IsQuoteOrBackslash, KnowsMarks, DecodesContents, ReportsMarks};
-ghost use Rattle.text_scan.specs.Parsing.String.{body_of};
+ghost use Rattle.text_scan.specs.QuotedString.{EndsString, KnowsMarks, DecodesContents, ReportsMarks};
+ghost use Rattle.jsonb_spec.specs.Parsing.Contents.{IsClear, IsQuoteOrBackslash};
+ghost use Rattle.jsonb_spec.specs.Parsing.String.{body_of};
 
 use super::Mode;
 use super::vector::{equal_bits, lowest, near_bits, shifted_down};

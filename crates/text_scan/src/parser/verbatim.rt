@@ -1,10 +1,10 @@
 //! Numbers of texts with decimals that are serialized as they are.
 ghost use Rattle.std.specs.Prelude.{◌≡◌, ◌≢◌, ◌⊎◌, ◌+◌, ◌≤◌, ◌<◌, ℕ, IfSome, MatchBool, true, false, drop, length, slice_index, take};
 ghost use Rattle.std.specs.Str.Parse.{digits_value};
-ghost use Rattle.text_scan.specs.Parsing.Number.{ContinuesNumber, digits_length, is_number_start};
-ghost use Rattle.text_scan.specs.Parsing.Whitespace.{is_break};
+ghost use Rattle.jsonb_spec.specs.Parsing.Number.{ContinuesNumber, digits_length, is_number_start};
+ghost use Rattle.jsonb_spec.specs.Parsing.Whitespace.{is_break};
 ghost use Rattle.text_scan.specs.ShortInteger.{IsVerbatimInteger};
-ghost use Rattle.text_scan.specs.VerbatimNumber.{IsBeforePoint, IsDecimalBody, IsVerbatimDecimal};
+ghost use Rattle.jsonb_spec.specs.Text.VerbatimNumber.{IsBeforePoint, IsDecimalBody, IsVerbatimDecimal};
 ghost use Rattle.jsonb_spec.specs.Ascii as ascii;
 
 use super::integer::{digits_and_next, digits_by_bytes, may_begin};

@@ -2,7 +2,7 @@
 ghost use Rattle.std.specs.Prelude.{◌≡◌, ◌↔◌, ℕ, ◌+◌, ◌<◌, ◌≤◌, ◌^◌, length, slice_index, drop};
 ghost use Rattle.std.specs.Int.{bit_at};
 ghost use Rattle.text_scan.specs.Answer.{grammar_of};
-ghost use Rattle.text_scan.specs.Parsing.Whitespace.{block_length, line_length, comment_length, piece_length};
+ghost use Rattle.jsonb_spec.specs.Parsing.Whitespace.{block_length, line_length, comment_length, piece_length};
 ghost use Rattle.jsonb_spec.specs.Ascii as ascii;
 
 use super::vector::{equal_bits, lowest, near_bits};

@@ -6,8 +6,8 @@ ghost use Rattle.jsonb_core.specs.Error.CodeView.{code_of};
 ghost use Rattle.jsonb_spec.specs.Grammar.StringBody.{escaped_byte, Decodes};
 ghost use Rattle.text_scan.specs.Answer.{mode_of};
 ghost use Rattle.text_scan.specs.StringError.{IsDecodingError};
-ghost use Rattle.text_scan.specs.Decoding.{Adds, AreContents, StopsAtEscape};
-ghost use Rattle.text_scan.specs.QuotedString.{decoded_text};
+ghost use Rattle.jsonb_spec.specs.Parsing.Decoding.{Adds, AreContents, StopsAtEscape};
+ghost use Rattle.jsonb_spec.specs.Parsing.Contents.{decoded_text};
 
 mod check;
 mod run;

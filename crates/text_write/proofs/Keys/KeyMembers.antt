@@ -4,14 +4,15 @@ use Rattle.std.proofs.lemmas.List.{length-take-le}
 use Rattle.std.specs.Str.{IsUtf8}
 use Rattle.jsonb_spec.specs.SortKey.{text_key}
 use Rattle.jsonb_spec.specs.Tree.{Mark}
-use Rattle.text_common.specs.Open.{Open, members_so_far}
+use Rattle.jsonb_spec.specs.Source.Open.{Open, members_so_far}
 use Rattle.jsonb_spec.specs.Source.{Found, Source, found_member}
 use Rattle.text_write.specs.KeySink.{Begins, Held, HeldFits, IsSinkWith, KeyHolds, Writes, base_of, key_layout, members}
-use Rattle.text_members.specs.Members.{member_key, others_joined, source_key}
+use Rattle.jsonb_spec.specs.SortKey.Joined.{member_key, source_key}
+use Rattle.text_members.specs.Members.{others_joined}
 use Rattle.text_members.specs.OpenMembers.{AreOf, next_start}
 use Rattle.text_members.specs.OpenMembers.{Begins as Begun}
 use Rattle.jsonb_spec.specs.Text.StringText.{ArePlain}
-use Rattle.text_write.specs.OpenKey.{keys_joined, open_key}
+use Rattle.jsonb_spec.specs.SortKey.SoFar.{keys_joined, open_key}
 use Rattle.text_write.specs.declared.key.KeySink.{KeySink}
 use Rattle.text_write.proofs.Keys.KeySinks.{goes_on}
 use Rattle.text_write.proofs.Keys.OpenKeys.{member_joined}

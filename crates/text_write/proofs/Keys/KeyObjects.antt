@@ -3,12 +3,12 @@ use Rattle.std.proofs.Common.{◌≡◌, ℕ, ◌+◌, true, false, List, [], �
 use Rattle.std.proofs.lemmas.List.{length-take-le}
 use Rattle.std.specs.Option.{is_some}
 use Rattle.jsonb_spec.specs.Tree.{Mark}
-use Rattle.text_common.specs.Open.{Open, members_so_far}
+use Rattle.jsonb_spec.specs.Source.Open.{Open, members_so_far}
 use Rattle.jsonb_spec.specs.Source.{Found, sort_by, spot_of}
-use Rattle.text_members.specs.Members.{join_pieces, member_key}
+use Rattle.jsonb_spec.specs.SortKey.Joined.{join_pieces, member_key}
 use Rattle.text_members.specs.OpenMembers.{AreOf, AreSettled, EndIn, EndsObject, KeysAscendFrom, PutsInOrder, ReportsRepeatOf}
 use Rattle.text_members.specs.declared.open_members.Repeat.{Repeat}
-use Rattle.text_write.specs.OpenKey.{keys_joined, open_key}
+use Rattle.jsonb_spec.specs.SortKey.SoFar.{keys_joined, open_key}
 use Rattle.text_write.specs.KeySink.{Closes, Held, HeldFits, IsSettled, PreservesMembers, KeyFilled, KeyHolds, base_of, members, key_layout}
 use Rattle.text_write.specs.declared.key.KeySink.{KeySink}
 use Rattle.text_write.proofs.Keys.OpenKeys.{object_ended}

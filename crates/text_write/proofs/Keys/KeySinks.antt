@@ -4,10 +4,10 @@ use Rattle.std.proofs.lemmas.List.{take-append-le}
 use Rattle.jsonb_spec.specs.SortKey.{text_key}
 use Rattle.jsonb_spec.specs.Text.{in_quotes}
 use Rattle.jsonb_core.proofs.SortKeys.Zeros.{plain_key}
-use Rattle.text_common.specs.Open.{Open}
+use Rattle.jsonb_spec.specs.Source.Open.{Open}
 use Rattle.jsonb_spec.specs.Source.{Source}
 use Rattle.text_write.specs.KeySink.{Held, HeldFits, IsSinkWith, KeyFilled, KeyHolds, Writes, base_of, key_layout, part_key}
-use Rattle.text_members.specs.Members.{source_key}
+use Rattle.jsonb_spec.specs.SortKey.Joined.{source_key}
 use Rattle.text_members.specs.OpenMembers.{AreOf, AreSame, all_starts}
 use Rattle.jsonb_spec.specs.Text.StringText.{ArePlain}
 use Rattle.text_write.specs.TextSink.{IsEncoded, SeesPart}

@@ -2,10 +2,11 @@
 use Rattle.std.proofs.Common.{◌≡◌, ℕ, true, false, List, [], ◌∷◌, ◌++◌, map, None, refl, sym, ap, ◌∙◌, append_assoc}
 use Rattle.std.proofs.lemmas.List.{map-append}
 use Rattle.jsonb_spec.specs.SortKey.{items_key, text_key}
-use Rattle.text_common.specs.Open.{Open, elements_so_far}
+use Rattle.jsonb_spec.specs.Source.Open.{Open, elements_so_far}
 use Rattle.jsonb_spec.specs.Source.{Found, Source, array_source_of, first_repeat, object_source_of, sort_by, sources_of, spot_of, trees_of_sources}
-use Rattle.text_members.specs.Members.{between_after, member_key, others_joined, source_key}
-use Rattle.text_write.specs.OpenKey.{keys_joined, open_key, parts_key}
+use Rattle.text_members.specs.Members.{between_after, others_joined}
+use Rattle.jsonb_spec.specs.SortKey.Joined.{member_key, source_key}
+use Rattle.jsonb_spec.specs.SortKey.SoFar.{keys_joined, open_key, parts_key}
 use Rattle.text_members.proofs.Objects.Closing.{all_joined, joined_more, object_key, sort_ascends}
 
 -- ---- one more part

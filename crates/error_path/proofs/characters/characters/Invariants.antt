@@ -1,6 +1,6 @@
 use Rattle.std.proofs.Common.{◌≡◌, ◌≤◌, ◌+◌, length}
 use Rattle.std.specs.List.{count_by}
-use Rattle.error_path.specs.Characters.{begins_character}
+use Rattle.jsonb_spec.specs.Characters.{begins_character}
 use Rattle.error_path.proofs.characters.characters.Given as goal
 
 abbrev pub invariant-bytes : goal.invariant-bytes

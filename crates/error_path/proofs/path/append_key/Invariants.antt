@@ -1,5 +1,5 @@
 use Rattle.std.proofs.Common.{◌≡◌, ◌++◌, take}
-use Rattle.jsonb_path.specs.Path.{encoded_key}
+use Rattle.jsonb_spec.specs.Path.{encoded_key}
 use Rattle.error_path.proofs.path.append_key.Given as goal
 
 abbrev pub invariant-bytes : goal.invariant-bytes

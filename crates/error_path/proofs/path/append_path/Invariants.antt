@@ -1,5 +1,5 @@
 use Rattle.std.proofs.Common.{◌≡◌, ◌++◌, take, map, string_bytes}
-use Rattle.jsonb_path.specs.Path.{encoded_keys}
+use Rattle.jsonb_spec.specs.Path.{encoded_keys}
 use Rattle.error_path.proofs.path.append_path.Given as goal
 
 abbrev pub invariant-keys : goal.invariant-keys

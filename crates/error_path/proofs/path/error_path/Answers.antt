@@ -1,8 +1,8 @@
 use Rattle.std.proofs.Common.{map, string_bytes, ap, subst, ◌∙◌, ◌++◌, List, ℕ}
-use Rattle.jsonb_path.specs.Path.{IsPath, encoded_keys}
+use Rattle.jsonb_spec.specs.Path.{IsPath, encoded_keys}
 use Rattle.text_scan.specs.Answer.{grammar_of}
 use Rattle.text_parse.proofs.Steps.Failures.{stops_if}
-use Rattle.error_path.specs.ErrorPath.{IsErrorPath}
+use Rattle.jsonb_spec.specs.Path.ErrorPath.{IsErrorPath}
 use Rattle.error_path.proofs.Encoding.{texts_of}
 use Rattle.error_path.proofs.path.error_path.Goals as goal
 

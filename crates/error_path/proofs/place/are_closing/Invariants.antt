@@ -1,6 +1,6 @@
 use Rattle.std.proofs.Common.{length}
 use Rattle.std.specs.List.{AllByRecursion}
-use Rattle.error_path.specs.ErrorPath.{IsClosing}
+use Rattle.jsonb_spec.specs.Path.ErrorPath.{IsClosing}
 use Rattle.error_path.proofs.place.are_closing.Given as goal
 
 abbrev pub invariant-bytes : goal.invariant-bytes

@@ -1,8 +1,8 @@
 use Rattle.std.proofs.Common.{◌≡◌, ap₂, subst, sym, ◌∙◌, ◌++◌, arith, List, map, string_bytes, take-append-drop}
 use Rattle.std.specs.List.{AllByRecursion}
 use Rattle.text_scan.specs.Answer.{grammar_of}
-use Rattle.error_path.specs.ErrorPath.{IsClosing}
-use Rattle.error_path.specs.ErrorPath.IsErrorPath.{at_part}
+use Rattle.jsonb_spec.specs.Path.ErrorPath.{IsClosing}
+use Rattle.jsonb_spec.specs.Path.ErrorPath.IsErrorPath.{at_part}
 use Rattle.error_path.specs.Placed.{AreLed}
 use Rattle.text_parse.proofs.Steps.Failures.{stops_if}
 use Rattle.error_path.proofs.Passing.{no_piece}

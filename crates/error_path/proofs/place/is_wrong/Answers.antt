@@ -1,6 +1,6 @@
 use Rattle.std.proofs.Common.{List, Option, ◌≡◌, ap, subst, sym, ◌∙◌}
 use Rattle.text_scan.specs.Answer.{grammar_of}
-use Rattle.error_path.specs.ErrorPath.{IsWrong}
+use Rattle.jsonb_spec.specs.Path.ErrorPath.{IsWrong}
 use Rattle.error_path.proofs.Wrong.{lacking}
 use Rattle.error_path.proofs.place.is_wrong.Goals as goal
 

@@ -1,7 +1,7 @@
 use Rattle.std.proofs.Common.{◌≡◌, arith, subst, sym, ◌∙◌, List}
 use Rattle.text_scan.specs.Answer.{grammar_of}
-use Rattle.error_path.specs.ErrorPath.{IsWrong, NonePasses}
-use Rattle.error_path.specs.ErrorPath.IsWrong.{none_passes}
+use Rattle.jsonb_spec.specs.Path.ErrorPath.{IsWrong, NonePasses}
+use Rattle.jsonb_spec.specs.Path.ErrorPath.IsWrong.{none_passes}
 use Rattle.text_parse.proofs.Steps.Failures.{stops_if}
 use Rattle.error_path.proofs.Wrong.{deep}
 use Rattle.error_path.proofs.place.is_wrong_part.Goals as goal

@@ -2,7 +2,7 @@ use Rattle.std.proofs.Common.{◌≡◌, Err, subst, sym, ◌∙◌}
 use Rattle.jsonb_core.specs.declared.error.Error.{Error}
 use Rattle.jsonb_core.specs.Error.CodeView.{code_of}
 use Rattle.text_scan.specs.Answer.{Fails, grammar_of}
-use Rattle.text_scan.specs.Parsing.Document.{document_of}
+use Rattle.jsonb_spec.specs.Parsing.Document.{document_of}
 use Rattle.error_path.proofs.Passing.{none_if}
 use Rattle.error_path.proofs.Wrong.{passes_before, passes_elsewhere, passes_in_document}
 use Rattle.error_path.proofs.place.none_passes.Goals as goal

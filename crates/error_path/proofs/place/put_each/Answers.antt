@@ -1,6 +1,6 @@
 use Rattle.std.proofs.Common.{true, false, map, string_bytes, subst}
 use Rattle.text_scan.specs.Answer.{grammar_of}
-use Rattle.error_path.specs.ErrorPath.{completed, literal}
+use Rattle.jsonb_spec.specs.Path.ErrorPath.{completed, literal}
 use Rattle.error_path.specs.Placed.{IsPut}
 use Rattle.error_path.proofs.place.put_each.Goals as goal
 

@@ -2,7 +2,7 @@ use Rattle.std.proofs.Common.{rules, true, Err, subst}
 use Rattle.jsonb_value.specs.View.{view}
 use Rattle.text_parse.specs.Handler.{Misses}
 use Rattle.text_scan.specs.Answer.{Fails, grammar_of}
-use Rattle.text_scan.specs.Parsing.Document.{source_of}
+use Rattle.jsonb_spec.specs.Parsing.Document.{source_of}
 use Rattle.jsonb.proofs.Documents.Agreement.{gives_all, gives_as_specified, gives_tree}
 use Rattle.jsonb.proofs.Documents.Markers.{document_opened}
 use Rattle.text_parse.proofs.Steps.Outcomes.{rejected_container}

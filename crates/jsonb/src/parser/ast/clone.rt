@@ -3,7 +3,8 @@ ghost use Rattle.std.specs.Prelude.{◌≡◌, IfOk, IfErr};
 ghost use Rattle.std.specs.Cow.{cow_str_bytes};
 ghost use Rattle.jsonb_spec.specs.Tree.{escaped};
 ghost use Rattle.jsonb_core.specs.View.{mark_view};
-ghost use Rattle.jsonb.specs.Source.{SourceHoldsNoMemory, source_view, sources_view, source_members_view};
+ghost use Rattle.jsonb_spec.specs.Source.Equality.{SourceHoldsNoMemory};
+ghost use Rattle.jsonb.specs.Source.{source_view, sources_view, source_members_view};
 
 use super::JsonAst;
 use std::alloc::AllocError;

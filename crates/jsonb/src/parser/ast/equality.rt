@@ -2,7 +2,8 @@
 ghost use Rattle.std.specs.Prelude.{◌≡◌};
 ghost use Rattle.std.specs.Cmp.{on_equiv, on_per, partial_equiv_from_equiv};
 ghost use Rattle.std.specs.Ordering.{on};
-ghost use Rattle.jsonb.specs.Source.{source_view, sources_view, source_members_view, source_eq, sources_eq, source_members_eq};
+ghost use Rattle.jsonb.specs.Source.{source_view, sources_view, source_members_view};
+ghost use Rattle.jsonb_spec.specs.Source.Equality.{source_eq, sources_eq, source_members_eq};
 ghost use Rattle.jsonb.specs.SourceLaws.{source_eq_equiv};
 
 use super::JsonAst;

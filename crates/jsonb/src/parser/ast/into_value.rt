@@ -2,7 +2,8 @@
 //! earlier one.
 ghost use Rattle.std.specs.Prelude.{◌≡◌, IfOk, IfErr};
 ghost use Rattle.jsonb_value.specs.View.{view, trees_view, members_view};
-ghost use Rattle.jsonb.specs.AstView.{ast_view, asts_view, written_members, IsContainer};
+ghost use Rattle.jsonb.specs.AstView.{ast_view, asts_view, written_members};
+ghost use Rattle.jsonb_spec.specs.Accessors.{IsContainer};
 
 use super::JsonAst;
 use crate::parser::handler::put_member;

@@ -2,7 +2,7 @@
 //! text of a part.
 ghost use Rattle.std.specs.Prelude.{◌≡◌, ℕ, List, None, OnOk, Some, map, true};
 ghost use Rattle.jsonb.specs.Held.{IsScalarAt, held_by};
-ghost use Rattle.text_common.specs.Open.{Open};
+ghost use Rattle.jsonb_spec.specs.Source.Open.{Open};
 ghost use Rattle.jsonb_spec.specs.Source.{Source};
 ghost use Rattle.text_write.specs.TextSink.{SeesPart};
 

@@ -1,9 +1,9 @@
 use Rattle.std.proofs.Common.{◌++◌, ap, ◌∙◌}
-use Rattle.key_document.specs.Document.{document_of}
+use Rattle.jsonb_spec.specs.Document.{document_of}
 use Rattle.jsonb_c.proofs.DocumentKeys.{key_is_document, returned_so}
 use Rattle.jsonb_c.proofs.Documents.{text_of_tree}
-use Rattle.jsonb_c.specs.Document.{IsDocumentOfText}
-use Rattle.jsonb_c.specs.Interface.{IsKeyOf}
+use Rattle.jsonb_spec.specs.Interface.Document.{IsDocumentOfText}
+use Rattle.jsonb_spec.specs.Interface.{IsKeyOf}
 use Rattle.jsonb_c.proofs.document.document_of_text.Goals as goal
 
 -- no number has zeros at its end

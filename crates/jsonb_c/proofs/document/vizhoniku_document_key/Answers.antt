@@ -1,5 +1,5 @@
 use Rattle.std.proofs.Common.{◌∙◌, ap, length, sym, subst}
-use Rattle.key_table.specs.Table.{IsUnmarked}
+use Rattle.jsonb_spec.specs.Table.{IsUnmarked}
 use Rattle.key_table.proofs.Unmarked.{unmarked}
 use Rattle.jsonb_c.proofs.document.vizhoniku_document_key.Goals as goal
 

@@ -1,6 +1,6 @@
 use Rattle.std.proofs.Common.{◌≡◌, ◌≤◌, [], ◌∷◌, IfSome, Ok, ap, append-nil, arith, length, subst, sym, ◌∙◌}
 use Rattle.key_walk.specs.Found.{Opens}
-use Rattle.key_walk.specs.Open.{opening_byte}
+use Rattle.jsonb_spec.specs.SortKey.Open.{opening_byte}
 use Rattle.key_document.specs.Cursor.{IsLeftBehind}
 use Rattle.jsonb_spec.specs.SortKey.{key_of}
 use Rattle.jsonb_c.specs.KeyParts.{IsBegun}

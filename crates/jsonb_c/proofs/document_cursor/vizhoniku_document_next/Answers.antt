@@ -1,5 +1,5 @@
 use Rattle.std.proofs.Common.{◌≡◌, ◌++◌, ap, arith, drop, inl, inr, length, refl, subst, ◌∙◌}
-use Rattle.key_document.specs.Document.{document_of}
+use Rattle.jsonb_spec.specs.Document.{document_of}
 use Rattle.jsonb_c.specs.Document.{document_status_of}
 use Rattle.jsonb_c.proofs.DocumentCursor.{ReportsPart, no_part_written, part_written}
 use Rattle.jsonb_c.proofs.document_cursor.vizhoniku_document_next.Goals as goal

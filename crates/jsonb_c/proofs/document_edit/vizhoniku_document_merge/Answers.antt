@@ -1,5 +1,5 @@
 use Rattle.std.proofs.Common.{Some, sym}
-use Rattle.key_edit.specs.Edit.{merge}
+use Rattle.jsonb_spec.specs.Edit.{merge}
 use Rattle.jsonb_c.proofs.document_edit.vizhoniku_document_merge.Goals as goal
 
 pub returns-clause-written : goal.returns-clause-written

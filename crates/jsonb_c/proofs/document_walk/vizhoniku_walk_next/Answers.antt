@@ -1,7 +1,8 @@
 use Rattle.std.proofs.Common.{Ok, ap, refl, subst}
 use Rattle.jsonb_c.proofs.DocumentWalk.{never_next, next_met, none_met}
 use Rattle.jsonb_c.proofs.document_walk.vizhoniku_walk_next.Goals as goal
-use Rattle.key_document.specs.Walk.{events_left, MeetsNext}
+use Rattle.jsonb_spec.specs.Document.Walk.{events_left}
+use Rattle.key_document.specs.Walk.{MeetsNext}
 
 pub returns-in-Ok-Some-clause-met : goal.returns-in-Ok-Some-clause-met
 returns-in-Ok-Some-clause-met c = λ t d opens w.

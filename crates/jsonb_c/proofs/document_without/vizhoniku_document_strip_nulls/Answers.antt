@@ -1,6 +1,6 @@
 use Rattle.std.proofs.Common.{◌==◌, Some, sym}
 use Rattle.std.specs.Prelude.{not}
-use Rattle.key_document.specs.LeftOut.{without_nulls}
+use Rattle.jsonb_spec.specs.Edit.LeftOut.{without_nulls}
 use Rattle.jsonb_c.proofs.document_without.vizhoniku_document_strip_nulls.Goals as goal
 
 pub returns-clause-written : goal.returns-clause-written

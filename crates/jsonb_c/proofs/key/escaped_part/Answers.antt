@@ -1,5 +1,5 @@
 use Rattle.std.proofs.Common.{◌≡◌, List, ℕ, [], IfSome, inr, map, string_bytes, ap, subst, sym, ◌∙◌}
-use Rattle.jsonb_path.specs.Path.{IsPath}
+use Rattle.jsonb_spec.specs.Path.{IsPath}
 use Rattle.key_walk.specs.Found.{Finds}
 use Rattle.jsonb_spec.specs.PartAt.{part_at}
 use Rattle.jsonb_c.proofs.KeyParts.{all_of_it}

@@ -1,6 +1,6 @@
 use Rattle.std.proofs.Common.{◌≡◌, [], ◌∷◌, IfSome, Ok, subst}
 use Rattle.key_walk.specs.Found.{Opens}
-use Rattle.key_walk.specs.Open.{opening_byte}
+use Rattle.jsonb_spec.specs.SortKey.Open.{opening_byte}
 use Rattle.jsonb_c.proofs.KeyParts.{all_of_it, begun, not_begun}
 use Rattle.jsonb_c.proofs.key.vizhoniku_key_begin.Goals as goal
 

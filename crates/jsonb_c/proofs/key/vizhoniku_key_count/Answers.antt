@@ -1,5 +1,5 @@
 use Rattle.std.proofs.Common.{[]}
-use Rattle.key_walk.specs.Found.{count_of}
+use Rattle.jsonb_spec.specs.SortKey.Found.{count_of}
 use Rattle.jsonb_c.proofs.KeyParts.{all_of_it, no_fault, no_parts, parts_counted}
 use Rattle.jsonb_c.proofs.key.vizhoniku_key_count.Goals as goal
 

@@ -1,7 +1,8 @@
 use Rattle.std.proofs.Common.{rules, [], subst}
 use Rattle.std.proofs.lemmas.Int.{to_z-of_z}
 use Rattle.std.specs.Int.{w64}
-use Rattle.key_walk.specs.Found.{item_from, Finds}
+use Rattle.jsonb_spec.specs.SortKey.Found.{item_from}
+use Rattle.key_walk.specs.Found.{Finds}
 use Rattle.jsonb_c.proofs.KeyParts.{all_of_it}
 use Rattle.jsonb_c.proofs.key.vizhoniku_key_item.Goals as goal
 

@@ -1,5 +1,5 @@
 use Rattle.std.proofs.Common.{Some, sym}
-use Rattle.key_edit.specs.Edit.{merge}
+use Rattle.jsonb_spec.specs.Edit.{merge}
 use Rattle.jsonb_c.proofs.key_change.vizhoniku_key_merge.Goals as goal
 
 pub returns-clause-written : goal.returns-clause-written

@@ -1,8 +1,9 @@
 use Rattle.std.proofs.Common.{◌⊎◌, inl, inr}
 use Rattle.std.specs.Vec.{vec_capacity, vec_len}
-use Rattle.text_scan.specs.Answer.{MayAllocate, grammar_of}
-use Rattle.jsonb.specs.Lines.{LacksCapacityForLines, lines_of}
-use Rattle.jsonb_c.specs.Lines.{LinesMayAllocate}
+use Rattle.jsonb_spec.specs.Parsing.Memory.{MayAllocate}
+use Rattle.text_scan.specs.Answer.{grammar_of}
+use Rattle.jsonb_spec.specs.Parsing.Lines.{LacksCapacityForLines, lines_of}
+use Rattle.jsonb_spec.specs.Interface.Lines.{LinesMayAllocate}
 use Rattle.jsonb_c.proofs.Reasons.{ran_out}
 use Rattle.jsonb_c.proofs.RejectedLines.{first_accepted, line_error, line_reason, reason_at}
 use Rattle.jsonb_c.proofs.lines.texts_of_lines.Goals as goal

@@ -1,7 +1,7 @@
 use Rattle.std.proofs.Common.{[], refl, sym, subst, ◌∙◌}
 use Rattle.std.specs.Int.{w64}
 use Rattle.std.proofs.lemmas.Int.{to_z-of_z}
-use Rattle.jsonb_c.specs.Scalars.{IsInteger}
+use Rattle.jsonb_spec.specs.Interface.Scalars.{IsInteger}
 use Rattle.jsonb_c.proofs.Integers.{no_number, is_found, is_none}
 use Rattle.jsonb_c.proofs.KeyParts.{all_of_it}
 use Rattle.jsonb_c.proofs.Scalars.{has_kind}

@@ -7,9 +7,10 @@ use Rattle.jsonb_spec.specs.Grammar.{IsDocument}
 use Rattle.jsonb_spec.specs.Mode.{Mode}
 use Rattle.jsonb_spec.specs.Text.{AppendsText, tree_text}
 use Rattle.jsonb_spec.specs.Tree.{Tree}
-use Rattle.jsonb.specs.Appends.{LacksCapacityForText}
+use Rattle.jsonb_spec.specs.Parsing.Appends.{LacksCapacityForText}
 use Rattle.jsonb.proofs.Documents.Straight.{text_there}
-use Rattle.text_scan.specs.Answer.{MayAllocate, mode_of}
+use Rattle.jsonb_spec.specs.Parsing.Memory.{MayAllocate}
+use Rattle.text_scan.specs.Answer.{mode_of}
 use Rattle.jsonb_spec.specs.Program.{IsLineOf, LacksCapacity}
 use Rattle.jsonb_cat.proofs.LinesAgain.{appended_again}
 use Rattle.jsonb_cat.proofs.cat.convert.Goals as goal

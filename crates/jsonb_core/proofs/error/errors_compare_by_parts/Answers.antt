@@ -2,7 +2,8 @@
 use Rattle.std.proofs.Common.{◌≡◌, ◌↔◌, ℕ, ◌==◌, ◌&&◌, Bool, IsTrue, rules}
 use Rattle.jsonb_spec.specs.Code.{Code}
 use Rattle.jsonb_core.specs.Error.CodeView.{code_of}
-use Rattle.jsonb_core.specs.Error.ErrorView.{error_view, syntax}
+use Rattle.jsonb_core.specs.Error.ErrorView.{error_view}
+use Rattle.jsonb_spec.specs.ErrorView.{syntax}
 use Rattle.jsonb_core.specs.contracts.error.ErrorPartialEq.TheImpl as derived
 use Rattle.jsonb_core.specs.contracts.error.ParseErrorCodePartialEq.TheImpl as derived_code
 use Rattle.jsonb_core.specs.contracts.error.ErrorHash.TheImpl.Laws as hash_laws

@@ -1,5 +1,5 @@
 use Rattle.std.proofs.Common.{ap, refl, sym, ◌∙◌}
-use Rattle.jsonb_path.specs.KeyEncoding.{byte_of}
+use Rattle.jsonb_spec.specs.Path.KeyEncoding.{byte_of}
 use Rattle.jsonb_path.proofs.PlainKeys.{ascii_key}
 use Rattle.jsonb_path.proofs.keys.key_len.Goals as goal
 

@@ -1,5 +1,5 @@
 use Rattle.std.proofs.Common.{◌≡◌, ℕ, List, ◌∷◌, ◌++◌, ap, arith, ◌∙◌}
-use Rattle.jsonb_path.specs.Path.{encoded_keys}
+use Rattle.jsonb_spec.specs.Path.{encoded_keys}
 use Rattle.jsonb_path.proofs.PlainKeys.{behind_slash, plain_itself}
 use Rattle.jsonb_path.proofs.keys.plain_key.Goals as goal
 

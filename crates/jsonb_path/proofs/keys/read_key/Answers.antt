@@ -1,6 +1,6 @@
 use Rattle.std.proofs.Common.{◌≡◌, ◌++◌, Some, sym, subst, arith}
-use Rattle.jsonb_path.specs.Path.{encoded_key}
-use Rattle.jsonb_path.specs.KeyEncoding.{byte_of}
+use Rattle.jsonb_spec.specs.Path.{encoded_key}
+use Rattle.jsonb_spec.specs.Path.KeyEncoding.{byte_of}
 use Rattle.jsonb_path.proofs.KeyEncoding.{next_byte}
 use Rattle.jsonb_path.proofs.keys.read_key.Goals as goal
 

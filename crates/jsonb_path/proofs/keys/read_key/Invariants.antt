@@ -1,5 +1,5 @@
 use Rattle.std.proofs.Common.{◌≡◌, ◌++◌, ◌≤◌, length}
-use Rattle.jsonb_path.specs.Path.{encoded_key}
+use Rattle.jsonb_spec.specs.Path.{encoded_key}
 use Rattle.jsonb_path.proofs.keys.read_key.Given as goal
 
 abbrev pub invariant-bytes : goal.invariant-bytes

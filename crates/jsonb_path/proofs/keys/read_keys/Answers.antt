@@ -1,7 +1,7 @@
 use Rattle.std.proofs.Common.{◌≡◌, ℕ, List, [], ◌∷◌, ◌++◌, map, string_bytes, String, Global, Result, Ok, Err, IfErr, true≢false, sym, subst, ap, ◌∙◌}
 use Rattle.std.proofs.lemmas.List.{map-append, nil_from_length}
-use Rattle.jsonb_path.specs.KeyEncoding.{Reads}
-use Rattle.jsonb_path.specs.Path.{StartsKey}
+use Rattle.jsonb_spec.specs.Path.KeyEncoding.{Reads}
+use Rattle.jsonb_spec.specs.Path.{StartsKey}
 use Rattle.jsonb_path.proofs.KeyEncoding.{after_key, path_read, path_alone, no_slash, no_text, starts}
 use Rattle.jsonb_path.proofs.keys.read_keys.Goals as goal
 

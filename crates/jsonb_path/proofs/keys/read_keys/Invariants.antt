@@ -1,5 +1,5 @@
 use Rattle.std.proofs.Common.{length, map, string_bytes}
-use Rattle.jsonb_path.specs.KeyEncoding.{Reads}
+use Rattle.jsonb_spec.specs.Path.KeyEncoding.{Reads}
 use Rattle.jsonb_path.proofs.keys.read_keys.Given as goal
 
 abbrev pub invariant-parts : goal.invariant-parts

@@ -1,11 +1,11 @@
 use Rattle.std.proofs.Common.{◌≡◌, ◌-◌, ◌<◌, ◌^◌, ◌++◌, length, refl, sym, ap, ◌∙◌, arith, length-append}
 use Rattle.jsonb_spec.specs.SortKey.{key_of}
-use Rattle.key_edit.specs.Edit.{with_item}
+use Rattle.jsonb_spec.specs.Edit.{with_item}
 use Rattle.key_document.proofs.Building.{item_changes, key_appended}
 use Rattle.key_document.proofs.Changing.{are_spliced, as_tail, finished}
 use Rattle.key_text.proofs.Counts.{one_each}
 use Rattle.key_document.proofs.build.append_with_item.Goals as goal
-use Rattle.key_text.specs.Counts.{counts_at}
+use Rattle.jsonb_spec.specs.Document.Counts.{counts_at}
 
 pub returns-clause-answers : goal.returns-clause-answers
 returns-clause-answers c = λ t r e u ru eu.

@@ -1,6 +1,6 @@
 use Rattle.std.proofs.Common.{◌≡◌, true, subst, sym, ◌∙◌}
 use Rattle.jsonb_spec.specs.SortKey.{key_of}
-use Rattle.key_edit.specs.Edit.{changed_at_member, set_to}
+use Rattle.jsonb_spec.specs.Edit.{changed_at_member, set_to}
 use Rattle.key_edit.proofs.Built.{FindsMember, member_set, set_always}
 use Rattle.key_document.specs.Changes.{Answers}
 use Rattle.key_document.proofs.Changing.{nothing_appended, set_puts}

@@ -1,5 +1,5 @@
 use Rattle.std.proofs.Common.{◌≤◌, ℕ, length}
-use Rattle.key_value.specs.Reading.{ReadsDigits}
+use Rattle.jsonb_spec.specs.SortKey.Reading.{ReadsDigits}
 use Rattle.key_document.proofs.check.digit_count.Given as goal
 
 -- some digits were read

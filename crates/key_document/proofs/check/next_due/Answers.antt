@@ -2,7 +2,7 @@ use Rattle.std.proofs.Common.{◌-◌, ◌<◌, ◌^◌, ◌++◌, ◌∷◌, le
 use Rattle.std.proofs.lemmas.Bool.{eqb-false}
 use Rattle.jsonb_core.proofs.Trees.Runs.{heads}
 use Rattle.key_value.proofs.Texts.{none_some, some_same}
-use Rattle.key_zeros.specs.Zeros.{in_sevens, zeros_of}
+use Rattle.jsonb_spec.specs.Document.Zeros.{in_sevens, zeros_of}
 use Rattle.key_document.proofs.Fitting.{first_due, fit_from, none_fit, none_left}
 use Rattle.key_document.proofs.check.next_due.Goals as goal
 

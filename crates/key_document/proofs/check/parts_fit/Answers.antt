@@ -1,6 +1,6 @@
 use Rattle.std.proofs.Common.{◌≡◌, ◌++◌, ◌∷◌, [], List, ℕ, Ok, Some, length, refl, sym, ap, subst, ◌∙◌, arith, append-nil, length-append}
 use Rattle.jsonb_spec.specs.SortKey.{key_of}
-use Rattle.key_walk.specs.Open.{Open, end_key, is_object, name_key, open_key, opening_byte}
+use Rattle.jsonb_spec.specs.SortKey.Open.{Open, end_key, is_object, name_key, open_key, opening_byte}
 use Rattle.key_walk.specs.Steps.{IsAmid, StepsOver}
 use Rattle.key_walk.proofs.Stepping.{all_passed, edge_passed, no_error, value_passed}
 use Rattle.key_zeros.proofs.Counting.{behind_long, scalar_numbers}

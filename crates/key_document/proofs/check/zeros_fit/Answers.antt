@@ -1,7 +1,7 @@
 use Rattle.std.proofs.Common.{[], length, refl, subst, sym, ap, ◌∙◌, arith, append-nil, eq-eqb, eqb-true}
 use Rattle.jsonb_spec.specs.SortKey.{key_of}
 use Rattle.key_value.proofs.FirstBytes.{no_key}
-use Rattle.key_walk.specs.Open.{open_key}
+use Rattle.jsonb_spec.specs.SortKey.Open.{open_key}
 use Rattle.key_walk.proofs.Scalars.{opened_at_top, scalar_there}
 use Rattle.key_zeros.proofs.Counting.{scalar_numbers}
 use Rattle.key_walk.proofs.Stepping.{opening_there}

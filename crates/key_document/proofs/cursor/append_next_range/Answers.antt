@@ -1,15 +1,15 @@
 use Rattle.std.proofs.Common.{◌≡◌, ◌+◌, ◌<◌, ◌^◌, ◌++◌, drop, length, take, ap, sym, subst, ◌∙◌, arith, append_assoc, length-append}
 use Rattle.std.specs.Prelude.{vec_len, vec_capacity}
 use Rattle.jsonb_spec.specs.SortKey.{key_of}
-use Rattle.key_zeros.specs.Numbers.{Pends}
-use Rattle.key_zeros.specs.Zeros.{zeros_of}
+use Rattle.jsonb_spec.specs.Document.Numbers.{Pends}
+use Rattle.jsonb_spec.specs.Document.Zeros.{zeros_of}
 use Rattle.key_document.specs.Changes.{IsLacking}
 use Rattle.key_document.specs.Cursor.{IsLeftOf}
-use Rattle.key_document.specs.Document.{behind_key, document_of, zeros_at}
+use Rattle.jsonb_spec.specs.Document.{behind_key, document_of, zeros_at}
 use Rattle.key_document.proofs.Changing.{key_lacking}
 use Rattle.key_document.proofs.Remaining.{left_at, next_counts, part_there}
 use Rattle.key_document.proofs.cursor.append_next_range.Goals as goal
-use Rattle.key_text.specs.Counts.{counts_at}
+use Rattle.jsonb_spec.specs.Document.Counts.{counts_at}
 
 pub returns-in_err-extend_from_slice-clause-part : goal.returns-in_err-extend_from_slice-clause-part
 returns-in_err-extend_from_slice-clause-part c = λ t r e l h u ru at size.

@@ -1,5 +1,5 @@
 use Rattle.std.proofs.Common.{◌≡◌, ◌-◌, drop, inr, length, ap, sym, subst, ◌∙◌, arith}
-use Rattle.key_zeros.specs.Numbers.{Pends, PendsAt}
+use Rattle.jsonb_spec.specs.Document.Numbers.{Pends, PendsAt}
 use Rattle.key_document.proofs.Remaining.{entries_behind}
 use Rattle.key_document.proofs.cursor.left_as.Goals as goal
 

@@ -5,9 +5,9 @@ use Rattle.key_document.specs.Cursor.{IsLeftOf}
 use Rattle.key_document.proofs.Remaining.{halves, left_at}
 use Rattle.key_document.proofs.cursor.pass_number.Goals as goal
 use Rattle.key_text.proofs.Counts.{one_each}
-use Rattle.key_text.specs.Counts.{counts_at}
-use Rattle.key_zeros.specs.Numbers.{Pends}
-use Rattle.key_zeros.specs.Zeros.{zeros_of}
+use Rattle.jsonb_spec.specs.Document.Counts.{counts_at}
+use Rattle.jsonb_spec.specs.Document.Numbers.{Pends}
+use Rattle.jsonb_spec.specs.Document.Zeros.{zeros_of}
 
 pub returns-in_err-here : goal.returns-in_err-here
 returns-in_err-here c = record {

@@ -2,9 +2,9 @@ use Rattle.std.proofs.Common.{◌≡◌, ◌<◌, ◌^◌, drop, length, take, a
 use Rattle.jsonb_spec.specs.SortKey.{key_of}
 use Rattle.key_text.proofs.Counts.{one_each}
 use Rattle.key_document.proofs.Remaining.{halves, left_at}
-use Rattle.key_zeros.specs.Zeros.{zeros_of}
+use Rattle.jsonb_spec.specs.Document.Zeros.{zeros_of}
 use Rattle.key_document.proofs.cursor.zeros_from.Goals as goal
-use Rattle.key_text.specs.Counts.{counts_at}
+use Rattle.jsonb_spec.specs.Document.Counts.{counts_at}
 
 pub returns-in_err-all : goal.returns-in_err-all
 returns-in_err-all c = record {

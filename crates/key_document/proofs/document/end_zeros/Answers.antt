@@ -1,8 +1,8 @@
 use Rattle.std.proofs.Common.{◌≡◌, ◌+◌, ◌++◌, length, ◌∙◌, ap, arith, length-append}
 use Rattle.std.proofs.lemmas.List.{length-reverse}
 use Rattle.std.specs.Prelude.{reverse, vec_len, vec_capacity}
-use Rattle.key_zeros.specs.Zeros.{in_sevens}
-use Rattle.key_document.specs.Document.{end_of}
+use Rattle.jsonb_spec.specs.Document.Zeros.{in_sevens}
+use Rattle.jsonb_spec.specs.Document.{end_of}
 use Rattle.key_document.proofs.Ending.{end_some, ends_with, turned_end}
 use Rattle.key_document.proofs.document.end_zeros.Goals as goal
 

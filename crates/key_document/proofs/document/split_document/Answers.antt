@@ -3,11 +3,11 @@ use Rattle.std.specs.Prelude.{reverse}
 use Rattle.std.proofs.Math.Seq.{take-length, drop-length, take-append_seam, drop-append_seam}
 use Rattle.jsonb_spec.specs.Grammar.{max_depth}
 use Rattle.jsonb_spec.specs.SortKey.{key_of}
-use Rattle.key_document.specs.Document.{zeros_at}
+use Rattle.jsonb_spec.specs.Document.{zeros_at}
 use Rattle.key_document.proofs.Endings.{key_ends}
 use Rattle.key_document.proofs.Tails.{no_zeros, some_zeros}
 use Rattle.key_document.proofs.document.split_document.Goals as goal
-use Rattle.key_zeros.specs.Zeros.{in_sevens}
+use Rattle.jsonb_spec.specs.Document.Zeros.{in_sevens}
 
 pub returns-then-last-clause-key : goal.returns-then-last-clause-key
 returns-then-last-clause-key c = λ t r e.

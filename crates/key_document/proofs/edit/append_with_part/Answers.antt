@@ -1,6 +1,6 @@
 use Rattle.std.proofs.Common.{◌≡◌, map, string_bytes, subst}
 use Rattle.jsonb_spec.specs.SortKey.{key_of}
-use Rattle.key_edit.specs.Edit.{becomes, changed_at, set_to}
+use Rattle.jsonb_spec.specs.Edit.{becomes, changed_at, set_to}
 use Rattle.key_edit.proofs.Putting.{set_made, set_there}
 use Rattle.key_document.proofs.Changing.{ReportedSlot, set_puts}
 use Rattle.key_document.proofs.Splicing.{at_splice}

@@ -1,5 +1,5 @@
 use Rattle.std.proofs.Common.{◌≡◌, ◌<◌, ◌^◌, ◌++◌, [], map, string_bytes, length, refl, sym, ap, subst, ◌∙◌, arith, length-append}
-use Rattle.key_edit.specs.Edit.{changed_at, without_part}
+use Rattle.jsonb_spec.specs.Edit.{changed_at, without_part}
 use Rattle.key_edit.proofs.Putting.{appended}
 use Rattle.jsonb_spec.specs.SortKey.{key_of}
 use Rattle.key_document.proofs.Changing.{ReportedSlot, are_spliced, as_tail, cuts, finished, remove_changes, removed}

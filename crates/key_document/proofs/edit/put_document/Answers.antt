@@ -4,7 +4,7 @@ use Rattle.key_edit.specs.Edit.{AppendsKey}
 use Rattle.key_document.proofs.Changing.{are_spliced, as_tail, cuts, finished, no_key_appended, put_changes, reported}
 use Rattle.key_text.proofs.Counts.{one_each}
 use Rattle.key_document.proofs.edit.put_document.Goals as goal
-use Rattle.key_text.specs.Counts.{counts_at}
+use Rattle.jsonb_spec.specs.Document.Counts.{counts_at}
 
 pub returns-in_err-put_part-clause-put : goal.returns-in_err-put_part-clause-put
 returns-in_err-put_part-clause-put c = λ t r e z changed splices s u ru eu change puts set.

@@ -2,8 +2,8 @@ use Rattle.std.proofs.Common.{◌≡◌, ◌+◌, ◌<◌, ◌≤◌, ◌^◌, �
 use Rattle.std.specs.Prelude.{vec_len, vec_capacity}
 use Rattle.jsonb_spec.specs.SortKey.{key_of}
 use Rattle.key_text.proofs.Appending.{both, no_capacity_second}
-use Rattle.key_zeros.specs.Zeros.{zeros_of}
-use Rattle.key_document.specs.Document.{behind_key, end_of, zeros_at}
+use Rattle.jsonb_spec.specs.Document.Zeros.{zeros_of}
+use Rattle.jsonb_spec.specs.Document.{behind_key, end_of, zeros_at}
 use Rattle.key_document.specs.Tokens.{tokens_counts, tokens_key, tokens_text}
 use Rattle.key_document.specs.declared.error.DocumentError.TheVariants.{OutOfMemory}
 use Rattle.key_document.proofs.Joining.{lacks_zeros}

@@ -1,5 +1,5 @@
 use Rattle.std.proofs.Common.{◌≡◌, ◌+◌, ◌-◌, ◌++◌, length, sym, ap, ◌∙◌, arith}
-use Rattle.key_zeros.specs.Zeros.{entry_of, plain_behind, zeros_of}
+use Rattle.jsonb_spec.specs.Document.Zeros.{entry_of, plain_behind, zeros_of}
 use Rattle.key_text.proofs.Appending.{preserves_on, retained}
 use Rattle.key_document.specs.Tokens.{tokens_counts, tokens_key, tokens_text}
 use Rattle.key_document.proofs.Joining.{lacks_zeros}

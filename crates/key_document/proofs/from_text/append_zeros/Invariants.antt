@@ -1,5 +1,5 @@
 use Rattle.std.proofs.Common.{length}
-use Rattle.key_text.specs.Writes.{Preserves}
+use Rattle.jsonb_spec.specs.SortKey.Text.{Preserves}
 use Rattle.key_document.proofs.ZerosOfText.{WritesZeros}
 use Rattle.key_document.proofs.from_text.append_zeros.Given as goal
 

@@ -1,7 +1,7 @@
 use Rattle.std.proofs.Common.{◌≡◌, map, string_bytes, subst}
 use Rattle.jsonb_spec.specs.SortKey.{key_of}
-use Rattle.key_edit.specs.Edit.{becomes}
-use Rattle.key_edit.specs.Insert.{add, changed_slot_at, with_inserted, without_member}
+use Rattle.jsonb_spec.specs.Edit.{becomes}
+use Rattle.jsonb_spec.specs.Edit.Insert.{add, changed_slot_at, with_inserted, without_member}
 use Rattle.key_document.proofs.Changing.{add_puts}
 use Rattle.key_document.proofs.Inserting.{ReportedGap, adds, inserted_err, inserted_ok, is_inserted, nowhere, present}
 use Rattle.key_document.proofs.Splicing.{slot_at_splice}

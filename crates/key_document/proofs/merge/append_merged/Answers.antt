@@ -1,14 +1,14 @@
 use Rattle.std.proofs.Common.{◌+◌, ◌<◌, ◌^◌, ◌++◌, length, sym, ap, subst, ◌∙◌, arith, append_assoc, length-append}
 use Rattle.std.specs.Prelude.{vec_len, vec_capacity}
 use Rattle.jsonb_spec.specs.SortKey.{key_of}
-use Rattle.key_edit.specs.Edit.{merge}
+use Rattle.jsonb_spec.specs.Edit.{merge}
 use Rattle.key_edit.proofs.ProperChanges.{merged_proper}
 use Rattle.key_document.specs.Changes.{IsLacking}
-use Rattle.key_document.specs.Document.{behind_key, document_of, zeros_at}
+use Rattle.jsonb_spec.specs.Document.{behind_key, document_of, zeros_at}
 use Rattle.key_document.proofs.Changing.{edit_lacking}
 use Rattle.key_text.proofs.Counts.{one_each}
 use Rattle.key_document.proofs.merge.append_merged.Goals as goal
-use Rattle.key_text.specs.Counts.{counts_at}
+use Rattle.jsonb_spec.specs.Document.Counts.{counts_at}
 
 pub returns-in_err-append_merged-clause-merges : goal.returns-in_err-append_merged-clause-merges
 returns-in_err-append_merged-clause-merges c = λ t r e u ru eu.

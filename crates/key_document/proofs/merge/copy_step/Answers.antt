@@ -2,7 +2,7 @@ use Rattle.std.proofs.Common.{drop, length, take, ◌++◌, ap, arith, sym, ◌�
 use Rattle.std.proofs.lemmas.List.{length-drop}
 use Rattle.key_text.proofs.Appending.{both, no_capacity_second}
 use Rattle.key_document.proofs.StepsCopied.{first_zeros, lacks_step, mid_within, step_plain, step_zeros}
-use Rattle.key_zeros.specs.Zeros.{zeros_of}
+use Rattle.jsonb_spec.specs.Document.Zeros.{zeros_of}
 use Rattle.key_document.proofs.merge.copy_step.Goals as goal
 
 pub returns-in_err-mid-clause-copied : goal.returns-in_err-mid-clause-copied

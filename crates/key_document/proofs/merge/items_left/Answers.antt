@@ -1,11 +1,10 @@
 use Rattle.std.proofs.Common.{◌<◌, ◌^◌, length, ap, subst, arith, length-append}
-use Rattle.key_zeros.specs.Numbers.{Pends}
-use Rattle.key_edit.specs.Edit.{as_items}
-use Rattle.key_document.specs.Merging.{counts_of_items}
+use Rattle.jsonb_spec.specs.Document.Numbers.{Pends}
+use Rattle.jsonb_spec.specs.Edit.{as_items}
+use Rattle.jsonb_spec.specs.Document.Counts.{counts_of_items, counts_at}
 use Rattle.key_text.proofs.Counts.{one_each}
 use Rattle.key_document.proofs.ItemsJoined.{items_long, items_passed, items_within}
 use Rattle.key_document.proofs.merge.items_left.Goals as goal
-use Rattle.key_text.specs.Counts.{counts_at}
 
 pub returns-in_err-all : goal.returns-in_err-all
 returns-in_err-all c = record { found = λ t r e z. absurd (c.in_err-all.ensures.found (counts_at t) (omega (arith, ap length e, one_each t r.proper)) z) }

@@ -2,10 +2,10 @@ use Rattle.std.proofs.Common.{◌≡◌, ◌+◌, ◌<◌, ◌++◌, length, tak
 use Rattle.std.specs.Prelude.{vec_len, vec_capacity}
 use Rattle.std.proofs.Math.Seq.{take-append_seam}
 use Rattle.key_text.proofs.Appending.{both, no_capacity_second}
-use Rattle.key_edit.specs.Edit.{as_items}
-use Rattle.key_zeros.specs.Zeros.{plain_at_end, zeros_of}
-use Rattle.key_document.specs.Document.{zeros_at}
-use Rattle.key_document.specs.Merging.{counts_of_items}
+use Rattle.jsonb_spec.specs.Edit.{as_items}
+use Rattle.jsonb_spec.specs.Document.Zeros.{plain_at_end, zeros_of}
+use Rattle.jsonb_spec.specs.Document.{zeros_at}
+use Rattle.jsonb_spec.specs.Document.Counts.{counts_of_items}
 use Rattle.key_document.proofs.ItemsJoined.{joined_array, joined_long, joined_zeros}
 use Rattle.key_document.proofs.Joining.{lacks_zeros, plain_bound}
 use Rattle.key_document.proofs.merge.join_items.Goals as goal

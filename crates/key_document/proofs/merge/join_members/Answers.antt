@@ -1,8 +1,8 @@
 use Rattle.std.proofs.Common.{◌<◌, ◌^◌, ◌∷◌, length, ap, arith}
-use Rattle.key_text.specs.Counts.{counts_at_members}
+use Rattle.jsonb_spec.specs.Document.Counts.{counts_at_members}
 use Rattle.key_text.proofs.Appending.{retained, preserves_on}
-use Rattle.key_edit.specs.Edit.{merged_members}
-use Rattle.key_zeros.specs.Zeros.{zeros_of}
+use Rattle.jsonb_spec.specs.Edit.{merged_members}
+use Rattle.jsonb_spec.specs.Document.Zeros.{zeros_of}
 use Rattle.key_text.proofs.Counts.{members_each}
 use Rattle.key_document.proofs.Joining.{lacks_zeros}
 use Rattle.key_document.proofs.MembersJoined.{ended, goes_on, join_begun, next}

@@ -1,13 +1,13 @@
 use Rattle.std.proofs.Common.{◌≡◌, ◌+◌, ◌<◌, ◌^◌, length}
 use Rattle.jsonb_spec.specs.SortKey.{members_key}
 use Rattle.jsonb_spec.specs.Tree.{Members, object}
-use Rattle.key_walk.specs.Checked.{HaveReadable}
-use Rattle.key_document.specs.Document.{zeros_at}
+use Rattle.jsonb_spec.specs.SortKey.Checked.{HaveReadable}
+use Rattle.jsonb_spec.specs.Document.{zeros_at}
 use Rattle.key_document.proofs.MembersJoined.{JoinLeft}
 use Rattle.key_document.proofs.merge.join_members.Given as goal
-use Rattle.key_edit.specs.Edit.{merged_members}
-use Rattle.key_text.specs.Counts.{counts_at_members}
-use Rattle.key_text.specs.Writes.{Preserves}
+use Rattle.jsonb_spec.specs.Edit.{merged_members}
+use Rattle.jsonb_spec.specs.Document.Counts.{counts_at_members}
+use Rattle.jsonb_spec.specs.SortKey.Text.{Preserves}
 
 abbrev pub invariant-members : goal.invariant-members
 invariant-members l = record {

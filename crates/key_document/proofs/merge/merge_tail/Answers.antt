@@ -1,8 +1,8 @@
 use Rattle.std.proofs.Common.{◌≡◌, ◌+◌, ◌<◌, ◌^◌, ◌++◌, length, refl, subst, sym, ap, ◌∙◌, append-nil, arith, eqb-true, length-append}
 use Rattle.std.specs.Prelude.{vec_len, vec_capacity}
-use Rattle.key_edit.specs.Edit.{merge}
+use Rattle.jsonb_spec.specs.Edit.{merge}
 use Rattle.key_text.proofs.Appending.{no_capacity_second}
-use Rattle.key_document.specs.Document.{behind_key, end_of, zeros_at}
+use Rattle.jsonb_spec.specs.Document.{behind_key, end_of, zeros_at}
 use Rattle.key_document.specs.declared.error.DocumentError.TheVariants.{OutOfMemory}
 use Rattle.key_document.proofs.Joining.{lacks_zeros}
 use Rattle.key_document.proofs.NoZeros.{none_merged}

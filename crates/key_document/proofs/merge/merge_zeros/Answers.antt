@@ -1,10 +1,10 @@
 use Rattle.std.proofs.Common.{◌<◌, ◌^◌, length, ap, subst, sym, ◌∙◌, arith}
 use Rattle.jsonb_spec.specs.SortKey.{key_of}
 use Rattle.key_edit.proofs.Joined.{members_there, merged_items, merged_objects}
-use Rattle.key_document.specs.Document.{zeros_at}
+use Rattle.jsonb_spec.specs.Document.{zeros_at}
 use Rattle.key_document.specs.Splices.{AppendsZeros}
 use Rattle.key_document.proofs.merge.merge_zeros.Goals as goal
-use Rattle.key_text.specs.Counts.{counts_at}
+use Rattle.jsonb_spec.specs.Document.Counts.{counts_at}
 
 pub returns-in-Some-clause-merged : goal.returns-in-Some-clause-merged
 returns-in-Some-clause-merged c = λ t u r i e z f w fit.

@@ -4,7 +4,7 @@ use Rattle.jsonb_spec.specs.SortKey.{key_of}
 use Rattle.jsonb_spec.specs.Tree.{object}
 use Rattle.key_edit.proofs.Joined.{members_there}
 use Rattle.key_document.specs.Changes.{Answers}
-use Rattle.key_document.specs.LeftOut.{beside_names, without_names}
+use Rattle.jsonb_spec.specs.Edit.LeftOut.{beside_names, without_names}
 use Rattle.key_document.proofs.Answered.{error_stays, no_names}
 use Rattle.key_document.proofs.Changing.{nothing_appended}
 use Rattle.key_document.proofs.names.append_without_names.Goals as goal

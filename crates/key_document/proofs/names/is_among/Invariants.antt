@@ -1,7 +1,7 @@
 use Rattle.std.proofs.Common.{◌≡◌, ℕ, List, length}
 use Rattle.jsonb_spec.specs.SortKey.{members_key, text_key}
 use Rattle.jsonb_spec.specs.Tree.{Members}
-use Rattle.key_walk.specs.Checked.{HaveReadable}
+use Rattle.jsonb_spec.specs.SortKey.Checked.{HaveReadable}
 use Rattle.key_document.proofs.NamesLeft.{NamesAhead}
 use Rattle.key_document.proofs.names.is_among.Given as goal
 

@@ -4,12 +4,12 @@ use Rattle.jsonb_spec.specs.Proper.{IsProper}
 use Rattle.jsonb_spec.specs.SortKey.{key_of}
 use Rattle.jsonb_spec.specs.Tree.{array, object}
 use Rattle.key_edit.proofs.Joined.{items_there, members_there}
-use Rattle.key_document.specs.LeftOut.{beside_names}
+use Rattle.jsonb_spec.specs.Edit.LeftOut.{beside_names}
 use Rattle.key_document.specs.Retaining.{AreAhead, WritesAnswer}
 use Rattle.key_document.proofs.Beside.{none_beside_scalar}
 use Rattle.key_document.proofs.Retained.{nothing_written}
 use Rattle.key_document.proofs.names.write_answer.Goals as goal
-use Rattle.key_text.specs.Counts.{counts_at}
+use Rattle.jsonb_spec.specs.Document.Counts.{counts_at}
 
 pub returns-in-Some-clause-written : goal.returns-in-Some-clause-written
 returns-in-Some-clause-written c = λ ns h f t r e a.

@@ -1,4 +1,4 @@
-use Rattle.key_document.specs.LeftOut.{beside_names}
+use Rattle.jsonb_spec.specs.Edit.LeftOut.{beside_names}
 use Rattle.key_document.proofs.Answered.{key_unwritten, key_written, tail_unwritten, tail_written}
 use Rattle.key_document.proofs.Beside.{beside_within}
 use Rattle.key_document.proofs.names.write_document.Goals as goal

@@ -1,9 +1,9 @@
 use Rattle.std.proofs.Common.{◌≡◌, [], ◌∷◌, None, Some, length, refl, sym, ap}
 use Rattle.jsonb_spec.specs.SortKey.{items_key, key_of}
 use Rattle.jsonb_spec.specs.Tree.{array}
-use Rattle.key_text.specs.Counts.{counts_at, counts_at_items}
+use Rattle.jsonb_spec.specs.Document.Counts.{counts_at, counts_at_items}
 use Rattle.key_text.proofs.Appending.{preserves_on, retained}
-use Rattle.key_document.specs.LeftOut.{items_beside}
+use Rattle.jsonb_spec.specs.Edit.LeftOut.{items_beside}
 use Rattle.key_text.proofs.Counts.{one_each}
 use Rattle.key_document.proofs.NamesLeft.{item_first, item_goes_wrong, item_here, item_ready, items_begun, next_items, no_items}
 use Rattle.key_document.proofs.Retained.{answer_finished}

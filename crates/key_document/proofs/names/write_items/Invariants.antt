@@ -1,9 +1,9 @@
 use Rattle.std.proofs.Common.{◌≡◌, length}
 use Rattle.jsonb_spec.specs.SortKey.{items_key, members_key}
 use Rattle.jsonb_spec.specs.Tree.{Members, Trees}
-use Rattle.key_walk.specs.Checked.{AreReadable, HaveReadable}
-use Rattle.key_text.specs.Counts.{counts_at_items}
-use Rattle.key_text.specs.Writes.{Preserves}
+use Rattle.jsonb_spec.specs.SortKey.Checked.{AreReadable, HaveReadable}
+use Rattle.jsonb_spec.specs.Document.Counts.{counts_at_items}
+use Rattle.jsonb_spec.specs.SortKey.Text.{Preserves}
 use Rattle.key_document.specs.Retaining.{IsBegun}
 use Rattle.key_document.proofs.NamesLeft.{ItemsLeft}
 use Rattle.key_document.proofs.names.write_items.Given as goal

@@ -1,9 +1,9 @@
 use Rattle.std.proofs.Common.{refl}
 use Rattle.jsonb_spec.specs.SortKey.{key_of, members_key}
 use Rattle.jsonb_spec.specs.Tree.{object}
-use Rattle.key_text.specs.Counts.{counts_at, counts_at_members}
+use Rattle.jsonb_spec.specs.Document.Counts.{counts_at, counts_at_members}
 use Rattle.key_text.proofs.Appending.{preserves_on, retained}
-use Rattle.key_document.specs.LeftOut.{members_beside}
+use Rattle.jsonb_spec.specs.Edit.LeftOut.{members_beside}
 use Rattle.key_document.proofs.NamesLeft.{goes_wrong, here_is, last_answer, last_each, last_retains, members_begun, next_left, on, part_each, passed, ready}
 use Rattle.key_document.proofs.names.write_members.Goals as goal
 

@@ -1,9 +1,9 @@
 use Rattle.std.proofs.Common.{◌≡◌, ◌+◌, length}
 use Rattle.jsonb_spec.specs.SortKey.{members_key}
 use Rattle.jsonb_spec.specs.Tree.{Members}
-use Rattle.key_walk.specs.Checked.{HaveReadable}
-use Rattle.key_text.specs.Counts.{counts_at_members}
-use Rattle.key_text.specs.Writes.{Preserves}
+use Rattle.jsonb_spec.specs.SortKey.Checked.{HaveReadable}
+use Rattle.jsonb_spec.specs.Document.Counts.{counts_at_members}
+use Rattle.jsonb_spec.specs.SortKey.Text.{Preserves}
 use Rattle.key_document.specs.Retaining.{IsBegun}
 use Rattle.key_document.proofs.NamesLeft.{MembersLeft}
 use Rattle.key_document.proofs.names.write_members.Given as goal

@@ -1,4 +1,4 @@
-use Rattle.key_document.specs.LeftOut.{without_nulls}
+use Rattle.jsonb_spec.specs.Edit.LeftOut.{without_nulls}
 use Rattle.key_document.proofs.Answered.{all_stays}
 use Rattle.key_document.proofs.nulls.append_without_nulls.Goals as goal
 

@@ -1,4 +1,4 @@
-use Rattle.key_document.specs.LeftOut.{without_nulls}
+use Rattle.jsonb_spec.specs.Edit.LeftOut.{without_nulls}
 use Rattle.key_document.proofs.Answered.{all_appended, all_unwritten}
 use Rattle.key_document.proofs.Stripped.{bare_within}
 use Rattle.key_document.proofs.nulls.write_document.Goals as goal

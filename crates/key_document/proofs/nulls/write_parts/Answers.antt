@@ -1,12 +1,13 @@
 use Rattle.std.proofs.Common.{◌≡◌, ◌&&◌, ◌||◌, ◌++◌, [], ◌∷◌, List, ℕ, Ok, Some, refl, sym, ap, subst, ◌∙◌, append-nil}
 use Rattle.jsonb_spec.specs.SortKey.{key_of}
-use Rattle.key_walk.specs.Open.{Open, is_object, name_key, open_key, opening_byte}
-use Rattle.key_walk.specs.Parts.{opened_tree}
-use Rattle.key_walk.specs.Steps.{IsAmid, StepsOver, opens_key}
+use Rattle.jsonb_spec.specs.SortKey.Open.{Open, is_object, name_key, open_key, opening_byte}
+use Rattle.jsonb_spec.specs.SortKey.Parts.{opened_tree}
+use Rattle.key_walk.specs.Steps.{IsAmid, StepsOver}
+use Rattle.jsonb_spec.specs.SortKey.Steps.{opens_key}
 use Rattle.key_walk.proofs.Stepping.{all_passed, edge_passed, no_error, value_passed}
-use Rattle.key_text.specs.Counts.{counts_at, counts_open, opens_counts}
+use Rattle.jsonb_spec.specs.Document.Counts.{counts_at, counts_open, opens_counts}
 use Rattle.key_text.proofs.Appending.{preserves_on, retained}
-use Rattle.key_document.specs.LeftOut.{without_nulls}
+use Rattle.jsonb_spec.specs.Edit.LeftOut.{without_nulls}
 use Rattle.key_document.specs.Retaining.{IsBegun, Retains}
 use Rattle.key_document.proofs.Retained.{all_lacks, all_written, next_ready, stays_next}
 use Rattle.key_document.proofs.Stripped.{StripsLeft, StripsNext, bare_all, end_next, ended, null_first, opening_next, part_goes, scalar_next, strip_begun}

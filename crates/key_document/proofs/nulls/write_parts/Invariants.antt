@@ -1,10 +1,10 @@
 use Rattle.std.proofs.Common.{◌≡◌, [], length}
-use Rattle.key_walk.specs.Open.{Open, is_object, open_key, opening_byte, IsOpen}
-use Rattle.key_walk.specs.Parts.{opened_tree}
+use Rattle.jsonb_spec.specs.SortKey.Open.{Open, is_object, open_key, opening_byte, IsOpen}
+use Rattle.jsonb_spec.specs.SortKey.Parts.{opened_tree}
 use Rattle.key_walk.proofs.Stepping.{Walking}
-use Rattle.key_text.specs.Counts.{counts_open}
-use Rattle.key_text.specs.Writes.{Preserves}
-use Rattle.key_document.specs.LeftOut.{without_nulls}
+use Rattle.jsonb_spec.specs.Document.Counts.{counts_open}
+use Rattle.jsonb_spec.specs.SortKey.Text.{Preserves}
+use Rattle.jsonb_spec.specs.Edit.LeftOut.{without_nulls}
 use Rattle.key_document.specs.Retaining.{IsBegun}
 use Rattle.key_document.proofs.Stripped.{StripsLeft}
 use Rattle.key_document.proofs.nulls.write_parts.Given as goal

@@ -1,17 +1,17 @@
 use Rattle.std.proofs.Common.{◌∷◌, [], false, refl, sym, ap, subst, ◌∙◌, append-nil, arith}
 use Rattle.key_value.proofs.FirstBytes.{no_key}
 use Rattle.jsonb_spec.specs.SortKey.{key_of}
-use Rattle.key_walk.specs.Open.{open_key}
+use Rattle.jsonb_spec.specs.SortKey.Open.{open_key}
 use Rattle.key_walk.proofs.Scalars.{opened_at_top, scalar_there}
 use Rattle.key_walk.proofs.Stepping.{opening_there}
-use Rattle.key_document.specs.LeftOut.{without_nulls}
+use Rattle.jsonb_spec.specs.Edit.LeftOut.{without_nulls}
 use Rattle.key_document.specs.Retaining.{AreAhead, WritesAll}
 use Rattle.key_text.proofs.Counts.{one_each}
 use Rattle.key_document.proofs.OpenCounts.{opened_bytes}
 use Rattle.key_document.proofs.Retained.{all_written, retains_begun}
 use Rattle.key_document.proofs.Stripped.{bare_scalar}
 use Rattle.key_document.proofs.nulls.write_value.Goals as goal
-use Rattle.key_text.specs.Counts.{counts_at}
+use Rattle.jsonb_spec.specs.Document.Counts.{counts_at}
 
 pub returns-in_default-clause-written : goal.returns-in_default-clause-written
 returns-in_default-clause-written c = λ t r e a. absurd (no_key 512 t r c.args.key.now [] (e ∙ sym (append-nil (key_of t))) c.in_default.ensures.cases)

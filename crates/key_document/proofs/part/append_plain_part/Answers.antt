@@ -4,7 +4,7 @@ use Rattle.jsonb_spec.specs.PartAt.{part_at}
 use Rattle.jsonb_spec.specs.SortKey.{key_of}
 use Rattle.key_walk.specs.Found.{Finds}
 use Rattle.key_document.specs.Changes.{Answers}
-use Rattle.key_document.specs.Document.{behind_key}
+use Rattle.jsonb_spec.specs.Document.{behind_key}
 use Rattle.key_document.proofs.Changing.{answer_lacking, nothing_appended}
 use Rattle.key_document.proofs.NoZeros.{none_within}
 use Rattle.key_document.proofs.Slots.{no_error, none_there, part_found, no_rest}

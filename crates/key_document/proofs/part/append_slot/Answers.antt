@@ -1,13 +1,13 @@
 use Rattle.std.proofs.Common.{◌≡◌, ◌+◌, ◌<◌, ◌^◌, ◌++◌, length, sym, ap, subst, ◌∙◌, arith, append_assoc, length-append}
 use Rattle.std.specs.Prelude.{vec_len, vec_capacity}
 use Rattle.jsonb_spec.specs.SortKey.{key_of}
-use Rattle.key_zeros.specs.Zeros.{zeros_of}
+use Rattle.jsonb_spec.specs.Document.Zeros.{zeros_of}
 use Rattle.key_document.specs.Changes.{IsLacking}
-use Rattle.key_document.specs.Document.{behind_key, document_of, zeros_at}
+use Rattle.jsonb_spec.specs.Document.{behind_key, document_of, zeros_at}
 use Rattle.key_document.proofs.Changing.{key_lacking}
 use Rattle.key_text.proofs.Counts.{one_each}
 use Rattle.key_document.proofs.part.append_slot.Goals as goal
-use Rattle.key_text.specs.Counts.{counts_at}
+use Rattle.jsonb_spec.specs.Document.Counts.{counts_at}
 
 pub returns-in_err-extend_from_slice-clause-appended : goal.returns-in_err-extend_from_slice-clause-appended
 returns-in_err-extend_from_slice-clause-appended c = λ t u p small z r at is. key_lacking u c.from_residual.result c.args.out.now c.extend_from_slice.new.self c.from_residual.ensures.1 (omega (arith, c.in_err-extend_from_slice.ensures.full, ap length is))

@@ -1,8 +1,8 @@
 use Rattle.std.proofs.Common.{◌≡◌, ◌+◌, ◌<◌, ◌++◌, length, take, sym, ap, subst, ◌∙◌, arith, append_assoc, length-append}
 use Rattle.std.specs.Prelude.{vec_len, vec_capacity}
 use Rattle.key_text.proofs.Appending.{both, no_capacity_second}
-use Rattle.key_zeros.specs.Numbers.{Pends}
-use Rattle.key_zeros.specs.Zeros.{plain_at_end, zeros_of}
+use Rattle.jsonb_spec.specs.Document.Numbers.{Pends}
+use Rattle.jsonb_spec.specs.Document.Zeros.{plain_at_end, zeros_of}
 use Rattle.key_document.proofs.Joining.{counts_long, entry_passed, front_passed, front_taken, front_within, lacks_zeros, part_within, plain_bound, take_all, three_parts}
 use Rattle.key_document.proofs.splice.join_zeros.Goals as goal
 

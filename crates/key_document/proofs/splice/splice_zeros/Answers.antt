@@ -1,8 +1,8 @@
 use Rattle.std.proofs.Common.{◌≡◌, ◌+◌, ◌<◌, ◌^◌, ◌++◌, length, refl, subst, ap, ◌∙◌, arith, length-append}
 use Rattle.std.specs.Prelude.{vec_len, vec_capacity}
 use Rattle.key_text.proofs.Appending.{both, no_capacity_second}
-use Rattle.key_zeros.specs.Zeros.{zeros_of}
-use Rattle.key_document.specs.Document.{behind_key, end_of}
+use Rattle.jsonb_spec.specs.Document.Zeros.{zeros_of}
+use Rattle.jsonb_spec.specs.Document.{behind_key, end_of}
 use Rattle.key_document.specs.Splices.{spliced_counts}
 use Rattle.key_document.specs.declared.error.DocumentError.TheVariants.{OutOfMemory}
 use Rattle.key_document.proofs.Joining.{lacks_zeros}

@@ -1,8 +1,8 @@
 use Rattle.std.proofs.Common.{◌≡◌, ◌++◌, length, sym, ap, subst, ◌∙◌, arith, eqb-true}
-use Rattle.key_text.specs.Counts.{counts_at}
-use Rattle.key_text.specs.Writes.{LacksCapacity}
+use Rattle.jsonb_spec.specs.Document.Counts.{counts_at}
+use Rattle.jsonb_spec.specs.SortKey.Text.{LacksCapacity}
 use Rattle.key_document.specs.Changes.{of_key_error}
-use Rattle.key_document.specs.Document.{zeros_at}
+use Rattle.jsonb_spec.specs.Document.{zeros_at}
 use Rattle.key_text.proofs.Counts.{one_each}
 use Rattle.key_document.proofs.NoZeros.{text_shortest}
 use Rattle.key_document.proofs.Texts.{of_memory, only_memory, shortest_appended, text_appended, where_failed}

@@ -1,11 +1,11 @@
 use Rattle.std.proofs.Common.{◌≡◌, inl, inr, [], length, append-nil, ap, arith, refl, rules, sym, ◌∙◌}
 use Rattle.std.proofs.lemmas.List.{get_or-set_same}
 use Rattle.jsonb_spec.specs.SortKey.{key_of}
-use Rattle.key_document.specs.Walk.{kind_mark}
+use Rattle.jsonb_spec.specs.Document.Walk.{kind_mark}
 use Rattle.key_document.proofs.Walks.{begun_opened, begun_scalar, kind_known, opened_or_scalar, some_key, whole_counts}
 use Rattle.key_document.proofs.walk.begin_walk.Goals as goal
 use Rattle.key_value.proofs.Texts.{none_some, some_same}
-use Rattle.key_walk.specs.Open.{is_object}
+use Rattle.jsonb_spec.specs.SortKey.Open.{is_object}
 use Rattle.key_walk.specs.Parts.{kind_of_tree}
 
 pub returns-in_default-clause-met : goal.returns-in_default-clause-met

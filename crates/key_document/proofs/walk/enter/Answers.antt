@@ -1,11 +1,11 @@
 use Rattle.std.proofs.Common.{◌≡◌, ◌+◌, ◌-◌, ◌∷◌, ◌++◌, length, length-append, set, ap, arith, refl, rules, ◌∙◌}
 use Rattle.jsonb_spec.specs.SortKey.{key_of}
-use Rattle.key_document.specs.Walk.{kind_mark}
+use Rattle.jsonb_spec.specs.Document.Walk.{kind_mark}
 use Rattle.key_document.proofs.Walks.{opening_met, part_key}
 use Rattle.key_document.proofs.walk.enter.Goals as goal
-use Rattle.key_walk.specs.Open.{is_object, name_key}
-use Rattle.key_walk.specs.Parts.{opened_tree}
-use Rattle.key_walk.specs.Steps.{opens_key}
+use Rattle.jsonb_spec.specs.SortKey.Open.{is_object, name_key}
+use Rattle.jsonb_spec.specs.SortKey.Parts.{opened_tree}
+use Rattle.jsonb_spec.specs.SortKey.Steps.{opens_key}
 
 pub returns-clause-entered : goal.returns-clause-entered
 returns-clause-entered c = λ t o under at more x.

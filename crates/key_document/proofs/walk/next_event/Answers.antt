@@ -1,13 +1,14 @@
 use Rattle.std.proofs.Common.{◌≡◌, ◌+◌, ◌-◌, ◌∷◌, ◌++◌, length, append_assoc, Ok, Err, Some, ap, arith, refl, subst, sym, ◌∙◌}
-use Rattle.key_document.specs.Document.{behind_key, zeros_at}
-use Rattle.key_document.specs.Walk.{events_left, MeetsNext}
+use Rattle.jsonb_spec.specs.Document.{behind_key, zeros_at}
+use Rattle.jsonb_spec.specs.Document.Walk.{events_left}
+use Rattle.key_document.specs.Walk.{MeetsNext}
 use Rattle.key_document.specs.declared.error.DocumentError.TheVariants.{NoDocument}
 use Rattle.key_document.proofs.Walks.{all_met, bytes_left, left_behind, next_met, no_error, over_opens, top_marked, within_document}
 use Rattle.key_document.proofs.walk.next_event.Goals as goal
 use Rattle.key_document.proofs.walk.next_event.Goals.{then-top-ge-MAX_DEPTH-via-then-top-ge-MAX_DEPTH, then-top-ge-MAX_DEPTH-via-else-top-ge-MAX_DEPTH+then-walk-document}
 use Rattle.key_walk.specs.NextPart.{BeginsWithPart}
-use Rattle.key_walk.specs.Open.{is_object, open_key}
-use Rattle.key_walk.specs.Steps.{opens_key}
+use Rattle.jsonb_spec.specs.SortKey.Open.{is_object, open_key}
+use Rattle.jsonb_spec.specs.SortKey.Steps.{opens_key}
 
 pub returns-in_default-clause-met : goal.returns-in_default-clause-met
 returns-in_default-clause-met c = λ t r e opens w. all_met t opens c.args.walk.now (omega (arith, c.in_default.ensures)) w

@@ -2,10 +2,10 @@ use Rattle.std.proofs.Common.{◌≡◌, ◌+◌, ◌-◌, ◌<◌, ◌∷◌, �
 use Rattle.jsonb_spec.specs.SortKey.{key_of}
 use Rattle.key_document.proofs.Walks.{counts_there, part_key, scalar_met, some_key, value_within}
 use Rattle.key_document.proofs.walk.pass_scalar.Goals as goal
-use Rattle.key_text.specs.Counts.{opens_counts}
+use Rattle.jsonb_spec.specs.Document.Counts.{opens_counts}
 use Rattle.key_walk.proofs.Holding.{readable_up}
-use Rattle.key_walk.specs.Open.{is_object, name_key}
-use Rattle.key_walk.specs.Steps.{opens_key}
+use Rattle.jsonb_spec.specs.SortKey.Open.{is_object, name_key}
+use Rattle.jsonb_spec.specs.SortKey.Steps.{opens_key}
 
 pub returns-in_err-zeros-clause-passed : goal.returns-in_err-zeros-clause-passed
 returns-in_err-zeros-clause-passed c = λ t r e o under at more x.

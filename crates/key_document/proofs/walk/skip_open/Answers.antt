@@ -6,8 +6,8 @@ use Rattle.key_document.specs.declared.walk.Walk.{Walk}
 use Rattle.key_document.proofs.Walks.{bytes_there, open_up, over_opens, skipped, top_marked}
 use Rattle.key_document.proofs.walk.skip_open.Goals as goal
 use Rattle.key_value.proofs.Texts.{none_some, some_same}
-use Rattle.key_walk.specs.Open.{is_object}
-use Rattle.key_walk.specs.Steps.{opens_key}
+use Rattle.jsonb_spec.specs.SortKey.Open.{is_object}
+use Rattle.jsonb_spec.specs.SortKey.Steps.{opens_key}
 
 pub returns-in_default-after_parts-clause-skipped : goal.returns-in_default-after_parts-clause-skipped
 returns-in_default-after_parts-clause-skipped c = λ t r e opens w0.

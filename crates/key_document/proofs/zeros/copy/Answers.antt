@@ -1,6 +1,6 @@
 use Rattle.std.proofs.Common.{◌≡◌, ◌+◌, ◌-◌, ◌<◌, ◌^◌, take, drop, sym, subst, arith}
 use Rattle.key_text.proofs.Appending.{preserves_on, retained}
-use Rattle.key_zeros.specs.Numbers.{Pends}
+use Rattle.jsonb_spec.specs.Document.Numbers.{Pends}
 use Rattle.key_zeros.proofs.Taking.{entry_copied, entry_sink, counts_long, plain_copied, taken_none, taken_plain}
 use Rattle.key_document.proofs.Passing.{copies_on, still_same, none_left, one_left, no_capacity_on}
 use Rattle.key_document.proofs.zeros.copy.Goals as goal

@@ -1,7 +1,7 @@
 use Rattle.std.proofs.Common.{◌-◌, subst, arith}
 use Rattle.key_document.proofs.Passing.{passes}
 use Rattle.key_document.proofs.zeros.pass.Goals as goal
-use Rattle.key_zeros.specs.Numbers.{Pends}
+use Rattle.jsonb_spec.specs.Document.Numbers.{Pends}
 use Rattle.key_zeros.proofs.Taking.{none_skipped, entry_reached, entry_skipped, counts_long}
 
 pub entries-init : goal.entries-init

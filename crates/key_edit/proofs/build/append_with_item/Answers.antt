@@ -1,5 +1,5 @@
 use Rattle.std.proofs.Common.{Ok, Err}
-use Rattle.key_edit.specs.Edit.{with_item}
+use Rattle.jsonb_spec.specs.Edit.{with_item}
 use Rattle.key_edit.proofs.Built.{item_reported, no_array, nothing_reported}
 use Rattle.key_edit.proofs.Joined.{items_there}
 use Rattle.key_edit.proofs.Putting.{fault_reported, put_reported}

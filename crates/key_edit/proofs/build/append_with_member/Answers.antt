@@ -1,5 +1,5 @@
 use Rattle.std.proofs.Common.{Ok, Err, false, refl, subst, sym, true, ◌∙◌}
-use Rattle.key_edit.specs.Edit.{changed_at_member, set_to, with_member}
+use Rattle.jsonb_spec.specs.Edit.{changed_at_member, set_to, with_member}
 use Rattle.key_edit.proofs.Built.{ReportedKey, FindsMember, member_set, nothing_reported, set_always}
 use Rattle.key_edit.proofs.Putting.{fault_reported, put_reported}
 use Rattle.key_edit.proofs.build.append_with_member.Goals as goal

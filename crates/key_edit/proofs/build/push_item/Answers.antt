@@ -2,7 +2,8 @@ use Rattle.std.proofs.Common.{◌+◌, ◌<◌, ◌++◌, ◌∷◌, [], length,
 use Rattle.std.specs.Vec.{vec_capacity}
 use Rattle.jsonb_spec.specs.SortKey.{key_of}
 use Rattle.jsonb_spec.specs.Tree.{array, more_trees, no_trees}
-use Rattle.key_edit.specs.Edit.{joined_items, IsLacking}
+use Rattle.jsonb_spec.specs.Edit.{joined_items}
+use Rattle.key_edit.specs.Edit.{IsLacking}
 use Rattle.key_edit.specs.Merging.{keys_of_items}
 use Rattle.key_edit.proofs.Joined.{items_end, joined_is, joined_within, second_within}
 use Rattle.key_edit.proofs.Putting.{appended, lacking}

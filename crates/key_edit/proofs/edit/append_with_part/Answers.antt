@@ -1,5 +1,5 @@
 use Rattle.std.proofs.Common.{◌≡◌, map, string_bytes, subst}
-use Rattle.key_edit.specs.Edit.{becomes, changed_at, set_to}
+use Rattle.jsonb_spec.specs.Edit.{becomes, changed_at, set_to}
 use Rattle.key_edit.proofs.Putting.{ReportedSlot, fault_reported, put_reported, set_made, set_there}
 use Rattle.key_edit.proofs.edit.append_with_part.Goals as goal
 use Rattle.key_edit.proofs.edit.append_with_part.Goals.{else-not-slot-via-then-not-slot+else-not-create, else-not-slot-via-else-not-slot}

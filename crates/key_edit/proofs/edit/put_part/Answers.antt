@@ -1,6 +1,6 @@
 use Rattle.std.proofs.Common.{◌≡◌, ◌+◌, ◌<◌, ◌++◌, [], Ok, Err, length, vec_len, ap, append-nil, subst, sym, ◌∙◌}
 use Rattle.std.specs.Vec.{vec_capacity}
-use Rattle.key_walk.specs.Open.{name_key}
+use Rattle.jsonb_spec.specs.SortKey.Open.{name_key}
 use Rattle.jsonb_spec.specs.SortKey.{key_of}
 use Rattle.key_edit.specs.Edit.{AppendsKey}
 use Rattle.key_edit.specs.Spots.{Occurs}

@@ -1,5 +1,5 @@
 use Rattle.std.proofs.Common.{◌++◌, ap, append_assoc, subst, ◌∙◌}
-use Rattle.key_walk.specs.Open.{name_key}
+use Rattle.jsonb_spec.specs.SortKey.Open.{name_key}
 use Rattle.jsonb_spec.specs.Text.Appending.{AppendsAllOrNothing}
 use Rattle.key_edit.proofs.Putting.{value_front}
 use Rattle.key_edit.proofs.edit.write_part.Goals as goal

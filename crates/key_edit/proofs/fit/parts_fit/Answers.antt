@@ -1,5 +1,5 @@
 use Rattle.std.proofs.Common.{List, ℕ, Ok, inr, subst, arith}
-use Rattle.key_walk.specs.Open.{Open}
+use Rattle.jsonb_spec.specs.SortKey.Open.{Open}
 use Rattle.key_walk.specs.Steps.{IsAmid, StepsOver}
 use Rattle.key_walk.proofs.Stepping.{all_passed, no_error, stacked_depth, step_passed}
 use Rattle.key_edit.proofs.Depths.{FitsLeft, FitsOrNot, all_fit, end_fits, fits_begun, not_too_many, opening_fits, too_many, value_fits}

@@ -1,5 +1,5 @@
 use Rattle.std.proofs.Common.{◌≡◌, ◌++◌, List, ℕ, length}
-use Rattle.key_walk.specs.Open.{Open, is_object, open_key, IsOpen}
+use Rattle.jsonb_spec.specs.SortKey.Open.{Open, is_object, open_key, IsOpen}
 use Rattle.key_walk.proofs.Stepping.{Walking}
 use Rattle.key_edit.proofs.Depths.{FitsLeft}
 use Rattle.key_edit.proofs.fit.parts_fit.Given as goal

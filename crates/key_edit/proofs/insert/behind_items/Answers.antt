@@ -1,6 +1,7 @@
 use Rattle.std.proofs.Common.{◌++◌, ap, subst, sym, ◌∙◌}
 use Rattle.jsonb_spec.specs.SortKey.{items_key}
-use Rattle.key_edit.specs.Insert.{items_from, one_more}
+use Rattle.key_edit.specs.Insert.{items_from}
+use Rattle.jsonb_spec.specs.Edit.Insert.{one_more}
 use Rattle.key_edit.specs.Spots.{ReportsBehind}
 use Rattle.key_edit.proofs.Inserting.{from_one, from_proper, from_within}
 use Rattle.key_edit.proofs.insert.behind_items.Goals as goal

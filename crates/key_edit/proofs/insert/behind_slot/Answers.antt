@@ -3,7 +3,8 @@ use Rattle.key_walk.specs.declared.find.NoKey.{NoKey}
 use Rattle.jsonb_spec.specs.Accessors.{trees_len}
 use Rattle.jsonb_spec.specs.SortKey.{items_key}
 use Rattle.jsonb_spec.specs.Tree.{array}
-use Rattle.key_edit.specs.Insert.{items_from, one_more, slot_index}
+use Rattle.key_edit.specs.Insert.{items_from}
+use Rattle.jsonb_spec.specs.Edit.Insert.{one_more, slot_index}
 use Rattle.key_edit.specs.Spots.{ReportsBehind}
 use Rattle.key_edit.proofs.Inserting.{SameCount, back_index, counted, front_index}
 use Rattle.key_edit.proofs.insert.behind_slot.Goals as goal

@@ -1,6 +1,6 @@
 use Rattle.std.proofs.Common.{[], ◌∷◌, ◌++◌, Global, ap, map, string_bytes, subst, sym, ◌∙◌}
 use Rattle.std.proofs.lemmas.List.{map-append}
-use Rattle.key_edit.specs.Insert.{changed_slot, changed_slot_at}
+use Rattle.jsonb_spec.specs.Edit.Insert.{changed_slot, changed_slot_at}
 use Rattle.key_edit.proofs.Inserting.{last_within}
 use Rattle.key_edit.proofs.Located.{Finds, ReportsWithin, inner_found, last_named, none_there}
 use Rattle.key_edit.proofs.insert.find_insertion.Goals as goal

@@ -1,9 +1,9 @@
 use Rattle.std.proofs.Common.{◌≡◌, ◌∷◌, ◌++◌, IfSome, Ok, suc, subst, sym, ◌∙◌, arith, option_map, true, false}
 use Rattle.key_walk.specs.Found.{Opens}
-use Rattle.key_walk.specs.Open.{members, opening_byte}
+use Rattle.jsonb_spec.specs.SortKey.Open.{members, opening_byte}
 use Rattle.jsonb_spec.specs.SortKey.{key_of}
 use Rattle.jsonb_spec.specs.Tree.{array, object}
-use Rattle.key_edit.specs.Edit.{changed_member}
+use Rattle.jsonb_spec.specs.Edit.{changed_member}
 use Rattle.key_edit.specs.Spots.{SpotIn}
 use Rattle.key_edit.proofs.Inserting.{SlotOf, array_slot, object_slot, opened_items, opened_members}
 use Rattle.key_edit.proofs.Spotted.{fits_in, key_before}

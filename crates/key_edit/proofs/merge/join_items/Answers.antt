@@ -1,7 +1,8 @@
 use Rattle.std.proofs.Common.{◌+◌, ◌<◌, ◌++◌, ◌∷◌, [], length, vec_len, ap, subst, sym, ◌∙◌}
 use Rattle.std.specs.Vec.{vec_capacity}
 use Rattle.jsonb_spec.specs.Tree.{array}
-use Rattle.key_edit.specs.Edit.{as_items, joined_items, IsLacking}
+use Rattle.jsonb_spec.specs.Edit.{as_items, joined_items}
+use Rattle.key_edit.specs.Edit.{IsLacking}
 use Rattle.key_edit.proofs.Joined.{joined_is, joined_within, second_within}
 use Rattle.key_edit.proofs.Putting.{appended, lacking}
 use Rattle.key_edit.proofs.merge.join_items.Goals as goal

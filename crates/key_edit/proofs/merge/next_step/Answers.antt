@@ -1,6 +1,6 @@
 use Rattle.std.proofs.Common.{ap, subst, ◌∙◌}
 use Rattle.key_value.proofs.Texts.{none_some, some_same}
-use Rattle.key_walk.specs.Checked.{HaveReadable}
+use Rattle.jsonb_spec.specs.SortKey.Checked.{HaveReadable}
 use Rattle.jsonb_spec.specs.SortKey.{members_key}
 use Rattle.key_edit.proofs.Merged.{first_bytes, first_readable, is_above, is_next, is_same, others_readable, part_bytes, run_bytes, steps_above, steps_same}
 use Rattle.key_edit.proofs.merge.next_step.Goals as goal

@@ -1,6 +1,6 @@
 use Rattle.std.proofs.Common.{[], ◌∷◌, ◌++◌, Global, ap, map, string_bytes, subst, sym, ◌∙◌}
 use Rattle.std.proofs.lemmas.List.{map-append}
-use Rattle.key_edit.specs.Edit.{changed_at, changed_part}
+use Rattle.jsonb_spec.specs.Edit.{changed_at, changed_part}
 use Rattle.key_edit.proofs.Located.{Finds, ReportsWithin, inner_found, last_at, last_named, none_there}
 use Rattle.key_edit.proofs.slot.find_slot.Goals as goal
 

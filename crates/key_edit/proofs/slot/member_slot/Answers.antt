@@ -1,9 +1,9 @@
 use Rattle.std.proofs.Common.{◌≡◌, ◌∷◌, [], IfSome, Ok, append-nil, option_map, subst, sym, true, ◌∙◌}
 use Rattle.key_walk.specs.Found.{Opens}
-use Rattle.key_walk.specs.Open.{members, opening_byte}
+use Rattle.jsonb_spec.specs.SortKey.Open.{members, opening_byte}
 use Rattle.jsonb_spec.specs.SortKey.{key_of, members_key}
 use Rattle.jsonb_spec.specs.Tree.{object}
-use Rattle.key_edit.specs.Edit.{changed_member}
+use Rattle.jsonb_spec.specs.Edit.{changed_member}
 use Rattle.key_edit.specs.Spots.{SpotIn}
 use Rattle.key_edit.proofs.Built.{MemberSpot, array_slot, object_spot, scalar_slot}
 use Rattle.key_edit.proofs.Joined.{members_there}

@@ -1,8 +1,8 @@
 use Rattle.std.proofs.Common.{◌≡◌, ◌∷◌, Global, IfSome, MatchOption, None, Ok, Option, ap, arith, map, string_bytes, subst, sym, ◌∙◌}
 use Rattle.key_walk.specs.Found.{Opens}
-use Rattle.key_walk.specs.Open.{opening_byte}
+use Rattle.jsonb_spec.specs.SortKey.Open.{opening_byte}
 use Rattle.jsonb_spec.specs.Tree.{Tree}
-use Rattle.key_edit.specs.Edit.{Outcome}
+use Rattle.jsonb_spec.specs.Edit.{Outcome}
 use Rattle.key_edit.specs.Spots.{changed_open}
 use Rattle.key_edit.proofs.Located.{SpotAt, step_within, within_begun, within_lost, within_missed, within_taken}
 use Rattle.key_edit.proofs.slot.part_from.Goals as goal

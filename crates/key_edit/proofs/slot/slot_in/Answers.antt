@@ -1,8 +1,8 @@
 use Rattle.std.proofs.Common.{◌≡◌, ◌+◌, ◌∷◌, IfSome, MatchOption, None, Ok, Option, arith, subst}
 use Rattle.key_walk.specs.Found.{Opens}
-use Rattle.key_walk.specs.Open.{opening_byte}
+use Rattle.jsonb_spec.specs.SortKey.Open.{opening_byte}
 use Rattle.jsonb_spec.specs.Tree.{Tree}
-use Rattle.key_edit.specs.Edit.{Outcome}
+use Rattle.jsonb_spec.specs.Edit.{Outcome}
 use Rattle.key_edit.specs.Spots.{changed_open}
 use Rattle.key_edit.proofs.Located.{SpotAt, none_opened, opened_fits, opened_slot}
 use Rattle.key_edit.proofs.slot.slot_in.Goals as goal

@@ -1,5 +1,5 @@
 use Rattle.std.proofs.Common.{◌++◌, Ok, refl, subst, arith}
-use Rattle.key_walk.specs.Open.{items}
+use Rattle.jsonb_spec.specs.SortKey.Open.{items}
 use Rattle.jsonb_spec.specs.SortKey.{items_key}
 use Rattle.key_edit.specs.Spots.{OccursFirst}
 use Rattle.key_edit.proofs.Spotted.{item_met, item_next, item_passed, items_begun, items_over, no_first}

@@ -1,5 +1,5 @@
 use Rattle.std.proofs.Common.{◌≡◌, ◌+◌, ◌++◌, Ok, refl, subst, arith}
-use Rattle.key_walk.specs.Open.{items}
+use Rattle.jsonb_spec.specs.SortKey.Open.{items}
 use Rattle.jsonb_spec.specs.SortKey.{items_key}
 use Rattle.key_edit.specs.Spots.{OccursFirst}
 use Rattle.key_edit.proofs.Spotted.{BackLeft, back_begun, back_found, back_front, back_retained, back_next, first_behind, items_front, no_first}

@@ -1,6 +1,6 @@
 use Rattle.std.proofs.Common.{option_map, false, ap, sym}
-use Rattle.key_walk.specs.Open.{items}
-use Rattle.key_edit.specs.Edit.{changed_at_step, changed_item, changed_item_back}
+use Rattle.jsonb_spec.specs.SortKey.Open.{items}
+use Rattle.jsonb_spec.specs.Edit.{changed_at_step, changed_item, changed_item_back}
 use Rattle.key_edit.proofs.Spotted.{fits_in, key_before, reported_as}
 use Rattle.key_edit.proofs.spot.item_spot_by.Goals as goal
 

@@ -1,5 +1,5 @@
 use Rattle.std.proofs.Common.{◌++◌, Ok, refl, sym, subst, ◌∙◌}
-use Rattle.key_walk.specs.Open.{members}
+use Rattle.jsonb_spec.specs.SortKey.Open.{members}
 use Rattle.jsonb_spec.specs.SortKey.{members_key}
 use Rattle.key_edit.specs.Spots.{OccursFirst}
 use Rattle.key_edit.proofs.Spotted.{member_met, member_missed, member_next, member_passed, members_begun, members_over, no_first}

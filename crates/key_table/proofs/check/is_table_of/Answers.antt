@@ -2,8 +2,8 @@ use Rattle.std.proofs.Common.{◌+◌, ◌++◌, [], Ok, length, refl, sym, ap, 
 use Rattle.std.proofs.lemmas.Bool.{lt-leb}
 use Rattle.jsonb_spec.specs.SortKey.{members_key}
 use Rattle.key_walk.specs.Found.{IsNext}
-use Rattle.key_walk.specs.Open.{members}
-use Rattle.key_table.specs.Table.{in_two}
+use Rattle.jsonb_spec.specs.SortKey.Open.{members}
+use Rattle.jsonb_spec.specs.Table.{in_two}
 use Rattle.key_table.proofs.Walking.{all_walked, begun, first_walked, next_shorter, no_fault, stepped, table_left}
 use Rattle.key_table.proofs.Splitting.{Matches, false_never, matches_on, not_there, says_no}
 use Rattle.key_table.proofs.check.is_table_of.Goals as goal

@@ -1,7 +1,7 @@
 use Rattle.std.proofs.Common.{◌++◌, Some, sym, ap, ◌∙◌, arith}
 use Rattle.std.proofs.lemmas.List.{append_cancel_left}
 use Rattle.key_value.proofs.Texts.{some_same}
-use Rattle.key_table.specs.Table.{in_two}
+use Rattle.jsonb_spec.specs.Table.{in_two}
 use Rattle.key_table.proofs.Walking.{two_first}
 use Rattle.key_table.proofs.entry.after_two.Goals as goal
 

@@ -1,6 +1,6 @@
 use Rattle.std.proofs.Common.{[], Ok, nat_lt, sym, ap, ◌∙◌, append-nil}
 use Rattle.jsonb_spec.specs.SortKey.{key_of}
-use Rattle.key_walk.specs.Found.{count_of, members_len}
+use Rattle.jsonb_spec.specs.SortKey.Found.{count_of, members_len}
 use Rattle.key_table.proofs.Writing.{same_count, no_count, error_count}
 use Rattle.key_table.proofs.make.has_few_members.Goals as goal
 

@@ -1,10 +1,11 @@
 use Rattle.std.proofs.Common.{◌+◌, ◌++◌, ◌∷◌, [], Ok, length, refl, sym, ap, subst, ◌∙◌, arith, append-nil}
 use Rattle.std.proofs.lemmas.Bool.{le-leb, lt-leb}
 use Rattle.jsonb_spec.specs.SortKey.{members_key}
-use Rattle.key_walk.specs.Found.{members_len, IsNext}
-use Rattle.key_walk.specs.Open.{members}
+use Rattle.jsonb_spec.specs.SortKey.Found.{members_len}
+use Rattle.key_walk.specs.Found.{IsNext}
+use Rattle.jsonb_spec.specs.SortKey.Open.{members}
 use Rattle.key_walk.proofs.Occurrence.{true_false}
-use Rattle.key_table.specs.Table.{in_two, table_mark}
+use Rattle.jsonb_spec.specs.Table.{in_two, table_mark}
 use Rattle.key_text.proofs.Appending.{preserves_on, retained, retained_by}
 use Rattle.key_table.proofs.Walking.{all_walked, begun, first_walked, next_shorter, no_fault, stepped, table_left}
 use Rattle.key_table.proofs.Writing.{Completes, completes_on, lacks_left, runs_out}

@@ -1,5 +1,5 @@
 use Rattle.std.proofs.Common.{◌+◌, ◌≤◌, length}
-use Rattle.key_text.specs.Writes.{Preserves}
+use Rattle.jsonb_spec.specs.SortKey.Text.{Preserves}
 use Rattle.key_table.proofs.Writing.{Writing}
 use Rattle.key_table.proofs.make.write_table.Given as goal
 

@@ -1,5 +1,5 @@
 use Rattle.std.proofs.Common.{◌≡◌, ◌++◌, ◌∷◌, [], ◌+◌, ◌*◌, ◌∙◌, length, arith}
-use Rattle.key_table.specs.Table.{table_mark}
+use Rattle.jsonb_spec.specs.Table.{table_mark}
 use Rattle.key_table.proofs.Having.{table_parts}
 use Rattle.key_table.proofs.Splitting.{count_there, end_at, front_there, table_behind, whole_size}
 use Rattle.key_table.proofs.split.split_marked.Goals as goal

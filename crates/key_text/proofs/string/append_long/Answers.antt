@@ -1,6 +1,6 @@
 use Rattle.std.proofs.Common.{rules, sym, ap, ◌∙◌, arith}
 use Rattle.std.proofs.lemmas.List.{take_rest}
-use Rattle.key_value.specs.Reading.{byte_of}
+use Rattle.jsonb_spec.specs.SortKey.Reading.{byte_of}
 use Rattle.key_text.proofs.Appending.{out_of_memory, preserves_on, retained_by}
 use Rattle.key_text.proofs.Strings.{run_fits, run_written, end_fits, end_written, some_byte, byte_fits, byte_written}
 use Rattle.key_text.proofs.string.append_long.Goals as goal

@@ -1,6 +1,6 @@
 use Rattle.std.proofs.Common.{◌≤◌, length, take}
 use Rattle.jsonb_spec.specs.Text.StringText.{ArePlain}
-use Rattle.key_text.specs.Writes.{Preserves}
+use Rattle.jsonb_spec.specs.SortKey.Text.{Preserves}
 use Rattle.key_text.proofs.Strings.{WritesInside}
 use Rattle.key_text.proofs.string.append_long.Given as goal
 

@@ -2,12 +2,12 @@ use Rattle.std.proofs.Common.{◌≡◌, ◌≢◌, inl, inr, ◌+◌, ◌-◌, 
 use Rattle.std.proofs.lemmas.List.{length-set, get_or-set_same, take_rest}
 use Rattle.key_value.proofs.FirstBytes.{no_key}
 use Rattle.key_walk.proofs.Opens.{too_deep}
-use Rattle.key_walk.specs.Steps.{opens_key}
+use Rattle.jsonb_spec.specs.SortKey.Steps.{opens_key}
 use Rattle.key_walk.proofs.Scalars.{scalar_there}
 use Rattle.jsonb_spec.specs.SortKey.{key_of, number_key}
 use Rattle.jsonb_spec.specs.Text.{tree_text}
 use Rattle.jsonb_spec.specs.Tree.{number}
-use Rattle.key_text.specs.Counts.{counts_at, opens_counts, AreZeros}
+use Rattle.jsonb_spec.specs.Document.Counts.{counts_at, opens_counts, AreZeros}
 use Rattle.key_text.specs.Writes.{closing_text, opening_text}
 use Rattle.key_text.proofs.Counts.{behind_first, due_as, due_behind_plain, number_left}
 use Rattle.key_text.proofs.Appending.{out_of_memory, passed_on, preserves_on, retained_by}

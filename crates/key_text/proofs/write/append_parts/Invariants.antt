@@ -1,5 +1,6 @@
 use Rattle.std.proofs.Common.{◌≡◌, ◌-◌, ◌<◌, ◌≤◌, ◌∷◌, ◌++◌, [], false, get_or, length}
-use Rattle.key_text.specs.Writes.{Preserves, opening_text}
+use Rattle.jsonb_spec.specs.SortKey.Text.{Preserves}
+use Rattle.key_text.specs.Writes.{opening_text}
 use Rattle.key_text.proofs.Walk.{WritesParts}
 use Rattle.key_text.proofs.write.append_parts.Given as goal
 

@@ -4,7 +4,7 @@ use Rattle.jsonb_spec.specs.Text.{tree_text}
 use Rattle.jsonb_spec.specs.Text.NumberText.{number_text}
 use Rattle.jsonb_core.proofs.Appending.Appended.{on_ok}
 use Rattle.key_value.proofs.FirstBytes.{no_key}
-use Rattle.key_text.specs.Counts.{counts_at}
+use Rattle.jsonb_spec.specs.Document.Counts.{counts_at}
 use Rattle.key_text.proofs.Appending.{out_of_memory, passed_on, as_text, not_ok}
 use Rattle.key_text.proofs.Counts.{behind_first, due_as, due_behind_plain, number_left}
 use Rattle.key_text.proofs.Decimals.{fewest_shorter}

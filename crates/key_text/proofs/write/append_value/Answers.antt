@@ -2,7 +2,7 @@ use Rattle.std.proofs.Common.{◌++◌, ap}
 use Rattle.key_value.proofs.FirstBytes.{no_key}
 use Rattle.key_walk.proofs.Scalars.{opened_at_top, scalar_there}
 use Rattle.key_text.proofs.Appending.{as_text}
-use Rattle.key_text.specs.Counts.{counts_open}
+use Rattle.jsonb_spec.specs.Document.Counts.{counts_open}
 use Rattle.key_text.proofs.Counts.{due_as, due_behind}
 use Rattle.key_text.proofs.Scalars.{opened_text}
 use Rattle.key_text.proofs.write.append_value.Goals as goal

@@ -1,7 +1,7 @@
 use Rattle.std.proofs.Common.{◌∙◌, sym}
 use Rattle.std.proofs.lemmas.Result.{IfErr-weaker, IfOk-weaker, on_err_weaker}
 use Rattle.jsonb_spec.specs.Grammar.{max_depth}
-use Rattle.key_text.specs.FewestDigits.{with_fewest_digits}
+use Rattle.jsonb_spec.specs.SortKey.FewestDigits.{with_fewest_digits}
 use Rattle.key_text.proofs.Documents.{document_appended}
 use Rattle.key_text.proofs.Whole.{appended, key_retained, no_counts, readable_retained}
 use Rattle.key_walk.proofs.InRange.{key_readable}

@@ -1,7 +1,7 @@
 use Rattle.std.proofs.Common.{◌≡◌, ◌==◌, true≢false, [], ◌++◌, length, sym, ap, refl, ◌∙◌, arith, append-nil}
 use Rattle.jsonb_spec.specs.SortKey.{key_of}
 use Rattle.jsonb_spec.specs.Text.{tree_text}
-use Rattle.key_text.specs.Counts.{counts_at}
+use Rattle.jsonb_spec.specs.Document.Counts.{counts_at}
 use Rattle.key_text.proofs.Counts.{all_due}
 use Rattle.key_value.specs.declared.error.KeyError.TheVariants.{Invalid, OutOfMemory}
 use Rattle.key_text.proofs.write.write_text_with.Goals as goal

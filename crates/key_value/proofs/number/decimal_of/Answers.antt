@@ -3,7 +3,7 @@ use Rattle.std.specs.Bool.{nat_lt}
 use Rattle.std.specs.Int.{w64}
 use Rattle.std.specs.Prelude.{FitsSigned}
 use Rattle.std.proofs.lemmas.Int.{to_z-of_z}
-use Rattle.key_value.specs.Decimals.{HasFewDigits}
+use Rattle.jsonb_spec.specs.SortKey.Decimals.{HasFewDigits}
 use Rattle.key_value.proofs.Decimals.{few_digits, many_digits, no_answer, some_point, zero_digits}
 use Rattle.key_value.proofs.Integers.{digits_found, exponent_found, parts_read, same_sign}
 use Rattle.key_value.proofs.Signs.{some_bytes, zero_there}

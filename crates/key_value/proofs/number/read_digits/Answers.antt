@@ -1,5 +1,5 @@
 use Rattle.std.proofs.Common.{◌+◌, ◌/◌, arith, refl, subst, sym}
-use Rattle.key_value.specs.Reading.{ReadsDigits}
+use Rattle.jsonb_spec.specs.SortKey.Reading.{ReadsDigits}
 use Rattle.key_value.proofs.Numbers.{last_none, last_some, pair_within, pair_read, not_over}
 use Rattle.key_value.proofs.number.read_digits.Goals as goal
 

@@ -1,5 +1,5 @@
 use Rattle.std.proofs.Common.{◌≤◌, length}
-use Rattle.key_value.specs.Reading.{ReadsDigits}
+use Rattle.jsonb_spec.specs.SortKey.Reading.{ReadsDigits}
 use Rattle.key_value.proofs.number.read_digits.Given as goal
 
 -- what was read is before what is left

@@ -3,8 +3,8 @@ use Rattle.std.specs.Bool.{nat_lt}
 use Rattle.std.specs.Int.{w64}
 use Rattle.std.specs.Prelude.{FitsSigned}
 use Rattle.std.proofs.lemmas.Int.{to_z-of_z}
-use Rattle.key_value.specs.Decimals.{HasFewDigits}
-use Rattle.key_value.specs.Reading.{IsPointed}
+use Rattle.jsonb_spec.specs.SortKey.Decimals.{HasFewDigits}
+use Rattle.jsonb_spec.specs.SortKey.Reading.{IsPointed}
 use Rattle.key_value.proofs.Decimals.{few_digits}
 use Rattle.key_value.proofs.Integers.{parts_read, same_sign}
 use Rattle.key_value.proofs.number.short_decimal.Goals as goal

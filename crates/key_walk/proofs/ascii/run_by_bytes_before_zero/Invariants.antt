@@ -1,4 +1,4 @@
-use Rattle.key_walk.specs.Frames.{AreNoZeros}
+use Rattle.jsonb_spec.specs.SortKey.Front.{AreNoZeros}
 use Rattle.key_walk.proofs.ascii.run_by_bytes_before_zero.Given as goal
 
 abbrev pub invariant-bytes : goal.invariant-bytes

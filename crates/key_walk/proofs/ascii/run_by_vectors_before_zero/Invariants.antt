@@ -1,5 +1,5 @@
 use Rattle.std.proofs.Common.{◌-◌, ◌≤◌, length}
-use Rattle.key_walk.specs.Frames.{AreNoZeros}
+use Rattle.jsonb_spec.specs.SortKey.Front.{AreNoZeros}
 use Rattle.key_walk.proofs.ascii.run_by_vectors_before_zero.Given as goal
 
 abbrev pub invariant-vectors : goal.invariant-vectors

@@ -1,8 +1,8 @@
 use Rattle.std.proofs.Common.{◌≡◌, ◌++◌, Ok, refl, sym, ap, subst, ◌∙◌, arith}
-use Rattle.key_value.specs.Readable.{IsReadable}
+use Rattle.jsonb_spec.specs.SortKey.Readable.{IsReadable}
 use Rattle.key_value.proofs.FirstBytes.{no_key}
 use Rattle.jsonb_spec.specs.Containment.{contains}
-use Rattle.key_walk.specs.Parts.{opened_tree}
+use Rattle.jsonb_spec.specs.SortKey.Parts.{opened_tree}
 use Rattle.key_walk.specs.SideBySide.{AreReadableAt}
 use Rattle.key_walk.proofs.Scalars.{scalar_there}
 use Rattle.key_walk.proofs.Turns.{array_in, container_there, inside, reported_is, whole_left, contains_held, contains_item}

@@ -1,7 +1,7 @@
 use Rattle.std.proofs.Common.{rules, true, refl, subst}
 use Rattle.std.specs.Str.{bytes_eq}
 use Rattle.key_walk.specs.Found.{Finds}
-use Rattle.key_walk.specs.Open.{opening_byte}
+use Rattle.jsonb_spec.specs.SortKey.Open.{opening_byte}
 use Rattle.jsonb_spec.specs.Accessors.{find_member}
 use Rattle.jsonb_spec.specs.PartAt.{child_at}
 use Rattle.key_walk.proofs.Finds.{parent_of}

@@ -1,7 +1,8 @@
 use Rattle.std.proofs.Common.{rules, ◌≡◌, ◌∷◌, IfSome, Ok, pos, ◌<ℤ◌, unsigned_abs, arith, subst, sym}
 use Rattle.std.proofs.lemmas.Int.{ints}
-use Rattle.key_walk.specs.Found.{item_from, Finds, Opens}
-use Rattle.key_walk.specs.Open.{opening_byte}
+use Rattle.jsonb_spec.specs.SortKey.Found.{item_from}
+use Rattle.key_walk.specs.Found.{Finds, Opens}
+use Rattle.jsonb_spec.specs.SortKey.Open.{opening_byte}
 use Rattle.key_walk.proofs.Occurrence.{array_left, by_back, by_index, found_behind}
 use Rattle.key_walk.proofs.find.find_item.Goals as goal
 

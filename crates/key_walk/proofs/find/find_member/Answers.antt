@@ -1,6 +1,6 @@
 use Rattle.std.proofs.Common.{rules, ◌≡◌, ◌∷◌, IfSome, Ok, subst}
 use Rattle.key_walk.specs.Found.{Finds, Opens}
-use Rattle.key_walk.specs.Open.{opening_byte}
+use Rattle.jsonb_spec.specs.SortKey.Open.{opening_byte}
 use Rattle.jsonb_spec.specs.Accessors.{get_by_name}
 use Rattle.key_walk.proofs.Occurrence.{found_behind, object_left}
 use Rattle.key_walk.proofs.find.find_member.Goals as goal

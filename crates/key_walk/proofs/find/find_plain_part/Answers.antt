@@ -1,6 +1,6 @@
 use Rattle.std.proofs.Common.{List, ℕ, IfNone, Option, Some, None, arith, eqb-true, length, sym}
 use Rattle.std.proofs.lemmas.List.{nil_from_length}
-use Rattle.jsonb_path.specs.Path.{IsPlainPath}
+use Rattle.jsonb_spec.specs.Path.{IsPlainPath}
 use Rattle.key_walk.proofs.PlainPaths.{plain_name_read, plain_path_begun, plain_path_found, plain_path_stopped}
 use Rattle.key_walk.proofs.find.find_plain_part.Goals as goal
 

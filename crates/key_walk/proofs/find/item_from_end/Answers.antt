@@ -1,7 +1,8 @@
 use Rattle.std.proofs.Common.{◌≡◌, subst, sym, refl, arith}
 use Rattle.jsonb_spec.specs.Accessors.{trees_len}
-use Rattle.key_walk.specs.Found.{item_back, Finds}
-use Rattle.key_walk.specs.Open.{items}
+use Rattle.jsonb_spec.specs.SortKey.Found.{item_back}
+use Rattle.key_walk.specs.Found.{Finds}
+use Rattle.jsonb_spec.specs.SortKey.Open.{items}
 use Rattle.key_walk.proofs.Occurrence.{found_none, no_count, same_count, some_back, none_back}
 use Rattle.key_walk.proofs.find.item_from_end.Goals as goal
 

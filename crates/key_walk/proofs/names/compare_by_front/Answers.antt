@@ -2,7 +2,7 @@ use Rattle.std.proofs.Common.{◌≡◌, ◌/◌, ◌^◌, ◌++◌, drop, arith
 use Rattle.jsonb_spec.specs.SortKey.{text_key}
 use Rattle.key_value.proofs.FirstBytes.{no_pair}
 use Rattle.key_walk.proofs.Fronts.{name_above, name_below, name_same, name_there, word_front}
-use Rattle.key_walk.specs.Fronts.{number_of}
+use Rattle.jsonb_spec.specs.SortKey.Front.{number_of}
 use Rattle.key_walk.proofs.names.compare_by_front.Goals as goal
 
 pub returns-then-number-front-clause-compares : goal.returns-then-number-front-clause-compares

@@ -3,7 +3,8 @@ use Rattle.jsonb_spec.specs.SortKey.{text_key}
 use Rattle.key_value.proofs.FirstBytes.{no_pair}
 use Rattle.key_walk.proofs.Fronts.{AreBytes, name_above, name_below, name_same, name_there, word_front}
 use Rattle.key_walk.proofs.KeyFronts.{name_bytes}
-use Rattle.key_walk.specs.Fronts.{IsFront, IsKeyFront, number_of}
+use Rattle.key_walk.specs.Fronts.{IsFront, IsKeyFront}
+use Rattle.jsonb_spec.specs.SortKey.Front.{number_of}
 use Rattle.key_walk.proofs.names.compare_key.Goals as goal
 
 pub returns-then-number-front-clause-compares : goal.returns-then-number-front-clause-compares

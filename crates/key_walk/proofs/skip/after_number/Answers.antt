@@ -1,7 +1,7 @@
 use Rattle.std.proofs.Common.{◌++◌, map, sym, ap, ◌∙◌, unsigned_abs}
 use Rattle.std.specs.Bool.{nat_lt}
 use Rattle.jsonb_spec.specs.SortKey.{digits_key, invert_if}
-use Rattle.key_value.specs.Reading.{exponent_of}
+use Rattle.jsonb_spec.specs.SortKey.Reading.{exponent_of}
 use Rattle.key_value.proofs.Numbers.{exponent_read}
 use Rattle.key_value.proofs.Signs.{signed_read}
 use Rattle.key_value.proofs.Texts.{none_some, some_same}

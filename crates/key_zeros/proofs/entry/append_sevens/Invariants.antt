@@ -1,5 +1,5 @@
 use Rattle.std.proofs.Common.{◌<◌, ◌^◌}
-use Rattle.key_text.specs.Writes.{Preserves}
+use Rattle.jsonb_spec.specs.SortKey.Text.{Preserves}
 use Rattle.key_zeros.proofs.Sevens.{SevensLeft}
 use Rattle.key_zeros.proofs.entry.append_sevens.Given as goal
 

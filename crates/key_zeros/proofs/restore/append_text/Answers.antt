@@ -2,7 +2,7 @@ use Rattle.std.proofs.Common.{◌≡◌, ◌<◌, ◌++◌, length, sym, ap, ◌
 use Rattle.std.proofs.lemmas.Bool.{eqb-false}
 use Rattle.key_text.proofs.Appending.{retained, preserves_on, retained_by}
 use Rattle.key_zeros.specs.declared.error.ZerosError.TheVariants.{OutOfMemory}
-use Rattle.key_text.specs.Counts.{ending_text}
+use Rattle.jsonb_spec.specs.Document.Counts.{ending_text}
 use Rattle.key_zeros.specs.Scan.{after_numbers}
 use Rattle.key_zeros.proofs.Errors.{or_error}
 use Rattle.key_zeros.proofs.Restoring.{restores, rest_fits, rest_appended, next_there, entry_occurs, few_before, number_there, text_split, no_number, same_number, number_fits, number_appended}

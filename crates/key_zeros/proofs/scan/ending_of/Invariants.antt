@@ -1,5 +1,5 @@
 use Rattle.std.proofs.Common.{◌≡◌, ◌≤◌, ◌+◌, false, length}
-use Rattle.key_zeros.specs.Scan.{ending_of}
+use Rattle.jsonb_spec.specs.Document.Scan.{ending_of}
 use Rattle.key_zeros.proofs.scan.ending_of.Given as goal
 
 abbrev pub invariant-bytes : goal.invariant-bytes

@@ -1,4 +1,4 @@
-use Rattle.text_scan.specs.Parsing.Document.{source_of}
+use Rattle.jsonb_spec.specs.Parsing.Document.{source_of}
 use Rattle.text_parse.proofs.parser.parse_text.Goals as goal
 
 pub returns-in-Ok-clause-parses : goal.returns-in-Ok-clause-parses

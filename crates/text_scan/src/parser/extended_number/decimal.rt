@@ -2,8 +2,8 @@
 ghost use Rattle.std.specs.Prelude.{◌≡◌, ◌+◌, ◌-◌, ◌*◌, ◌≤◌, ◌<◌, ◌^◌, length, Err, Some, None, IfOk, IfErr};
 ghost use Rattle.std.specs.Str.Parse.{AllDigits, digits_value_after};
 ghost use Rattle.jsonb_spec.specs.Grammar.ExtendedNumber.{decimal_number};
-ghost use Rattle.text_scan.specs.Parsing.Number.{sign_end};
-ghost use Rattle.text_scan.specs.Parsing.ExtendedNumber.{zeros_from, zeros_end, front_end, point_end, behind_end, decimal_end, decimal_at, decimal_scan};
+ghost use Rattle.jsonb_spec.specs.Parsing.Number.{sign_end};
+ghost use Rattle.jsonb_spec.specs.Parsing.ExtendedNumber.{zeros_from, zeros_end, front_end, point_end, behind_end, decimal_end, decimal_at, decimal_scan};
 ghost use Rattle.text_scan.specs.ScannedNumber.{AreEnds, number_views, scanned_view};
 
 use super::form::decimal;

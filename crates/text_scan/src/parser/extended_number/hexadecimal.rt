@@ -4,7 +4,7 @@ ghost use Rattle.std.specs.Char.{digit_value};
 ghost use Rattle.std.specs.Option.{SomeIff};
 ghost use Rattle.std.specs.Str.Parse.{AllDigits, digits_value};
 ghost use Rattle.jsonb_spec.specs.Grammar.ExtendedNumber.{hexadecimal_number};
-ghost use Rattle.text_scan.specs.Parsing.ExtendedNumber.{hexadecimal_length, fraction_scan, hexadecimal_scan, hexadecimal_starts, invalid};
+ghost use Rattle.jsonb_spec.specs.Parsing.ExtendedNumber.{hexadecimal_length, fraction_scan, hexadecimal_scan, hexadecimal_starts, invalid};
 ghost use Rattle.text_scan.specs.ScannedNumber.{number_views, scanned_view};
 
 use super::form::with_sign;

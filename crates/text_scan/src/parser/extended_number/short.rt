@@ -3,8 +3,8 @@ ghost use Rattle.std.specs.Prelude.{◌≡◌, ◌+◌, ◌-◌, ◌*◌, ◌≤
 ghost use Rattle.std.specs.Bool.{MatchBool};
 ghost use Rattle.std.specs.Str.Parse.{digits_value_after};
 ghost use Rattle.jsonb_core.specs.View.{number_view};
-ghost use Rattle.text_scan.specs.Parsing.Number.{digits_length, sign_end};
-ghost use Rattle.text_scan.specs.Parsing.ExtendedNumber.{front_end, extended_scan, FollowsDigits};
+ghost use Rattle.jsonb_spec.specs.Parsing.Number.{digits_length, sign_end};
+ghost use Rattle.jsonb_spec.specs.Parsing.ExtendedNumber.{front_end, extended_scan, FollowsDigits};
 
 use super::form::{DECIMAL64_DIGITS, short_decimal, short_integer};
 use crate::parser::number::{SAFE_DIGITS, continues_after_integer, sign_end};

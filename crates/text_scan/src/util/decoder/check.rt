@@ -4,9 +4,10 @@ ghost use Rattle.jsonb_spec.specs.Ascii as ascii;
 ghost use Rattle.jsonb_spec.specs.Mode.{Mode as GrammarMode, GoesBeyondJson};
 ghost use Rattle.jsonb_core.specs.Error.CodeView.{code_of};
 ghost use Rattle.text_scan.specs.Answer.{mode_of};
-ghost use Rattle.text_scan.specs.Decoding.{IsDecodedUpTo, SeesNoBackslash, StopsAtEscape, ReportsBackslash};
-ghost use Rattle.text_scan.specs.QuotedString.{ChecksContents, decoded_text};
-ghost use Rattle.text_scan.specs.Parsing.String.{body_of};
+ghost use Rattle.jsonb_spec.specs.Parsing.Decoding.{IsDecodedUpTo, SeesNoBackslash, StopsAtEscape, ReportsBackslash};
+ghost use Rattle.text_scan.specs.QuotedString.{ChecksContents};
+ghost use Rattle.jsonb_spec.specs.Parsing.Contents.{decoded_text};
+ghost use Rattle.jsonb_spec.specs.Parsing.String.{body_of};
 
 use super::unit::pass_units;
 use super::{DecodingFault, escaped_byte};

@@ -1,7 +1,7 @@
 //! The bytes up to the next escape.
 ghost use Rattle.std.specs.Prelude.{◌≡◌, ℕ, ◌+◌, ◌≤◌, ◌<◌, ◌++◌, length, take, slice_index, IfSome, IfNone, Some, None, ◌↔◌};
 ghost use Rattle.std.specs.Int.{bit_at};
-ghost use Rattle.text_scan.specs.Decoding.{SeesNoBackslash, CopiesRun};
+ghost use Rattle.jsonb_spec.specs.Parsing.Decoding.{SeesNoBackslash, CopiesRun};
 ghost use Rattle.jsonb_spec.specs.Ascii as ascii;
 
 use super::Decoded;

@@ -3,7 +3,7 @@ ghost use Rattle.std.specs.Prelude.{◌≡◌, ◌≢◌, ℕ, List, ◌∷◌, 
 ghost use Rattle.jsonb_spec.specs.Ascii as ascii;
 ghost use Rattle.jsonb_spec.specs.Mode.{json, standard};
 ghost use Rattle.jsonb_core.specs.Error.CodeView.{code_of};
-ghost use Rattle.text_scan.specs.Parsing.String.{body_of, item_at};
+ghost use Rattle.jsonb_spec.specs.Parsing.String.{body_of, item_at};
 ghost use Rattle.text_scan.specs.StrictString.{AreClean, ParsesItem, ParsesNoItem, RejectsContents};
 
 use super::escaped_byte;

@@ -8,7 +8,7 @@ ghost use Rattle.jsonb_spec.specs.Mode.{Mode as GrammarMode, GoesBeyondJson};
 ghost use Rattle.jsonb_core.specs.Error.CodeView.{code_of};
 ghost use Rattle.jsonb_spec.specs.Grammar.StringBody.{IsHexDigit, unit, encoding, alone, together};
 ghost use Rattle.jsonb_spec.specs.Grammar.StringFault.{IsUnitCut, IsFirstNonDigit};
-ghost use Rattle.text_scan.specs.Decoding.{SplitsUnit, ParsesUnit, Adds, AreUnits, IsDecodedUpTo, StopsInUnit, StopsAtEscape};
+ghost use Rattle.jsonb_spec.specs.Parsing.Decoding.{SplitsUnit, ParsesUnit, Adds, AreUnits, IsDecodedUpTo, StopsInUnit, StopsAtEscape};
 
 use super::space::{write_all, write_byte};
 use super::{Decoded, DecodingFault};

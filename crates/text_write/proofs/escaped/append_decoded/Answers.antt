@@ -1,7 +1,7 @@
 use Rattle.std.proofs.Common.{◌≡◌, ◌++◌, take, drop, List, ℕ, length, ap, ◌∙◌, take_at, append-nil, sym, [], arith}
 use Rattle.std.proofs.Math.Seq.{take-append_seam}
 use Rattle.text_scan.specs.Answer.{mode_of}
-use Rattle.text_scan.specs.QuotedString.{decoded_text}
+use Rattle.jsonb_spec.specs.Parsing.Contents.{decoded_text}
 use Rattle.text_write.proofs.escaped.append_decoded.Goals as goal
 
 -- what was there before a text was decoded behind it

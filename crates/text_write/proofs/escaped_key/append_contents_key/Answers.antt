@@ -3,7 +3,7 @@ use Rattle.std.proofs.Math.Seq.{drop-append_seam, take-append_seam}
 use Rattle.jsonb_spec.specs.SortKey.{text_key}
 use Rattle.text_members.proofs.Outcomes.{on_ok}
 use Rattle.text_scan.specs.Answer.{mode_of}
-use Rattle.text_scan.specs.QuotedString.{decoded_text}
+use Rattle.jsonb_spec.specs.Parsing.Contents.{decoded_text}
 use Rattle.text_write.proofs.escaped_key.append_contents_key.Goals as goal
 
 pub returns-clause-bytes : goal.returns-clause-bytes

@@ -2,7 +2,7 @@ use Rattle.std.proofs.Common.{◌≡◌, ℕ, ◌+◌, ◌-◌, ◌<◌, ◌≤�
 use Rattle.std.specs.Option.{is_some, unwrap_or}
 use Rattle.std.specs.Prelude.{IfSome, IfNone}
 use Rattle.std.proofs.lemmas.List.{get_or-drop, take_rest}
-use Rattle.text_scan.specs.Decoding.{SeesNoBackslash}
+use Rattle.jsonb_spec.specs.Parsing.Decoding.{SeesNoBackslash}
 use Rattle.text_write.proofs.JsonStrings.{WritesSome, byte_put, fewer_same, front_of, run_put, some_all, some_clear, some_escape}
 use Rattle.text_write.proofs.json_string.put_contents.Goals as goal
 

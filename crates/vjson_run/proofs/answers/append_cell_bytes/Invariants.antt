@@ -1,6 +1,6 @@
 use Rattle.std.proofs.Common.{◌≡◌, ◌++◌, take}
 use Rattle.std.specs.List.{flat_map}
-use Rattle.vjson_run.specs.Answers.{cell_byte}
+use Rattle.jsonb_spec.specs.Program.Printed.{cell_byte}
 use Rattle.vjson_run.proofs.answers.append_cell_bytes.Given as goal
 
 abbrev pub invariant-bytes : goal.invariant-bytes

@@ -2,7 +2,8 @@ use Rattle.std.proofs.Common.{inr, map, refl, subst}
 use Rattle.std.specs.Prelude.{string_bytes}
 use Rattle.vjson_run.proofs.Lists.{where_false, where_true}
 use Rattle.vjson_run.proofs.Parts.{cells_one, first_cells, found_row, lacks_first, lacks_other, next_cells}
-use Rattle.vjson_run.specs.Answers.{AppendsCell, first_keys}
+use Rattle.vjson_run.specs.Answers.{AppendsCell}
+use Rattle.jsonb_spec.specs.Program.Printed.{first_keys}
 use Rattle.vjson_run.specs.Keys.{LacksPart}
 use Rattle.vjson_run.proofs.answers.get.Goals as goal
 

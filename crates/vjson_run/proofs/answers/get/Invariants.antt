@@ -1,7 +1,7 @@
 use Rattle.std.proofs.Common.{◌∷◌, map, take}
 use Rattle.vjson_run.proofs.Parts.{AreCells}
-use Rattle.vjson_run.specs.Answers.{first_keys}
-use Rattle.vjson_run.specs.Keys.{keys_of}
+use Rattle.jsonb_spec.specs.Program.Printed.{first_keys}
+use Rattle.jsonb_spec.specs.Program.Keys.{keys_of}
 use Rattle.vjson_run.proofs.answers.get.Given as goal
 
 -- the cells of the paths so far are in the row

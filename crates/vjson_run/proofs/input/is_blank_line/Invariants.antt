@@ -1,6 +1,6 @@
 use Rattle.std.proofs.Common.{◌≡◌, drop}
 use Rattle.std.specs.List.{list_all}
-use Rattle.vjson_run.specs.Input.{is_blank}
+use Rattle.jsonb_spec.specs.Program.Input.{is_blank}
 use Rattle.vjson_run.proofs.input.is_blank_line.Given as goal
 
 abbrev pub invariant-bytes : goal.invariant-bytes

@@ -1,6 +1,6 @@
 use Rattle.std.proofs.Common.{◌≡◌, ◌++◌, take}
 use Rattle.std.specs.List.{flat_map}
-use Rattle.vjson_run.specs.Lines.{hex_text}
+use Rattle.jsonb_spec.specs.Program.KeyLine.{hex_text}
 use Rattle.vjson_run.proofs.lines.append_few.Given as goal
 
 abbrev pub invariant-bytes : goal.invariant-bytes

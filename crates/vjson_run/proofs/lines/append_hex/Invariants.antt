@@ -1,6 +1,6 @@
 use Rattle.std.proofs.Common.{◌≡◌, ◌++◌, length}
 use Rattle.std.specs.List.{flat_map}
-use Rattle.vjson_run.specs.Lines.{hex_text}
+use Rattle.jsonb_spec.specs.Program.KeyLine.{hex_text}
 use Rattle.vjson_run.proofs.lines.append_hex.Given as goal
 
 abbrev pub invariant-fours : goal.invariant-fours

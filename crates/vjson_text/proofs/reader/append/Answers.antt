@@ -1,6 +1,6 @@
 use Rattle.std.proofs.Common.{◌≡◌, ◌⊎◌, Err, ap, sym, subst}
 use Rattle.std.specs.Vec.{vec_capacity, vec_len}
-use Rattle.text_scan.specs.Answer.{MayAllocate}
+use Rattle.jsonb_spec.specs.Parsing.Memory.{MayAllocate}
 use Rattle.vjson_text.proofs.Memory.{text_lacks}
 use Rattle.vjson_text.specs.Memory.{LacksSpace, laid_out}
 use Rattle.vjson_text.specs.declared.fault.Fault.TheVariants.{NoMemory}

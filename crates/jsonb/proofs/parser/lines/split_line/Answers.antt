@@ -1,6 +1,6 @@
 use Rattle.std.proofs.Common.{arith, ap, sym, ◌∙◌, ◌+◌, ◌-◌, ◌∷◌, [], drop, length, take}
 use Rattle.std.proofs.lemmas.List.{drop_all, length-drop, take_all}
-use Rattle.jsonb.specs.Lines.{lines_of}
+use Rattle.jsonb_spec.specs.Parsing.Lines.{lines_of}
 use Rattle.jsonb.proofs.Lines.{in_parts, in_whole, line_ends, line_is_last}
 use Rattle.jsonb.proofs.parser.lines.split_line.Goals as goal
 

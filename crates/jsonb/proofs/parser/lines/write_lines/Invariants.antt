@@ -1,6 +1,7 @@
 use Rattle.std.proofs.Common.{◌⊎◌, ◌≤◌, ℕ, Contains, length}
 use Rattle.std.specs.Vec.{vec_capacity, vec_len}
-use Rattle.text_scan.specs.Answer.{MayAllocate, grammar_of}
+use Rattle.jsonb_spec.specs.Parsing.Memory.{MayAllocate}
+use Rattle.text_scan.specs.Answer.{grammar_of}
 use Rattle.jsonb_spec.specs.Text.Appending.{Extends}
 use Rattle.jsonb.proofs.Lines.{LacksLeft, RejectsLeft, WritesLeft}
 use Rattle.jsonb.proofs.parser.lines.write_lines.Given as goal

@@ -1,8 +1,9 @@
 use Rattle.std.proofs.Common.{◌∙◌, ◌++◌, [], true, drop, get_or, inl, ap, map, rules, string_bytes, subst}
 use Rattle.std.specs.Option.{option_map, unwrap_or}
 use Rattle.jsonb_spec.specs.Text.{tree_text}
-use Rattle.text_scan.specs.Answer.{MayAllocate, grammar_of}
-use Rattle.text_scan.specs.Parsing.Document.{source_of}
+use Rattle.jsonb_spec.specs.Parsing.Memory.{MayAllocate}
+use Rattle.text_scan.specs.Answer.{grammar_of}
+use Rattle.jsonb_spec.specs.Parsing.Document.{source_of}
 use Rattle.jsonb_spec.specs.Source.{tree_of_source}
 use Rattle.jsonb_spec.specs.PartAt.{part_at}
 use Rattle.text_write.specs.PartSink.{part_of}

@@ -1,8 +1,9 @@
 use Rattle.std.proofs.Common.{rules, true, ◌++◌, inl, ap, subst, sym, ◌∙◌}
-use Rattle.text_scan.specs.Answer.{Fails, MayAllocate, grammar_of}
-use Rattle.text_scan.specs.Parsing.Document.{source_of}
+use Rattle.text_scan.specs.Answer.{Fails, grammar_of}
+use Rattle.jsonb_spec.specs.Parsing.Memory.{MayAllocate}
+use Rattle.jsonb_spec.specs.Parsing.Document.{source_of}
 use Rattle.jsonb_spec.specs.Source.{tree_of_source}
-use Rattle.text_members.specs.Members.{source_key}
+use Rattle.jsonb_spec.specs.SortKey.Joined.{source_key}
 use Rattle.text_parse.specs.Handler.{Misses}
 use Rattle.jsonb.proofs.Documents.Agreement.{fault_fails, fault_rejects}
 use Rattle.jsonb.proofs.Documents.Straight.{returned, source_parsed, same_only}

@@ -1,7 +1,8 @@
 use Rattle.std.proofs.Common.{rules, ◌≡◌, inl, ap, subst, sym, ◌∙◌, OnErr, OnOk}
-use Rattle.text_scan.specs.Answer.{MayAllocate, grammar_of}
+use Rattle.jsonb_spec.specs.Parsing.Memory.{MayAllocate}
+use Rattle.text_scan.specs.Answer.{grammar_of}
 use Rattle.text_write.specs.TextSink.{base_of}
-use Rattle.jsonb.specs.Appends.{AppendsTextOf}
+use Rattle.jsonb_spec.specs.Parsing.Appends.{AppendsTextOf}
 use Rattle.jsonb.proofs.parser.straight.append_text.Goals as goal
 
 pub returns-clause-appends : goal.returns-clause-appends

@@ -1,6 +1,6 @@
 use Rattle.std.proofs.Common.{false, subst}
 use Rattle.text_scan.specs.Answer.{grammar_of}
-use Rattle.text_scan.specs.Parsing.Document.{source_of}
+use Rattle.jsonb_spec.specs.Parsing.Document.{source_of}
 use Rattle.jsonb_spec.specs.Source.{tree_of_source}
 use Rattle.text_parse.specs.Handler.{Misses}
 use Rattle.jsonb.proofs.Documents.Agreement.{fault_fails, fault_rejects}

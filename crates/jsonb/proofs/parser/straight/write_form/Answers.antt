@@ -1,9 +1,9 @@
 use Rattle.std.proofs.Common.{◌++◌, true, ap, subst, sym, ◌∙◌}
 use Rattle.jsonb_spec.specs.Text.{tree_text}
 use Rattle.text_scan.specs.Answer.{Fails, grammar_of}
-use Rattle.text_scan.specs.Parsing.Document.{source_of}
+use Rattle.jsonb_spec.specs.Parsing.Document.{source_of}
 use Rattle.jsonb_spec.specs.Source.{tree_of_source}
-use Rattle.text_common.specs.SourceText.{source_text}
+use Rattle.jsonb_spec.specs.Text.SourceText.{source_text}
 use Rattle.text_parse.specs.Handler.{Misses}
 use Rattle.jsonb.proofs.Documents.Agreement.{fault_fails, fault_rejects}
 use Rattle.jsonb.proofs.Documents.Straight.{returned, same_only, source_parsed, text_there}

@@ -1,7 +1,7 @@
 use Rattle.std.proofs.Common.{◌++◌, drop, sym, ap, ◌∙◌, arith, length, length-append}
 use Rattle.std.proofs.lemmas.List.{take_rest}
 use Rattle.jsonb_spec.specs.Text.NumberText.{number_text}
-use Rattle.key_text.specs.Counts.{count_of, ending_text}
+use Rattle.jsonb_spec.specs.Document.Counts.{count_of, ending_text}
 use Rattle.key_document.specs.DueZeros.{AreDue}
 use Rattle.key_document.proofs.DueZeros.{due_now, fails, whole_text}
 use Rattle.key_document.proofs.due.ZerosDue.append_due.Goals as goal

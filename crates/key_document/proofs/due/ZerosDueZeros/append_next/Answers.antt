@@ -1,5 +1,5 @@
 use Rattle.std.proofs.Common.{◌++◌, sym, ap, ◌∙◌}
-use Rattle.key_text.specs.Counts.{count_of}
+use Rattle.jsonb_spec.specs.Document.Counts.{count_of}
 use Rattle.key_text.proofs.Decimals.{none_spare}
 use Rattle.key_document.proofs.DueZeros.{none_due}
 use Rattle.key_document.proofs.due.ZerosDueZeros.append_next.Goals as goal

@@ -1,6 +1,6 @@
 use Rattle.std.proofs.Common.{◌≡◌, ◌≤◌, ◌+◌, false, length}
 use Rattle.key_document.specs.FromText.{magnitude_from, scale_from}
-use Rattle.key_zeros.specs.Scan.{ending_of}
+use Rattle.jsonb_spec.specs.Document.Scan.{ending_of}
 use Rattle.key_document.proofs.from_text.digits.read_digits.Given as goal
 
 abbrev pub invariant-bytes : goal.invariant-bytes

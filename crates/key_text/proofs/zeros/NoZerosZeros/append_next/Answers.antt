@@ -1,7 +1,7 @@
 use Rattle.std.proofs.Common.{◌++◌, sym, ap, ◌∙◌}
 use Rattle.key_text.proofs.Counts.{none_next}
 use Rattle.key_text.proofs.Decimals.{none_spare}
-use Rattle.key_text.specs.Counts.{count_of}
+use Rattle.jsonb_spec.specs.Document.Counts.{count_of}
 use Rattle.key_text.proofs.zeros.NoZerosZeros.append_next.Goals as goal
 
 pub returns-clause-completes : goal.returns-clause-completes

@@ -1,10 +1,10 @@
 use Rattle.std.proofs.Common.{◌≡◌, ◌++◌, true, false, length, refl, sym, ap, subst, ◌∙◌, arith}
-use Rattle.key_value.specs.Readable.{IsReadableAt}
+use Rattle.jsonb_spec.specs.SortKey.Readable.{IsReadableAt}
 use Rattle.key_value.proofs.FirstBytes.{no_key}
 use Rattle.key_value.proofs.Texts.{none_some}
 use Rattle.jsonb_spec.specs.Containment.{holds}
-use Rattle.key_walk.specs.Open.{members, open_key, end_key}
-use Rattle.key_walk.specs.Parts.{opened_tree}
+use Rattle.jsonb_spec.specs.SortKey.Open.{members, open_key, end_key}
+use Rattle.jsonb_spec.specs.SortKey.Parts.{opened_tree}
 use Rattle.key_walk.specs.SideBySide.{IsLeft}
 use Rattle.key_walk.proofs.Beside.{item_ahead, no_item_ahead, item_is, item_passed, item_inside}
 use Rattle.key_walk.proofs.Holding.{members_open, readable_up}

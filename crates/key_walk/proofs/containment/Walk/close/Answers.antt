@@ -1,6 +1,6 @@
 use Rattle.std.proofs.Common.{refl, sym, ◌∙◌}
 use Rattle.key_value.proofs.Texts.{some_same}
-use Rattle.key_walk.specs.Open.{open_key}
+use Rattle.jsonb_spec.specs.SortKey.Open.{open_key}
 use Rattle.key_walk.proofs.Walked.{moved_on}
 use Rattle.key_walk.proofs.containment.Walk.close.Goals as goal
 

@@ -2,7 +2,7 @@ use Rattle.std.proofs.Common.{◌++◌, refl, sym, ap, ◌∙◌, arith}
 use Rattle.key_value.proofs.Texts.{none_some, some_same}
 use Rattle.key_walk.proofs.Beside.{items_ahead, no_item_ahead, item_ahead, item_passed, item_is}
 use Rattle.key_walk.proofs.Holding.{items_open, readable_up}
-use Rattle.key_walk.specs.Open.{items}
+use Rattle.jsonb_spec.specs.SortKey.Open.{items}
 use Rattle.key_walk.proofs.Walked.{moved_on, same_key, reported_no, reported_yes, stripped, not_stripped}
 use Rattle.jsonb_spec.specs.SortKey.{key_of}
 use Rattle.key_walk.proofs.containment.Walk.has_scalar_item.Goals as goal

@@ -1,8 +1,8 @@
 use Rattle.std.proofs.Common.{◌≡◌, ℕ, length}
-use Rattle.key_value.specs.Readable.{IsReadableAt}
+use Rattle.jsonb_spec.specs.SortKey.Readable.{IsReadableAt}
 use Rattle.key_walk.specs.SideBySide.{SameKeys}
 use Rattle.key_walk.proofs.Beside.{PassesItems}
-use Rattle.key_walk.specs.Open.{IsScalar}
+use Rattle.jsonb_spec.specs.SortKey.Open.{IsScalar}
 use Rattle.jsonb_spec.specs.Tree.{Tree}
 use Rattle.jsonb_spec.specs.SortKey.{key_of}
 use Rattle.key_walk.proofs.containment.Walk.has_scalar_item.Given as goal

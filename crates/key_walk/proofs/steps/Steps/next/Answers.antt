@@ -1,6 +1,6 @@
 use Rattle.std.proofs.Common.{◌≡◌, ◌+◌, inl, inr, refl, subst, arith, ◌++◌, Ok}
 use Rattle.key_walk.specs.NextPart.{BeginsWithPart}
-use Rattle.key_walk.specs.Steps.{opens_key}
+use Rattle.jsonb_spec.specs.SortKey.Steps.{opens_key}
 use Rattle.key_walk.proofs.Stepping.{begins_here, end_passed, opened, scalar_passed, stepped}
 use Rattle.key_walk.proofs.steps.Steps.next.Goals as goal
 

@@ -3,8 +3,8 @@ use Rattle.jsonb_spec.specs.Code.Code.{expected_colon}
 use Rattle.jsonb_spec.specs.Tree.{Mark}
 use Rattle.text_scan.specs.Answer.{grammar_of}
 use Rattle.text_parse.specs.Parser.{rest_of, size_of}
-use Rattle.text_scan.specs.Parsing.{Parse, on_byte, reject, ◌>>=◌}
-use Rattle.text_scan.specs.Parsing.Whitespace.{skip_whitespace}
+use Rattle.jsonb_spec.specs.Parsing.{Parse, on_byte, reject, ◌>>=◌}
+use Rattle.jsonb_spec.specs.Parsing.Whitespace.{skip_whitespace}
 use Rattle.text_scan.proofs.Containers.JoinedParts.{on_byte-found}
 use Rattle.text_parse.proofs.Steps.Advancing.{goes_on}
 use Rattle.text_parse.proofs.parser.Parser.begin_member.Goals as goal

@@ -1,6 +1,6 @@
 use Rattle.std.proofs.Common.{◌<◌, ap, subst, sym, ◌∙◌, arith, get_or, length, rules}
 use Rattle.text_parse.specs.Parser.{rest_of}
-use Rattle.text_scan.specs.QuotedString.{IsClear}
+use Rattle.jsonb_spec.specs.Parsing.Contents.{IsClear}
 use Rattle.text_scan.specs.Answer.{grammar_of}
 use Rattle.text_parse.proofs.Grammars.{cuts_beyond}
 use Rattle.text_parse.proofs.Scalars.Contents.{cut_encoded, cut_clear}

@@ -1,6 +1,6 @@
 use Rattle.std.proofs.Common.{sym, subst, ◌∙◌}
 use Rattle.std.specs.Prelude.{IfErr}
-use Rattle.text_scan.specs.Parsing.String.{body_of}
+use Rattle.jsonb_spec.specs.Parsing.String.{body_of}
 use Rattle.text_scan.specs.StrictString.{RejectsContents}
 use Rattle.text_scan.specs.Answer.{grammar_of}
 use Rattle.text_parse.proofs.Grammars.{contents_beyond, contents_json, json_is, on_ok}

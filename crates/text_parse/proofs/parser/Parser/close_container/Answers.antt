@@ -6,7 +6,7 @@ use Rattle.text_scan.specs.Answer.{grammar_of}
 use Rattle.text_parse.specs.Parser.{Advances, rest_of, size_of}
 use Rattle.text_parse.specs.declared.parser.frame.Frame.TheVariants as variants
 use Rattle.text_parse.proofs.Containers.Frames.{array-joins, end_misses, ended, innermost_first, joined, last-is, last-set, object-joins, put_new}
-use Rattle.text_scan.specs.Parsing.Whitespace.{skip_whitespace}
+use Rattle.jsonb_spec.specs.Parsing.Whitespace.{skip_whitespace}
 use Rattle.text_parse.specs.Handler.{Builds}
 use Rattle.text_parse.specs.Stack.{part_end}
 use Rattle.text_parse.proofs.Steps.Advancing.{goes_on}

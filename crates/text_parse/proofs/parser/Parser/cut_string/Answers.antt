@@ -3,7 +3,7 @@ use Rattle.std.proofs.lemmas.List.{get_or-take, length-take-le}
 use Rattle.jsonb_spec.specs.Text.StringText.{ArePlain}
 use Rattle.jsonb_core.proofs.Strings.PlainTexts.{no_marks}
 use Rattle.text_parse.specs.Parser.{rest_of}
-use Rattle.text_scan.specs.QuotedString.{IsClear}
+use Rattle.jsonb_spec.specs.Parsing.Contents.{IsClear}
 use Rattle.text_parse.proofs.Scalars.Contents.{cut_encoded, cut_plain}
 use Rattle.text_parse.proofs.parser.Parser.cut_string.Goals as goal
 

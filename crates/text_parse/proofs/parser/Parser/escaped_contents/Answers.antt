@@ -1,8 +1,8 @@
 use Rattle.std.proofs.Common.{◌≡◌, ◌+◌, List, ℕ, Ok, true, drop, take, length, get_or, ap, sym, subst, ◌∙◌, arith}
 use Rattle.std.proofs.lemmas.List.{length-take-le}
-use Rattle.text_scan.specs.Decoding.{ReportsBackslash}
+use Rattle.jsonb_spec.specs.Parsing.Decoding.{ReportsBackslash}
 use Rattle.text_parse.specs.Parser.{rest_of}
-use Rattle.text_scan.specs.Parsing.String.{quote_end}
+use Rattle.jsonb_spec.specs.Parsing.String.{quote_end}
 use Rattle.text_scan.proofs.Strings.Bodies.{reports_taken}
 use Rattle.text_scan.proofs.Strings.Ends.{quote_within}
 use Rattle.text_parse.proofs.Scalars.Contents.{quote_there}

@@ -1,7 +1,7 @@
 use Rattle.std.proofs.Common.{◌≡◌, ℕ, ◌<◌, Bool, true, false, not, MatchBool, List, ◌∷◌, nat_eq, ne_eqb, refl, sym, ap, ◌∙◌, ◌||◌, arith}
 use Rattle.std.proofs.lemmas.Bool.{eqb-true}
 use Rattle.jsonb_spec.specs.Mode.{Mode}
-use Rattle.text_scan.specs.Parsing.Whitespace.{skip_closed_whitespace, skip_whitespace}
+use Rattle.jsonb_spec.specs.Parsing.Whitespace.{skip_closed_whitespace, skip_whitespace}
 use Rattle.text_scan.specs.Answer.{grammar_of}
 use Rattle.text_parse.specs.Parser.{rest_of}
 use Rattle.text_scan.proofs.Text.Whitespace.{pass-by_slash, pass-nil, skip-by_slash, skip-nil}

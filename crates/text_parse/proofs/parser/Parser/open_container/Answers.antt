@@ -1,6 +1,6 @@
 use Rattle.std.proofs.Common.{◌≡◌, Err, ◌+◌, ◌∷◌, [], refl, ap, sym, ◌∙◌, arith, drop, length, length-drop, reverse, rules}
 use Rattle.jsonb_spec.specs.Code.Code.{depth_limit_exceeded}
-use Rattle.text_scan.specs.Parsing.{Fault}
+use Rattle.jsonb_spec.specs.Parsing.{Fault}
 use Rattle.jsonb_spec.specs.Tree.Mark.{plain}
 use Rattle.text_parse.specs.declared.parser.Parser.{Parser}
 use Rattle.text_parse.specs.Parser.{Advances, size_of}

@@ -3,7 +3,7 @@ use Rattle.std.proofs.lemmas.List.{length-take-le}
 use Rattle.std.specs.Str.{IsUtf8}
 use Rattle.jsonb_spec.specs.Tree.{plain}
 use Rattle.text_parse.specs.Parser.{rest_of, size_of}
-use Rattle.text_scan.specs.Parsing.BareKey.{key_end}
+use Rattle.jsonb_spec.specs.Parsing.BareKey.{key_end}
 use Rattle.text_scan.proofs.Strings.BareKeys.{BeginsBare, bare-character, bare-digit, bare-no_text, bare-nothing, bare-past, bare-text, key_within}
 use Rattle.text_parse.proofs.parser.Parser.parse_bare_key.Goals as goal
 use Rattle.text_parse.proofs.parser.Parser.parse_bare_key.Goals.{then-end-eq0-via-then-end-eq0, then-end-eq0-via-else-end-eq0+then-rest-end-ge128}

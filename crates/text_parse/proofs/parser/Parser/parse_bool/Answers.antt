@@ -1,6 +1,6 @@
 use Rattle.std.proofs.Common.{List, ℕ, Result, Ok, ap, rules}
 use Rattle.jsonb_spec.specs.Tree.{boolean}
-use Rattle.text_scan.specs.Parsing.{Fault, ◌>>=◌}
+use Rattle.jsonb_spec.specs.Parsing.{Fault, ◌>>=◌}
 use Rattle.text_parse.proofs.parser.Parser.parse_bool.Goals as goal
 
 pub returns-in-Ok : goal.returns-in-Ok

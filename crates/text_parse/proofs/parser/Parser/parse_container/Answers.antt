@@ -1,7 +1,7 @@
 use Rattle.std.proofs.Common.{◌≡◌, ◌∷◌, [], false, sym, subst, ◌∙◌}
 use Rattle.std.proofs.lemmas.Result.{err_from_is_err_and}
 use Rattle.jsonb_spec.specs.Grammar.{max_depth}
-use Rattle.text_scan.specs.Parsing.Document.{value_at}
+use Rattle.jsonb_spec.specs.Parsing.Document.{value_at}
 use Rattle.text_parse.specs.Frames.{finish_container}
 use Rattle.text_parse.specs.Slots.{Fits}
 use Rattle.text_parse.specs.Parser.{parse_at, rest_of}

@@ -2,12 +2,13 @@ use Rattle.std.proofs.Common.{◌≡◌, inl, [], Ok, true, ap, sym, subst, ◌�
 use Rattle.std.proofs.lemmas.Result.{err_from_is_err_and}
 use Rattle.jsonb_spec.specs.Grammar.{max_depth}
 use Rattle.jsonb_spec.specs.Mode.{strictness}
-use Rattle.text_scan.specs.Answer.{MayAllocate, mode_of, grammar_of}
+use Rattle.jsonb_spec.specs.Parsing.Memory.{MayAllocate}
+use Rattle.text_scan.specs.Answer.{mode_of, grammar_of}
 use Rattle.text_parse.specs.Parser.{parse_at, rest_of, size_of}
-use Rattle.text_scan.specs.Parsing.{◌>>=◌}
-use Rattle.text_scan.specs.Parsing.Whitespace.{skip_closed_whitespace}
-use Rattle.text_scan.specs.Parsing.Document.{alone_at, at_end, source_from, value_at}
-use Rattle.text_scan.specs.Parsing.Scalar.{scalar_at}
+use Rattle.jsonb_spec.specs.Parsing.{◌>>=◌}
+use Rattle.jsonb_spec.specs.Parsing.Whitespace.{skip_closed_whitespace}
+use Rattle.jsonb_spec.specs.Parsing.Document.{alone_at, at_end, source_from, value_at}
+use Rattle.jsonb_spec.specs.Parsing.Scalar.{scalar_at}
 use Rattle.jsonb_spec.specs.Source.{null_source, source_alone}
 use Rattle.text_parse.proofs.Containers.Frames.{each_error, opens_allocates}
 use Rattle.text_parse.proofs.Containers.OpenOnLists.{value_plain}

@@ -5,13 +5,13 @@ use Rattle.text_parse.specs.Slots.{IsArray}
 use Rattle.text_parse.specs.declared.parser.frame.Frame.TheVariants as variants
 use Rattle.jsonb_spec.specs.Code.Code.{expected_array_comma_or_end}
 use Rattle.text_scan.specs.Answer.{grammar_of}
-use Rattle.text_scan.specs.Parsing.{◌>>=◌}
-use Rattle.text_scan.specs.Parsing.Whitespace.{skip_whitespace}
+use Rattle.jsonb_spec.specs.Parsing.{◌>>=◌}
+use Rattle.jsonb_spec.specs.Parsing.Whitespace.{skip_whitespace}
 use Rattle.jsonb_spec.specs.Source.{Source, source_alone}
 use Rattle.text_parse.specs.Parser.{parse_at, rest_of, size_of}
 use Rattle.text_parse.specs.Stack.{elements_from, next_part_at, part_end}
 use Rattle.text_parse.specs.declared.parser.frame.Frame.{Frame}
-use Rattle.text_common.specs.Open.{Open, elements_so_far, members_so_far}
+use Rattle.jsonb_spec.specs.Source.Open.{Open, elements_so_far, members_so_far}
 use Rattle.text_parse.proofs.Containers.Frames.{after_element, element_stops, element_turn, same_end}
 use Rattle.text_parse.proofs.Steps.Advancing.{goes_on, stays}
 use Rattle.text_parse.proofs.Steps.Failures.{misses_same, misses_through, puts_if, stops_if, reports_always}

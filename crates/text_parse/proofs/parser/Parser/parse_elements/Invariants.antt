@@ -3,7 +3,7 @@ use Rattle.text_parse.specs.declared.parser.frame.Frame.{Frame}
 use Rattle.text_parse.specs.declared.parser.frame.Frame.TheVariants as variants
 use Rattle.text_scan.specs.Answer.{grammar_of}
 use Rattle.text_parse.specs.Parser.{Advances, rest_of, size_of}
-use Rattle.text_common.specs.Open.{Open, elements_so_far}
+use Rattle.jsonb_spec.specs.Source.Open.{Open, elements_so_far}
 use Rattle.jsonb_spec.specs.Source.{Source}
 use Rattle.text_parse.specs.Stack.{elements_from, next_part_at}
 use Rattle.text_parse.specs.Slots.{IsArray}

@@ -3,8 +3,8 @@ use Rattle.std.specs.Cow.{cow_str_bytes}
 use Rattle.jsonb_spec.specs.Tree.{string}
 use Rattle.jsonb_core.specs.View.{mark_view}
 use Rattle.text_scan.specs.Answer.{mode_of, grammar_of}
-use Rattle.text_scan.specs.Parsing.Scalar.{quoted_at}
-use Rattle.text_scan.specs.Parsing.String.{body_of}
+use Rattle.jsonb_spec.specs.Parsing.Scalar.{quoted_at}
+use Rattle.jsonb_spec.specs.Parsing.String.{body_of}
 use Rattle.text_parse.specs.Handler.{SeesContents}
 use Rattle.text_parse.specs.Parser.{rest_of, size_of}
 use Rattle.text_parse.proofs.Scalars.Built.{string_read}

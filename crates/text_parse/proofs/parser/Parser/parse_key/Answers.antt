@@ -3,8 +3,8 @@ use Rattle.jsonb_spec.specs.Code.Code.{expected_some_ident}
 use Rattle.jsonb_spec.specs.Mode.{strictness}
 use Rattle.text_scan.specs.Answer.{mode_of, grammar_of}
 use Rattle.text_parse.specs.Parser.{rest_of, size_of}
-use Rattle.text_scan.specs.Parsing.{fault_at}
-use Rattle.text_scan.specs.Parsing.Scalar.{key_at, unquoted_at}
+use Rattle.jsonb_spec.specs.Parsing.{fault_at}
+use Rattle.jsonb_spec.specs.Parsing.Scalar.{key_at, unquoted_at}
 use Rattle.text_parse.proofs.Steps.Outcomes.{key_bare, key_quoted, key_single}
 use Rattle.text_parse.proofs.Steps.Advancing.{fails}
 use Rattle.text_parse.proofs.parser.Parser.parse_key.Goals as goal

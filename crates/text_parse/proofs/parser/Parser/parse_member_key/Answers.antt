@@ -1,10 +1,10 @@
 use Rattle.jsonb_spec.specs.Tree.{Mark}
 use Rattle.std.proofs.Common.{ℕ, List, ◌∷◌, Ok, ap, subst, sym, ◌∙◌, rules}
 use Rattle.text_scan.specs.Answer.{grammar_of}
-use Rattle.text_scan.specs.Parsing.String.{string_at}
+use Rattle.jsonb_spec.specs.Parsing.String.{string_at}
 use Rattle.text_parse.specs.Handler.{AsKey, Begins, Builds}
 use Rattle.text_parse.specs.Parser.{Advances, rest_of, size_of}
-use Rattle.text_scan.specs.Encoded.{KeyHoldsAt}
+use Rattle.jsonb_spec.specs.Text.Encoded.{KeyHoldsAt}
 use Rattle.text_parse.specs.Scalars.{IsKeyAt, text_view}
 use Rattle.text_parse.proofs.Scalars.Built.{cut_key, cut_view, key_begun, key_retained, key_same, key_holds}
 use Rattle.text_parse.proofs.Steps.Advancing.{goes_on}

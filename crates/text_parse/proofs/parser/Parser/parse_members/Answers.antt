@@ -9,14 +9,13 @@ use Rattle.jsonb_spec.specs.Tree.{Mark}
 use Rattle.jsonb_spec.specs.Tree.Mark.{plain}
 use Rattle.jsonb_spec.specs.Code.Code.{expected_object_comma_or_end}
 use Rattle.text_scan.specs.Answer.{grammar_of}
-use Rattle.text_scan.specs.Parsing.{◌>>=◌}
-use Rattle.text_scan.specs.Parsing.Whitespace.{skip_whitespace}
-use Rattle.text_scan.specs.Parsing.Scalar.{scalar_at}
+use Rattle.jsonb_spec.specs.Parsing.{◌>>=◌}
+use Rattle.jsonb_spec.specs.Parsing.Whitespace.{skip_whitespace}
+use Rattle.jsonb_spec.specs.Parsing.Scalar.{scalar_at}
 use Rattle.jsonb_spec.specs.Source.{Found, found_member, source_alone}
 use Rattle.text_parse.specs.Parser.{parse_at, rest_of, size_of}
 use Rattle.text_parse.specs.Stack.{member_start, next_part_at, part_end, object_members_from}
-use Rattle.text_common.specs.Open.{Open}
-use Rattle.text_common.specs.Open.{elements_so_far, members_so_far}
+use Rattle.jsonb_spec.specs.Source.Open.{Open, elements_so_far, members_so_far}
 use Rattle.text_parse.proofs.Containers.Frames.{after_member, member_due, member_turn, same_end, waits}
 use Rattle.text_parse.proofs.Steps.Advancing.{goes_on, stays}
 use Rattle.text_parse.proofs.Steps.Failures.{misses_same, misses_through, puts_if, stops_if, reports_always}

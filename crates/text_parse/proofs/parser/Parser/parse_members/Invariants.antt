@@ -5,7 +5,7 @@ use Rattle.text_parse.specs.declared.parser.frame.Frame.TheVariants as variants
 use Rattle.jsonb_spec.specs.Tree.{Mark}
 use Rattle.text_scan.specs.Answer.{grammar_of}
 use Rattle.text_parse.specs.Parser.{Advances, rest_of, size_of}
-use Rattle.text_common.specs.Open.{Open, members_so_far}
+use Rattle.jsonb_spec.specs.Source.Open.{Open, members_so_far}
 use Rattle.jsonb_spec.specs.Source.{Found}
 use Rattle.text_parse.specs.Stack.{next_part_at, object_members_from}
 use Rattle.text_parse.proofs.parser.Parser.parse_members.Given as goal

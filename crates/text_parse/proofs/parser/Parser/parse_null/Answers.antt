@@ -2,7 +2,7 @@ use Rattle.std.proofs.Common.{◌≡◌, Err, ap, drop, length, sym, ◌∙◌, 
 use Rattle.jsonb_spec.specs.Mode.{strictness}
 use Rattle.jsonb_spec.specs.Tree.{null}
 use Rattle.text_scan.specs.Answer.{mode_of, grammar_of}
-use Rattle.text_scan.specs.Parsing.Scalar.{null_at, number_value_at}
+use Rattle.jsonb_spec.specs.Parsing.Scalar.{null_at, number_value_at}
 use Rattle.text_parse.specs.Handler.{AsScalar}
 use Rattle.text_parse.specs.Parser.{rest_of, size_of}
 use Rattle.text_parse.proofs.Scalars.Built.{null_missed, null_read}

@@ -1,7 +1,7 @@
 use Rattle.std.proofs.Common.{Ok, ap, rules}
 use Rattle.jsonb_core.specs.View.{number_view}
 use Rattle.jsonb_spec.specs.Tree.{Num, number}
-use Rattle.text_scan.specs.Parsing.{Parse, ◌>>=◌}
+use Rattle.jsonb_spec.specs.Parsing.{Parse, ◌>>=◌}
 use Rattle.text_parse.proofs.parser.Parser.parse_number_value.Goals as goal
 
 pub returns-in-Ok : goal.returns-in-Ok

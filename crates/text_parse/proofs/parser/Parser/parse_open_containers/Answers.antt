@@ -3,7 +3,7 @@ use Rattle.std.proofs.lemmas.Result.{err_from_is_err_and}
 use Rattle.jsonb_spec.specs.Grammar.{max_depth}
 use Rattle.text_parse.specs.Frames.{AtPart}
 use Rattle.text_parse.specs.Parser.{parse_at}
-use Rattle.text_scan.specs.Parsing.Document.{value_at}
+use Rattle.jsonb_spec.specs.Parsing.Document.{value_at}
 use Rattle.text_parse.proofs.Containers.Frames.{only_one, outermost, outermost_due}
 use Rattle.text_parse.proofs.parser.Parser.parse_open_containers.Goals as goal
 

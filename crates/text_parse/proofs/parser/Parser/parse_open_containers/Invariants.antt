@@ -3,7 +3,7 @@ use Rattle.jsonb_spec.specs.Grammar.{max_depth}
 use Rattle.text_parse.specs.Frames.{AtPart}
 use Rattle.text_scan.specs.Answer.{grammar_of}
 use Rattle.text_parse.specs.Parser.{Advances, rest_of, size_of}
-use Rattle.text_scan.specs.Parsing.Document.{value_at}
+use Rattle.jsonb_spec.specs.Parsing.Document.{value_at}
 use Rattle.text_parse.proofs.parser.Parser.parse_open_containers.Given as goal
 
 -- what is parsed of the whole is what is left to parse inside of the open containers

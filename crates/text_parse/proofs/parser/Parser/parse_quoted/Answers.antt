@@ -6,14 +6,14 @@ use Rattle.jsonb_spec.specs.Code.{invalid_eof}
 use Rattle.jsonb_core.specs.View.{mark_view}
 use Rattle.jsonb_core.specs.declared.error.Error.{Error}
 use Rattle.jsonb_core.specs.declared.error.Error.TheVariants.{OutOfMemory}
-use Rattle.text_scan.specs.Decoding.{ReportsBackslash}
+use Rattle.jsonb_spec.specs.Parsing.Decoding.{ReportsBackslash}
 use Rattle.text_scan.specs.Answer.{grammar_of}
 use Rattle.text_parse.specs.Parser.{rest_of, size_of}
 use Rattle.text_scan.specs.QuotedString.{DecodesContents}
 use Rattle.text_scan.specs.StrictString.{RejectsContents}
 use Rattle.text_scan.proofs.Strings.Rows.{rejects_decoded}
-use Rattle.text_scan.specs.Parsing.{fault}
-use Rattle.text_scan.specs.Parsing.String.{body_of, quote_end}
+use Rattle.jsonb_spec.specs.Parsing.{fault}
+use Rattle.jsonb_spec.specs.Parsing.String.{body_of, quote_end}
 use Rattle.text_scan.proofs.Strings.Ends.{quote_within}
 use Rattle.text_scan.proofs.Strings.Bodies.{string-closed, string-unclosed, body_fails, contains_after, reports_taken}
 use Rattle.text_parse.proofs.parser.Parser.parse_quoted.Goals as goal

@@ -4,7 +4,7 @@ use Rattle.std.specs.Str.Parse.{digits_value}
 use Rattle.jsonb_core.specs.View.{number_view}
 use Rattle.text_scan.specs.Answer.{Fails}
 use Rattle.text_parse.specs.Parser.{rest_of, size_of}
-use Rattle.text_scan.specs.Parsing.Number.{ContinuesAfterInteger, integer_of, whole_digits}
+use Rattle.jsonb_spec.specs.Parsing.Number.{ContinuesAfterInteger, integer_of, whole_digits}
 use Rattle.text_scan.proofs.Numbers.Steps.{HasWhole, whole_end, invalid_at, read_past, integer_read, integer_missing, found_whole, found_has_whole, found_end, found_missing, found_needless, found_value}
 use Rattle.text_parse.proofs.parser.Parser.parse_standard_number.Goals as goal
 

@@ -2,7 +2,7 @@ use Rattle.std.proofs.Common.{◌+◌, ap, drop, drop-drop, sym, ◌∙◌, rule
 use Rattle.jsonb_spec.specs.Tree.{string}
 use Rattle.jsonb_spec.specs.Tree.Mark.{plain}
 use Rattle.text_scan.specs.Answer.{grammar_of}
-use Rattle.text_scan.specs.Parsing.Scalar.{quoted_at}
+use Rattle.jsonb_spec.specs.Parsing.Scalar.{quoted_at}
 use Rattle.text_parse.specs.Handler.{AsScalar}
 use Rattle.text_parse.specs.Parser.{rest_of, size_of}
 use Rattle.text_parse.specs.Scalars.{text_view}

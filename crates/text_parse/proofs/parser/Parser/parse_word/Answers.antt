@@ -1,7 +1,7 @@
 use Rattle.std.proofs.Common.{◌≡◌, ◌+◌, ◌<◌, ◌∷◌, length, arith, List, ℕ, drop, get_or, sym, ap, ◌∙◌, add-one, drop-cons, drop-drop, true}
 use Rattle.text_scan.specs.Answer.{grammar_of}
 use Rattle.text_parse.specs.Parser.{rest_of, size_of}
-use Rattle.text_scan.specs.Parsing.Scalar.{begins_letter, letters_at}
+use Rattle.jsonb_spec.specs.Parsing.Scalar.{begins_letter, letters_at}
 use Rattle.text_parse.proofs.Steps.Advancing.{letters-step}
 use Rattle.text_parse.proofs.parser.Parser.parse_word.Goals as goal
 use Rattle.jsonb_spec.specs.Mode.{strictness}

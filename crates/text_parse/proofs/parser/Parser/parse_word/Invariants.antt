@@ -1,7 +1,7 @@
 use Rattle.std.proofs.Common.{◌≡◌, drop}
 use Rattle.text_scan.specs.Answer.{grammar_of}
 use Rattle.text_parse.specs.Parser.{Advances, rest_of, size_of}
-use Rattle.text_scan.specs.Parsing.Scalar.{letters_at}
+use Rattle.jsonb_spec.specs.Parsing.Scalar.{letters_at}
 use Rattle.text_parse.proofs.parser.Parser.parse_word.Given as goal
 use Rattle.jsonb_spec.specs.Mode.{strictness}
 

@@ -2,8 +2,8 @@ use Rattle.std.proofs.Common.{Ok, inl, sym, rules}
 use Rattle.std.proofs.lemmas.Bool.{cond-true}
 use Rattle.jsonb_spec.specs.Tree.{null}
 use Rattle.text_scan.specs.Answer.{grammar_of}
-use Rattle.text_scan.specs.Parsing.Container.{is_left_out}
-use Rattle.text_scan.specs.Parsing.Scalar.{scalar_at}
+use Rattle.jsonb_spec.specs.Parsing.Container.{is_left_out}
+use Rattle.jsonb_spec.specs.Parsing.Scalar.{scalar_at}
 use Rattle.jsonb_spec.specs.Source.{null_source}
 use Rattle.jsonb_spec.specs.Mode.{strictness}
 use Rattle.text_parse.specs.declared.parser.frame.Frame.TheVariants as variants

@@ -1,6 +1,6 @@
 use Rattle.std.proofs.Common.{refl, ap, subst, sym, ◌∙◌}
 use Rattle.std.proofs.lemmas.Result.{err_from_is_err_and}
-use Rattle.text_scan.specs.Parsing.Scalar.{scalar_at}
+use Rattle.jsonb_spec.specs.Parsing.Scalar.{scalar_at}
 use Rattle.text_parse.specs.Frames.{TakesTree}
 use Rattle.text_parse.specs.Handler.{Misses}
 use Rattle.text_parse.specs.Parser.{parse_at}

@@ -1,6 +1,6 @@
 use Rattle.std.proofs.Common.{refl, subst, ◌∙◌, rules}
 use Rattle.std.proofs.lemmas.Result.{err_from_is_err_and}
-use Rattle.text_scan.specs.Parsing.Whitespace.{skip_whitespace}
+use Rattle.jsonb_spec.specs.Parsing.Whitespace.{skip_whitespace}
 use Rattle.text_parse.specs.Frames.{TakesTree}
 use Rattle.text_parse.specs.Parser.{Skips}
 use Rattle.text_parse.specs.declared.parser.frame.Frame.TheVariants as variants

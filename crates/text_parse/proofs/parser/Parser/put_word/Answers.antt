@@ -3,7 +3,7 @@ use Rattle.jsonb_spec.specs.Tree.{boolean, null}
 use Rattle.text_parse.specs.Literals.{literal_text, literal_tree}
 use Rattle.text_parse.specs.Parser.{parse_at, rest_of}
 use Rattle.text_parse.specs.declared.parser.scalar.Literal.TheVariants.{Bool}
-use Rattle.text_scan.specs.Parsing.Scalar.{scalar_at}
+use Rattle.jsonb_spec.specs.Parsing.Scalar.{scalar_at}
 use Rattle.text_parse.proofs.Scalars.Built.{between, literal_encoded, put_so, scalar_still}
 use Rattle.text_parse.proofs.Steps.Failures.{puts_same}
 use Rattle.text_parse.proofs.parser.Parser.put_word.Goals as goal

@@ -1,8 +1,8 @@
 use Rattle.std.proofs.Common.{◌≡◌, true, Ok, drop, ap, subst, ◌∙◌, drop-drop, rules}
 use Rattle.std.specs.Prelude.{slice_index}
 use Rattle.text_scan.specs.Answer.{grammar_of}
-use Rattle.text_scan.specs.Parsing.Number.{is_number_start, standard_number_at}
-use Rattle.text_scan.specs.Parsing.Scalar.{number_at}
+use Rattle.jsonb_spec.specs.Parsing.Number.{is_number_start, standard_number_at}
+use Rattle.jsonb_spec.specs.Parsing.Scalar.{number_at}
 use Rattle.text_scan.specs.ShortInteger.{short_view}
 use Rattle.text_parse.specs.Parser.{rest_of, size_of}
 use Rattle.text_scan.proofs.Numbers.Standard.{number_sound}

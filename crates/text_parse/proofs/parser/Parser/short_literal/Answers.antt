@@ -2,7 +2,7 @@ use Rattle.std.proofs.Common.{◌≡◌, ◌≤◌, ◌∷◌, ℕ, List, length
 use Rattle.std.proofs.lemmas.List.{drop_more}
 use Rattle.jsonb_spec.specs.Tree.{null, boolean}
 use Rattle.text_scan.specs.Answer.{grammar_of}
-use Rattle.text_scan.specs.Parsing.Scalar.{scalar_at}
+use Rattle.jsonb_spec.specs.Parsing.Scalar.{scalar_at}
 use Rattle.text_parse.specs.Parser.{size_of}
 use Rattle.text_parse.proofs.Scalars.Built.{null_at_once, true_at_once, false_at_once}
 use Rattle.text_parse.proofs.parser.Parser.short_literal.Goals as goal

@@ -1,5 +1,5 @@
 use Rattle.std.proofs.Common.{◌≡◌, ◌+◌, ◌<◌, [], drop, sym, ap, ap₂, ◌∙◌, arith, drop-drop, length, length-drop, rules}
-use Rattle.text_scan.specs.Parsing.Whitespace.{piece_length, skip_closed_whitespace}
+use Rattle.jsonb_spec.specs.Parsing.Whitespace.{piece_length, skip_closed_whitespace}
 use Rattle.text_scan.specs.Answer.{grammar_of}
 use Rattle.text_parse.specs.Parser.{Advances, rest_of}
 use Rattle.text_scan.proofs.Text.Whitespace.{pass-none, pass-step, pass-nil}

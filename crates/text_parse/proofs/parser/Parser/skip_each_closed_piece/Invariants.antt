@@ -1,5 +1,5 @@
 use Rattle.std.proofs.Common.{◌≡◌, ◌-◌, length}
-use Rattle.text_scan.specs.Parsing.Whitespace.{skip_closed_whitespace}
+use Rattle.jsonb_spec.specs.Parsing.Whitespace.{skip_closed_whitespace}
 use Rattle.text_scan.specs.Answer.{grammar_of}
 use Rattle.text_parse.specs.Parser.{rest_of, Advances}
 use Rattle.text_parse.proofs.parser.Parser.skip_each_closed_piece.Given as goal

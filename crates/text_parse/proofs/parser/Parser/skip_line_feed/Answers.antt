@@ -2,7 +2,7 @@ use Rattle.std.proofs.Common.{◌≡◌, Bool, true, false, ◌∷◌, MatchBool
 use Rattle.jsonb_spec.specs.Grammar.Whitespace.IsWhitespacePiece.{line_feed}
 use Rattle.jsonb_spec.specs.Mode.{Mode}
 use Rattle.text_scan.specs.Answer.{grammar_of}
-use Rattle.text_scan.specs.Parsing.Whitespace.{skip_closed_whitespace}
+use Rattle.jsonb_spec.specs.Parsing.Whitespace.{skip_closed_whitespace}
 use Rattle.text_parse.specs.Parser.{rest_of}
 use Rattle.text_parse.specs.declared.parser.Parser.{Parser}
 use Rattle.text_scan.proofs.Text.Whitespace.{pass-piece}

@@ -1,6 +1,6 @@
 use Rattle.std.proofs.Common.{◌≡◌, ℕ, ◌+◌, ◌<◌, ◌≤◌, List, ap, sym, ◌∙◌, arith, drop, drop-drop, get_or, length, refl}
 use Rattle.jsonb_spec.specs.Mode.{Mode}
-use Rattle.text_scan.specs.Parsing.Whitespace.{skip_closed_whitespace}
+use Rattle.jsonb_spec.specs.Parsing.Whitespace.{skip_closed_whitespace}
 use Rattle.text_scan.specs.Answer.{grammar_of}
 use Rattle.text_parse.specs.Parser.{rest_of}
 use Rattle.text_parse.specs.declared.parser.Parser.{Parser}

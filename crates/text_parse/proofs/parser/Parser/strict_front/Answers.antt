@@ -1,7 +1,7 @@
 use Rattle.std.proofs.Common.{◌≡◌, true, subst, rules}
 use Rattle.std.specs.Prelude.{slice_index}
 use Rattle.text_scan.specs.Answer.{grammar_of}
-use Rattle.text_scan.specs.Parsing.Number.{is_number_start}
+use Rattle.jsonb_spec.specs.Parsing.Number.{is_number_start}
 use Rattle.text_scan.specs.ShortInteger.{IsVerbatimInteger}
 use Rattle.text_scan.specs.StrictFront.{IsFrontOf}
 use Rattle.text_parse.specs.Parser.{rest_of, size_of}

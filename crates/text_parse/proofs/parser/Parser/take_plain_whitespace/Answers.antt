@@ -3,7 +3,7 @@ use Rattle.jsonb_spec.specs.Grammar.Whitespace.{IsWhitespacePiece}
 use Rattle.jsonb_spec.specs.Grammar.Whitespace.IsWhitespacePiece.{space, tab, line_feed, carriage_return}
 use Rattle.text_scan.specs.Answer.{grammar_of}
 use Rattle.text_parse.specs.Parser.{rest_of}
-use Rattle.text_scan.specs.Parsing.Whitespace.{skip_closed_whitespace}
+use Rattle.jsonb_spec.specs.Parsing.Whitespace.{skip_closed_whitespace}
 use Rattle.text_parse.specs.declared.parser.Parser.{Parser}
 use Rattle.text_scan.proofs.Text.Whitespace.{pass-piece}
 use Rattle.text_parse.proofs.parser.Parser.take_plain_whitespace.Goals as goal

@@ -2,10 +2,10 @@ use Rattle.std.proofs.Common.{◌≡◌, true, subst, rules}
 use Rattle.std.specs.Prelude.{slice_index}
 use Rattle.text_scan.specs.Answer.{grammar_of}
 use Rattle.text_parse.specs.Parser.{rest_of, size_of}
-use Rattle.text_scan.specs.Parsing.Whitespace.{is_break}
-use Rattle.text_scan.specs.Parsing.Number.{is_number_start}
+use Rattle.jsonb_spec.specs.Parsing.Whitespace.{is_break}
+use Rattle.jsonb_spec.specs.Parsing.Number.{is_number_start}
 use Rattle.text_scan.specs.ShortInteger.{IsVerbatimInteger}
-use Rattle.text_scan.specs.VerbatimNumber.{IsVerbatimDecimal}
+use Rattle.jsonb_spec.specs.Text.VerbatimNumber.{IsVerbatimDecimal}
 use Rattle.text_parse.proofs.Scalars.VerbatimNumbers.{separated_integer, separated_decimal, integer_passes, decimal_passes}
 use Rattle.text_parse.proofs.parser.Parser.verbatim_number.Goals as goal
 

@@ -1,7 +1,7 @@
 use Rattle.std.proofs.Common.{◌≡◌, ◌≤◌, true, ap, ◌∙◌, arith}
 use Rattle.std.proofs.lemmas.Bool.Decides.{nat_tests}
 use Rattle.jsonb_spec.specs.Mode.{strictness}
-use Rattle.text_scan.specs.Parsing.Number.{is_number_start}
+use Rattle.jsonb_spec.specs.Parsing.Number.{is_number_start}
 use Rattle.text_scan.specs.Answer.{mode_of}
 use Rattle.text_parse.proofs.Scalars.Starts.{BeginsNone, BeginsNoMore, array_starts, double_quote_starts, extended_number_starts, false_starts, large_false_starts, large_null_starts, large_true_starts, lenient_none, null_starts, number_starts, object_starts, single_quote_starts, strict_none, true_starts}
 use Rattle.text_parse.proofs.parser.start.start_of.Goals as goal

@@ -1,6 +1,6 @@
 use Rattle.std.proofs.Common.{ap}
 use Rattle.text_scan.specs.ScannedNumber.{number_views}
-use Rattle.text_scan.specs.Parsing.ExactNumber.{right_at, left_at}
+use Rattle.jsonb_spec.specs.Parsing.ExactNumber.{right_at, left_at}
 use Rattle.text_scan.proofs.Numbers.ExactRead.{value_is, front_past, all_past}
 use Rattle.text_scan.proofs.parser.exact.exact_value.Goals as goal
 

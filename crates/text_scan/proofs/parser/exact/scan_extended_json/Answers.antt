@@ -1,6 +1,6 @@
 use Rattle.std.proofs.Common.{sym, ap, ◌∙◌, Ok}
-use Rattle.text_scan.specs.Parsing.ExtendedNumber.{decimal_end}
-use Rattle.text_scan.specs.Parsing.ExactNumber.{exact_to, extended_json_scan}
+use Rattle.jsonb_spec.specs.Parsing.ExtendedNumber.{decimal_end}
+use Rattle.jsonb_spec.specs.Parsing.ExactNumber.{exact_to, extended_json_scan}
 use Rattle.text_scan.proofs.Numbers.ExactRead.{extended_exponent}
 use Rattle.text_scan.proofs.parser.exact.scan_extended_json.Goals as goal
 

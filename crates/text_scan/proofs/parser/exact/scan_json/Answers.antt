@@ -1,5 +1,5 @@
 use Rattle.std.proofs.Common.{sym, ap, ◌∙◌, Ok, Err}
-use Rattle.text_scan.specs.Parsing.ExactNumber.{exact_to}
+use Rattle.jsonb_spec.specs.Parsing.ExactNumber.{exact_to}
 use Rattle.text_scan.proofs.Numbers.ExactRead.{whole_fault, standard_is, json_exponent}
 use Rattle.text_scan.proofs.parser.exact.scan_json.Goals as goal
 

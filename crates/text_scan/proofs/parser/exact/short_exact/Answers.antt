@@ -2,7 +2,7 @@ use Rattle.std.proofs.Common.{◌≡◌, ◌==◌, sym, ap, ◌∙◌, Some}
 use Rattle.jsonb_spec.specs.Grammar.ExactNumber.{moved_number}
 use Rattle.jsonb_core.specs.View.{number_view}
 use Rattle.text_scan.specs.ScannedNumber.{number_views}
-use Rattle.text_scan.specs.Parsing.ExactNumber.{right_at, left_at, few_digits}
+use Rattle.jsonb_spec.specs.Parsing.ExactNumber.{right_at, left_at, few_digits}
 use Rattle.text_scan.proofs.Numbers.ExactRead.{extended_read, json_read}
 use Rattle.text_scan.proofs.parser.exact.short_exact.Goals as goal
 

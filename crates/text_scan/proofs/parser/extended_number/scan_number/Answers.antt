@@ -1,5 +1,5 @@
 use Rattle.std.proofs.Common.{sym, ◌∙◌}
-use Rattle.text_scan.specs.Parsing.ExtendedNumber.{decimal_scan, extended_scan}
+use Rattle.jsonb_spec.specs.Parsing.ExtendedNumber.{decimal_scan, extended_scan}
 use Rattle.text_scan.proofs.parser.extended_number.scan_number.Goals as goal
 
 pub returns-in-Some-clause-scan : goal.returns-in-Some-clause-scan

@@ -2,7 +2,7 @@ use Rattle.std.proofs.Common.{sym, ap, ◌∙◌, ◌≡◌, ◌≢◌}
 use Rattle.std.specs.Prelude.{slice_index}
 use Rattle.std.specs.Char.{to_ascii_lowercase}
 use Rattle.std.proofs.lemmas.Result.{err_from_is_err_and}
-use Rattle.text_scan.specs.Parsing.ExtendedNumber.{unrepresentable_word, invalid_word}
+use Rattle.jsonb_spec.specs.Parsing.ExtendedNumber.{unrepresentable_word, invalid_word}
 use Rattle.text_scan.proofs.Scalars.WordLetters.{words_misspelled, words_nan_minus, words_nan_plus, words_infinity}
 use Rattle.text_scan.proofs.parser.extended_number.scan_word.Goals as goal
 

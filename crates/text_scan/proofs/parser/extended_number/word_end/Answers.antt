@@ -1,5 +1,5 @@
 use Rattle.std.proofs.Common.{arith, sym, ap, ◌≡◌, ◌+◌, ◌∙◌, drop}
-use Rattle.text_scan.specs.Parsing.ExtendedNumber.{encoded_from}
+use Rattle.jsonb_spec.specs.Parsing.ExtendedNumber.{encoded_from}
 use Rattle.text_scan.proofs.Scalars.WordLetters.{word_more, word_other, word_ended, word_done}
 use Rattle.text_scan.proofs.parser.extended_number.word_end.Goals as goal
 

@@ -1,6 +1,6 @@
 use Rattle.std.proofs.Common.{◌≡◌, ◌+◌, drop, drop-drop, ap, arith}
 use Rattle.std.proofs.lemmas.List.{take_rest}
-use Rattle.text_scan.specs.Parsing.Number.{digits_length}
+use Rattle.jsonb_spec.specs.Parsing.Number.{digits_length}
 use Rattle.text_scan.proofs.Numbers.DigitRuns.{count_digits}
 use Rattle.text_scan.proofs.parser.integer.digits_and_next.Goals as goal
 

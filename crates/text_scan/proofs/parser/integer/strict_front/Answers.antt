@@ -1,6 +1,6 @@
 use Rattle.std.proofs.Common.{◌≡◌, ◌-◌, length, get_or, refl, sym, subst, ap, arith}
 use Rattle.std.proofs.lemmas.List.{length-drop}
-use Rattle.text_scan.specs.Parsing.Number.{ContinuesNumber, digits_length, whole_start}
+use Rattle.jsonb_spec.specs.Parsing.Number.{ContinuesNumber, digits_length, whole_start}
 use Rattle.text_scan.proofs.Numbers.Verbatim.{verbatim_read}
 use Rattle.text_scan.proofs.Numbers.VerbatimDecimals.{before_point}
 use Rattle.text_scan.proofs.Numbers.Ends.{whole_start_within}

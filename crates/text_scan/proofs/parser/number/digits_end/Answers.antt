@@ -1,5 +1,5 @@
 use Rattle.std.proofs.Common.{arith, sym, ◌∙◌}
-use Rattle.text_scan.specs.Parsing.Number.{digits_from}
+use Rattle.jsonb_spec.specs.Parsing.Number.{digits_from}
 use Rattle.text_scan.proofs.Numbers.Steps.{digits_go_on, digits_end_here, digits_end_past}
 use Rattle.text_scan.proofs.parser.number.digits_end.Goals as goal
 

@@ -1,5 +1,5 @@
 use Rattle.std.proofs.Common.{◌≡◌, ◌+◌, ◌-◌, ◌≤◌, length, drop}
-use Rattle.text_scan.specs.Parsing.Number.{digits_length, digits_from}
+use Rattle.jsonb_spec.specs.Parsing.Number.{digits_length, digits_from}
 use Rattle.text_scan.proofs.parser.number.digits_end.Given as goal
 
 abbrev pub invariant-digits : goal.invariant-digits

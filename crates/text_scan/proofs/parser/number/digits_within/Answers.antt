@@ -1,5 +1,5 @@
 use Rattle.std.proofs.Common.{arith, refl}
-use Rattle.text_scan.specs.Parsing.Number.{digits_length}
+use Rattle.jsonb_spec.specs.Parsing.Number.{digits_length}
 use Rattle.text_scan.proofs.Numbers.Steps.{digits_go_on, digits_end_here, adds_digit}
 use Rattle.text_scan.proofs.parser.number.digits_within.Goals as goal
 

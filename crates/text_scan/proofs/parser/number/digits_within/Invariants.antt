@@ -1,6 +1,6 @@
 use Rattle.std.proofs.Common.{◌≡◌, ◌+◌, ◌-◌, ◌^◌, ◌<◌, ◌≤◌, take, drop}
 use Rattle.std.specs.Str.Parse.{digits_value}
-use Rattle.text_scan.specs.Parsing.Number.{digits_length}
+use Rattle.jsonb_spec.specs.Parsing.Number.{digits_length}
 use Rattle.text_scan.proofs.parser.number.digits_within.Given as goal
 
 abbrev pub invariant-digits : goal.invariant-digits

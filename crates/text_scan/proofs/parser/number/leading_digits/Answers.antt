@@ -1,7 +1,7 @@
 use Rattle.std.proofs.Common.{◌≡◌, ◌+◌, ◌-◌, ◌<◌, ◌^◌, ap, subst, arith, ◌∙◌, drop, take}
 use Rattle.std.specs.Option.{SomeIff}
 use Rattle.std.specs.Str.Parse.{digits_value, digits_value_after}
-use Rattle.text_scan.specs.Parsing.Number.{digits_length}
+use Rattle.jsonb_spec.specs.Parsing.Number.{digits_length}
 use Rattle.text_scan.proofs.Numbers.DigitValues.{value_from_front}
 use Rattle.text_scan.proofs.parser.number.leading_digits.Goals as goal
 

@@ -1,7 +1,7 @@
 use Rattle.std.proofs.Common.{◌≡◌, ◌⊎◌, ◌+◌, ◌<◌, ◌≤◌, ◌^◌, true, arith, inl, inr, refl, sym, subst, ap, ◌∙◌}
 use Rattle.std.proofs.lemmas.Bool.{eqb-true, false≢true}
 use Rattle.std.specs.Prelude.{◌==◌, slice_index}
-use Rattle.text_scan.specs.Parsing.Number.{ContinuesNumber, digits_length}
+use Rattle.jsonb_spec.specs.Parsing.Number.{ContinuesNumber, digits_length}
 use Rattle.text_scan.proofs.Numbers.Steps.{counted_all, short_is, short_read, starts_here, value_fits}
 use Rattle.text_scan.proofs.parser.number.short_integer.Goals as goal
 use Rattle.text_scan.proofs.parser.number.short_integer.Goals.{then-len-gt1, else-len-gt1, else-negative-via-then-negative+else-magnitude, else-negative-via-else-negative}

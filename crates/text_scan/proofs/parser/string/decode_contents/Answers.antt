@@ -2,7 +2,7 @@ use Rattle.std.proofs.Common.{length, ℕ, List, Ok, sym, ap, subst, ◌∙◌, 
 use Rattle.std.proofs.lemmas.Result.{err_from_is_err_and}
 use Rattle.jsonb_spec.specs.Tree.{plain}
 use Rattle.text_scan.specs.Answer.{mode_of}
-use Rattle.text_scan.specs.Decoding.{ReportsBackslash}
+use Rattle.jsonb_spec.specs.Parsing.Decoding.{ReportsBackslash}
 use Rattle.text_scan.proofs.Steps.Modes.{code_goes_beyond}
 use Rattle.text_scan.proofs.Strings.Bodies.{body-raw, body-raw_fault, body-decoded, reads_rejected}
 use Rattle.text_scan.proofs.parser.string.decode_contents.Goals as goal

@@ -1,6 +1,6 @@
 use Rattle.std.proofs.Common.{◌≡◌, ◌+◌, ◌<◌, length, get_or, ⊎_elim, ap, ◌∙◌, arith}
 use Rattle.std.proofs.lemmas.List.{take_rest}
-use Rattle.jsonb_core.specs.StringStep.{escape_step}
+use Rattle.jsonb_spec.specs.Grammar.StringStep.{escape_step}
 use Rattle.text_scan.proofs.Strings.NearMarks.{knows_later, knows_none}
 use Rattle.text_scan.proofs.Strings.Bodies.{search_start, search_escape, search_to, found_end, no_end, reports_run}
 use Rattle.text_scan.proofs.parser.string.find_end.Goals as goal

@@ -1,5 +1,5 @@
 use Rattle.std.proofs.Common.{◌+◌, ◌-◌, ◌<◌, length}
-use Rattle.text_scan.specs.Decoding.{ReportsBackslash}
+use Rattle.jsonb_spec.specs.Parsing.Decoding.{ReportsBackslash}
 use Rattle.text_scan.specs.QuotedString.{KnowsMarks}
 use Rattle.text_scan.proofs.Strings.Bodies.{SearchFrom}
 use Rattle.text_scan.proofs.parser.string.find_end.Given as goal

@@ -1,7 +1,8 @@
 use Rattle.std.proofs.Common.{ℕ, List, ◌≡◌, ◌+◌, ◌<◌, ◌≤◌, ◌↔◌, Option, None, Some, IfNone, IfSome, ⊎_elim, get_or, length, bit_or, subst, sym, arith}
 use Rattle.std.specs.Int.{bit_at}
 use Rattle.std.proofs.lemmas.Bool.{cases_lt}
-use Rattle.text_scan.specs.QuotedString.{IsClear, IsQuoteOrBackslash, ReportsMarks}
+use Rattle.jsonb_spec.specs.Parsing.Contents.{IsClear, IsQuoteOrBackslash}
+use Rattle.text_scan.specs.QuotedString.{ReportsMarks}
 use Rattle.text_scan.proofs.Strings.NearMarks.{clear_all, clear_before, reports}
 use Rattle.text_scan.proofs.parser.string.near_mark.Goals as goal
 

@@ -1,5 +1,5 @@
 use Rattle.std.proofs.Common.{◌==◌, sym, subst, ap, arith}
-use Rattle.text_scan.specs.Parsing.Number.{ContinuesNumber, digits_length}
+use Rattle.jsonb_spec.specs.Parsing.Number.{ContinuesNumber, digits_length}
 use Rattle.text_scan.proofs.Numbers.Verbatim.{verbatim_read}
 use Rattle.text_scan.proofs.Numbers.VerbatimDecimals.{counted_before, signed_decimal}
 use Rattle.text_scan.proofs.Numbers.Steps.{starts_here}

@@ -1,7 +1,7 @@
 use Rattle.std.proofs.Common.{◌≡◌, ◌+◌, ◌<◌, drop, get_or, sym, ap, subst, ◌∙◌, arith}
 use Rattle.std.specs.Int.{bit_at}
 use Rattle.std.proofs.lemmas.Nat.Bits.{bit_at-zero}
-use Rattle.text_scan.specs.Parsing.Whitespace.{block_length, longer_by}
+use Rattle.jsonb_spec.specs.Parsing.Whitespace.{block_length, longer_by}
 use Rattle.text_scan.proofs.Text.Comments.{block_at, block_far, longer-longer}
 use Rattle.text_scan.proofs.parser.whitespace.block_len.Goals as goal
 

@@ -1,5 +1,5 @@
 use Rattle.std.proofs.Common.{◌≡◌, ◌+◌, drop, inl, inr, sym, ap, ◌∙◌, arith}
-use Rattle.text_scan.specs.Parsing.Whitespace.{block_length, longer_by}
+use Rattle.jsonb_spec.specs.Parsing.Whitespace.{block_length, longer_by}
 use Rattle.text_scan.proofs.Text.Comments.{block_at, block_none, block_past, longer-longer}
 use Rattle.text_scan.proofs.parser.whitespace.short_block_len.Goals as goal
 use Rattle.text_scan.proofs.parser.whitespace.short_block_len.Goals.{else-bytes-at-eq42-via-then-bytes-at-eq42+else-bytes-at-eq47, else-bytes-at-eq42-via-else-bytes-at-eq42}

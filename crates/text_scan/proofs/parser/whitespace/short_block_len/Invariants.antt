@@ -1,5 +1,5 @@
 use Rattle.std.proofs.Common.{◌≡◌, ◌-◌, ◌≤◌, drop, length}
-use Rattle.text_scan.specs.Parsing.Whitespace.{block_length, longer_by}
+use Rattle.jsonb_spec.specs.Parsing.Whitespace.{block_length, longer_by}
 use Rattle.text_scan.proofs.parser.whitespace.short_block_len.Given as goal
 
 abbrev pub invariant-bytes : goal.invariant-bytes

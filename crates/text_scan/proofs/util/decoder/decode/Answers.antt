@@ -1,7 +1,7 @@
 use Rattle.std.proofs.Common.{◌≡◌, ◌∷◌, ◌<◌, length, take, sym, ap, ◌∙◌, subst, arith}
 use Rattle.std.proofs.lemmas.Result.{err_from_is_err_and}
 use Rattle.text_scan.specs.Answer.{mode_of}
-use Rattle.text_scan.specs.Decoding.{Adds}
+use Rattle.jsonb_spec.specs.Parsing.Decoding.{Adds}
 use Rattle.text_scan.proofs.Steps.Modes.{code_goes_beyond}
 use Rattle.text_scan.proofs.Strings.Checks.{front_stays}
 use Rattle.text_scan.proofs.Strings.Decoding.{adds_run, adds_then, first_byte, stops_after}

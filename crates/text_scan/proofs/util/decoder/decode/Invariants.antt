@@ -1,6 +1,6 @@
 use Rattle.std.proofs.Common.{◌≡◌, ◌+◌, ◌≤◌, length, take}
 use Rattle.text_scan.specs.Answer.{mode_of}
-use Rattle.text_scan.specs.Decoding.{Adds}
+use Rattle.jsonb_spec.specs.Parsing.Decoding.{Adds}
 use Rattle.text_scan.proofs.util.decoder.decode.Given as goal
 
 abbrev pub invariant-items : goal.invariant-items

@@ -3,7 +3,7 @@ use Rattle.std.specs.Str.{IsUtf8}
 use Rattle.std.proofs.lemmas.Str.{IsUtf8-string_bytes}
 use Rattle.std.proofs.lemmas.Bool.{false≢true}
 use Rattle.text_scan.specs.Answer.{mode_of}
-use Rattle.text_scan.specs.Decoding.{DecodesUpTo}
+use Rattle.jsonb_spec.specs.Parsing.Decoding.{DecodesUpTo}
 use Rattle.text_scan.proofs.Strings.Decoding.{decodes_all, fault_no_text}
 use Rattle.text_scan.proofs.util.decoder.unescape.Goals as goal
 

@@ -1,6 +1,6 @@
 use Rattle.jsonb_spec.specs.Tree.{escaped}
 use Rattle.text_scan.specs.Answer.{mode_of}
-use Rattle.text_scan.specs.QuotedString.{decoded_text}
+use Rattle.jsonb_spec.specs.Parsing.Contents.{decoded_text}
 use Rattle.text_scan.proofs.Strings.Items.{parsed_contents}
 use Rattle.text_write.proofs.contents.Contents.new.Goals as goal
 

@@ -1,8 +1,8 @@
 use Rattle.std.proofs.Common.{◌≡◌, ◌++◌, ◌∷◌, [], List, ℕ, ap, refl, subst, ◌∙◌, append_assoc}
 use Rattle.jsonb_spec.specs.SortKey.{text_key}
 use Rattle.text_scan.specs.Answer.{mode_of}
-use Rattle.text_scan.specs.Decoding.{AreContents}
-use Rattle.text_scan.specs.QuotedString.{decoded_text}
+use Rattle.jsonb_spec.specs.Parsing.Decoding.{AreContents}
+use Rattle.jsonb_spec.specs.Parsing.Contents.{decoded_text}
 use Rattle.text_members.proofs.Outcomes.{both_ok, on_ok}
 use Rattle.text_write.specs.Contents.{text_of_contents}
 use Rattle.text_write.proofs.Keys.KeySinks.{wrote}

@@ -1,8 +1,8 @@
 use Rattle.std.proofs.Common.{◌+◌, ◌++◌, ◌∷◌, [], ap, sym, refl, subst, take, ◌∙◌, append_assoc}
 use Rattle.std.proofs.lemmas.List.{take_rest}
 use Rattle.jsonb_spec.specs.SortKey.{text_key}
-use Rattle.text_common.specs.JsonString.{IsJsonBody}
-use Rattle.text_members.specs.Members.{source_key}
+use Rattle.jsonb_spec.specs.Text.JsonString.{IsJsonBody}
+use Rattle.jsonb_spec.specs.SortKey.Joined.{source_key}
 use Rattle.text_members.proofs.Outcomes.{both_ok, on_ok}
 use Rattle.text_write.proofs.Keys.KeySinks.{wrote}
 use Rattle.text_write.proofs.JsonStrings.{body_at}

@@ -2,7 +2,7 @@ use Rattle.std.proofs.Common.{subst, sym}
 use Rattle.std.specs.Result.{OnOk}
 use Rattle.jsonb_spec.specs.Source.{Source}
 use Rattle.text_write.specs.KeySink.{Writes}
-use Rattle.text_members.specs.Members.{source_key}
+use Rattle.jsonb_spec.specs.SortKey.Joined.{source_key}
 use Rattle.text_common.specs.VerbatimScalar.{IsVerbatimAt}
 use Rattle.text_write.proofs.DecimalKeys.{decimal_written}
 use Rattle.text_write.proofs.IntegerKeys.{integer_written}

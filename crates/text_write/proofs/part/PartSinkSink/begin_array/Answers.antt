@@ -1,6 +1,6 @@
 use Rattle.std.proofs.Common.{[], ◌∷◌, ◌∙◌, false, subst, sym}
 use Rattle.text_write.specs.TextSink.{TextHolds, items}
-use Rattle.text_common.specs.Open.{elements_so_far}
+use Rattle.jsonb_spec.specs.Source.Open.{elements_so_far}
 use Rattle.text_write.specs.PartSink.{array_held}
 use Rattle.text_write.proofs.PartSinks.{array_begun, begun_in}
 use Rattle.text_write.proofs.part.PartSinkSink.begin_array.Goals as goal

@@ -1,5 +1,5 @@
 use Rattle.std.proofs.Common.{None, [], map, refl}
-use Rattle.text_common.specs.Open.{members_so_far}
+use Rattle.jsonb_spec.specs.Source.Open.{members_so_far}
 use Rattle.text_write.specs.PartSink.{check_held, object_held}
 use Rattle.text_write.proofs.PartSinks.{begun_in, object_begun_around}
 use Rattle.text_write.proofs.part.PartSinkSink.begin_object.Goals as goal

@@ -1,6 +1,6 @@
 use Rattle.std.proofs.Common.{◌≡◌, ◌<◌, true, false, map, rules}
 use Rattle.std.specs.Option.{is_none}
-use Rattle.text_common.specs.Open.{members_so_far}
+use Rattle.jsonb_spec.specs.Source.Open.{members_so_far}
 use Rattle.jsonb_spec.specs.Source.{object_source_of}
 use Rattle.text_write.specs.PartSink.{check_held, object_held}
 use Rattle.text_write.proofs.PartSinks.{ended_in, ends_in, new_in, reported_around, reported_in}

@@ -1,5 +1,5 @@
 use Rattle.std.proofs.Common.{◌≡◌, ◌<◌, ◌∷◌, ◌++◌, [], rules}
-use Rattle.text_common.specs.Open.{members_so_far}
+use Rattle.jsonb_spec.specs.Source.Open.{members_so_far}
 use Rattle.jsonb_spec.specs.Source.{found_member}
 use Rattle.text_write.specs.PartSink.{object_held}
 use Rattle.text_write.proofs.PartSinks.{member_put, put_in}

@@ -1,5 +1,5 @@
 use Rattle.std.proofs.Common.{◌≡◌, ◌<◌, true, false, map, rules}
-use Rattle.text_common.specs.Open.{members_so_far}
+use Rattle.jsonb_spec.specs.Source.Open.{members_so_far}
 use Rattle.text_write.specs.PartSink.{check_held, object_held}
 use Rattle.text_write.proofs.PartSinks.{goes_on_in, member_due}
 use Rattle.text_members.proofs.Outcomes.{on_ok}

@@ -1,5 +1,5 @@
 use Rattle.std.proofs.Common.{◌≡◌, ◌<◌, true, false, rules}
-use Rattle.text_common.specs.Open.{elements_so_far}
+use Rattle.jsonb_spec.specs.Source.Open.{elements_so_far}
 use Rattle.text_write.specs.PartSink.{array_held}
 use Rattle.text_write.proofs.PartSinks.{goes_on_in, item_due}
 use Rattle.text_members.proofs.Outcomes.{on_ok}

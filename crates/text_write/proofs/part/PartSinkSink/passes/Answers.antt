@@ -1,8 +1,9 @@
 use Rattle.std.proofs.Common.{◌≡◌, ◌∷◌, ◌++◌, [], ℕ, Bool, true, false, not, List, None, Some, refl, ap, arith}
 use Rattle.std.specs.Prelude.{MatchBool, if◌then◌else◌}
 use Rattle.jsonb_spec.specs.Source.{Source}
-use Rattle.text_common.specs.Open.{Open, elements_so_far}
-use Rattle.text_write.specs.PartSink.{HasNoParts, PartHeld, PartHolds, array_held}
+use Rattle.jsonb_spec.specs.Source.Open.{Open, elements_so_far}
+use Rattle.jsonb_spec.specs.PartAt.SoFar.{HasNoParts}
+use Rattle.text_write.specs.PartSink.{PartHeld, PartHolds, array_held}
 use Rattle.text_write.specs.declared.part.PartItems.{PartItems}
 use Rattle.text_write.specs.declared.part.PartSink.{PartSink}
 use Rattle.text_write.proofs.PartSinks.{item_passes}

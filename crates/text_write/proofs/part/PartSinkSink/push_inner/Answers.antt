@@ -1,5 +1,5 @@
 use Rattle.std.proofs.Common.{◌≡◌, ◌<◌, ◌∷◌, ◌++◌, [], rules}
-use Rattle.text_common.specs.Open.{elements_so_far}
+use Rattle.jsonb_spec.specs.Source.Open.{elements_so_far}
 use Rattle.text_write.specs.PartSink.{array_held}
 use Rattle.text_write.proofs.PartSinks.{item_put, put_in}
 use Rattle.text_write.proofs.part.PartSinkSink.push_inner.Goals as goal

@@ -3,7 +3,7 @@ use Rattle.std.specs.Result.{OnOk}
 use Rattle.jsonb_spec.specs.Source.{Source}
 use Rattle.text_write.specs.TextSink.{Writes}
 use Rattle.text_common.specs.VerbatimScalar.{IsVerbatimAt}
-use Rattle.text_common.specs.SourceText.{source_text}
+use Rattle.jsonb_spec.specs.Text.SourceText.{source_text}
 use Rattle.text_members.proofs.Outcomes.{on_ok}
 use Rattle.text_write.proofs.text.TextSink.verbatim.Goals as goal
 

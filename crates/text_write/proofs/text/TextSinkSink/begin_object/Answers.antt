@@ -1,5 +1,5 @@
 use Rattle.std.proofs.Common.{◌≡◌, ◌∷◌, [], length, false, subst, sym, arith}
-use Rattle.text_common.specs.Open.{members_so_far}
+use Rattle.jsonb_spec.specs.Source.Open.{members_so_far}
 use Rattle.text_write.specs.TextSink.{TextHolds, members}
 use Rattle.text_write.proofs.SinkMembers.{object_begun}
 use Rattle.text_write.proofs.text.TextSinkSink.begin_object.Goals as goal

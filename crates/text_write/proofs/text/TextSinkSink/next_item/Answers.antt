@@ -1,5 +1,5 @@
 use Rattle.std.proofs.Common.{subst, sym}
-use Rattle.text_write.specs.OpenText.{comma_unless}
+use Rattle.jsonb_spec.specs.Text.SoFar.{comma_unless}
 use Rattle.text_write.specs.TextSink.{Writes}
 use Rattle.text_write.proofs.Sinks.{comma_written, unchanged}
 use Rattle.text_write.proofs.text.TextSinkSink.next_item.Goals as goal

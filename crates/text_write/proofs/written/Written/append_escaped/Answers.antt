@@ -3,8 +3,8 @@ use Rattle.std.proofs.lemmas.List.{append-nil}
 use Rattle.std.specs.List.{flat_map}
 use Rattle.jsonb_spec.specs.Text.StringText.{byte_text}
 use Rattle.text_scan.specs.Answer.{mode_of}
-use Rattle.text_scan.specs.Decoding.{AreContents}
-use Rattle.text_scan.specs.QuotedString.{decoded_text}
+use Rattle.jsonb_spec.specs.Parsing.Decoding.{AreContents}
+use Rattle.jsonb_spec.specs.Parsing.Contents.{decoded_text}
 use Rattle.text_write.specs.Contents.{text_of_contents}
 use Rattle.text_write.specs.Written.{bytes_of}
 use Rattle.text_write.proofs.JsonStrings.{quoted_bytes}

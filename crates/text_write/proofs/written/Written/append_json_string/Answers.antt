@@ -2,8 +2,8 @@ use Rattle.std.proofs.Common.{◌≡◌, ◌+◌, ◌++◌, ◌∷◌, [], List,
 use Rattle.std.specs.List.{flat_map}
 use Rattle.std.proofs.lemmas.List.{append-nil, take_rest}
 use Rattle.jsonb_spec.specs.Text.StringText.{byte_text}
-use Rattle.text_common.specs.JsonString.{IsJsonBody}
-use Rattle.text_common.specs.SourceText.{source_text}
+use Rattle.jsonb_spec.specs.Text.JsonString.{IsJsonBody}
+use Rattle.jsonb_spec.specs.Text.SourceText.{source_text}
 use Rattle.text_write.specs.Written.{bytes_of}
 use Rattle.text_members.proofs.Outcomes.{on_ok}
 use Rattle.text_write.proofs.JsonStrings.{body_at, quoted_bytes}

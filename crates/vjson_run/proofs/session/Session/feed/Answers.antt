@@ -1,6 +1,6 @@
 use Rattle.std.proofs.Common.{OnOk, IfSome, sym, subst}
 use Rattle.vjson_run.proofs.Troubled.{fed_takes, fed_troubles}
-use Rattle.vjson_run.specs.Input.{texts_of}
+use Rattle.jsonb_spec.specs.Program.Input.{texts_of}
 use Rattle.vjson_run.specs.Trouble.{Advances}
 use Rattle.vjson_run.proofs.session.Session.feed.Goals as goal
 

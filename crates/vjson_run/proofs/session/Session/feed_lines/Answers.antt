@@ -1,7 +1,7 @@
 use Rattle.std.proofs.Common.{◌≡◌, ◌++◌, ◌∙◌, IfSome, ap, arith, subst}
 use Rattle.std.specs.Io.BufRead.{take_through}
 use Rattle.vjson_run.proofs.Fed.{all_fed, first_fed, more_fed, none_fed, over_fed}
-use Rattle.vjson_run.specs.Input.{without_mark}
+use Rattle.jsonb_spec.specs.Program.Input.{without_mark}
 use Rattle.vjson_run.specs.Runs.{line_texts}
 use Rattle.vjson_run.specs.Trouble.{Advances}
 use Rattle.vjson_run.proofs.session.Session.feed_lines.Goals as goal

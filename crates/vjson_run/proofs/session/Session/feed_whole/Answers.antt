@@ -1,6 +1,6 @@
 use Rattle.std.proofs.Common.{◌∙◌, ap}
 use Rattle.vjson_run.proofs.Fed.{whole_fed}
-use Rattle.vjson_run.specs.Input.{without_mark}
+use Rattle.jsonb_spec.specs.Program.Input.{without_mark}
 use Rattle.vjson_run.proofs.session.Session.feed_whole.Goals as goal
 
 pub returns : goal.returns

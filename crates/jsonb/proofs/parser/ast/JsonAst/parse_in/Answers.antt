@@ -3,7 +3,7 @@ use Rattle.text_parse.specs.Handler.{Misses}
 use Rattle.jsonb.specs.AstView.{ast_view}
 use Rattle.jsonb.specs.Source.{source_view}
 use Rattle.text_scan.specs.Answer.{Fails, grammar_of}
-use Rattle.text_scan.specs.Parsing.Document.{source_of}
+use Rattle.jsonb_spec.specs.Parsing.Document.{source_of}
 use Rattle.jsonb.proofs.Documents.Agreement.{gives_all, gives_as_specified, gives_source, gives_tree}
 use Rattle.jsonb.proofs.parser.ast.JsonAst.parse_in.Goals as goal
 

@@ -1,5 +1,6 @@
 use Rattle.std.proofs.Common.{◌≡◌, drop}
-use Rattle.jsonb.specs.Source.{sources_view, source_members_view, sources_eq, source_members_eq}
+use Rattle.jsonb.specs.Source.{sources_view, source_members_view}
+use Rattle.jsonb_spec.specs.Source.Equality.{sources_eq, source_members_eq}
 use Rattle.jsonb.proofs.parser.ast.equality.+same.Given as goal
 
 -- what is left decides

@@ -1,5 +1,5 @@
 use Rattle.std.proofs.Common.{ap, ◌∙◌, Ok}
-use Rattle.text_scan.specs.Parsing.ExtendedNumber.{decimal_to, decimal_scan}
+use Rattle.jsonb_spec.specs.Parsing.ExtendedNumber.{decimal_to, decimal_scan}
 use Rattle.text_scan.proofs.parser.extended_number.decimal.scan_decimal.Goals as goal
 
 pub returns-in-Ok-clause-scan : goal.returns-in-Ok-clause-scan

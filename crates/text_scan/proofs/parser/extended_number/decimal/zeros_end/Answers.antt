@@ -1,6 +1,6 @@
 use Rattle.std.proofs.Common.{arith}
 use Rattle.std.proofs.lemmas.List.{get_or_past}
-use Rattle.text_scan.specs.Parsing.ExtendedNumber.{zeros_from}
+use Rattle.jsonb_spec.specs.Parsing.ExtendedNumber.{zeros_from}
 use Rattle.text_scan.proofs.Numbers.DecimalScan.{zeros_go_on, zeros_end_here}
 use Rattle.text_scan.proofs.parser.extended_number.decimal.zeros_end.Goals as goal
 

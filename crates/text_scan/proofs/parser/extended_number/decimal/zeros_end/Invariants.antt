@@ -1,5 +1,5 @@
 use Rattle.std.proofs.Common.{◌≡◌, ◌+◌, ◌-◌, ◌≤◌, length, drop}
-use Rattle.text_scan.specs.Parsing.ExtendedNumber.{zeros_length, zeros_from}
+use Rattle.jsonb_spec.specs.Parsing.ExtendedNumber.{zeros_length, zeros_from}
 use Rattle.text_scan.proofs.parser.extended_number.decimal.zeros_end.Given as goal
 
 abbrev pub invariant-zeros : goal.invariant-zeros

@@ -1,7 +1,7 @@
 use Rattle.std.proofs.Common.{arith, ap, ◌<◌, drop, add-one}
 use Rattle.std.specs.Prelude.{slice_index}
 use Rattle.std.specs.Char.{digit_value}
-use Rattle.text_scan.specs.Parsing.ExtendedNumber.{hexadecimal_length}
+use Rattle.jsonb_spec.specs.Parsing.ExtendedNumber.{hexadecimal_length}
 use Rattle.text_scan.proofs.Numbers.HexadecimalValues.{length_more, length_stop}
 use Rattle.text_scan.proofs.parser.extended_number.hexadecimal.hexadecimal_length.Goals as goal
 

@@ -1,5 +1,5 @@
 use Rattle.std.proofs.Common.{◌≡◌, ◌+◌, ◌-◌, ◌≤◌, length, drop}
-use Rattle.text_scan.specs.Parsing.ExtendedNumber.{hexadecimal_length}
+use Rattle.jsonb_spec.specs.Parsing.ExtendedNumber.{hexadecimal_length}
 use Rattle.text_scan.proofs.parser.extended_number.hexadecimal.hexadecimal_length.Given as goal
 
 abbrev pub invariant-digits : goal.invariant-digits

@@ -1,6 +1,6 @@
 use Rattle.std.proofs.Common.{sym, ap, ◌∙◌, take, ◌+◌}
 use Rattle.std.proofs.lemmas.List.{take_rest}
-use Rattle.text_scan.specs.Parsing.ExtendedNumber.{fraction_scan}
+use Rattle.jsonb_spec.specs.Parsing.ExtendedNumber.{fraction_scan}
 use Rattle.text_scan.specs.ScannedNumber.{number_views}
 use Rattle.text_scan.proofs.Numbers.HexadecimalAnswers.{fits_is, hexadecimal_without_digits, hexadecimal_with_point, hexadecimal_past, hexadecimal_whole_at}
 use Rattle.text_scan.proofs.parser.extended_number.hexadecimal.scan_hexadecimal.Goals as goal

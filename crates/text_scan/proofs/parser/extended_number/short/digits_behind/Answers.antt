@@ -1,6 +1,6 @@
 use Rattle.std.proofs.Common.{arith, ◌≡◌, ap, refl, sym, ◌∙◌, take}
 use Rattle.std.specs.Str.Parse.{digits_value_after}
-use Rattle.text_scan.specs.Parsing.Number.{digits_length}
+use Rattle.jsonb_spec.specs.Parsing.Number.{digits_length}
 use Rattle.text_scan.proofs.Numbers.DigitValues.{adds_behind}
 use Rattle.text_scan.proofs.Numbers.Steps.{digits_go_on, digits_end_here, digits_end_past}
 use Rattle.text_scan.proofs.parser.extended_number.short.digits_behind.Goals as goal

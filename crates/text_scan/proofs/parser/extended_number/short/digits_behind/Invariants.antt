@@ -1,6 +1,6 @@
 use Rattle.std.proofs.Common.{◌≡◌, ◌+◌, ◌-◌, ◌^◌, ◌<◌, ◌≤◌, length, take, drop}
 use Rattle.std.specs.Str.Parse.{digits_value_after}
-use Rattle.text_scan.specs.Parsing.Number.{digits_length}
+use Rattle.jsonb_spec.specs.Parsing.Number.{digits_length}
 use Rattle.text_scan.proofs.parser.extended_number.short.digits_behind.Given as goal
 
 abbrev pub invariant-digits : goal.invariant-digits

@@ -2,7 +2,7 @@ use Rattle.std.proofs.Common.{◌≡◌, ◌<◌, ◌∷◌, List, ℕ, length, 
 use Rattle.std.proofs.lemmas.List.{take_rest, nil_from_length, get_or-drop}
 use Rattle.std.proofs.lemmas.Result.{err_from_is_err_and}
 use Rattle.text_scan.specs.Answer.{mode_of}
-use Rattle.text_scan.specs.Decoding.{IsDecodedUpTo}
+use Rattle.jsonb_spec.specs.Parsing.Decoding.{IsDecodedUpTo}
 use Rattle.text_scan.proofs.Steps.Modes.{code_goes_beyond}
 use Rattle.text_scan.proofs.Strings.Checks.{up_to_run, up_to_then}
 use Rattle.text_scan.proofs.Strings.Decoding.{first_byte, stops_after}

@@ -1,6 +1,6 @@
 use Rattle.std.proofs.Common.{length}
 use Rattle.text_scan.specs.Answer.{mode_of}
-use Rattle.text_scan.specs.Decoding.{IsDecodedUpTo}
+use Rattle.jsonb_spec.specs.Parsing.Decoding.{IsDecodedUpTo}
 use Rattle.text_scan.proofs.util.decoder.check.check.Given as goal
 
 abbrev pub invariant-escapes : goal.invariant-escapes

@@ -1,7 +1,7 @@
 use Rattle.std.proofs.Common.{[], List, ℕ, length, ap, inl, subst, arith}
 use Rattle.jsonb_core.specs.Error.CodeView.{code_of}
 use Rattle.text_scan.specs.Answer.{mode_of}
-use Rattle.text_scan.specs.Decoding.{IsDecodedUpTo, StopsAtEscape}
+use Rattle.jsonb_spec.specs.Parsing.Decoding.{IsDecodedUpTo, StopsAtEscape}
 use Rattle.text_scan.proofs.Strings.Checks.{body_checked}
 use Rattle.text_scan.proofs.Strings.Items.{body_faulty}
 use Rattle.text_scan.proofs.util.decoder.check.check_contents.Goals as goal

@@ -1,6 +1,6 @@
 use Rattle.std.proofs.Common.{◌∷◌, sym, subst}
 use Rattle.std.proofs.lemmas.List.{nil_from_length}
-use Rattle.text_scan.specs.Decoding.{IsDecodedUpTo}
+use Rattle.jsonb_spec.specs.Parsing.Decoding.{IsDecodedUpTo}
 use Rattle.text_scan.specs.Answer.{mode_of}
 use Rattle.text_scan.proofs.Strings.Decoding.{decoded_escape, stops_cut, stops_unknown}
 use Rattle.text_scan.proofs.util.decoder.check.pass_escape.Goals as goal

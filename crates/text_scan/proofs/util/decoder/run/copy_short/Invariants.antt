@@ -1,5 +1,5 @@
 use Rattle.std.proofs.Common.{◌≡◌, ◌+◌, ◌≤◌, ◌++◌, ◌-◌, length, take}
-use Rattle.text_scan.specs.Decoding.{SeesNoBackslash}
+use Rattle.jsonb_spec.specs.Parsing.Decoding.{SeesNoBackslash}
 use Rattle.text_scan.proofs.util.decoder.run.copy_short.Given as goal
 
 abbrev pub invariant-bytes : goal.invariant-bytes

@@ -1,6 +1,6 @@
 use Rattle.std.proofs.Common.{◌++◌, ◌∷◌, List, ℕ, take, inl, ap, sym, subst, ◌∙◌, arith}
 use Rattle.jsonb_spec.specs.Grammar.StringBody.{alone}
-use Rattle.text_scan.specs.Decoding.{Adds}
+use Rattle.jsonb_spec.specs.Parsing.Decoding.{Adds}
 use Rattle.text_scan.proofs.Strings.Decoding.{adds_then, decoded_alone}
 use Rattle.text_scan.proofs.util.decoder.unit.decode_alone.Goals as goal
 

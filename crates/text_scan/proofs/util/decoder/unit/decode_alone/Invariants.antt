@@ -1,6 +1,6 @@
 use Rattle.std.proofs.Common.{◌≡◌, ◌+◌, ◌≤◌, length, take}
 use Rattle.jsonb_spec.specs.Mode.{Mode, GoesBeyondJson}
-use Rattle.text_scan.specs.Decoding.{Adds}
+use Rattle.jsonb_spec.specs.Parsing.Decoding.{Adds}
 use Rattle.text_scan.proofs.util.decoder.unit.decode_alone.Given as goal
 
 abbrev pub invariant-units : goal.invariant-units

@@ -1,6 +1,6 @@
 use Rattle.std.proofs.Common.{subst}
 use Rattle.std.proofs.lemmas.Result.{err_from_is_err_and}
-use Rattle.text_scan.specs.Decoding.{ParsesUnit}
+use Rattle.jsonb_spec.specs.Parsing.Decoding.{ParsesUnit}
 use Rattle.text_scan.proofs.Strings.Decoding.{decoded_alone, decoded_together, stops_first, stops_next}
 use Rattle.text_scan.proofs.util.decoder.unit.units.Goals as goal
 

@@ -4,7 +4,7 @@ use Rattle.std.proofs.Math.Seq.{take-add}
 use Rattle.std.proofs.lemmas.List.{append-nil, length-drop, length-take-le, take_rest}
 use Rattle.std.proofs.lemmas.List.Concat.{flat_map-append}
 use Rattle.jsonb_spec.specs.Grammar.StringBody.{Item, unit, encoding, IsHexDigit}
-use Rattle.text_scan.specs.Decoding.{AreUnits, IsUnit}
+use Rattle.jsonb_spec.specs.Parsing.Decoding.{AreUnits, IsUnit}
 use Rattle.text_scan.proofs.util.decoder.unit.units_len.Goals as goal
 
 all_units : (xs ys : List Item) → AllByRecursion IsUnit xs → AllByRecursion IsUnit ys → AllByRecursion IsUnit (xs ++ ys)

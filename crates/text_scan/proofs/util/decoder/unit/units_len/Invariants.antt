@@ -1,5 +1,5 @@
 use Rattle.std.proofs.Common.{◌-◌, ◌≤◌, length, take}
-use Rattle.text_scan.specs.Decoding.{AreUnits}
+use Rattle.jsonb_spec.specs.Parsing.Decoding.{AreUnits}
 use Rattle.text_scan.proofs.util.decoder.unit.units_len.Given as goal
 
 abbrev pub invariant-units : goal.invariant-units

@@ -1,7 +1,7 @@
 use Rattle.std.proofs.Common.{map, ap, subst}
 use Rattle.std.specs.Prelude.{MatchOption}
 use Rattle.jsonb.specs.Held.{key_held}
-use Rattle.text_scan.specs.Parsing.Container.{object_or_fault}
+use Rattle.jsonb_spec.specs.Parsing.Container.{object_or_fault}
 use Rattle.jsonb_spec.specs.Source.{object_source_of}
 use Rattle.text_members.specs.OpenMembers.{ReportsRepeatOf}
 use Rattle.text_write.specs.CheckSink.{CheckEnds}

@@ -1,7 +1,7 @@
 use Rattle.std.proofs.Common.{◌∷◌, true, map, subst}
 use Rattle.jsonb.specs.Held.{key_held}
 use Rattle.jsonb_core.specs.View.{mark_view}
-use Rattle.text_common.specs.Open.{members_so_far}
+use Rattle.jsonb_spec.specs.Source.Open.{members_so_far}
 use Rattle.text_write.specs.CheckSink.{CheckHolds}
 use Rattle.text_write.specs.KeySink.Held.{members}
 use Rattle.text_parse.proofs.Steps.Failures.{ok_if}

@@ -1,7 +1,7 @@
 use Rattle.std.proofs.Common.{true, map, ap, subst, sym}
 use Rattle.std.specs.Prelude.{MatchOption}
 use Rattle.jsonb.specs.Held.{held_by}
-use Rattle.text_scan.specs.Parsing.Container.{object_or_fault}
+use Rattle.jsonb_spec.specs.Parsing.Container.{object_or_fault}
 use Rattle.jsonb_spec.specs.Source.{first_repeat, object_source_of, spot_of}
 use Rattle.text_members.specs.OpenMembers.{EndsObject, ReportsRepeatOf}
 use Rattle.text_parse.proofs.Steps.Failures.{reports_always}

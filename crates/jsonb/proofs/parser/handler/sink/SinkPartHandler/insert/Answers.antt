@@ -1,7 +1,7 @@
 use Rattle.std.proofs.Common.{◌∷◌, [], map}
 use Rattle.jsonb_spec.specs.Tree.Mark.{plain}
 use Rattle.jsonb.specs.Held.{held_by}
-use Rattle.text_common.specs.Open.{members_so_far}
+use Rattle.jsonb_spec.specs.Source.Open.{members_so_far}
 use Rattle.jsonb.proofs.Given.{scalar_given}
 use Rattle.jsonb.proofs.parser.handler.sink.SinkPartHandler.insert.Goals as goal
 

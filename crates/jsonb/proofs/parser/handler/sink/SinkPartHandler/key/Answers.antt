@@ -1,7 +1,7 @@
 use Rattle.std.proofs.Common.{◌≡◌, ◌∷◌, false, true, map, subst}
 use Rattle.jsonb.specs.Held.{held_by}
 use Rattle.jsonb_core.specs.View.{mark_view}
-use Rattle.text_common.specs.Open.{members_so_far}
+use Rattle.jsonb_spec.specs.Source.Open.{members_so_far}
 use Rattle.text_parse.proofs.Steps.Failures.{ok_if}
 use Rattle.jsonb.proofs.parser.handler.sink.SinkPartHandler.key.Goals as goal
 

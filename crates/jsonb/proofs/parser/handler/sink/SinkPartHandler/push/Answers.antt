@@ -1,9 +1,9 @@
 use Rattle.std.proofs.Common.{◌∷◌, ℕ, List, Option, None, Some, map}
 use Rattle.jsonb.specs.Held.{IsScalarAt, held_by}
 use Rattle.jsonb_spec.specs.Source.{Source}
-use Rattle.text_common.specs.Open.{elements_so_far}
+use Rattle.jsonb_spec.specs.Source.Open.{elements_so_far}
 use Rattle.text_common.specs.declared.verbatim.Verbatim.{Verbatim}
-use Rattle.text_write.specs.PartSink.{HasNoParts}
+use Rattle.jsonb_spec.specs.PartAt.SoFar.{HasNoParts}
 use Rattle.text_write.specs.declared.text.Part.{Part}
 use Rattle.text_write.proofs.PartSinks.{alone, verbatim_alone}
 use Rattle.jsonb.proofs.Given.{scalar_given}

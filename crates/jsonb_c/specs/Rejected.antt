@@ -1,7 +1,0 @@
--- Where in a document's value its text is rejected.
-use Rattle.std.specs.Prelude.{ℕ, List}
-use Rattle.jsonb_path.specs.Path.{IsPath}
-
--- The bytes encode a path.
-abbrev pub IsSomePath : List ℕ → Type 0
-IsSomePath bytes = (keys : List (List ℕ)) × IsPath bytes keys
