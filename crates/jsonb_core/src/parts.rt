@@ -1,4 +1,4 @@
-//! The parts of serialized forms and of sort keys, for those who write them.
+//! Appends parts of serialized forms and of sort keys: strings, numbers and the keys of members.
 //!
 //! A call appends to a buffer, and its only error is that the buffer couldn't grow. A part of what was to be appended
 //! may be there then.

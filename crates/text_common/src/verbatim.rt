@@ -1,6 +1,8 @@
 //! Scalars that are put in from where they are in a text.
-ghost use Rattle.std.specs.Prelude.{◌≡◌};
+ghost use Rattle.std.specs.Prelude.{◌≡◌, ◌∷◌, [], ℕ, Some, MatchBool};
+ghost use Rattle.jsonb_spec.specs.Ascii as ascii;
 ghost use Rattle.jsonb_spec.specs.Grammar.StringBody.{standard_escape};
+ghost use Rattle.jsonb_spec.specs.Text.StringText.{byte_text};
 
 /// What is in the text.
 #[derive(Clone, Copy)]
@@ -38,4 +40,13 @@ pub fn short_byte(letter: u8) -> Option<u8>
         return None;
     }
     Some(byte)
+}
+
+/// Whether an escape of this letter is serialized as it is.
+#[inline(always)]
+pub fn is_verbatim_letter(letter: u8) -> bool
+    ensures { MatchBool result ((byte : ℕ) × (standard_escape letter ≡ Some byte)
+        × (byte_text byte ≡ ascii.backslash ∷ letter ∷ [])) (Unit {0}) }
+{
+    matches!(letter, b'"' | b'\\' | b'n' | b'r' | b't')
 }

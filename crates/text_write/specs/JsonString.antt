@@ -26,9 +26,3 @@ pub record WritesFront (as_text : Bool) (bytes text old new : List ℕ) (count :
   pub short : IsJsonBody (drop count bytes) left
   pub written : new ++ written_bytes as_text left ≡ old ++ written_bytes as_text text
   pub zeros : HasNoZero left → HasNoZero text
-
--- the letters of the escapes that are written: `"`, `\`, n, r and t
-abbrev pub IsVerbatimLetter : ℕ → Type 0
-IsVerbatimLetter letter =
-    (letter ≡ ascii.quote) ⊎ ((letter ≡ ascii.backslash) ⊎ ((letter ≡ ascii.lower_n) ⊎ ((letter ≡ ascii.lower_r)
-    ⊎ (letter ≡ ascii.lower_t))))

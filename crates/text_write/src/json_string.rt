@@ -6,7 +6,7 @@ ghost use Rattle.jsonb_spec.specs.SortKey.{text_key};
 ghost use Rattle.jsonb_spec.specs.Source.{Source};
 ghost use Rattle.jsonb_spec.specs.Text.Appending.{Extends};
 ghost use Rattle.jsonb_spec.specs.SortKey.Joined.{source_key};
-ghost use Rattle.text_write.specs.JsonString.{HasNoZero, IsVerbatimLetter, written_byte, written_bytes};
+ghost use Rattle.text_write.specs.JsonString.{HasNoZero, written_byte, written_bytes};
 ghost use Rattle.jsonb_spec.specs.Text.VerbatimScalar.{IsJsonStringAt};
 ghost use Rattle.jsonb_spec.specs.Text.JsonString.{IsJsonBody};
 ghost use Rattle.jsonb_spec.specs.Grammar.StringBody.{standard_escape};
@@ -21,17 +21,9 @@ use crate::text::TextSink;
 use crate::written::Written;
 use jsonb_core::sort_key::kind;
 use std::alloc::AllocError;
-use text_common::verbatim::short_byte;
+use text_common::verbatim::{is_verbatim_letter, short_byte};
 use text_scan::parser::Mode;
 use text_scan::util::{near_backslash, write_sixteen};
-
-// Whether an escape of this letter is written as it is.
-#[inline(always)]
-fn is_verbatim_letter(letter: u8) -> bool
-    ensures { MatchBool result (IsVerbatimLetter letter) (Unit {0}) }
-{
-    matches!(letter, b'"' | b'\\' | b'n' | b'r' | b't')
-}
 
 // Puts the escape of this letter into a row, in place of what it means where a sort key is written, and returns where it
 // ends there. Its backslash is there. Nothing where a text needs another escape.

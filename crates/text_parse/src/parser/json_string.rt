@@ -1,37 +1,26 @@
 //! Strings of JSON with escapes: where they end, and whether they are serialized as they are.
-ghost use Rattle.std.specs.Prelude.{◌≡◌, ◌∷◌, [], ℕ, MatchBool, IfNone, IfSome, Some, true};
+ghost use Rattle.std.specs.Prelude.{◌≡◌, IfNone, IfSome, true};
 ghost use Rattle.jsonb_spec.specs.Ascii as ascii;
-ghost use Rattle.jsonb_spec.specs.Grammar.StringBody.{standard_escape};
-ghost use Rattle.jsonb_spec.specs.Text.StringText.{byte_text};
 ghost use Rattle.text_parse.specs.Parser.{Advances, IsBehind, IsTextOf};
-ghost use Rattle.text_parse.specs.JsonString.{IsJsonEnd, PassesJson};
+ghost use Rattle.text_parse.specs.JsonString.{IsJsonEnd, IsJsonFront, PassesJson};
 
 use super::Parser;
 use jsonb_core::plain::{plain_len, run_of_sixteen};
-use text_common::verbatim::{Verbatim, short_byte};
+use text_common::verbatim::{Verbatim, is_verbatim_letter, short_byte};
 use text_scan::util::units_len;
 
-// Where such a string ends, and whether it is serialized as it is.
+// Where such a string ends, or its front that was passed, and whether that is serialized as it is.
 #[derive(Clone, Copy)]
 struct JsonEnd {
     end: usize,
     is_same: bool,
 }
 
-// Whether the letter is of an escape, and what that means is written by the same escape.
+// Passes the front of the string, from the byte after its opening quote on, as long as its escapes are of one letter: up
+// to what else is there, or near the end of the bytes.
 #[inline(always)]
-fn is_written(letter: u8) -> bool
-    ensures { MatchBool result ((byte : ℕ) × (standard_escape letter ≡ Some byte)
-        × (byte_text byte ≡ ascii.backslash ∷ letter ∷ [])) (Unit {0}) }
-{
-    matches!(letter, b'"' | b'\\' | b'n' | b'r' | b't')
-}
-
-// The end of the string, from the byte after its opening quote on, where all escapes are of one letter. Near the end of
-// the bytes none is found.
-#[inline(always)]
-fn short_end(bytes: &[u8]) -> Option<JsonEnd>
-    ensures { IfSome result (λ found. IsJsonEnd bytes.now found.end found.is_same) }
+fn short_front(bytes: &[u8]) -> JsonEnd
+    ensures { IsJsonFront bytes.now result.end result.is_same }
 {
     let mut end = 0;
     let mut is_same = true;
@@ -41,30 +30,31 @@ fn short_end(bytes: &[u8]) -> Option<JsonEnd>
         if run == 16 {
             continue;
         }
-        if bytes[end] == b'"' {
-            return Some(JsonEnd { end, is_same });
-        }
         if bytes[end] != b'\\' {
-            return None;
+            return JsonEnd { end, is_same };
         }
         let letter = bytes[end + 1];
-        end += 2;
-        if is_written(letter) {
+        if is_verbatim_letter(letter) {
+            end += 2;
             continue;
         }
-        let _byte = short_byte(letter)?;
+        let Some(_short) = short_byte(letter) else {
+            return JsonEnd { end, is_same };
+        };
         is_same = false;
+        end += 2;
     }
-    None
+    JsonEnd { end, is_same }
 }
 
-// The end of any such string.
+// The end of any such string, from its front on.
 #[inline(never)]
-fn json_end(bytes: &[u8]) -> Option<JsonEnd>
+fn json_end(bytes: &[u8], front: JsonEnd) -> Option<JsonEnd>
+    requires { IsJsonFront bytes.now front.end front.is_same }
     ensures { IfSome result (λ found. IsJsonEnd bytes.now found.end found.is_same) }
 {
-    let mut end = 0;
-    let mut is_same = true;
+    let mut end = front.end;
+    let mut is_same = front.is_same;
     'parts: loop {
         end += plain_len(&bytes[end..]);
         if end >= bytes.len() {
@@ -77,7 +67,7 @@ fn json_end(bytes: &[u8]) -> Option<JsonEnd>
             return None;
         }
         let letter = bytes[end + 1];
-        if is_written(letter) {
+        if is_verbatim_letter(letter) {
             end += 2;
             continue;
         }
@@ -99,10 +89,11 @@ fn json_end(bytes: &[u8]) -> Option<JsonEnd>
 fn string_end(bytes: &[u8]) -> Option<JsonEnd>
     ensures { IfSome result (λ found. IsJsonEnd bytes.now found.end found.is_same) }
 {
-    let Some(found) = short_end(bytes) else {
-        return json_end(bytes);
-    };
-    Some(found)
+    let front = short_front(bytes);
+    if front.end < bytes.len() && bytes[front.end] == b'"' {
+        return Some(front);
+    }
+    json_end(bytes, front)
 }
 
 impl<'a> Parser<'a> {

@@ -3,30 +3,18 @@ use Rattle.std.proofs.lemmas.Grind.{take-set_at}
 use Rattle.std.proofs.lemmas.List.{take_more}
 use Rattle.jsonb_spec.specs.Grammar.StringBody.{standard_escape}
 use Rattle.jsonb_spec.specs.Text.StringText.{byte_text}
-use Rattle.text_write.specs.JsonString.{IsVerbatimLetter, written_byte}
+use Rattle.text_write.specs.JsonString.{written_byte}
 use Rattle.text_write.proofs.JsonStrings.{some_same}
 use Rattle.text_write.proofs.json_string.put_escape.Goals as goal
 
-abbrev IsWritten : ℕ → Type 0
-IsWritten letter = (byte : ℕ) × (standard_escape letter ≡ Some byte) × (byte_text byte ≡ 92 ∷ letter ∷ [])
-
-written : (letter : ℕ) → IsVerbatimLetter letter → IsWritten letter
-written letter is = elim is [
-  | inl e ↦ subst IsWritten (sym e) (34, refl, refl)
-  | inr (inl e) ↦ subst IsWritten (sym e) (92, refl, refl)
-  | inr (inr (inl e)) ↦ subst IsWritten (sym e) (10, refl, refl)
-  | inr (inr (inr (inl e))) ↦ subst IsWritten (sym e) (13, refl, refl)
-  | inr (inr (inr (inr e))) ↦ subst IsWritten (sym e) (9, refl, refl)
-]
-
 pub returns-then-is_verbatim_letter-clause-known : goal.returns-then-is_verbatim_letter-clause-known
-returns-then-is_verbatim_letter-clause-known c = let w = written c.args.letter c.if-is_verbatim_letter.ensures in (w.0, w.1)
+returns-then-is_verbatim_letter-clause-known c = let w = c.if-is_verbatim_letter.ensures in (w.0, w.1)
 
 pub returns-then-is_verbatim_letter-clause-put : goal.returns-then-is_verbatim_letter-clause-put
 returns-then-is_verbatim_letter-clause-put c byte is =
     let row : List ℕ = c.args.row.now in
     let letter = c.args.letter in
-    let w = written letter c.if-is_verbatim_letter.ensures in
+    let w = c.if-is_verbatim_letter.ensures in
     let space = c.requires.space in
     take-set_at row (c.args.at + 1) (c.args.at + 2) letter (omega arith) (omega (arith, space)) ∙ ap (λ xs. xs ++ letter ∷ []) (take_more row c.args.at 0 (omega (arith, space)) ∙ ap (λ b. take c.args.at row ++ b ∷ []) c.requires.here)
     ∙ append_assoc (take c.args.at row) (92 ∷ []) (letter ∷ [])

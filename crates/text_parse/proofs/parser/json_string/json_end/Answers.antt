@@ -1,10 +1,10 @@
 use Rattle.std.proofs.Common.{◌+◌, false, sym, arith, true≢false}
 use Rattle.std.proofs.lemmas.List.{take_rest}
-use Rattle.text_parse.proofs.Scalars.JsonStrings.{front_escape, front_run, front_start, front_units}
+use Rattle.text_parse.proofs.Scalars.JsonStrings.{front_escape, front_run, front_units}
 use Rattle.text_parse.proofs.parser.json_string.json_end.Goals as goal
 
 pub parts-init : goal.parts-init
-parts-init c = front_start c.args.bytes.now
+parts-init c = c.requires
 
 pub returns-then-bytes-end-eq34 : goal.returns-then-bytes-end-eq34
 returns-then-bytes-end-eq34 c =
@@ -15,11 +15,11 @@ returns-then-bytes-end-eq34 c =
       quote = c.if-bytes-end-eq34.true;
     }
 
-pub parts-preserved-then-is_written : goal.parts-preserved-then-is_written
-parts-preserved-then-is_written c =
+pub parts-preserved-then-is_verbatim_letter : goal.parts-preserved-then-is_verbatim_letter
+parts-preserved-then-is_verbatim_letter c =
     let bytes = c.args.bytes.now in
     let end = c.parts.end + c.plain_len-end.result in
-    let is = c.if-is_written.ensures in
+    let is = c.if-is_verbatim_letter.ensures in
     front_escape bytes end is.0 c.parts.is_same c.parts.is_same
     (front_run bytes c.parts.end c.plain_len-end.result c.parts.is_same c.parts.invariant (omega (arith, c.plain_len-end.ensures.within)) (rw (take_rest bytes c.parts.end) at c.plain_len-end.ensures.plain))
     (omega (arith, c.if-end-bytes-2.false)) c.if-bytes-end-ne92.false is.1 (λ same. (same, is.2))

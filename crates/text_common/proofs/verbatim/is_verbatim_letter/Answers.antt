@@ -1,7 +1,7 @@
 use Rattle.std.proofs.Common.{◌≡◌, ℕ, ◌∷◌, [], Some, refl, subst, sym, inl, inr}
 use Rattle.jsonb_spec.specs.Grammar.StringBody.{standard_escape}
 use Rattle.jsonb_spec.specs.Text.StringText.{byte_text}
-use Rattle.text_parse.proofs.parser.json_string.is_written.Goals as goal
+use Rattle.text_common.proofs.verbatim.is_verbatim_letter.Goals as goal
 
 -- the letter is of an escape, and its byte is written so
 abbrev Writes : ℕ → Type 0

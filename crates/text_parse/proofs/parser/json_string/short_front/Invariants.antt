@@ -1,6 +1,6 @@
 use Rattle.std.proofs.Common.{◌-◌, length}
 use Rattle.text_parse.specs.JsonString.{IsJsonFront}
-use Rattle.text_parse.proofs.parser.json_string.short_end.Given as goal
+use Rattle.text_parse.proofs.parser.json_string.short_front.Given as goal
 
 abbrev pub invariant-runs : goal.invariant-runs
 invariant-runs l = IsJsonFront l.bytes l.end l.is_same
