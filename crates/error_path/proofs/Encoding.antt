@@ -25,11 +25,6 @@ key_step old now new key i inside before after =
     after ∙ ap (λ xs. xs ++ encoded_byte b) before ∙ append_assoc old (encoded_key (take i key)) (encoded_byte b)
     ∙ ap (λ bs. old ++ bs) (sym (key_then (take i key) b) ∙ ap encoded_key (sym (take_more key i 0 inside)))
 
--- a key after the slash
-pub step_joined : (old pushed new key : List ℕ) → pushed ≡ old ++ 47 ∷ [] → new ≡ pushed ++ encoded_key key → new ≡ old ++ encoded_keys (key ∷ [])
-step_joined old pushed new key slash after =
-    after ∙ ap (λ xs. xs ++ encoded_key key) slash ∙ append_assoc old (47 ∷ []) (encoded_key key) ∙ ap (λ bs. old ++ 47 ∷ bs) (sym (append-nil (encoded_key key)))
-
 -- a key more
 pub keys_step : (old now new : List ℕ) (keys : List (String Global)) (i : ℕ) (key : String Global) (bytes : List ℕ) → i < length keys → key ≡ get_or keys i key → now ≡ old ++ encoded_keys (map string_bytes (take i keys)) → bytes ≡ string_bytes key → new ≡ now ++ encoded_keys (bytes ∷ []) → new ≡ old ++ encoded_keys (map string_bytes (take (i + 1) keys))
 keys_step old now new keys i key bytes inside item before is after =

@@ -1,8 +1,8 @@
 -- The children of trees, as they are found.
-use Rattle.std.proofs.Common.{◌≡◌, ℕ, zero, suc, ◌<◌, ◌^◌, List, Some, None, option_map, refl, sym, arith}
-use Rattle.jsonb_spec.specs.Accessors.{as_array, get_by_name, item_at, trees_len}
-use Rattle.jsonb_spec.specs.Tree.{Tree, array, object, Trees, no_trees, more_trees}
-use Rattle.jsonb_spec.specs.PartAt.{IsIndex, IsChild, child_at}
+use Rattle.std.proofs.Common.{◌≡◌, ℕ, zero, suc, ◌<◌, ◌^◌, List, Some, None, option_map, arith}
+use Rattle.jsonb_spec.specs.Accessors.{as_array, item_at, trees_len}
+use Rattle.jsonb_spec.specs.Tree.{Tree, array, Trees, no_trees, more_trees}
+use Rattle.jsonb_spec.specs.PartAt.{IsIndex, IsChild}
 
 pub item_within : (ts : Trees) (i : ℕ) (t : Tree) → item_at ts i ≡ Some t → i < trees_len ts
 item_within no_trees i t e = cc
@@ -24,9 +24,3 @@ no_index (array ts) key len some fits none u (i, encodes, at) =
 no_index t key len some fits none u child = no_some len some
 
 -- ---- computed
-
--- in what is no array
-pub named_child : (t : Tree) (key : List ℕ) → None ≡ option_map trees_len (as_array t) → get_by_name key t ≡ child_at key t
-named_child (array ts) key e = absurd (no_some (trees_len ts) (sym e))
-named_child (object ms) key e = refl
-named_child t key e = refl

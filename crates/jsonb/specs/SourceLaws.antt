@@ -1,5 +1,5 @@
 -- Equality by parts is an equivalence. The laws of `Eq` cite this.
-use Rattle.std.proofs.Common.{◌≡◌, Bool, true, ◌&&◌, ◌==◌, bytes_eq, refl}
+use Rattle.std.proofs.Common.{◌≡◌, true, ◌&&◌, ◌==◌, bytes_eq, refl}
 use Rattle.std.specs.Ordering.{bool_cmp, eq_by_cmp}
 use Rattle.std.specs.Cmp.{IsEquivalence, first_so, second_so, eq_by_cmp_equiv, bool_cmp_total, nat_eq_equiv}
 use Rattle.std.specs.Cmp.Lexicographic.{nat_list_eq_equiv}
@@ -13,9 +13,6 @@ bools = eq_by_cmp_equiv bool_cmp_total
 
 nums : IsEquivalence (eq_by_cmp num_cmp)
 nums = eq_by_cmp_equiv num_cmp_total
-
-both : (a b : Bool) → a ≡ true → b ≡ true → (a && b) ≡ true
-both a b p q = λ i. p i && q i
 
 mutual
   same_refl : (s : Source) → source_eq s s ≡ true

@@ -59,22 +59,6 @@ parsed key (Err e) leads plus h =
     h (subst (λ ds. IsNumeral 10 ds × (digits_value 10 ds < 2 ^ 64)) (sym same)
     ((some_there key leads, digits_all key (and_left (all_digits key) _ rest)), ltb-true (digits_value 10 key) (2 ^ 64) (and_right (all_digits key) _ rest))))))
 
--- a key that doesn't lead well names none
-pub badly_led : (key : List ℕ) → leads_well key ≡ false → None ≡ index_named key
-badly_led key e = sym (cond-false (names key) (Some (digits_value 10 key)) None (ap (λ b. b && (all_digits key && nat_lt (digits_value 10 key) (2 ^ 64))) e))
-
--- nor does one with a plus before it
-pub signed : (key : List ℕ) → 0 < length key → (slice_index key 0 == 43) ≡ true → None ≡ index_named key
-signed [] h e = absurd (omega arith)
-signed (c ∷ cs) h e =
-    sym (cond-false (names (c ∷ cs)) (Some (digits_value 10 (c ∷ cs))) None (not_true (names (c ∷ cs)) (λ is. no_digit c (eqb c e) (digits_all (c ∷ cs) (and_left (all_digits (c ∷ cs)) _ (and_right (leads_well (c ∷ cs)) _ is))).0)))
-  where
-    eqb : (c : ℕ) → (c == 43) ≡ true → c ≡ 43
-    eqb c e = grind arith
-
-    no_digit : (c : ℕ) → c ≡ 43 → digit_value c < 10 → ⊥
-    no_digit c is small = let big : digit_value 43 < 10 = subst (λ b. digit_value b < 10) is small in omega (arith, big)
-
 -- ---- indexes
 
 well_led : (key : List ℕ) → 0 < length key → (1 < length key → slice_index key 0 ≢ 48) → leads_well key ≡ true

@@ -1,6 +1,6 @@
 -- Keys that are encoded as they are.
 use Rattle.std.proofs.Common.{◌≡◌, ◌≢◌, ◌<◌, ℕ, List, [], ◌+◌, ◌∷◌, ◌++◌, length, take, drop, None, arith, refl, sym, ap, subst, ◌∙◌, append_assoc}
-use Rattle.std.proofs.Math.Seq.{take-append_seam, drop-append_seam}
+use Rattle.std.proofs.Math.Seq.{take-append_seam}
 use Rattle.std.proofs.lemmas.Bool.{ne_eqb}
 use Rattle.std.proofs.lemmas.List.{length-append, take-append-drop}
 use Rattle.std.proofs.lemmas.Str.{IsAscii-append, IsUtf8-from_ascii}
@@ -18,9 +18,6 @@ pub record PlainSoFar (text rest : List ℕ) (len : ℕ) : Type 0 where
   pub counted : len ≡ length key
   pub plain : IsPlainKey key
 
-pub plain_begun : (text : List ℕ) → PlainSoFar text text 0
-plain_begun text = record { key = []; whole = refl; encoded = refl; counted = refl; plain = tt }
-
 last_byte : (key : List ℕ) (byte : ℕ) → IsPlainKey key → encoded_byte byte ≡ byte ∷ [] → IsPlainKey (key ++ byte ∷ [])
 last_byte [] byte p one = (one, tt)
 last_byte (b ∷ key) byte p one = (p.0, last_byte key byte p.1 one)
@@ -33,17 +30,6 @@ plain_byte text rest others len next byte p first one no_slash no_tilde = record
   counted = omega (arith, p.counted, one, length-append p.key (byte ∷ []));
   plain = last_byte p.key byte p.plain (itself byte (ne_eqb byte 126 no_tilde) (ne_eqb byte 47 no_slash));
 }
-
--- the key ends here
-pub plain_ended : (text rest : List ℕ) (len : ℕ) → PlainSoFar text rest len → byte_of rest ≡ None → BeginsPlain text (take len text) (drop len text)
-plain_ended text rest len p over =
-    let front : take len text ≡ p.key = ap (λ n. take n text) p.counted ∙ ap (take (length p.key)) p.whole ∙ take-append_seam p.key rest in
-    let back : drop len text ≡ rest = ap (λ n. drop n text) p.counted ∙ ap (drop (length p.key)) p.whole ∙ drop-append_seam p.key rest in
-    record {
-      whole = p.whole ∙ ap (λ l. l ++ rest) (sym front) ∙ ap (λ l. take len text ++ l) (sym back);
-      encoded = subst (λ key. encoded_key key ≡ key) (sym front) p.encoded;
-      ended = ap byte_of back ∙ over;
-    }
 
 -- where no byte is escaped, the key is encoded as it is
 pub plain_itself : (key : List ℕ) → IsPlainKey key → encoded_key key ≡ key
@@ -74,12 +60,6 @@ plain_stopped text rest others len byte p first tilde = λ key keys same plain.
 -- what is behind the slash of a path
 pub behind_slash : (path text key : List ℕ) (keys : List (List ℕ)) → path ≡ 47 ∷ text → IsPath path (key ∷ keys) → text ≡ encoded_key key ++ encoded_keys keys
 behind_slash path text key keys first is_path = (cons_cons 47 47 text (encoded_key key ++ encoded_keys keys) (sym first ∙ is_path.encoded)).1
-
--- the key that the path begins with is the one that is read
-pub key_read : (path text name others key : List ℕ) (keys : List (List ℕ)) → path ≡ 47 ∷ text → BeginsPlain text name others → IsPath path (key ∷ keys) → name ≡ key
-key_read path text name others key keys first plain is_path =
-    let whole : encoded_key name ++ others ≡ encoded_key key ++ encoded_keys keys = ap (λ l. l ++ others) plain.encoded ∙ sym plain.whole ∙ behind_slash path text key keys first is_path in
-    (one_key name key others (encoded_keys keys) plain.ended (ended keys) whole).0
 
 -- ---- ASCII
 

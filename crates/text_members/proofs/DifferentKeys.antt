@@ -80,9 +80,6 @@ pub record DifferFrom (bits : ℕ) (row text decoded : List ℕ) (whole rest : L
       → AreDistinct (map (λ s. s.key) (map (spot_in text decoded) whole))
 
 module _ (bits : ℕ) (text decoded : List ℕ) (whole : List Member) where
-  pub begin : (row : List ℕ) → DifferFrom bits row text decoded whole whole
-  begin row = record { keyed = λ keyed. keyed; onward = λ keyed distinct new. distinct }
-
   pub step : (row next : List ℕ) (m : Member) (rest others : List Member) → rest ≡ m ∷ others → ((home number : ℕ) → IsIn row home number → IsIn next home number) → IsThere bits next text decoded m → (IsThere bits row text decoded m → ⊥)
       → DifferFrom bits row text decoded whole rest → DifferFrom bits next text decoded whole others
   step row next m rest others e stays there new a = record { keyed = λ keyed. others_keyed text decoded m others (now keyed); onward = onward }

@@ -1,7 +1,7 @@
 -- What follows of the grammar from the answers to what the parser asks.
 use Rattle.std.proofs.Common.{◌≡◌, ℕ, ◌<◌, true, false, true≢false, List, [], ◌∷◌, length, Result, Ok, Err, refl, sym, ap, ◌∙◌, arith}
 use Rattle.std.specs.Prelude.{OnOk}
-use Rattle.jsonb_spec.specs.Mode.{Mode, standard, extended, json, extended_json, strict, lenient, strictness, GoesBeyondJson}
+use Rattle.jsonb_spec.specs.Mode.{Mode, standard, extended, json, extended_json, strict, strictness, GoesBeyondJson}
 use Rattle.text_scan.specs.Answer.{mode_of, grammar_of}
 use Rattle.text_scan.specs.declared.parser.Mode as parser
 use Rattle.text_scan.specs.declared.parser.Mode.TheVariants.{Standard, Extended}
@@ -63,12 +63,6 @@ on_ok (Ok x) follows so = follows so
 on_ok (Err e) follows so = tt
 
 -- ---- decimals
-
-pub decimals_lenient : (mode : Mode) → strictness mode ≡ lenient → takes_decimals mode ≡ true
-decimals_lenient standard is = absurd cc
-decimals_lenient extended is = refl
-decimals_lenient json is = refl
-decimals_lenient extended_json is = refl
 
 pub integers_alone : (mode : Mode) → takes_decimals mode ≡ false → mode ≡ standard
 integers_alone standard is = refl

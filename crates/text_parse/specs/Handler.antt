@@ -2,7 +2,7 @@
 use Rattle.std.specs.Prelude.{◌≡◌, ℕ, ◌+◌, ◌-◌, Bool, true, false, List, [], ◌∷◌, ◌++◌, length, Option, Some, None, Result, Ok, Err}
 use Rattle.jsonb_core.specs.declared.error.Error.{Error}
 use Rattle.jsonb_core.specs.declared.error.Error.TheVariants.{Syntax, OutOfMemory}
-use Rattle.jsonb_spec.specs.Tree.{Mark, Num, Tree}
+use Rattle.jsonb_spec.specs.Tree.{Mark, Tree}
 use Rattle.jsonb_spec.specs.Tree.Mark.{plain}
 use Rattle.jsonb_core.specs.Error.CodeView.{code_of}
 use Rattle.text_parse.specs.declared.parser.frame.Frame.{Frame}
@@ -12,7 +12,7 @@ use Rattle.text_scan.specs.Answer.{Fails}
 use Rattle.jsonb_spec.specs.Source.Open.{Open, elements_so_far, members_so_far}
 use Rattle.jsonb_spec.specs.Parsing.{Fault, Parse}
 use Rattle.jsonb_spec.specs.Parsing.String.{Body}
-use Rattle.jsonb_spec.specs.Source.{Source, Found, array_source_of, found_member, number_source, string_source, source_alone}
+use Rattle.jsonb_spec.specs.Source.{Source, Found, array_source_of, found_member, string_source, source_alone}
 
 -- ---- how a call fails
 
@@ -60,10 +60,6 @@ SeesContents Sees offset (Err (Syntax code index)) read = (count : ℕ) × (read
     × (index ≡ offset + count)
 SeesContents Sees offset (Err OutOfMemory) read = Unit {0}
 SeesContents Sees offset (Err other) read = ⊥
-
--- of a number
-abbrev pub AsNumber : {V : Type 0} → (V → Source → Type 0) → V → Num → Type 0
-AsNumber Sees v n = Sees v (number_source n)
 
 -- of a key, before these bytes
 abbrev pub AsKey : {K : Type 0} → (K → Mark × List ℕ → ℕ → Type 0) → ℕ → List ℕ → K → Mark × List ℕ → Type 0

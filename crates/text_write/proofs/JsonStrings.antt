@@ -159,12 +159,6 @@ strip_run (suc run) (b ∷ bs) text within clear short =
     let rest = strip_run run bs s.left (omega (arith, within)) (λ k l. clear (suc k) (omega arith)) s.short in
     record { left = rest.left; short = rest.short; is = s.is ∙ ap (λ xs. b ∷ xs) rest.is; plain = ap₂ (λ xs ys. xs ++ ys) s.plain rest.plain }
 
-plain_clear : (run : ℕ) (bytes : List ℕ) → run ≤ length bytes → ArePlain (take run bytes) → SeesNoBackslash bytes run
-plain_clear zero bytes within plain k l = absurd (omega (arith, l))
-plain_clear (suc run) [] within plain k l = absurd (omega (arith, within))
-plain_clear (suc run) (b ∷ bs) within plain zero l = no_mark 92 b (omega arith) (one_plain b (take run bs) plain)
-plain_clear (suc run) (b ∷ bs) within plain (suc k) l = plain_clear run bs (omega (arith, within)) (rest_plain b (take run bs) plain) k (omega (arith, l))
-
 pub as_they_are : (bytes : List ℕ) → flat_map (written_byte false) bytes ≡ bytes
 as_they_are [] = refl
 as_they_are (b ∷ bytes) = ap (λ xs. b ∷ xs) (as_they_are bytes)

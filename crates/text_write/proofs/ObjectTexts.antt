@@ -1,12 +1,11 @@
 -- The text of an object whose members are in the order of their keys.
-use Rattle.std.proofs.Common.{◌≡◌, ℕ, true, List, [], ◌∷◌, ◌++◌, map, None, refl, sym, ap, ap₂, ◌∙◌, append_assoc}
+use Rattle.std.proofs.Common.{◌≡◌, true, List, [], ◌∷◌, ◌++◌, map, None, refl, sym, ap, ap₂, ◌∙◌, append_assoc}
 use Rattle.jsonb_spec.specs.Text.{member_texts, tree_text, with_commas}
 use Rattle.jsonb_spec.specs.Text.StringText.{quoted_text}
 use Rattle.jsonb_spec.specs.Tree.{object}
 use Rattle.jsonb_spec.specs.Source.Open.{Open}
 use Rattle.jsonb_spec.specs.Source.{Found, first_repeat, object_source, object_source_of, sort_by, source_members_of, spot_of}
-use Rattle.text_members.specs.Members.{Piece, SpotsAscend}
-use Rattle.jsonb_spec.specs.SortKey.Joined.{join_pieces}
+use Rattle.text_members.specs.Members.{SpotsAscend}
 use Rattle.jsonb_spec.specs.Text.SoFar.{member_text, open_text}
 use Rattle.jsonb_spec.specs.Text.SourceText.{source_text}
 use Rattle.text_members.proofs.Objects.Closing as closing
@@ -37,13 +36,3 @@ object_ended fs cs up =
     ∙ ap (λ text. open_text true cs ++ text) (sym (object_text (sort_by spot_of fs) up))
 
 -- ---- pieces
-
--- a member's spot and its text
-abbrev pub piece_of : Found → Piece
-piece_of f = (spot_of f, member_text f)
-
-pub piece_spots : (fs : List Found) → map (λ (p : Piece). p.0) (map piece_of fs) ≡ map spot_of fs
-piece_spots = closing.piece_spots member_text
-
-pub joined_is : (texts : List (List ℕ)) → join_pieces true texts ≡ with_commas texts
-joined_is = closing.with_commas_joined

@@ -1,10 +1,9 @@
 -- The sink of a part after an event.
 use Rattle.std.proofs.lemmas.List.{append_cancel_left, take-append-drop}
 use Rattle.std.proofs.Common.{drop, ◌≡◌, inl, inr, ℕ, zero, suc, ◌+◌, ◌-◌, ◌<◌, ◌≤◌, Bool, true, false, true≢false, List, [], ◌∷◌, ◌++◌, map, length, take, Option, Some, None, MatchOption, refl, sym, ap, subst, ◌∙◌, arith, append-nil, length-append, ◌==◌}
-use Rattle.std.proofs.lemmas.Bool.{cond-false, cond-true, ne_eqb}
+use Rattle.std.proofs.lemmas.Bool.{cond-false, ne_eqb}
 use Rattle.std.specs.Option.{is_none, option_and_then, option_map, option_or, option_map_or}
-use Rattle.std.specs.Prelude.{if◌then◌else◌, nat_lt, IfOk}
-use Rattle.std.proofs.Common.{Result, Ok, Err}
+use Rattle.std.specs.Prelude.{if◌then◌else◌, nat_lt}
 use Rattle.std.proofs.lemmas.Bool.Decides.{nat_tests}
 use Rattle.jsonb_spec.specs.Text.{tree_text}
 use Rattle.jsonb_spec.specs.Tree.{Mark, Tree}
@@ -21,7 +20,7 @@ use Rattle.text_write.specs.CheckSink.{CheckHolds, unwritten}
 use Rattle.text_write.specs.KeySink as key
 use Rattle.text_members.specs.OpenMembers.{EndsObject, ReportsRepeatOf, all_starts}
 use Rattle.text_members.specs.declared.open_members.Repeat.{Repeat}
-use Rattle.text_write.specs.PartSink.{EndsAt, FilledAt, HeldFits, InnerEnds, IsAhead, IsAround, IsInPart, IsOutside, IsSeeking, IsWritten, Leads, PartFilled, PartHeld, PartHolds, HoldsAt, check_held, first_index, follow_key, array_held, keys_of, object_held, other_keys, part_of, less, rest_at, text_held, ahead_of, level_of}
+use Rattle.text_write.specs.PartSink.{EndsAt, FilledAt, HeldFits, InnerEnds, IsAhead, IsAround, IsInPart, IsOutside, IsSeeking, IsWritten, Leads, PartFilled, PartHeld, PartHolds, HoldsAt, check_held, first_index, follow_key, array_held, keys_of, object_held, part_of, less, rest_at, text_held, ahead_of, level_of}
 use Rattle.jsonb_spec.specs.PartAt.SoFar.{HasNoParts, follow, path_behind, part_inside, part_of_ended, part_with_value, waits_at, within}
 use Rattle.text_write.specs.TextSink as text
 use Rattle.text_write.specs.TextSink.{SeesPart, TextFilled, TextHolds, base_of}
@@ -118,18 +117,6 @@ all_ahead None = tt
 all_ahead (Some n) = ap Some (omega arith)
 
 -- ---- where a value is due
-
--- the next item is on the path
-next_on : (rest : Option (List (List ℕ))) (ss : List Source) → option_and_then first_index rest ≡ Some (length ss + 0) → option_and_then (follow (elements_so_far ss)) rest ≡ option_and_then other_keys rest
-next_on None ss e = refl
-next_on (Some []) ss e = refl
-next_on (Some (key ∷ keys)) ss e = cond-true (waits_at (elements_so_far ss) key) (Some keys) None (ap (λ o. option_map_or (λ i. i == length ss) o false) e ∙ same_number (length ss))
-  where
-    same_number : (n : ℕ) → ((n + 0) == n) ≡ true
-    same_number n = grind arith
-
-pub item_here : (keys : List (List ℕ)) (level result : Option ℕ) (ss : List Source) (cs : List Open) → rest_at keys result ≡ option_and_then other_keys (rest_at keys level) → Leads keys level cs → IsAhead (option_and_then first_index (path_behind keys cs)) (Some 0) (length ss) → Leads keys result (elements_so_far ss ∷ cs)
-item_here keys level result ss cs is leads ahead = next_on (path_behind keys cs) ss ahead ∙ ap (option_and_then other_keys) leads ∙ sym is
 
 -- the next item isn't on the path
 elsewhere : (rest : Option (List (List ℕ))) (ss : List Source) → IsAhead (option_and_then first_index rest) None (length ss) → option_and_then (follow (elements_so_far ss)) rest ≡ None
@@ -497,10 +484,6 @@ member_put {document = document} {r = r} {held = held} {cs = cs} f fs k next off
     }
 
 -- ---- what was reported of the keys of an object
-
-pub if_ok : {T E : Type 0} {P Q : T → Type 0} (r : Result T E) → IfOk r P → ((x : T) → P x → Q x) → IfOk r Q
-if_ok (Ok x) p f = f x p
-if_ok (Err e) p f = tt
 
 -- around the part
 pub reported_around : {document : List ℕ} {r : PartSink} (k : CheckSink) {held : List PartHeld} {cs : List Open} (reported : Option Repeat) (f : PartMembers) (fs : List Found) (last : Mark × List ℕ) (offset : ℕ) → r.inside ≡ 0

@@ -54,11 +54,3 @@ part_written {r = r} {s = s} p v from to sink sees encoded wrote =
 -- a value where one was due
 pub value_written : {text : List ℕ} {r s : TextSink} {held : List Held} {cs : List Open} (v : Source) → TextHolds text r true held cs → Writes (source_text v) r s → TextFilled text s v held cs
 value_written v sink w = goes_on sink w refl refl sink.fits
-
--- the only one of a list
-pub same_only : {xs ys : List ℕ} → (xs ∷ []) ≡ (ys ∷ []) → xs ≡ ys
-same_only e = ap first e
-  where
-    first : List (List ℕ) → List ℕ
-    first [] = []
-    first (x ∷ xs) = x

@@ -1,5 +1,5 @@
 -- The clauses of the parsers from the executable specification.
-use Rattle.std.proofs.Common.{◌≡◌, ◌≢◌, false, ◌⊎◌, inl, inr, List, ℕ, Result, Ok, Err, IfOk, IfErr, refl, sym, ap, ◌∙◌, true≢false}
+use Rattle.std.proofs.Common.{◌≡◌, ◌≢◌, List, ℕ, Result, Ok, Err, IfOk, IfErr, refl, sym, ap, ◌∙◌}
 use Rattle.jsonb_core.specs.declared.error.Error.{Error}
 use Rattle.jsonb_core.specs.declared.error.Error.TheVariants.{Syntax, OutOfMemory}
 use Rattle.jsonb.specs.declared.parser.ast.JsonAst.{JsonAst}
@@ -15,7 +15,6 @@ use Rattle.jsonb.specs.Parses.{Parses, Rejects}
 use Rattle.jsonb_spec.specs.Source.{Source, tree_of_source}
 use Rattle.jsonb_spec.specs.Parsing.{Fault, ◌>>=◌}
 use Rattle.jsonb_spec.specs.Parsing.Document.{document_of, source_of}
-use Rattle.text_parse.specs.Handler.{IsWritten}
 use Rattle.jsonb.specs.Explained.{IsExplained}
 use Rattle.jsonb_spec.specs.Located.{IsLocated}
 use Rattle.jsonb.specs.Source.{source_view}
@@ -26,11 +25,6 @@ use Rattle.jsonb.proofs.Errors.OfTexts.{document_holds}
 use Rattle.text_parse.proofs.Containers.Values.{document_sound}
 
 -- ---- what an answer says
-
--- a maker that takes memory for no scalar
-pub no_scalar : {P : Type 0} (read : Result Source Fault) → P ⊎ IsWritten false read → P
-no_scalar read (inl h) = h
-no_scalar read (inr e) = absurd (true≢false (sym e.0))
 
 -- the tree of the value that is built
 pub document_built : (mode : Mode) (bytes : List ℕ) (t : Tree) (s : Source) → t ≡ tree_of_source s → source_of mode bytes ≡ Ok s → document_of mode bytes ≡ Ok t

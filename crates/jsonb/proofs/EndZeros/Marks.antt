@@ -1,5 +1,5 @@
 -- Bytes in which no number can have zeros at its end, from one mark to the next.
-use Rattle.std.proofs.Common.{◌≡◌, ◌≤◌, ◌↔◌, bit_or, inl, inr, ⊎_elim, ℕ, zero, suc, ◌<◌, ◌==◌, Bool, true, false, List, [], ◌∷◌, ◌++◌, length, take, drop, get_or, Some, None, refl, sym, ap, subst, ◌∙◌, arith, eqb-true}
+use Rattle.std.proofs.Common.{◌≡◌, ◌≤◌, ◌↔◌, bit_or, inl, inr, ⊎_elim, ℕ, zero, suc, ◌<◌, ◌==◌, Bool, true, false, List, [], ◌∷◌, ◌++◌, length, take, drop, get_or, Some, refl, sym, ap, subst, ◌∙◌, arith, eqb-true}
 use Rattle.std.specs.Prelude.{if◌then◌else◌, ⊤}
 use Rattle.std.specs.Char.{is_ascii_digit}
 use Rattle.std.specs.Int.{bit_at}
@@ -100,10 +100,6 @@ no_mark : (x : ℕ) → (is_byte2 46 45 x ≡ true → ⊥) → ¬ (IsMark x)
 no_mark x none (inl e) = none (ap (is_byte2 46 45) e)
 no_mark x none (inr e) = none (ap (is_byte2 46 45) e)
 
-none_in : (xs : List ℕ) → ((k : ℕ) → k < length xs → is_byte2 46 45 (get_or xs k 0) ≡ true → ⊥) → HasNoMark xs
-none_in [] none = tt
-none_in (x ∷ xs) none = (no_mark x (none 0 (omega arith)), none_in xs (λ k l. none (suc k) (omega (arith, l))))
-
 none_in_front : (k : ℕ) (xs : List ℕ) → ((j : ℕ) → j < k → is_byte2 46 45 (get_or xs j 0) ≡ true → ⊥) → HasNoMark (take k xs)
 none_in_front zero [] none = tt
 none_in_front zero (x ∷ xs) none = tt
@@ -125,9 +121,6 @@ mark_found bytes front back k mark behind found before after whole begins = reco
   none_before = subst HasNoMark (sym before) (none_in_front k bytes (λ j l. found.0.before j (omega arith) l));
   is_mark = subst IsMark (mark_there k bytes mark behind (sym after ∙ begins)) (is_one (get_or bytes k 0) found.1);
 }
-
-pub no_mark_found : (bytes : List ℕ) → IsFirstByte (is_byte2 46 45) bytes None → HasNoMark bytes
-no_mark_found bytes none = none_in bytes (λ k l. none k (omega arith) l)
 
 -- ---- the first 16 bytes
 

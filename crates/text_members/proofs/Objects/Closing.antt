@@ -1,5 +1,5 @@
 -- An object that closes: its tree's members, its sort key, and the bytes of its members as pieces.
-use Rattle.std.proofs.Common.{◌≡◌, ℕ, ◌+◌, Bool, true, false, cond, List, [], ◌∷◌, ◌++◌, length, map, is_gt, Less, None, refl, sym, ap, subst, ◌∙◌, arith, append_assoc, append-nil, length-append, nat_cmp}
+use Rattle.std.proofs.Common.{◌≡◌, ℕ, Bool, true, false, cond, List, [], ◌∷◌, ◌++◌, map, is_gt, Less, None, refl, sym, ap, subst, ◌∙◌, append_assoc, append-nil, nat_cmp}
 use Rattle.std.specs.Cmp.Lexicographic.{slice_cmp}
 use Rattle.std.proofs.lemmas.Cmp.{nat_list_cmp_total}
 use Rattle.std.proofs.lemmas.Grind.{flat_map-append}
@@ -114,7 +114,3 @@ joined_more commas [] p = append-nil p
 joined_more commas (q ∷ ps) p =
     ap (λ bs. q ++ bs) (flat_map-append (λ other. between commas ++ other) ps (p ∷ []) ∙ ap (λ bs. others_joined commas ps ++ bs) (append-nil (between commas ++ p)))
     ∙ sym (append_assoc q (others_joined commas ps) (between commas ++ p))
-
-after_first : (commas : Bool) (q : List ℕ) (ps : List (List ℕ)) → length (join_pieces commas (q ∷ ps) ++ between_after commas (q ∷ ps)) ≡ length q + length (between commas) + length (join_pieces commas ps ++ between_after commas ps)
-after_first commas q [] = simp (length-append, append-nil) (omega arith)
-after_first commas q (r ∷ rs) = simp length-append (omega arith)

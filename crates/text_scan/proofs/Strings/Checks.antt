@@ -1,6 +1,5 @@
 -- What a check of contents says of them.
-use Rattle.std.proofs.Common.{Err, ◌+◌, List, [], ◌≡◌, ℕ, ◌≤◌, ◌<◌, ◌++◌, length, take, drop, Ok, sym, ap, ◌∙◌, subst, arith, refl, length-append}
-use Rattle.std.proofs.lemmas.Str.{IsUtf8-nil}
+use Rattle.std.proofs.Common.{◌+◌, List, [], ◌≡◌, ℕ, ◌≤◌, ◌<◌, ◌++◌, length, take, drop, Ok, sym, ap, ◌∙◌, subst, arith, length-append}
 use Rattle.std.proofs.lemmas.List.{append-nil, get_or-take, length-take-le, take-append-drop, take-append-le, take-take}
 use Rattle.std.specs.List.{flat_map}
 use Rattle.std.specs.Str.{IsUtf8}
@@ -9,10 +8,10 @@ use Rattle.jsonb_spec.specs.Tree.{escaped}
 use Rattle.jsonb_spec.specs.Grammar.StringBody.{Item, IsBody, encoding, meaning}
 use Rattle.jsonb_spec.specs.Parsing.Decoding.{DecodesUpTo, IsDecodedUpTo, SeesBackslash, SeesNoBackslash}
 use Rattle.jsonb_spec.specs.Parsing.Contents.{decoded_text, meaning_of_body}
-use Rattle.jsonb_spec.specs.Parsing.String.{Body, body_of, items_within}
+use Rattle.jsonb_spec.specs.Parsing.String.{body_of, items_within}
 use Rattle.text_scan.proofs.Strings.Bodies.{body-decoded}
 use Rattle.text_scan.proofs.Strings.Decoding.{decodes_all, decoded_run, decoded_then, meaning-all}
-use Rattle.text_scan.proofs.Strings.Items.{items_complete, items_sound}
+use Rattle.text_scan.proofs.Strings.Items.{items_complete}
 use Rattle.text_scan.proofs.Strings.Utf8.{meaning_utf8}
 
 pub decoded_text-is : (mode : Mode) (bytes text : List ℕ) → DecodesUpTo mode bytes [] text → decoded_text mode bytes ≡ text
@@ -38,17 +37,6 @@ pub body_checked : (mode : Mode) (bytes : List ℕ) → SeesBackslash bytes (len
 body_checked mode bytes sees utf8 p =
     body-decoded mode bytes p.text sees (decodes_all mode bytes p.text p.decodes (text_utf8 mode bytes p.text p.decodes utf8))
     ∙ ap (λ (t : List ℕ). Ok (escaped, t)) (sym (decoded_text-is mode bytes p.text p.decodes))
-
--- what contents mean is UTF-8 where they are
-pub decoded_utf8 : (mode : Mode) (bytes : List ℕ) → IsUtf8 bytes → IsUtf8 (decoded_text mode bytes)
-unfolding decoded_text
-decoded_utf8 mode bytes utf8 = by_items (items_within (length bytes) mode bytes) refl
-  where
-    by_items : (r : Body (List Item)) → items_within (length bytes) mode bytes ≡ r → IsUtf8 (meaning_of_body r)
-    by_items (Err f) is = IsUtf8-nil
-    by_items (Ok items) is =
-        let body = items_sound mode (length bytes) bytes items (omega arith) is in
-        meaning_utf8 mode items body.each (subst IsUtf8 body.encoded utf8)
 
 -- ---- steps of the check
 

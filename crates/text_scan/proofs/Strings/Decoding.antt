@@ -9,7 +9,7 @@ use Rattle.jsonb_spec.specs.Code.{Code}
 use Rattle.jsonb_spec.specs.Code.{invalid_hex, invalid_escaped, invalid_string_value, unexpected_end_of_hex_escape}
 use Rattle.jsonb_spec.specs.Grammar.StringBody.{Item, raw, escape, unit, after_u, encoding, IsItem, IsBody, Decodes, escaped_byte, alone, together, meaning}
 use Rattle.jsonb_spec.specs.Grammar.StringFault.{IsFirstNonDigit, bad_digit, cut_escape, unknown_escape, bad_unit, IsFaultyBody}
-use Rattle.jsonb_spec.specs.Parsing.Decoding.{AreContents, SeesNoBackslash, SplitsUnit, ParsesUnit, DecodesUpTo, Adds, StopsInUnit, StopsAtEscape}
+use Rattle.jsonb_spec.specs.Parsing.Decoding.{SeesNoBackslash, SplitsUnit, ParsesUnit, DecodesUpTo, Adds, StopsInUnit, StopsAtEscape}
 use Rattle.jsonb_core.proofs.Strings.Units.{length-alone, length-together, length-after_u}
 use Rattle.jsonb_core.proofs.Strings.Meaning.{each-append, meaning-raw, meaning-escape, meaning-together, meaning-alone, meaning-last}
 use Rattle.std.specs.Char.Utf16.{is_high_surrogate}
@@ -150,10 +150,6 @@ stops_after mode a b t code left p stop =
       cut = record { items = p.items ++ q.items; each = each-append mode p.items q.items p.each q.each; rest = q.rest; encoded = encoded; steps = q.steps; bad = q.bad; count = refl };
       count = omega (arith, stop.count, q.count, ap length q.encoded, length-append (flat_map encoding q.items) q.rest, ap length encoded, length-append (flat_map encoding (p.items ++ q.items)) q.rest, ap length p.encoded, length-append (flat_map encoding p.items) b);
     }
-
--- what is left of contents is contents
-pub contents_left : (mode : Mode) (a b t : List ℕ) → AreContents mode a → DecodesUpTo mode a b t → AreContents mode b
-contents_left mode a b t contents p code left stop = contents code left (stops_after mode a b t code left p stop)
 
 pub stops_at_digit : (mode : Mode) (bytes digits rest : List ℕ) (byte : ℕ) → GoesBeyondJson mode → SplitsUnit bytes digits rest → IsFirstNonDigit digits byte → StopsInUnit mode bytes (invalid_hex byte) (length rest)
 stops_at_digit mode bytes digits rest byte beyond s first = record {
