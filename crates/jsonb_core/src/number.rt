@@ -14,21 +14,21 @@ pub use laws::{
 pub use powers::power_of_ten;
 
 /// The number `value / 10^scale`, for every scale and value.
-#[derive(Clone, Debug, Drop)]
+#[derive(Clone, Copy, Debug)]
 pub struct Decimal64 {
     pub scale: u8,
     pub value: i64,
 }
 
 /// The number `value / 10^scale`, for every scale and value.
-#[derive(Clone, Debug, Drop)]
+#[derive(Clone, Copy, Debug)]
 pub struct Decimal128 {
     pub scale: u8,
     pub value: i128,
 }
 
 /// A JSON number.
-#[derive(Clone, Debug, Drop)]
+#[derive(Clone, Copy, Debug)]
 pub enum Number {
     Int64(i64),
     UInt64(u64),

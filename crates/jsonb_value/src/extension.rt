@@ -16,26 +16,26 @@ pub use laws::{
 use std::cmp::Ordering;
 
 /// Days since the epoch.
-#[derive(Clone, Drop, Debug, PartialEq, Eq, PartialOrd, Ord)]
+#[derive(Clone, Copy, Debug, PartialEq, Eq, PartialOrd, Ord)]
 pub struct Date {
     pub value: i32,
 }
 
 /// Microseconds since the epoch.
-#[derive(Clone, Drop, Debug, PartialEq, Eq, PartialOrd, Ord)]
+#[derive(Clone, Copy, Debug, PartialEq, Eq, PartialOrd, Ord)]
 pub struct Timestamp {
     pub value: i64,
 }
 
 /// Microseconds since the epoch, beside the zone's offset in seconds.
-#[derive(Clone, Drop, Debug, PartialEq, Eq, PartialOrd, Ord)]
+#[derive(Clone, Copy, Debug, PartialEq, Eq, PartialOrd, Ord)]
 pub struct TimestampTz {
     pub offset: i32,
     pub value: i64,
 }
 
 /// A span of calendar time.
-#[derive(Clone, Drop, Debug, PartialEq, Eq, PartialOrd, Ord)]
+#[derive(Clone, Copy, Debug, PartialEq, Eq, PartialOrd, Ord)]
 pub struct Interval {
     pub months: i32,
     pub days: i32,

@@ -31,7 +31,7 @@ fn copy<'a>(ast: &JsonAst<'a>) -> Result<JsonAst<'a>, AllocError>
         JsonAst::Null => Ok(JsonAst::Null),
         JsonAst::Bool(b) => Ok(JsonAst::Bool(*b)),
         JsonAst::String(text) => Ok(JsonAst::String(copy_text(text)?)),
-        JsonAst::Number(number) => Ok(JsonAst::Number(number.clone()?)),
+        JsonAst::Number(number) => Ok(JsonAst::Number(*number)),
         JsonAst::Array(items) => Ok(JsonAst::Array(copy_items(items)?)),
         JsonAst::Object(members) => Ok(JsonAst::Object(copy_members(members)?)),
     }

@@ -37,21 +37,6 @@ copy_members-returns-in-Some t c =
 pub copy-returns-in_err-copy_text-in-String-clause-same : goal.copy-returns-in_err-copy_text-in-String-clause-same
 copy-returns-in_err-copy_text-in-String-clause-same t c = no_ok _ _ c.from_residual.ensures.0
 
-pub copy-returns-in_err-clone-in-Number-clause-same : goal.copy-returns-in_err-clone-in-Number-clause-same
-copy-returns-in_err-clone-in-Number-clause-same t c = no_ok _ _ c.from_residual-in_err-clone-in-Number.ensures.0
-
-pub copy-returns-in_err-clone-in-Date-clause-same : goal.copy-returns-in_err-clone-in-Date-clause-same
-copy-returns-in_err-clone-in-Date-clause-same t c = no_ok _ _ c.from_residual-in_err-clone-in-Date.ensures.0
-
-pub copy-returns-in_err-clone-in-Timestamp-clause-same : goal.copy-returns-in_err-clone-in-Timestamp-clause-same
-copy-returns-in_err-clone-in-Timestamp-clause-same t c = no_ok _ _ c.from_residual-in_err-clone-in-Timestamp.ensures.0
-
-pub copy-returns-in_err-clone-in-TimestampTz-clause-same : goal.copy-returns-in_err-clone-in-TimestampTz-clause-same
-copy-returns-in_err-clone-in-TimestampTz-clause-same t c = no_ok _ _ c.from_residual-in_err-clone-in-TimestampTz.ensures.0
-
-pub copy-returns-in_err-clone-in-Interval-clause-same : goal.copy-returns-in_err-clone-in-Interval-clause-same
-copy-returns-in_err-clone-in-Interval-clause-same t c = no_ok _ _ c.from_residual-in_err-clone-in-Interval.ensures.0
-
 pub copy-returns-in_err-copy_items-in-Array-clause-same : goal.copy-returns-in_err-copy_items-in-Array-clause-same
 copy-returns-in_err-copy_items-in-Array-clause-same t c = no_ok _ _ c.from_residual-in_err-copy_items-in-Array.ensures.0
 

@@ -31,36 +31,6 @@ own-returns-in_err-own_text-in-String-clause-ok t c = no_ok _ _ c.from_residual.
 pub own-returns-in_err-own_text-in-String-clause-binary : goal.own-returns-in_err-own_text-in-String-clause-binary
 own-returns-in_err-own_text-in-String-clause-binary t c = no_ok _ _ c.from_residual.ensures.0
 
-pub own-returns-in_err-clone-in-Number-clause-ok : goal.own-returns-in_err-clone-in-Number-clause-ok
-own-returns-in_err-clone-in-Number-clause-ok t c = no_ok _ _ c.from_residual-in_err-clone-in-Number.ensures.0
-
-pub own-returns-in_err-clone-in-Number-clause-binary : goal.own-returns-in_err-clone-in-Number-clause-binary
-own-returns-in_err-clone-in-Number-clause-binary t c = no_ok _ _ c.from_residual-in_err-clone-in-Number.ensures.0
-
-pub own-returns-in_err-clone-in-Date-clause-ok : goal.own-returns-in_err-clone-in-Date-clause-ok
-own-returns-in_err-clone-in-Date-clause-ok t c = no_ok _ _ c.from_residual-in_err-clone-in-Date.ensures.0
-
-pub own-returns-in_err-clone-in-Date-clause-binary : goal.own-returns-in_err-clone-in-Date-clause-binary
-own-returns-in_err-clone-in-Date-clause-binary t c = no_ok _ _ c.from_residual-in_err-clone-in-Date.ensures.0
-
-pub own-returns-in_err-clone-in-Timestamp-clause-ok : goal.own-returns-in_err-clone-in-Timestamp-clause-ok
-own-returns-in_err-clone-in-Timestamp-clause-ok t c = no_ok _ _ c.from_residual-in_err-clone-in-Timestamp.ensures.0
-
-pub own-returns-in_err-clone-in-Timestamp-clause-binary : goal.own-returns-in_err-clone-in-Timestamp-clause-binary
-own-returns-in_err-clone-in-Timestamp-clause-binary t c = no_ok _ _ c.from_residual-in_err-clone-in-Timestamp.ensures.0
-
-pub own-returns-in_err-clone-in-TimestampTz-clause-ok : goal.own-returns-in_err-clone-in-TimestampTz-clause-ok
-own-returns-in_err-clone-in-TimestampTz-clause-ok t c = no_ok _ _ c.from_residual-in_err-clone-in-TimestampTz.ensures.0
-
-pub own-returns-in_err-clone-in-TimestampTz-clause-binary : goal.own-returns-in_err-clone-in-TimestampTz-clause-binary
-own-returns-in_err-clone-in-TimestampTz-clause-binary t c = no_ok _ _ c.from_residual-in_err-clone-in-TimestampTz.ensures.0
-
-pub own-returns-in_err-clone-in-Interval-clause-ok : goal.own-returns-in_err-clone-in-Interval-clause-ok
-own-returns-in_err-clone-in-Interval-clause-ok t c = no_ok _ _ c.from_residual-in_err-clone-in-Interval.ensures.0
-
-pub own-returns-in_err-clone-in-Interval-clause-binary : goal.own-returns-in_err-clone-in-Interval-clause-binary
-own-returns-in_err-clone-in-Interval-clause-binary t c = no_ok _ _ c.from_residual-in_err-clone-in-Interval.ensures.0
-
 pub own-returns-in_err-own_items-in-Array-clause-ok : goal.own-returns-in_err-own_items-in-Array-clause-ok
 own-returns-in_err-own_items-in-Array-clause-ok t c = no_ok _ _ c.from_residual-in_err-own_items-in-Array.ensures.0
 
