@@ -43,7 +43,7 @@ pub struct Interval {
 }
 
 /// A scalar beyond JSON.
-#[derive(Clone, Drop, Debug)]
+#[derive(Clone, Copy, Debug)]
 pub enum ExtensionValue<'a> {
     Binary(&'a [u8]),
     Date(Date),
