@@ -1,5 +1,5 @@
 //! The members of the objects that are open.
-ghost use Rattle.std.specs.Prelude.{◌≡◌, ◌<◌, ◌≤◌, [], ℕ, Bool, List, true, length, drop, take, slice_range, IfOk, IfSome, IsTrue, MatchBool, OnOk};
+ghost use Rattle.std.specs.Prelude.{◌≡◌, ◌<◌, ◌≤◌, [], ℕ, Bool, List, true, length, drop, take, slice_range, IfOk, IfSome, IsTrue, MatchBool, OnOk, vec_capacity, vec_len};
 ghost use Rattle.std.specs.Option.{is_some};
 ghost use Rattle.std.specs.Str.{IsUtf8};
 ghost use Rattle.text_members.specs.OpenMembers.{repeat_among};
@@ -12,6 +12,9 @@ use std::alloc::{AllocError, Global};
 
 // So many times the bytes of the text may be moved, and a little more.
 const MOST_MOVED: usize = 8;
+
+// Most objects have at most so many members.
+const MOST_MEMBERS: usize = 16;
 
 /// Where a key comes twice in an object: the index of its first member among those that are open, and the index behind
 /// that one of the member where the key comes the second time.
@@ -48,6 +51,17 @@ pub struct OpenMembers<'a> {
     pub entries: Vec<Member>,
     pub decoded: Vec<u8>,
     pub spare: Spare,
+}
+
+// Makes space for a member more. The first time it is for those of most objects.
+#[cold]
+#[inline(never)]
+fn grow(entries: &mut Vec<Member>) -> Result<(), AllocError>
+    ensures same { entries.new.items ≡ entries.old.items }
+    ensures space { OnOk result (vec_len entries.new < vec_capacity entries.new) }
+{
+    let more = if entries.is_empty() { MOST_MEMBERS } else { 1 };
+    entries.try_reserve(more)
 }
 
 // The members from an index on.
@@ -121,7 +135,9 @@ impl<'a> OpenMembers<'a> {
     fn preserve(&mut self, member: Member) -> Result<(), AllocError>
         ensures { OnOk result (HasMember member [] self.old self.new) }
     {
-        self.entries.try_reserve(1)?;
+        if self.entries.len() == self.entries.capacity() {
+            grow(&mut self.entries)?;
+        }
         self.entries.push_reserved(member);
         Ok(())
     }
