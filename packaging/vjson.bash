@@ -2,7 +2,7 @@
 _vjson() {
     local word=${COMP_WORDS[COMP_CWORD]} before=${COMP_WORDS[COMP_CWORD - 1]} words
     if [ "$COMP_CWORD" -eq 1 ]; then
-        mapfile -t COMPREPLY < <(compgen -W 'check format get sort equal keys --help --version' -- "$word"
+        mapfile -t COMPREPLY < <(compgen -W 'check format get sort count equal keys --help --version' -- "$word"
             compgen -f -- "$word")
         return
     fi
@@ -17,6 +17,7 @@ _vjson() {
                 format) words="$words --where --has --lacks --lines --compact --indent --line-buffered" ;;
                 get) words="$words --where --has --lacks --lines --raw --array --default --line-buffered" ;;
                 sort) words="$words --where --has --lacks --lines --unique --reverse --by --down --check --canonical" ;;
+                count) words="$words --where --has --lacks --lines --reverse --by --down" ;;
                 equal) words="$words --quiet" ;;
                 keys) words="$words --where --has --lacks --lines --by --down --canonical --line-buffered" ;;
             esac

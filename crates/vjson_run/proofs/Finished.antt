@@ -4,13 +4,11 @@ use Rattle.std.proofs.lemmas.List.Elements.{All-nil}
 use Rattle.std.specs.declared.alloc.Global.{Global}
 use Rattle.vjson_text.specs.Texts.{AppendsKeyOf}
 use Rattle.std.specs.Io.KnownBytes.{Appends, Keeps}
-use Rattle.std.specs.List.{flat_map}
 use Rattle.vjson_run.proofs.Taken.{appended_more, retained_along, same_answered}
 use Rattle.vjson_run.proofs.InOrder.{order_done}
 use Rattle.vjson_run.specs.InOrder.{AreInOrder, AreInOrderSoFar}
-use Rattle.vjson_run.specs.Lines.{line_text}
 use Rattle.vjson_run.specs.Output.{IsWritten, output}
-use Rattle.vjson_run.specs.Runs.{AreAnswered, AreEqual, AreEqualSoFar, AreLinesFor, AreSorted, HasMade, HasTaken, IsDone, WritesSorted, ends_sorted, is_yes, sorts}
+use Rattle.vjson_run.specs.Runs.{AreAnswered, AreEqual, AreEqualSoFar, AreLinesFor, AreSorted, HasMade, HasTaken, IsDone, WritesSorted, ends_sorted, is_yes, sorted_text, sorts}
 use Rattle.vjson_run.specs.declared.options.Command.{Command}
 use Rattle.vjson_run.specs.declared.options.Command.TheVariants.{Check, Format, Get, Sort, Equal, Keys}
 use Rattle.vjson_run.specs.declared.options.Options.{Options}
@@ -75,8 +73,8 @@ module _ {W E : Type 0} (contents : W → Option (List ℕ)) where
         w.sorted,
         subst (AreLinesFor s.options.now texts s.lines.items) status m.0,
         w.arranged,
-        retained_along start (output contents t.out) end (flat_map line_text w.sorted)
-            (appended_more contents start (output contents s.out) (output contents t.out) [] (flat_map line_text w.sorted) m.1 (w.printed.printed fine)) retained,
+        retained_along start (output contents t.out) end (sorted_text s.options.now w.sorted)
+            (appended_more contents start (output contents s.out) (output contents t.out) [] (sorted_text s.options.now w.sorted) m.1 (w.printed.printed fine)) retained,
       )
 
   pub sorted_done : (command : Command) (s t : Session W E) (start end : Option (List ℕ)) (texts : List (List ℕ)) → ends_sorted command s.options.now.check s.status ≡ true → WritesSorted contents s t

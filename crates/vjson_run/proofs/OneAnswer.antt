@@ -46,12 +46,12 @@ pieces_same t (part ∷ parts) (a ∷ ps) [] h k = absurd k
 pieces_same t (part ∷ parts) (a ∷ ps) (b ∷ qs) h k =
     ap (λ x. x ∷ ps) (piece_same part.down (part_key (part_at (keys_of part.path) t)) a b h.0 k.0) ∙ ap (λ l. b ∷ l) (pieces_same t parts ps qs h.1 k.1)
 
-by_same : (parts : List Part) (t : Tree) (k l : List ℕ) → IsKeyBy parts t k → IsKeyBy parts t l → k ≡ l
-by_same [] t k l h i = h ∙ sym i
-by_same (part ∷ parts) t k l h i = h.2 ∙ ap (flat_map (λ piece. piece)) (pieces_same t (part ∷ parts) h.0 i.0 h.1 i.1) ∙ sym i.2
+by_same : (counts : Bool) (parts : List Part) (t : Tree) (k l : List ℕ) → IsKeyBy counts parts t k → IsKeyBy counts parts t l → k ≡ l
+by_same counts [] t k l h i = h ∙ sym i
+by_same counts (part ∷ parts) t k l h i = h.2 ∙ ap (flat_map (λ piece. piece)) (pieces_same t (part ∷ parts) h.0 i.0 h.1 i.1) ∙ sym i.2
 
 one_key : (o : Options) (text k l : List ℕ) → IsKeyOf o text k → IsKeyOf o text l → k ≡ l
-one_key o text k l h i = by_same o.by.items i.tree k l (subst (λ t. IsKeyBy o.by.items t k) (one_tree o.grammar text h.tree i.tree h.is_text i.is_text) h.is_key) i.is_key
+one_key o text k l h i = by_same o.count o.by.items i.tree k l (subst (λ t. IsKeyBy o.count o.by.items t k) (one_tree o.grammar text h.tree i.tree h.is_text i.is_text) h.is_key) i.is_key
 
 -- a text with a key is one of the grammar
 is_one : (o : Options) (text key : List ℕ) → IsKeyOf o text key → IsNoTextOf o.grammar text → ⊥

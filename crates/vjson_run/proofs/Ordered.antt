@@ -132,11 +132,12 @@ pieces_compare t u (part ∷ parts) (x ∷ xs) (y ∷ ys) p q h k =
     then_compares x y (flat_map (λ piece. piece) xs) (flat_map (λ piece. piece) ys) (by_part part t u) (by_parts parts t u)
     (piece_compares t u part x y p q h.0 k.0) (pieces_compare t u parts xs ys p q h.1 k.1)
 
-keys_by : (parts : List Part) (t u : Tree) (k l : List ℕ) → IsSound max_depth t → IsSound max_depth u → IsKeyBy parts t k → IsKeyBy parts u l → bytes_cmp k l ≡ sort_cmp parts t u
-keys_by [] t u k l p q h i = ap (λ x. bytes_cmp x l) h ∙ ap (bytes_cmp (key_of t)) i ∙ keys_order t u p.1 q.1
-keys_by (part ∷ parts) t u k l p q h i =
+keys_by : (counts : Bool) (parts : List Part) (t u : Tree) (k l : List ℕ) → IsSound max_depth t → IsSound max_depth u → IsKeyBy counts parts t k → IsKeyBy counts parts u l → bytes_cmp k l ≡ sort_cmp counts parts t u
+keys_by true [] t u k l p q h i = ap (λ x. bytes_cmp x l) h ∙ ap (bytes_cmp []) i
+keys_by false [] t u k l p q h i = ap (λ x. bytes_cmp x l) h ∙ ap (bytes_cmp (key_of t)) i ∙ keys_order t u p.1 q.1
+keys_by counts (part ∷ parts) t u k l p q h i =
     ap (λ x. bytes_cmp x l) h.2 ∙ ap (bytes_cmp (flat_map (λ piece. piece) h.0)) i.2
     ∙ at_end (flat_map (λ piece. piece) h.0) (flat_map (λ piece. piece) i.0) (by_parts (part ∷ parts) t u) (pieces_compare t u (part ∷ parts) h.0 i.0 p q h.1 i.1)
 
-pub as_asked : (o : Options) (x y k l : List ℕ) (h : IsKeyOf o x k) (i : IsKeyOf o y l) → bytes_cmp k l ≡ sort_cmp o.by.items h.tree i.tree
-as_asked o x y k l h i = keys_by o.by.items h.tree i.tree k l (text_sound o.grammar x h.tree h.is_text) (text_sound o.grammar y i.tree i.is_text) h.is_key i.is_key
+pub as_asked : (o : Options) (x y k l : List ℕ) (h : IsKeyOf o x k) (i : IsKeyOf o y l) → bytes_cmp k l ≡ sort_cmp o.count o.by.items h.tree i.tree
+as_asked o x y k l h i = keys_by o.count o.by.items h.tree i.tree k l (text_sound o.grammar x h.tree h.is_text) (text_sound o.grammar y i.tree i.is_text) h.is_key i.is_key

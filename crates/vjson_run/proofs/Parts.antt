@@ -16,7 +16,7 @@ use Rattle.vjson_text.specs.declared.reader.Layout.{Layout}
 use Rattle.vjson_text.specs.declared.reader.Layout.TheVariants.{Compact, Indent}
 use Rattle.vjson_run.proofs.Lists.{any_behind, zipped_more}
 use Rattle.vjson_run.proofs.PartKeys.{part_key_is}
-use Rattle.vjson_run.specs.Answers.{AppendsCell, AppendsLine, AppendsOne, IsCell, IsRawCell, IsFound, IsLaidOut, IsLineText, IsOne, IsShown, LacksSome, PrintsKeyed, given_default, layout_of, shown_part}
+use Rattle.vjson_run.specs.Answers.{AppendsCell, AppendsCounted, AppendsLine, AppendsOne, AreCounted, IsCell, IsCounted, IsRawCell, IsFound, IsLaidOut, IsLineText, IsOne, IsShown, LacksSome, PrintsKeyed, counted_none, counted_part, given_default, layout_of, shown_part}
 use Rattle.jsonb_spec.specs.Program.Printed.{Prints, cell_byte, first_keys, printed, row_of, separated, separator}
 use Rattle.vjson_run.specs.Keys.{AppendsPiece, AppendsTurned, HasPartKey, IsKeyBy, IsKeyOf, IsPartOf, IsPiece, LacksPart}
 use Rattle.jsonb_spec.specs.Program.Keys.{IsTurned, keys_of, part_key}
@@ -174,14 +174,6 @@ lacks_other o text others i path is within at h =
     any_behind P (first_keys o.paths.items ∷ []) (map keys_of (drop 1 o.paths.items))
     (subst (λ l. Any P (map keys_of l)) is (any_at P keys_of others i path within (subst (λ p. P (keys_of p)) at h)))
 
-pub line_part : (o : Options) (text old new : List ℕ) → AppendsTextOf o.grammar Compact text old new → o.canonical ≡ true → AppendsLine o text old new
-line_part o text old new h canonical =
-    let laid = text_part o.grammar Compact text old new h in
-    record { line = laid.0; is_line = subst (λ b. MatchBool b (AppendsTextOf o.grammar Compact text [] laid.0) (laid.0 ≡ text)) (sym canonical) laid.1; appended = laid.2 }
-
-pub own_line : (o : Options) (text : List ℕ) → o.canonical ≡ false → IsLineText o text text
-own_line o text verbatim = subst (λ b. MatchBool b (AppendsTextOf o.grammar Compact text [] text) (text ≡ text)) (sym verbatim) refl
-
 pub keyed_line : (o : Options) (text key line k l old new : List ℕ) → IsKeyOf o text key → AppendsLine o text [] line → k ≡ key → l ≡ line → new ≡ old ++ key_line k l → PrintsKeyed o text old new
 keyed_line o text key line k l old new is_key is_line same_key same_line appended = record {
   key = key;
@@ -189,10 +181,6 @@ keyed_line o text key line k l old new is_key is_line same_key same_line appende
   keyed = record { is_key = is_key; is_line = is_line.is_line };
   appended = appended ∙ ap (λ x. old ++ key_line x l) same_key ∙ ap (λ x. old ++ key_line key x) (same_line ∙ is_line.appended);
 }
-
-pub own_keyed : (o : Options) (text key k l old new : List ℕ) → IsKeyOf o text key → o.canonical ≡ false → k ≡ key → l ≡ text → new ≡ old ++ key_line k l → PrintsKeyed o text old new
-own_keyed o text key k l old new is_key verbatim same_key same_line appended =
-    keyed_line o text key text k l old new is_key (record { line = text; is_line = own_line o text verbatim; appended = refl }) same_key same_line appended
 
 -- ---- the key that a text is sorted by
 
@@ -269,8 +257,48 @@ pub key_by_pieces : (o : Options) (text : List ℕ) (first : Part) (others : Lis
 key_by_pieces o text first others i key is all h = record {
   tree = h.tree;
   is_text = h.is_text;
-  is_key = subst (λ parts. IsKeyBy parts h.tree key) (sym is) (h.pieces, subst (λ l. AllZip (IsPiece h.tree) (first ∷ l) h.pieces) (take_all i others all) h.each, h.is_key);
+  is_key = subst (λ parts. IsKeyBy o.count parts h.tree key) (sym is) (h.pieces, subst (λ l. AllZip (IsPiece h.tree) (first ∷ l) h.pieces) (take_all i others all) h.each, h.is_key);
 }
+
+-- ---- what texts are counted by
+
+counted_by : (g : Grammar) (part : Part) (text cell : List ℕ) (found : Bool) → AppendsPartOf g (keys_of part.path) text [] cell found → IsCounted g text part cell
+counted_by g part text cell true h = counted_part (part_there g (keys_of part.path) text cell h)
+counted_by g part text cell false h = counted_none (part_lacks g (keys_of part.path) text cell h) h.part.1
+
+pub counted_cell : (g : Grammar) (part : Part) (text none cell shown old mid new : List ℕ) (found : Bool) → none ≡ [] → AppendsPartOf g (keys_of part.path) text none cell found → mid ≡ old ++ 9 ∷ [] → shown ≡ cell → new ≡ mid ++ shown
+    → AppendsCounted g part text old new
+counted_cell g part text none cell shown old mid new found nothing h first same second = record {
+  cell = cell;
+  is_counted = counted_by g part text cell found (subst (λ n. AppendsPartOf g (keys_of part.path) text n cell found) nothing h);
+  appended = behind old mid new cell 9 first (second ∙ ap (λ l. mid ++ l) same);
+}
+
+-- the parts so far are in the row
+abbrev pub CountedSo : Grammar → List ℕ → List Part → List ℕ → Type 0
+CountedSo g text parts row = (cells : List (List ℕ)) × AllZip (IsCounted g text) parts cells × (row ≡ separated false cells)
+
+pub next_counted : (g : Grammar) (text : List ℕ) (parts : List Part) (i : ℕ) (part : Part) (old new : List ℕ) → i < length parts → part ≡ get_or parts i part → CountedSo g text (take i parts) old → AppendsCounted g part text old new
+    → CountedSo g text (take (i + 1) parts) new
+next_counted g text parts i part old new within is h k =
+    let next : take (i + 1) parts ≡ take i parts ++ part ∷ [] = take_more parts i part within ∙ ap (λ p. take i parts ++ p ∷ []) (sym is) in
+    subst (λ l. CountedSo g text l new) (sym next) (
+      h.0 ++ k.cell ∷ [],
+      zipped_more (IsCounted g text) (take i parts) h.0 part k.cell h.1 k.is_counted,
+      k.appended ∙ ap (λ l. l ++ 9 ∷ k.cell) h.2 ∙ flat_map_more (λ cell. 9 ∷ cell) [] h.0 k.cell,
+    )
+
+pub all_counted : (o : Options) (text : List ℕ) (parts : List Part) (i : ℕ) (row : List ℕ) → parts ≡ o.by.items → length parts ≤ i → CountedSo o.grammar text (take i parts) row → AreCounted o text row
+all_counted o text parts i row same all h = subst (λ l. CountedSo o.grammar text l row) (take_all i parts all ∙ same) h
+
+pub counted_line : (o : Options) (text row shown old new : List ℕ) → o.count ≡ true → AreCounted o text row → shown ≡ row → new ≡ old ++ shown → AppendsLine o text old new
+counted_line o text row shown old new counts h same appended = record {
+  line = row;
+  is_line = subst (λ b. MatchBool b (AreCounted o text row) (MatchBool o.canonical (AppendsTextOf o.grammar Compact text [] row) (row ≡ text))) (sym counts) h;
+  appended = appended ∙ ap (λ l. old ++ l) same;
+}
+
+-- ---- a line
 
 pub line_alone : (o : Options) (text line : List ℕ) → AppendsLine o text [] line → IsLineText o text line
 line_alone o text line h = subst (IsLineText o text) (sym h.appended) h.is_line

@@ -14,6 +14,7 @@ use Rattle.jsonb_spec.specs.Program.KeyLine.{key_line}
 use Rattle.vjson_run.specs.declared.options.Command.{Command}
 use Rattle.vjson_run.specs.declared.options.Command.TheVariants.{Check, Format, Get, Sort, Keys}
 use Rattle.vjson_run.specs.declared.options.Options.{Options}
+use Rattle.vjson_run.specs.declared.options.Part.{Part}
 use Rattle.jsonb_spec.specs.Program.Printed.{printed, first_keys, cell_byte, separator, separated, row_of}
 
 -- by `sort --check`
@@ -71,10 +72,20 @@ pub record IsFound (options : Options) (text bytes : List ℕ) : Type 0 where
 abbrev pub LacksSome : Options → List ℕ → Type 0
 LacksSome options text = Any (λ keys. LacksPart options.grammar keys text) (paths_of options)
 
--- The line of a text that is sorted: the text itself, or with `--canonical` its serialized form.
+-- What `count` prints of a part: its serialized form, or nothing where the text lacks it.
+pub data IsCounted (grammar : Grammar) (text : List ℕ) (part : Part) (cell : List ℕ) : Type 0 where
+  counted_part : IsPartOf grammar (keys_of part.path) text cell → IsCounted grammar text part cell
+  counted_none : LacksPart grammar (keys_of part.path) text → cell ≡ [] → IsCounted grammar text part cell
+
+-- the parts that texts are counted by, each behind a tab
+abbrev pub AreCounted : Options → List ℕ → List ℕ → Type 0
+AreCounted options text line =
+    (cells : List (List ℕ)) × AllZip (IsCounted options.grammar text) options.by.items cells × (line ≡ separated false cells)
+
+-- The line of a text that is sorted: the text itself, or with `--canonical` its serialized form; of `count` the parts.
 abbrev pub IsLineText : Options → List ℕ → List ℕ → Type 0
-IsLineText options text line =
-    MatchBool options.canonical (AppendsTextOf options.grammar Compact text [] line) (line ≡ text)
+IsLineText options text line = MatchBool options.count (AreCounted options text line)
+    (MatchBool options.canonical (AppendsTextOf options.grammar Compact text [] line) (line ≡ text))
 
 -- The text is one of the grammar, this is the key that it is sorted by, and this is its line.
 pub record IsKeyed (options : Options) (text key line : List ℕ) : Type 0 where
@@ -92,6 +103,12 @@ pub record AppendsCell (options : Options) (keys : List (List ℕ)) (text old ne
   pub cell : List ℕ
   pub is_cell : IsCell options text keys cell
   pub appended : new ≡ old ++ separator options.array ∷ cell
+
+-- new is old with what `count` prints of the part at its end, behind a tab
+pub record AppendsCounted (grammar : Grammar) (part : Part) (text old new : List ℕ) : Type 0 where
+  pub cell : List ℕ
+  pub is_counted : IsCounted grammar text part cell
+  pub appended : new ≡ old ++ separator false ∷ cell
 
 -- new is old with the text's line at its end
 pub record AppendsLine (options : Options) (text old new : List ℕ) : Type 0 where

@@ -33,16 +33,17 @@ pub record LacksPart (grammar : Grammar) (keys : List (List ℕ)) (text : List �
 abbrev pub IsPiece : Tree → Part → List ℕ → Type 0
 IsPiece tree part bytes = IsTurned part.down (part_key (part_at (keys_of part.path) tree)) bytes
 
--- The key that a tree is sorted by: its own, or one piece for each part after the other.
-abbrev pub IsKeyBy : List Part → Tree → List ℕ → Type 0
-IsKeyBy [] tree key = key ≡ key_of tree
-IsKeyBy parts tree key = (pieces : List (List ℕ)) × AllZip (IsPiece tree) parts pieces × (key ≡ flat_map (λ piece. piece) pieces)
+-- The key that a tree is sorted by: one piece for each part after the other; without parts its own, or none where texts
+-- are counted.
+abbrev pub IsKeyBy : Bool → List Part → Tree → List ℕ → Type 0
+IsKeyBy counts [] tree key = key ≡ (if counts then [] else key_of tree)
+IsKeyBy counts parts tree key = (pieces : List (List ℕ)) × AllZip (IsPiece tree) parts pieces × (key ≡ flat_map (λ piece. piece) pieces)
 
 -- The text is one of the grammar, and this is the key that it is sorted by.
 pub record IsKeyOf (options : Options) (text key : List ℕ) : Type 0 where
   pub tree : Tree
   pub is_text : IsTextOf options.grammar text tree
-  pub is_key : IsKeyBy options.by.items tree key
+  pub is_key : IsKeyBy options.count options.by.items tree key
 
 -- the order of two trees by one part, up or down
 abbrev pub by_part : Part → Tree → Tree → Ordering
@@ -55,10 +56,10 @@ abbrev pub by_parts : List Part → Tree → Tree → Ordering
 by_parts [] t u = Equal
 by_parts (part ∷ parts) t u = ordering_then (by_part part t u) (by_parts parts t u)
 
--- the order in which trees are sorted: by parts, or where there is none by their values
-abbrev pub sort_cmp : List Part → Tree → Tree → Ordering
-sort_cmp [] t u = tree_cmp t u
-sort_cmp parts t u = by_parts parts t u
+-- the order in which trees are sorted: by parts, or where there is none by their values, unless they are counted
+abbrev pub sort_cmp : Bool → List Part → Tree → Tree → Ordering
+sort_cmp counts [] t u = if counts then Equal else tree_cmp t u
+sort_cmp counts parts t u = by_parts parts t u
 
 -- The text is one of the grammar, and this is the key of its part at the keys, if it is there.
 pub record HasPartKey (grammar : Grammar) (keys : List (List ℕ)) (text key : List ℕ) (found : Bool) : Type 0 where

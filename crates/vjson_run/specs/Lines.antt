@@ -1,5 +1,5 @@
 -- Lines with the keys that they are sorted by, and which order of them is right.
-use Rattle.std.specs.Prelude.{◌≡◌, ℕ, Bool, true, false, List, [], ◌∷◌, ◌++◌, Some}
+use Rattle.std.specs.Prelude.{◌≡◌, ℕ, ◌+◌, decimal, Bool, true, false, if◌then◌else◌, List, [], ◌∷◌, ◌++◌, Some}
 use Rattle.std.specs.List.{All, Any, Contains, find}
 use Rattle.std.specs.List.Sorted.{IsPermutation, IsSorted, IsStable, IsStrictlySortedBy}
 use Rattle.std.specs.Ordering.{flip_args, is_eq}
@@ -55,3 +55,18 @@ IsArranged down true given sorted = IsFirstOfEach (order_of down) given sorted
 -- a line with a line feed
 abbrev pub line_text : Line → List ℕ
 line_text line = line.text.items ++ ascii.line_feed ∷ []
+
+-- how often a key is there, and a line with it
+abbrev pub count_line : ℕ → Line → List ℕ
+count_line count line = decimal count ++ line_text line
+
+-- of sorted lines, how often each key is there, and the first line with it: of the first there were so many already
+abbrev pub counts_from : ℕ → Line → List Line → List ℕ
+counts_from count line [] = count_line count line
+counts_from count line (next ∷ more) =
+    if same_key line next then counts_from (count + 1) line more else count_line count line ++ counts_from 1 next more
+
+-- The same of all, where 0 is printed of none, unless it is counted by parts.
+abbrev pub counts_of : Bool → List Line → List ℕ
+counts_of by_parts [] = if by_parts then [] else ascii.digit_zero ∷ ascii.line_feed ∷ []
+counts_of by_parts (line ∷ more) = counts_from 1 line more

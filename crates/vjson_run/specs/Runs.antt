@@ -10,7 +10,7 @@ use Rattle.vjson_run.specs.Chosen.{Chooses}
 use Rattle.jsonb_spec.specs.Program.Input.{is_blank_line, without_end}
 use Rattle.vjson_run.specs.InOrder.{AreInOrder, AreInOrderSoFar, is_wrong}
 use Rattle.vjson_run.specs.Keys.{IsKeyOf}
-use Rattle.vjson_run.specs.Lines.{IsArranged, line_text}
+use Rattle.vjson_run.specs.Lines.{IsArranged, counts_of, line_text}
 use Rattle.vjson_run.specs.Output.{PrintsPart, output}
 use Rattle.vjson_run.specs.declared.lines.Line.{Line}
 use Rattle.vjson_run.specs.declared.options.Command.{Command}
@@ -42,12 +42,26 @@ abbrev pub AreLinesFor : Options → List (List ℕ) → List Line → Bool → 
 AreLinesFor options texts lines true = AllZip (IsLineFor options) texts lines
 AreLinesFor options texts lines false = Any (IsNoTextOf options.grammar) texts
 
+-- whether there is nothing
+abbrev pub is_empty : {A : Type 0} → List A → Bool
+is_empty [] = true
+is_empty (x ∷ xs) = false
+
+-- whether the first line of each key is left alone: `count` has all, and prints how many they are
+abbrev pub first_alone : Options → Bool
+first_alone options = if options.count then false else options.unique
+
+-- what is printed of the lines in order: each line, or by `count` how often each key is there
+abbrev pub sorted_text : Options → List Line → List ℕ
+sorted_text options sorted =
+    if options.count then counts_of (not (is_empty options.by.items)) sorted else flat_map line_text sorted
+
 -- The output grew from start to end by the lines of the texts in order; or some text is none of the grammar, and
 -- nothing is written.
 abbrev pub AreSorted : Options → List (List ℕ) → Option (List ℕ) → Option (List ℕ) → Bool → Type 0
 AreSorted options texts start end true =
     (lines sorted : List Line) × AllZip (IsLineFor options) texts lines
-    × IsArranged options.reverse options.unique lines sorted × Appends start end (flat_map line_text sorted)
+    × IsArranged options.reverse (first_alone options) lines sorted × Appends start end (sorted_text options sorted)
 AreSorted options texts start end false = Any (IsNoTextOf options.grammar) texts × Appends start end []
 
 -- some text is one of the grammar with this key, and each is
@@ -193,8 +207,8 @@ pub record WritesSorted {W E : Type 0} (contents : W → Option (List ℕ)) (s t
   pub options : t.options ≡ s.options
   pub status : t.status ≡ s.status
   pub sorted : List Line
-  pub arranged : IsArranged s.options.now.reverse s.options.now.unique s.lines.items sorted
-  pub printed : PrintsPart contents s.out t.out (flat_map line_text sorted)
+  pub arranged : IsArranged s.options.now.reverse (first_alone s.options.now) s.lines.items sorted
+  pub printed : PrintsPart contents s.out t.out (sorted_text s.options.now sorted)
 
 -- whether lines are sorted at the end: by `sort`, where each text was one of the grammar
 abbrev pub sorts : {W E : Type 0} → Session W E → Bool

@@ -1,11 +1,23 @@
 //! What the commands answer to one text, and print of it.
 
-ghost use Rattle.std.specs.Prelude.{◌≡◌, ◌≢◌, ◌⊎◌, ◌++◌, ◌∷◌, [], false, drop, map, string_bytes, ℕ, Bool, List, IfOk, IfErr, OnOk, MatchBool, Err, None};
+ghost use Rattle.std.specs.Prelude.{◌≡◌, ◌≢◌, ◌⊎◌, ◌++◌, ◌∷◌, [], true, false, drop, map, string_bytes, ℕ, Bool, List, IfOk, IfErr, OnOk, MatchBool, Err, None};
 ghost use Rattle.std.specs.List.{flat_map};
 ghost use Rattle.vjson_text.specs.Texts.{AppendsKeyOf, AppendsPartOf, Rejects};
 ghost use Rattle.text_scan.specs.declared.parser.Grammar.{Grammar};
 ghost use Rattle.vjson_run.specs.Trouble.{MayRunOutBy, MayTakeMemory};
-ghost use Rattle.vjson_run.specs.Answers.{AppendsCell, AppendsLine, AppendsOne, IsFound, IsLaidOut, IsShown, LacksSome, PrintsKeyed, layout_of};
+ghost use Rattle.vjson_run.specs.Answers.{
+  AppendsCell,
+  AppendsCounted,
+  AppendsLine,
+  AppendsOne,
+  AreCounted,
+  IsFound,
+  IsLaidOut,
+  IsShown,
+  LacksSome,
+  PrintsKeyed,
+  layout_of,
+};
 ghost use Rattle.jsonb_spec.specs.Program.Printed.{Prints, cell_byte, cell_letter, first_keys, printed, row_of, separator};
 ghost use Rattle.vjson_run.specs.Chosen.{Chooses, Holds, IsLeftOut, allows, leaves_out};
 ghost use Rattle.vjson_run.specs.declared.options.Options.{Options};
@@ -274,6 +286,24 @@ pub fn make_whole_key(
     vjson_text::append_key(alloc, grammar, text, &mut buffers.key)
 }
 
+// Puts the key of the text without parts: that of its value, or none where texts are counted.
+fn make_key_alone(
+    alloc: Global,
+    options: &Options,
+    text: &[u8],
+    buffers: &mut Buffers,
+) -> Result<(), Fault>
+    ensures ok { options.now.by.items ≡ [] → OnOk result (IsKeyOf options.now text.now buffers.new.key.items) }
+    ensures rejected { Rejects options.now.grammar text.now result }
+    ensures memory { result ≡ Err Fault.NoMemory → MayTakeMemory options.now.grammar text.now }
+{
+    if options.count {
+        buffers.key.clear();
+        return vjson_text::check(alloc, options.grammar, text);
+    }
+    make_whole_key(alloc, options.grammar, text, buffers)
+}
+
 /// Puts the key that the text is sorted by instead of the one in the buffers.
 ///
 /// # Errors
@@ -291,7 +321,7 @@ pub fn make_key(
 {
     let grammar = options.grammar;
     let Some((first, others)) = options.by.split_first() else {
-        return make_whole_key(alloc, grammar, text, buffers);
+        return make_key_alone(alloc, options, text, buffers);
     };
     buffers.key.clear();
     append_piece(alloc, grammar, first, text, buffers)?;
@@ -435,7 +465,37 @@ pub fn some_test_chooses()
     ensures { (options : Options) → (chosen : List ℕ → Bool) × Chooses options chosen }
 {}
 
-/// Appends the line of a text that is sorted: the text, or its serialized form.
+// Appends what `count` prints of a part behind a tab.
+fn append_counted(
+    alloc: Global,
+    grammar: Grammar,
+    part: &Part,
+    text: &[u8],
+    row: &mut Vec<u8>,
+) -> Result<(), Fault>
+    ensures ok { OnOk result (AppendsCounted grammar part.now text.now row.old.items row.new.items) }
+    ensures rejected { Rejects grammar text.now result }
+{
+    let mut cell = Vec::new(alloc);
+    vjson_text::append_part(alloc, grammar, &part.path, text, &mut cell)?;
+    row.push(b'\t')?;
+    row.extend_from_slice(&cell)?;
+    Ok(())
+}
+
+// The parts that a text is counted by, each behind a tab.
+fn counted_row(alloc: Global, options: &Options, text: &[u8]) -> Result<Vec<u8>, Fault>
+    ensures ok { IfOk result (λ row. AreCounted options.now text.now row.items) }
+    ensures rejected { Rejects options.now.grammar text.now result }
+{
+    let mut row = Vec::new(alloc);
+    'parts: for part in &options.by {
+        append_counted(alloc, options.grammar, part, text, &mut row)?;
+    }
+    Ok(row)
+}
+
+/// Appends the line of a text that is sorted: the text, or its serialized form, or what it is counted by.
 ///
 /// # Errors
 ///
@@ -450,8 +510,13 @@ pub fn append_line(
     ensures err { IfErr result (λ f. f ≢ Fault.NoMemory → out.new.items ≡ out.old.items) }
     ensures rejected { Rejects options.now.grammar text.now result }
     ensures memory { result ≡ Err Fault.NoMemory → MayTakeMemory options.now.grammar text.now
-        ⊎ (options.now.canonical ≡ false) }
+        ⊎ ((options.now.canonical ≡ false) ⊎ (options.now.count ≡ true)) }
 {
+    if options.count {
+        let row = counted_row(alloc, options, text)?;
+        out.extend_from_slice(&row)?;
+        return Ok(());
+    }
     if !options.canonical {
         out.extend_from_slice(text)?;
         return Ok(());
@@ -478,8 +543,10 @@ pub fn print_key(
 {
     make_key(alloc, options, text, buffers)?;
     if !options.canonical {
-        append_key_line(&buffers.key, text, out)?;
-        return Ok(());
+        if !options.count {
+            append_key_line(&buffers.key, text, out)?;
+            return Ok(());
+        }
     }
     let mut line = Vec::new(alloc);
     append_line(alloc, options, text, &mut line)?;

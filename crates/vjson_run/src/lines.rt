@@ -226,7 +226,7 @@ pub fn lines_order_as_values()
 /// The keys that texts are sorted by order as the parts that are asked for, or as the values.
 pub fn keys_order_as_asked()
     ensures { (options : Options) → (x y k l : List ℕ) → (h : IsKeyOf options x k) → (i : IsKeyOf options y l)
-        → bytes_cmp k l ≡ sort_cmp options.by.items h.tree i.tree }
+        → bytes_cmp k l ≡ sort_cmp options.count options.by.items h.tree i.tree }
 {}
 
 /// Texts that are in order, each one of the grammar, aren't out of order, and none of them is none of the grammar.

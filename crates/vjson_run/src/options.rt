@@ -16,11 +16,13 @@ standard input is read.
   get POINTER...         print the part at a JSON Pointer, as /items/0/name; of
                          several the parts, with tabs between (-- before a /file)
   sort                   sort JSON Lines by value
+  count                  print how many texts there are, or with --by how often
+                         each part is there, in order
   equal A B              status 0 where the values of two files are equal, else 1
   keys                   print each line behind its sort key and a tab, for
                          LC_ALL=C sort | cut -f2-
 
-  -l, --lines            each line is a text (sort and keys always)
+  -l, --lines            each line is a text (sort, count and keys always)
       --extended         also comments, single quotes, unquoted keys and more
       --extended-json    the same, and decimals may have exponents
       --standard         numbers are integers of 64 bits alone
@@ -34,9 +36,9 @@ standard input is read.
       --array            get: the parts as one JSON array
       --default TEXT     get: what to print where there is no such part
   -u, --unique           sort: one of equal values, the first
-      --reverse          sort: descending
-      --by POINTER       sort, keys: by this part; lines without it come first.
-                         Another --by orders those that are equal by it
+      --reverse          sort, count: descending
+      --by POINTER       sort, count, keys: by this part; lines without it come
+                         first. Another --by orders those that are equal by it
       --down POINTER     the same, descending
       --check            sort: only say whether the lines are in order
       --canonical        sort, keys: print the values' canonical text
@@ -103,6 +105,8 @@ pub struct Options {
     pub raw: bool,
     pub array: bool,
     pub unique: bool,
+    /// Whether `sort` prints how often each key is there, as `count`.
+    pub count: bool,
     pub reverse: bool,
     pub check: bool,
     pub canonical: bool,
@@ -211,8 +215,9 @@ fn instead_of_command(word: &str) -> &'static str {
         "cmp" | "diff" => " (equal says whether two values are the same)",
         "pick" => " (get prints parts)",
         "filter" | "grep" | "select" => " (format -l --where POINTER = JSON prints some texts)",
-        "uniq" => " (sort --unique prints one of equal values)",
-        "count" | "wc" => " (format -l prints a line for each text, for wc -l)",
+        "uniq" =>
+            " (sort --unique prints one of equal values, count --by '' how often each is there)",
+        "wc" => " (count prints how many texts there are)",
         _ => "",
     }
 }
@@ -221,7 +226,7 @@ fn instead_of_command(word: &str) -> &'static str {
 fn instead_of_option(command: Command, word: &str) -> &'static str {
     match (command, word) {
         (Command::Sort, "-r") => " (--reverse sorts downwards)",
-        (Command::Sort, "-c" | "-C") => " (--check says whether lines are in order)",
+        (Command::Sort, "-c" | "-C") => " (sort --check says whether lines are in order)",
         (Command::Sort | Command::Keys, "-k" | "--key") => " (--by POINTER sorts by a part)",
         (Command::Sort, "-n" | "-g") => " (numbers are in the order of their values)",
         (_, "-o" | "--output") => " (write > FILE)",
@@ -236,7 +241,7 @@ fn command_of(alloc: Global, word: &str) -> Result<Command, UsageError> {
         "check" => Ok(Command::Check),
         "format" => Ok(Command::Format),
         "get" => Ok(Command::Get),
-        "sort" => Ok(Command::Sort),
+        "sort" | "count" => Ok(Command::Sort),
         "equal" => Ok(Command::Equal),
         "keys" => Ok(Command::Keys),
         _ => Err(UsageError::UnknownCommand(copy(alloc, word)?, instead_of_command(word))),
@@ -307,6 +312,7 @@ fn new_options(alloc: Global, command: Command) -> Options {
         raw: false,
         array: false,
         unique: false,
+        count: false,
         reverse: false,
         check: false,
         canonical: false,
@@ -485,6 +491,12 @@ struct Words<'w> {
 }
 
 impl Options {
+    // Whether the command takes the option: `count` sorts, but has a line of its own for each key.
+    fn takes(&self, option: &str) -> bool {
+        let of_lines = matches!(option, "--unique" | "--check" | "--canonical");
+        takes(self.command, option) && !(self.count && of_lines)
+    }
+
     // Takes several options of one letter, as -lr.
     fn take_letters(
         &mut self,
@@ -497,7 +509,7 @@ impl Options {
                 let instead = instead_of_option(self.command, word.get(..2).unwrap_or(word));
                 return Err(UsageError::UnknownOption(copy(alloc, word)?, instead));
             };
-            if !takes(self.command, name) {
+            if !self.takes(name) {
                 return Err(UsageError::NotHere(copy(alloc, name)?, ""));
             }
             self.set_flag(name);
@@ -522,7 +534,7 @@ impl Options {
             None => (long_name(word), None),
         };
         let instead = instead_of_option(self.command, word);
-        if !takes(self.command, name) {
+        if !self.takes(name) {
             return Err(UsageError::NotHere(copy(alloc, name)?, instead));
         }
         if has_value(name) {
@@ -591,6 +603,7 @@ pub fn read_words(alloc: Global, words: &[String]) -> Result<Asked, UsageError> 
         (command_of(alloc, first.as_str())?, behind)
     };
     let mut options = new_options(alloc, command);
+    options.count = first.as_str() == "count";
     let mut words = Words {
         rest,
         only_files: false,

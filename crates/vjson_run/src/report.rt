@@ -2,12 +2,13 @@
 
 ghost use Rattle.std.specs.Prelude.{◌≡◌, [], None, OnOk};
 ghost use Rattle.std.specs.List.{flat_map};
-ghost use Rattle.vjson_run.specs.Lines.{line_text};
+ghost use Rattle.vjson_run.specs.Lines.{count_line, counts_of, line_text};
 ghost use Rattle.vjson_run.specs.Output.{PrintsNothing, PrintsPart};
 
 use crate::lines::{Line, append_line};
 use crate::location::{append_shown, shown_line};
 use crate::options::BLOCK;
+use itoa::Buffer;
 use std::alloc::{AllocError, Global};
 use std::io;
 use std::io::Write;
@@ -76,6 +77,47 @@ pub fn print_lines<W: Write>(lines: &[Line], out: &mut Output<W>) -> Result<(), 
             return Ok(());
         }
     }
+    Ok(())
+}
+
+// Prints a count and a line.
+fn print_count<W: Write>(count: usize, line: &Line, out: &mut Output<W>) -> Result<(), AllocError>
+    ensures ok { OnOk result (PrintsPart W.contents out.old out.new (count_line count line.now)) }
+{
+    let mut buffer = Buffer::new();
+    out.bytes
+        .extend_from_slice(buffer.format(count).as_bytes())?;
+    append_line(&line.text, &mut out.bytes)?;
+    out.flush_much(BLOCK);
+    Ok(())
+}
+
+/// Prints of sorted lines how often each key is there, and the first line with it; of none 0, unless by parts.
+pub fn print_counts<W: Write>(
+    lines: &[Line],
+    by_parts: bool,
+    out: &mut Output<W>,
+) -> Result<(), AllocError>
+    ensures ok { OnOk result (PrintsPart W.contents out.old out.new (counts_of by_parts lines.now)) }
+{
+    let Some((first, others)) = lines.split_first() else {
+        if !by_parts {
+            out.bytes.extend_from_slice(b"0\n")?;
+        }
+        return Ok(());
+    };
+    let mut line = first;
+    let mut count: usize = 1;
+    'lines: for next in others {
+        if line == next {
+            count += 1;
+            continue;
+        }
+        print_count(count, line, out)?;
+        line = next;
+        count = 1;
+    }
+    print_count(count, line, out)?;
     Ok(())
 }
 

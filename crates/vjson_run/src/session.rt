@@ -32,7 +32,9 @@ use crate::answers::Buffers;
 use crate::input::{is_blank_line, read_line, without_end, without_mark};
 use crate::lines::{Line, arrange, may_follow};
 use crate::options::{Command, Options};
-use crate::report::{Output, Spot, print_lines, report_fault, report_memory, report_stream};
+use crate::report::{
+    Output, Spot, print_counts, print_lines, report_fault, report_memory, report_stream,
+};
 use jsonb::{ParseErrorCode, line_and_column};
 use std::alloc::{AllocError, Global};
 use std::io;
@@ -442,7 +444,12 @@ impl<'o, W: Write, E: Write> Session<'o, W, E> {
     fn write_sorted(&mut self) -> Result<(), AllocError>
         ensures ok { OnOk result (WritesSorted W.contents self.old self.new) }
     {
-        arrange(&mut self.lines, self.options.reverse, self.options.unique)?;
+        let options = self.options;
+        if options.count {
+            arrange(&mut self.lines, options.reverse, false)?;
+            return print_counts(&self.lines, !options.by.is_empty(), &mut self.out);
+        }
+        arrange(&mut self.lines, options.reverse, options.unique)?;
         print_lines(&self.lines, &mut self.out)
     }
 
