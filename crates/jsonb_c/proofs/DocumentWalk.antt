@@ -3,16 +3,12 @@ use Rattle.std.proofs.Common.{◌≡◌, List, [], ◌∷◌, true, false, Some,
 use Rattle.jsonb_c.specs.DocumentWalk.{MeetsEvent, SkipsOpen, event_of}
 use Rattle.jsonb_c.specs.declared.document_walk.Event.{Event}
 use Rattle.jsonb_spec.specs.Tree.{Tree}
-use Rattle.key_document.specs.Walk.{MeetsFirst, MeetsNext, SkipsFirst}
+use Rattle.key_document.specs.Walk.{MeetsNext, SkipsFirst}
 use Rattle.key_document.specs.declared.error.DocumentError.{DocumentError}
 use Rattle.key_document.specs.declared.walk.Met.{Met}
 use Rattle.key_document.specs.declared.walk.Walk.{Walk}
 use Rattle.jsonb_spec.specs.SortKey.Events.{Event as TreeEvent}
 use Rattle.jsonb_spec.specs.SortKey.Open.{Open}
-
-pub first_met : (t : Tree) (events : List TreeEvent) (met : Met) (event : Event) (walk : Walk) → event ≡ event_of met → MeetsFirst t events (Ok met) walk → MeetsEvent t events 0 event walk
-first_met t [] met event walk is x = absurd x
-first_met t (e ∷ es) met event walk is x = (refl, record { met = met; is_met = x.0; reported = is }, x.1)
 
 pub next_met : (t : Tree) (events : List TreeEvent) (met : Met) (event : Event) (walk : Walk) → event ≡ event_of met → MeetsNext t events (Ok (Some met)) walk → MeetsEvent t events 0 event walk
 next_met t [] met event walk is x = absurd x

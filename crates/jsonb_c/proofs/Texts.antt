@@ -1,6 +1,5 @@
 -- What is appended to an empty buffer is the text of a tree.
-use Rattle.std.proofs.Common.{◌≡◌, ℕ, false, List, [], ◌++◌, Some, Result, Ok, Err, OnOk, ap, sym, ◌∙◌}
-use Rattle.std.specs.Result.{is_err}
+use Rattle.std.proofs.Common.{◌≡◌, ℕ, List, [], ◌++◌, Some, ap, sym, ◌∙◌}
 use Rattle.jsonb_spec.specs.Text.{text_of, AppendsText}
 use Rattle.jsonb_spec.specs.Grammar.{IsDocument}
 use Rattle.jsonb_spec.specs.Mode.{Mode}
@@ -13,10 +12,6 @@ use Rattle.jsonb_c.specs.declared.Failure.TheVariants.{Text, OutOfMemory, Unknow
 use Rattle.jsonb_spec.specs.Interface.{IsAccepted, IsDocumentOf, IsTextOf, NumberChooses}
 use Rattle.jsonb_c.specs.Interface.{IsReason, IsRejected}
 use Rattle.jsonb_c.proofs.Reasons.{denied}
-
-pub done : {T E : Type 0} (P : Type 0) (r : Result T E) → is_err r ≡ false → OnOk r P → P
-done P (Ok x) e p = p
-done P (Err x) e p = cc
 
 -- what is appended to nothing is the text
 pub text_is : (number : ℕ) (text : List ℕ) (t : Tree) (old new : List ℕ) → IsDocumentOf number text t → old ≡ [] → AppendsText t old new → IsTextOf number text new
