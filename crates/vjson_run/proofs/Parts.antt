@@ -1,5 +1,5 @@
 -- What is appended of a text is a part of the output.
-use Rattle.std.proofs.Common.{◌≡◌, ℕ, zero, suc, ◌+◌, ◌-◌, ◌<◌, ◌≤◌, Bool, true, false, List, [], ◌∷◌, ◌++◌, Some, MatchBool, if◌then◌else◌, nat_lt, take, drop, length, get_or, refl, sym, ap, subst, ◌∙◌, arith, append_assoc, append-nil}
+use Rattle.std.proofs.Common.{◌≡◌, ℕ, zero, suc, ◌+◌, ◌-◌, ◌<◌, ◌≤◌, Bool, true, false, List, [], ◌∷◌, ◌++◌, Some, take, drop, length, get_or, refl, sym, ap, subst, ◌∙◌, arith, append_assoc, append-nil}
 use Rattle.std.proofs.lemmas.List.{flat_map_more, map-append, take_all, take_more}
 use Rattle.std.specs.List.{AllZip, Any, flat_map}
 use Rattle.std.specs.declared.alloc.Global.{Global}
@@ -7,7 +7,6 @@ use Rattle.std.specs.Prelude.{String, Vec, is_some, map, string_bytes}
 use Rattle.jsonb.proofs.Documents.Encodings.{document_unique}
 use Rattle.jsonb_spec.specs.Indented.{indented_text}
 use Rattle.jsonb_spec.specs.Tree.{Tree}
-use Rattle.jsonb_spec.specs.Program.Raw.{AppendsRaw, IsRaw}
 use Rattle.vjson_text.specs.Texts.{AppendsKeyOf, AppendsLaidOut, AppendsPartOf, AppendsTextOf, IsTextOf}
 use Rattle.text_scan.specs.Answer.{grammar_of}
 use Rattle.text_scan.specs.declared.parser.Grammar.{Grammar}
@@ -16,8 +15,8 @@ use Rattle.vjson_text.specs.declared.reader.Layout.{Layout}
 use Rattle.vjson_text.specs.declared.reader.Layout.TheVariants.{Compact, Indent}
 use Rattle.vjson_run.proofs.Lists.{any_behind, zipped_more}
 use Rattle.vjson_run.proofs.PartKeys.{part_key_is}
-use Rattle.vjson_run.specs.Answers.{AppendsCell, AppendsCounted, AppendsLine, AppendsOne, AreCounted, IsCell, IsCounted, IsRawCell, IsFound, IsLaidOut, IsLineText, IsOne, IsShown, LacksSome, PrintsKeyed, counted_none, counted_part, given_default, layout_of, shown_part}
-use Rattle.jsonb_spec.specs.Program.Printed.{Prints, cell_byte, first_keys, printed, row_of, separated, separator}
+use Rattle.vjson_run.specs.Answers.{AppendsCell, AppendsCounted, AppendsLine, AppendsOne, AreCounted, IsCell, IsCounted, IsFound, IsLaidOut, IsLineText, IsOne, IsShown, LacksSome, PrintsKeyed, counted_none, counted_part, given_default, layout_of, shown_part}
+use Rattle.jsonb_spec.specs.Program.Printed.{Prints, first_keys, printed, row_of, separated, separator}
 use Rattle.vjson_run.specs.Keys.{AppendsPiece, AppendsTurned, HasPartKey, IsKeyBy, IsKeyOf, IsPartOf, IsPiece, LacksPart}
 use Rattle.jsonb_spec.specs.Program.Keys.{IsTurned, keys_of, part_key}
 use Rattle.jsonb_spec.specs.Program.KeyLine.{key_line}
@@ -55,33 +54,6 @@ pub part_lacks : (g : Grammar) (keys : List (List ℕ)) (text bytes : List ℕ) 
 part_lacks g keys text bytes h = record { tree = h.tree; is_text = h.is_text; lacks = h.part.0 }
 
 -- ---- a row of cells
-
--- what is shown of a part: its serialized form
-pub shown_whole : (o : Options) (part old new : List ℕ) → o.raw ≡ false → new ≡ old ++ part → AppendsOne (IsShown o part) old new
-shown_whole o part old new own appended = record {
-  bytes = part;
-  is_one = subst (λ b. MatchBool b (IsRawCell o part part) (part ≡ part)) (sym own) refl;
-  appended = appended;
-}
-
--- or it without quotes, alone or as one of several cells
-raw_cell : (o : Options) (part raw bytes old new : List ℕ) (alone : Bool) → o.raw ≡ true → nat_lt (length o.paths.items) 2 ≡ alone → IsRaw part raw → bytes ≡ (if alone then raw else flat_map cell_byte raw) → new ≡ old ++ bytes
-    → AppendsOne (IsShown o part) old new
-raw_cell o part raw bytes old new alone own many is cell appended = record {
-  bytes = bytes;
-  is_one = subst (λ b. MatchBool b (IsRawCell o part bytes) (bytes ≡ part)) (sym own)
-      (record { raw = raw; is_raw = is; cell = cell ∙ ap (λ b. if b then raw else flat_map cell_byte raw) (sym many) });
-  appended = appended;
-}
-
-pub shown_raw : (o : Options) (part old new : List ℕ) → o.raw ≡ true → nat_lt (length o.paths.items) 2 ≡ true → AppendsRaw part old new → AppendsOne (IsShown o part) old new
-shown_raw o part old new own alone h = raw_cell o part h.raw h.raw old new true own alone h.is_raw refl h.appended
-
-pub shown_escaped : (o : Options) (part none raw shown old new : List ℕ) → o.raw ≡ true → nat_lt (length o.paths.items) 2 ≡ false → none ≡ [] → AppendsRaw part none raw → shown ≡ raw → new ≡ old ++ flat_map cell_byte shown
-    → AppendsOne (IsShown o part) old new
-shown_escaped o part none raw shown old new own many nothing h same appended =
-    raw_cell o part h.raw (flat_map cell_byte h.raw) old new false own many h.is_raw refl
-    (appended ∙ ap (λ l. old ++ flat_map cell_byte l) (same ∙ h.appended ∙ ap (λ l. l ++ h.raw) nothing))
 
 -- a separator, and then a cell
 behind : (old mid new cell : List ℕ) (mark : ℕ) → mid ≡ old ++ mark ∷ [] → new ≡ mid ++ cell → new ≡ old ++ mark ∷ cell
@@ -194,11 +166,6 @@ key_there g keys text part key found is h has =
       there = ap is_some (sym p.there);
     }
 
-pub key_absent : (g : Grammar) (keys : List (List ℕ)) (text part key : List ℕ) (found : Bool) → found ≡ false → AppendsPartOf g keys text [] part found → key ≡ 0 ∷ [] → HasPartKey g keys text key false
-key_absent g keys text part key found is h nothing =
-    let p = part_lacks g keys text part (subst (AppendsPartOf g keys text [] part) is h) in
-    record { tree = p.tree; is_text = p.is_text; is_key = nothing ∙ ap part_key (sym p.lacks); there = ap is_some (sym p.lacks) }
-
 -- each byte turned round
 pub turned_all : (bytes : List ℕ) → ((k : ℕ) → get_or bytes k 0 < 256) → AllZip (λ byte turned. byte + turned ≡ 255) bytes (map (λ byte. 255 - byte) bytes)
 turned_all [] small = tt
@@ -290,13 +257,6 @@ next_counted g text parts i part old new within is h k =
 
 pub all_counted : (o : Options) (text : List ℕ) (parts : List Part) (i : ℕ) (row : List ℕ) → parts ≡ o.by.items → length parts ≤ i → CountedSo o.grammar text (take i parts) row → AreCounted o text row
 all_counted o text parts i row same all h = subst (λ l. CountedSo o.grammar text l row) (take_all i parts all ∙ same) h
-
-pub counted_line : (o : Options) (text row shown old new : List ℕ) → o.count ≡ true → AreCounted o text row → shown ≡ row → new ≡ old ++ shown → AppendsLine o text old new
-counted_line o text row shown old new counts h same appended = record {
-  line = row;
-  is_line = subst (λ b. MatchBool b (AreCounted o text row) (MatchBool o.canonical (AppendsTextOf o.grammar Compact text [] row) (row ≡ text))) (sym counts) h;
-  appended = appended ∙ ap (λ l. old ++ l) same;
-}
 
 -- ---- a line
 

@@ -45,10 +45,6 @@ and_true : (a : Bool) → (a && true) ≡ a
 and_true true = refl
 and_true false = refl
 
-and_false : (a : Bool) → (a && false) ≡ false
-and_false true = refl
-and_false false = refl
-
 all_more : {A : Type 0} (p : A → Bool) (xs : List A) (x : A) → list_all p (xs ++ x ∷ []) ≡ (list_all p xs && p x)
 all_more p [] x = and_true (p x)
 all_more p (a ∷ xs) x = ap (λ b. p a && b) (all_more p xs x) ∙ and_assoc (p a) (list_all p xs) (p x)
@@ -355,9 +351,6 @@ module _ {W E : Type 0} (contents : W → Option (List ℕ)) where
   -- some texts, and then others
   pub takes_then : (s t u : Session W E) (xs ys : List (List ℕ)) → Takes contents s xs t → Takes contents t ys u → Takes contents s (xs ++ ys) u
   takes_then s t u xs ys first second start before had = subst (λ l. HasTaken contents start l u) (append_assoc before xs ys) (second start (before ++ xs) (first start before had))
-
-  pub takes_no_more : (s t u : Session W E) (xs : List (List ℕ)) → Takes contents s xs t → Takes contents t [] u → Takes contents s xs u
-  takes_no_more s t u xs first second = subst (λ l. Takes contents s l u) (append-nil xs) (takes_then s t u xs [] first second)
 
   -- what is in trouble has taken anything
   pub trouble_taken : (s t : Session W E) (texts : List (List ℕ)) → t.status ≡ Trouble → Takes contents s texts t

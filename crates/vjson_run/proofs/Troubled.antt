@@ -1,11 +1,11 @@
 -- A session that is in trouble, and for what; and what memory is taken for.
-use Rattle.std.proofs.Common.{◌≡◌, ◌⊎◌, inl, inr, ℕ, Bool, true, false, List, [], ◌∷◌, ◌++◌, Option, None, Some, IfSome, OnOk, Result, Ok, Err, if◌then◌else◌, refl, sym, subst, cond, ◌∙◌, append-nil}
+use Rattle.std.proofs.Common.{◌≡◌, ◌⊎◌, inl, inr, ℕ, Bool, true, false, List, [], ◌∷◌, ◌++◌, Option, None, Some, IfSome, OnOk, Result, Ok, Err, refl, sym, subst, cond, ◌∙◌, append-nil}
 use Rattle.std.proofs.lemmas.List.Elements.{filter-append}
 use Rattle.std.specs.List.{Any, filter}
 use Rattle.jsonb_spec.specs.Tree.{Tree}
 use Rattle.jsonb_spec.specs.Parsing.Memory.{MayAllocate}
 use Rattle.vjson_text.specs.Texts.{IsNoTextOf}
-use Rattle.vjson_text.specs.Memory.{LacksSpace, LacksSpaceForPart}
+use Rattle.vjson_text.specs.Memory.{LacksSpace}
 use Rattle.text_scan.specs.declared.parser.Grammar.{Grammar}
 use Rattle.vjson_run.proofs.Lists.{any_before, any_behind, any_last}
 use Rattle.vjson_run.proofs.Taken.{Flushed, Rejected, rejected_taken, same_taken, flushed_taken, nothing_taken, over_taken, takes_then, trouble_taken}
@@ -27,10 +27,6 @@ use Rattle.vjson_run.specs.declared.session.Status.TheVariants.{Yes, No, Trouble
 pub space_taken : (g : Grammar) (made : Tree → List ℕ) (text : List ℕ) (capacity len : ℕ) → MayAllocate text ⊎ LacksSpace g made text capacity len → MayTakeMemory g text
 space_taken g made text capacity len (inl may) = inl may
 space_taken g made text capacity len (inr lacks) = inr (lacks.tree, lacks.is_text)
-
-pub part_space_taken : (g : Grammar) (keys : List (List ℕ)) (text : List ℕ) (capacity len : ℕ) → MayAllocate text ⊎ LacksSpaceForPart g keys text capacity len → MayTakeMemory g text
-part_space_taken g keys text capacity len (inl may) = inl may
-part_space_taken g keys text capacity len (inr lacks) = inr (lacks.tree, lacks.is_text)
 
 -- a text with a key is one of the grammar
 pub keyed_one : (o : Options) (text key : List ℕ) → IsKeyOf o text key → IsOne o.grammar text
@@ -61,21 +57,6 @@ is_chosen o chosen text chooses other = by (chosen text) refl
     by false is = absurd (other ((chooses text).0 is))
 
 module _ {W E : Type 0} where
-  -- what is the same as the same
-  pub same_then : (s m t : Session W E) → IsSame s m → IsSame m t → IsSame s t
-  same_then s m t h k = record {
-    retained = record {
-      options = k.retained.options ∙ h.retained.options;
-      writer = k.retained.writer ∙ h.retained.writer;
-      error = k.retained.error ∙ h.retained.error;
-      status = k.retained.status ∙ h.retained.status;
-      over = k.retained.over ∙ h.retained.over;
-      lines = k.retained.lines ∙ h.retained.lines;
-      last = k.retained.last ∙ h.retained.last;
-    };
-    bytes = k.bytes ∙ h.bytes;
-  }
-
   -- only the buffers differ
   pub with_buffers : (s : Session W E) (buffers : Buffers) → IsSame s (record s { buffers = buffers })
   with_buffers s buffers = record {
@@ -88,10 +69,6 @@ module _ {W E : Type 0} where
 
   pub once_denied : (s t : Session W E) → t.options ≡ s.options → t.status ≡ denied s.status → Troubles s [] t
   once_denied s t options status = record { options = options; only = λ e. inl (denied_trouble s.status (sym status ∙ e)) }
-
-  pub where_denied : (wrong : Bool) (s t : Session W E) → t.options ≡ s.options → t.status ≡ (if wrong then denied s.status else s.status) → Troubles s [] t
-  where_denied true s t options status = once_denied s t options status
-  where_denied false s t options status = as_before s t options status
 
   pub troubles_then : (s t u : Session W E) (xs ys : List (List ℕ)) → Troubles s xs t → Troubles t ys u → Troubles s (xs ++ ys) u
   troubles_then s t u xs ys h k = record { options = k.options ∙ h.options; only = λ e. by_last (k.only e) }

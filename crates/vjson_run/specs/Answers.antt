@@ -131,9 +131,3 @@ pub data Answers (options : Options) (text : List ℕ) : Bool → List ℕ → T
   lacking : options.command ≡ Get → LacksSome options text → options.default ≡ None → Answers options text false []
   keyed : (key line : List ℕ) → options.command ≡ Keys → IsKeyed options text key line → Answers options text true (key_line key line)
   rejected : IsNoTextOf options.grammar text → Answers options text false []
-
--- new is old with what the command prints of the text at its end
-pub record AppendsAnswer (options : Options) (text : List ℕ) (yes : Bool) (old new : List ℕ) : Type 0 where
-  pub part : List ℕ
-  pub answer : Answers options text yes part
-  pub appended : new ≡ old ++ part
