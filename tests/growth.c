@@ -1,10 +1,10 @@
 /* Calls a function of the library over the sort key, or the document, of the text on standard input: growth FUNCTION
- * [PATH], where growth document_without leaves out all members by their names; or over the text: growth check as JSON,
- * growth text, growth sort_key and growth document as extended JSON, which may reject it, growth lines, and growth
- * error_path for a text that extended JSON rejects; growth document_next over all parts of the text's document, growth
- * walk_next over all its events, growth document_text for the text of it, and growth text_with_zeros with one zero for each
- * number before a comma. The status is the one that the call returns, and 0 where the parts have ended. tests/growth
- * counts the instructions of the call. */
+ * [PATH], where growth document_without leaves out all members by their names, or of an array the items of its second
+ * item that its first one names; or over the text: growth check as JSON, growth text, growth sort_key and growth
+ * document as extended JSON, which may reject it, growth lines, and growth error_path for a text that extended JSON
+ * rejects; growth document_next over all parts of the text's document, growth walk_next over all its events, growth
+ * document_text for the text of it, and growth text_with_zeros with one zero for each number before a comma. The status
+ * is the one that the call returns, and 0 where the parts have ended. tests/growth counts the instructions of it. */
 #include <stdio.h>
 #include <stdlib.h>
 #include <string.h>
@@ -73,8 +73,13 @@ int main(int count, char **words) {
   }
   if (!strcmp(words[1], "key_count")) return (int)vizhoniku_key_count(key, key_size, &size);
   if (!strcmp(words[1], "document_text")) return (int)vizhoniku_document_text(key, key_size, buffer, ROOM, &size);
-  if (!strcmp(words[1], "document_without"))
-    return (int)vizhoniku_document_without(key, key_size, key, key_size, buffer, ROOM, &size);
+  if (!strcmp(words[1], "document_without")) {
+    size_t names = 0, items = 0, names_size, items_size;
+    if (vizhoniku_key_part(key, key_size, (const unsigned char *)"/0", 2, &names, &names_size) ||
+        vizhoniku_key_part(key, key_size, (const unsigned char *)"/1", 2, &items, &items_size))
+      names = items = 0, names_size = items_size = key_size;
+    return (int)vizhoniku_document_without(key + items, items_size, key + names, names_size, buffer, ROOM, &size);
+  }
   if (!strcmp(words[1], "document_strip_nulls"))
     return (int)vizhoniku_document_strip_nulls(key, key_size, 1, buffer, ROOM, &size);
   if (count < 3) return 2;

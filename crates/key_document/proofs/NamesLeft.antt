@@ -1,11 +1,16 @@
 -- The walks in which members and items are left out that an object names.
-use Rattle.std.proofs.Common.{◌≡◌, ℕ, ◌+◌, ◌<◌, ◌≤◌, Bool, true, false, ◌||◌, if◌then◌else◌, List, [], ◌∷◌, ◌++◌, Some, None, Result, Ok, Err, MatchBool, length, refl, sym, ap, subst, ◌∙◌, arith, append-nil, append_assoc}
+use Rattle.std.proofs.Common.{◌≡◌, ℕ, ◌+◌, ◌<◌, ◌≤◌, Bool, true, false, ◌||◌, if◌then◌else◌, cond, List, [], ◌∷◌, ◌++◌, Some, None, Result, Ok, Err, MatchBool, length, refl, sym, ap, subst, ◌∙◌, arith, append-nil, append_assoc}
 use Rattle.std.specs.Prelude.{IsErrAnd, Vec, vec_capacity}
+use Rattle.std.specs.Borrow.{Bor}
+use Rattle.std.specs.BTreeMap.{is_at}
+use Rattle.std.specs.BTreeSet.{BTreeSet, Updates, contains_by}
+use Rattle.std.specs.List.{list_any}
 use Rattle.std.specs.declared.alloc.Global.{Global}
 use Rattle.std.specs.Ordering.{is_eq}
 use Rattle.std.specs.Str.{bytes_eq}
 use Rattle.jsonb_spec.specs.SortKey.Readable.{IsReadable}
 use Rattle.jsonb_spec.specs.Containment.{any_item}
+use Rattle.jsonb_spec.specs.Order.{bytes_cmp}
 use Rattle.jsonb_spec.specs.SortKey.{items_key, key_of, members_key, text_key}
 use Rattle.jsonb_spec.specs.Tree.{Tree, null, boolean, string, number, array, object, Trees, no_trees, more_trees, Members, no_members, more_members}
 use Rattle.jsonb_core.proofs.SortKeys.Kinds.{is_small, number_begins}
@@ -21,6 +26,7 @@ use Rattle.key_edit.proofs.Merged.{behind_first, joined_key, last_step, next_ste
 use Rattle.jsonb_spec.specs.SortKey.Passing.{joined_members}
 use Rattle.jsonb_spec.specs.Proper.{HaveProperParts}
 use Rattle.jsonb_spec.specs.Edit.LeftOut.{any_named, has_name, is_named, items_beside, members_beside}
+use Rattle.key_document.specs.Gathered.{AreGathered, NamesAhead}
 use Rattle.key_document.specs.Retaining.{Finishes, IsBegun, Retains, WritesAnswer, output_of, unless}
 use Rattle.key_document.specs.declared.error.DocumentError.{DocumentError}
 use Rattle.key_document.specs.declared.error.DocumentError.TheVariants.{OutOfMemory}
@@ -272,30 +278,28 @@ module _ (first : Output) (ts : Trees) (ns : Members) (retaining : Retaining) (l
 
 -- ---- a name looked for
 
--- The names that are left are those among which the text is looked for.
-pub record NamesAhead (bytes : List ℕ) (ns : Members) (rest : List ℕ) : Type 0 where
-  pub names : Members
-  pub readable : HaveReadable names
-  pub rest_is : rest ≡ members_key names
-  pub same : has_name bytes ns ≡ has_name bytes names
+-- no name is in an empty set
+pub none_gathered : (ns : Members) (set : BTreeSet (Bor (List ℕ))) (left : List ℕ) → set.keys ≡ [] → HaveReadable ns → left ≡ members_key ns → AreGathered ns set left
+none_gathered ns set left none h e = λ bytes. record { names = ns; readable = h; left_is = e; same = ap (λ keys. list_any (is_at (λ key. bytes_cmp (text_key bytes) key.now)) keys || has_name bytes ns) (sym none) }
 
-pub names_begun : (bytes : List ℕ) (ns : Members) (rest : List ℕ) → HaveReadable ns → rest ≡ members_key ns → NamesAhead bytes ns rest
-names_begun bytes ns rest h e = record { names = ns; readable = h; rest_is = e; same = refl }
+-- nothing is put into the set
+pub still_gathered : (ns : Members) (set new : BTreeSet (Bor (List ℕ))) (left : List ℕ) → new.keys ≡ set.keys → AreGathered ns set left → AreGathered ns new left
+still_gathered ns set new left same g = λ bytes. subst (λ keys. NamesAhead (list_any (is_at (λ key. bytes_cmp (text_key bytes) key.now)) keys) bytes ns left) (sym same) (g bytes)
 
 -- A name is first.
-pub record NameFirst (bytes : List ℕ) (ns : Members) (rest : List ℕ) : Type 0 where
+pub record NameFirst (there : Bool) (bytes : List ℕ) (ns : Members) (left : List ℕ) : Type 0 where
   pub name : List ℕ
   pub value : Tree
   pub readable : IsReadable value
   pub others : Members
   pub others_readable : HaveReadable others
-  pub occurs : rest ≡ members_key (more_members name value others) ++ []
-  pub same : has_name bytes ns ≡ (bytes_eq bytes name || has_name bytes others)
+  pub occurs : left ≡ members_key (more_members name value others) ++ []
+  pub same : has_name bytes ns ≡ (there || (bytes_eq bytes name || has_name bytes others))
 
-pub name_first : (bytes : List ℕ) (ns : Members) (rest : List ℕ) → NamesAhead bytes ns rest → ((more : List ℕ) → rest ≡ members_key no_members ++ more → ⊥) → NameFirst bytes ns rest
-name_first bytes ns rest l some = go l.names l.readable l.rest_is l.same
+pub name_first : (there : Bool) (bytes : List ℕ) (ns : Members) (left : List ℕ) → NamesAhead there bytes ns left → ((more : List ℕ) → left ≡ members_key no_members ++ more → ⊥) → NameFirst there bytes ns left
+name_first there bytes ns left l some = go l.names l.readable l.left_is l.same
   where
-    go : (names : Members) → HaveReadable names → rest ≡ members_key names → has_name bytes ns ≡ has_name bytes names → NameFirst bytes ns rest
+    go : (names : Members) → HaveReadable names → left ≡ members_key names → has_name bytes ns ≡ (there || has_name bytes names) → NameFirst there bytes ns left
     go no_members h e s = absurd (some [] (e ∙ sym (append-nil (members_key no_members))))
     go (more_members k t ms) h e s = record {
       name = k;
@@ -307,10 +311,10 @@ name_first bytes ns rest l some = go l.names l.readable l.rest_is l.same
       same = s;
     }
 
-pub no_name_left : (bytes : List ℕ) (ns : Members) (rest : List ℕ) → NamesAhead bytes ns rest → ((name : List ℕ) → (t : Tree) → IsReadable t → (ms : Members) → (more : List ℕ) → rest ≡ members_key (more_members name t ms) ++ more → ⊥) → has_name bytes ns ≡ false
-no_name_left bytes ns rest l none = go l.names l.readable l.rest_is l.same
+pub no_name_left : (bytes : List ℕ) (ns : Members) (left : List ℕ) → NamesAhead false bytes ns left → ((name : List ℕ) → (t : Tree) → IsReadable t → (ms : Members) → (more : List ℕ) → left ≡ members_key (more_members name t ms) ++ more → ⊥) → has_name bytes ns ≡ false
+no_name_left bytes ns left l none = go l.names l.readable l.left_is l.same
   where
-    go : (names : Members) → HaveReadable names → rest ≡ members_key names → has_name bytes ns ≡ has_name bytes names → has_name bytes ns ≡ false
+    go : (names : Members) → HaveReadable names → left ≡ members_key names → has_name bytes ns ≡ has_name bytes names → has_name bytes ns ≡ false
     go no_members h e s = s
     go (more_members k t ms) h e s = absurd (none k t (readable_inside t (record { proper = h.proper.1; within = h.within.0 })) ms [] (e ∙ sym (append-nil (members_key (more_members k t ms)))))
 
@@ -318,8 +322,8 @@ no_name_left bytes ns rest l none = go l.names l.readable l.rest_is l.same
 names_eq : (k l : List ℕ) → bytes_eq (text_key k) (text_key l) ≡ bytes_eq k l
 names_eq k l = equal_names (text_key k) (text_key l) ∙ ap is_eq (names_compare k l) ∙ sym (equal_names k l)
 
-pub name_same : (bytes : List ℕ) (ns : Members) (rest text name : List ℕ) (n : NameFirst bytes ns rest) (b : Bool) → b ≡ bytes_eq name text → text ≡ text_key bytes → name ≡ text_key n.name → bytes_eq bytes n.name ≡ b
-name_same bytes ns rest text name n b is e f = sym (names_eq bytes n.name) ∙ eq_turned (text_key bytes) (text_key n.name) ∙ (λ i. bytes_eq (sym f i) (sym e i)) ∙ sym is
+pub name_same : (bytes text name wanted : List ℕ) (b : Bool) → b ≡ bytes_eq name wanted → wanted ≡ text_key bytes → name ≡ text_key text → bytes_eq bytes text ≡ b
+name_same bytes text name wanted b is e f = sym (names_eq bytes text) ∙ eq_turned (text_key bytes) (text_key text) ∙ (λ i. bytes_eq (sym f i) (sym e i)) ∙ sym is
   where
     eq_turned : (xs ys : List ℕ) → bytes_eq xs ys ≡ bytes_eq ys xs
     eq_turned xs ys = by (bytes_eq xs ys) (bytes_eq ys xs) (λ h. (bytes_eq-Decides ys xs).1 (sym ((bytes_eq-Decides xs ys).0 h))) (λ h. (bytes_eq-Decides xs ys).1 (sym ((bytes_eq-Decides ys xs).0 h)))
@@ -329,16 +333,37 @@ name_same bytes ns rest text name n b is e f = sym (names_eq bytes n.name) ∙ e
         by false true f g = g refl
         by false false f g = refl
 
-pub name_found : (bytes : List ℕ) (ns : Members) (rest : List ℕ) (n : NameFirst bytes ns rest) → bytes_eq bytes n.name ≡ true → has_name bytes ns ≡ true
-name_found bytes ns rest n e = n.same ∙ ap (λ b. b || has_name bytes n.others) e
+pub name_found : (bytes : List ℕ) (ns : Members) (left : List ℕ) (n : NameFirst false bytes ns left) → bytes_eq bytes n.name ≡ true → has_name bytes ns ≡ true
+name_found bytes ns left n e = n.same ∙ ap (λ b. b || has_name bytes n.others) e
 
-pub name_other : (bytes : List ℕ) (ns : Members) (rest : List ℕ) (n : NameFirst bytes ns rest) (behind : List ℕ) → bytes_eq bytes n.name ≡ false → behind ≡ members_key n.others ++ [] → NamesAhead bytes ns behind
-name_other bytes ns rest n behind e f = record {
+pub name_other : (bytes : List ℕ) (ns : Members) (left : List ℕ) (n : NameFirst false bytes ns left) (rest : List ℕ) → bytes_eq bytes n.name ≡ false → rest ≡ members_key n.others ++ [] → NamesAhead false bytes ns rest
+name_other bytes ns left n rest e f = record {
   names = n.others;
   readable = n.others_readable;
-  rest_is = f ∙ append-nil (members_key n.others);
+  left_is = f ∙ append-nil (members_key n.others);
   same = n.same ∙ ap (λ b. b || has_name bytes n.others) e;
 }
+
+-- the first name is put into the set
+pub name_gathered : (ns : Members) (set new : BTreeSet (Bor (List ℕ))) (left : List ℕ) (key : Bor (List ℕ)) (rest : List ℕ) → Updates (λ x y. bytes_cmp x.now y.now) set new key true → AreGathered ns set left → ((more : List ℕ) → left ≡ members_key no_members ++ more → ⊥)
+    → ((name : List ℕ) → (t : Tree) → IsReadable t → (ms : Members) → (more : List ℕ) → left ≡ members_key (more_members name t ms) ++ more → (key.now ≡ text_key name) × (rest ≡ members_key ms ++ more)) → AreGathered ns new rest
+name_gathered ns set new left key rest u g some next = λ bytes.
+    let there = contains_by (λ k. bytes_cmp (text_key bytes) k.now) set in
+    let n = name_first there bytes ns left (g bytes) some in
+    let x = next n.name n.value n.readable n.others [] n.occurs in
+    let here = name_same bytes n.name key.now (text_key bytes) (is_eq (bytes_cmp key.now (text_key bytes))) (sym (equal_names key.now (text_key bytes))) refl x.0 in
+    record {
+      names = n.others;
+      readable = n.others_readable;
+      left_is = x.1 ∙ append-nil (members_key n.others);
+      same = n.same ∙ ap (λ b. there || (b || has_name bytes n.others)) here ∙ moved there (is_eq (bytes_cmp key.now (text_key bytes))) (has_name bytes n.others) ∙ ap (λ b. b || has_name bytes n.others) (sym (u.0 (record { ref_ptr = (0, 0); now = text_key bytes })));
+    }
+  where
+    moved : (there here rest : Bool) → (there || (here || rest)) ≡ (cond here true there || rest)
+    moved true true rest = refl
+    moved true false rest = refl
+    moved false true rest = refl
+    moved false false rest = refl
 
 -- ---- an item that is a name
 

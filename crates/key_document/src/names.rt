@@ -1,6 +1,8 @@
 //! Members that an object names, and items that are one of its names, left out.
 
 ghost use Rattle.std.specs.Prelude.{◌≡◌, ◌<◌, ◌≤◌, ◌++◌, List, ℕ, length, MatchBool, Some};
+ghost use Rattle.std.specs.BTreeSet.{IsEmpty, contains_by};
+ghost use Rattle.jsonb_spec.specs.Order.{bytes_cmp};
 ghost use Rattle.jsonb_spec.specs.SortKey.Readable.{IsReadable};
 ghost use Rattle.jsonb_spec.specs.SortKey.{items_key, key_of, members_key, text_key};
 ghost use Rattle.jsonb_spec.specs.SortKey.Kind as kind;
@@ -12,6 +14,7 @@ ghost use Rattle.jsonb_spec.specs.Document.PartAt.{PreservesOnError};
 ghost use Rattle.jsonb_spec.specs.Document.{behind_key, zeros_at};
 ghost use Rattle.jsonb_spec.specs.Edit.LeftOut.{beside_names, has_name, is_named, without_names};
 ghost use Rattle.key_document.specs.Retaining.{AreAhead, Finishes, IsBegun, Retains, WritesAnswer};
+ghost use Rattle.key_document.specs.Gathered.{AreGathered};
 ghost use Rattle.key_document.specs.Splices.{AppendsZeros};
 ghost use Rattle.key_document.specs.declared.retain.Output.{Output};
 ghost use Rattle.jsonb_spec.specs.Document.Counts.{counts_at, counts_at_items, counts_at_members};
@@ -24,14 +27,19 @@ use crate::zeros::all_left;
 use jsonb_core::sort_key::kind;
 use key_edit::merge::{Step, merge_step};
 use key_walk::walk::{items_of, members_of, next_item, next_member};
+use std::collections::BTreeSet;
+
+// How many bytes the names and the items have at least that are looked for in a set.
+const MANY: usize = 256;
 
 /// Appends the document of the value without what an object names, of which the document or the key is passed, and
 /// returns true: of an object without the members that have one of its names, of an array without the items that are
 /// strings equal to one of them. Where that is nothing, of any other value, and where what names isn't an object,
 /// nothing is appended, and it returns false. Each number that stays holds all its digits.
 ///
-/// Members and names are passed side by side, so that the time is linear in both; each item that is a string is looked
-/// for among all names. Nothing is allocated but for `out`. Where the document has zeros, it is walked a second time.
+/// Members and names are passed side by side, so that the time is linear in both; the items that are strings are looked
+/// for in a set of the names, where there are many of both. Nothing is allocated but for `out` and that set: for what
+/// memory lacks of it, each item is compared with all names. Where the document has zeros, it is walked a second time.
 ///
 /// # Errors
 ///
@@ -168,10 +176,12 @@ fn write_items(
         → WritesAnswer begun.now.output (beside_names ns (array ts)) result out.old out.new }
     ensures preserves { Preserves out.old out.new }
 {
+    let mut set = BTreeSet::new(*out.allocator());
+    let others = gather(key, names, &mut set);
     let mut retaining = *begun;
     let mut items = key;
     'items: while let Some((item, rest)) = next_item(items) {
-        retaining = pass_bytes(&retaining, is_name(item, names), items, rest, out)?;
+        retaining = pass_bytes(&retaining, is_name(item, &set, others), items, rest, out)?;
         items = rest;
     }
     finish(&retaining, out)
@@ -210,10 +220,28 @@ fn is_longer(bytes: &[u8], others: &[u8]) -> bool
     bytes.len() > others.len()
 }
 
-// Whether the item is a string that is one of the names.
-fn is_name(item: &[u8], names: &[u8]) -> bool
-    ensures { (ns : Members) → HaveReadable ns → names.now ≡ members_key ns
-        → OfKey item.now (λ t. result ≡ is_named ns t) }
+// Puts the names into the empty set, where there are many of them and of the items, and returns those that aren't in
+// it: all, or where memory ran out those from one on.
+fn gather<'k>(items: &[u8], names: &'k [u8], set: &mut BTreeSet<&'k [u8]>) -> &'k [u8]
+    requires { IsEmpty set.old }
+    ensures { (ns : Members) → HaveReadable ns → names.now ≡ members_key ns → AreGathered ns set.new result.now }
+{
+    let mut rest = names;
+    if names.len() < MANY || items.len() < MANY {
+        return rest;
+    }
+    'names: while let Some((name, _, others)) = next_member(rest) {
+        let Ok(_) = set.insert(name) else {
+            return rest;
+        };
+        rest = others;
+    }
+    rest
+}
+
+// Whether the item is a string that is one of the names, of which some are in the set.
+fn is_name(item: &[u8], set: &BTreeSet<&[u8]>, names: &[u8]) -> bool
+    ensures { (ns : Members) → AreGathered ns set.now names.now → OfKey item.now (λ t. result ≡ is_named ns t) }
 {
     let Some((first, text)) = item.split_first() else {
         return false;
@@ -221,14 +249,17 @@ fn is_name(item: &[u8], names: &[u8]) -> bool
     if *first != kind::STRING {
         return false;
     }
-    is_among(text, names)
+    is_among(text, set, names)
 }
 
 // Whether one of the names has this key.
-fn is_among(text: &[u8], names: &[u8]) -> bool
-    ensures { (bytes : List ℕ) → text.now ≡ text_key bytes → (ns : Members) → HaveReadable ns
-        → names.now ≡ members_key ns → result ≡ has_name bytes ns }
+fn is_among(text: &[u8], set: &BTreeSet<&[u8]>, names: &[u8]) -> bool
+    ensures { (bytes : List ℕ) → text.now ≡ text_key bytes → (ns : Members) → AreGathered ns set.now names.now
+        → result ≡ has_name bytes ns }
 {
+    if is_in(text, set) {
+        return true;
+    }
     let mut rest = names;
     'names: while let Some((name, _, others)) = next_member(rest) {
         if name == text {
@@ -237,4 +268,15 @@ fn is_among(text: &[u8], names: &[u8]) -> bool
         rest = others;
     }
     false
+}
+
+// Whether the text is in the set, which is mostly empty.
+#[inline(always)]
+fn is_in(text: &[u8], set: &BTreeSet<&[u8]>) -> bool
+    ensures { result ≡ contains_by (λ key. bytes_cmp text.now key.now) set.now }
+{
+    if set.is_empty() {
+        return false;
+    }
+    set.contains(text)
 }

@@ -128,6 +128,7 @@ fn item_of(items: &[u8]) -> Option<(&[u8], &[u8])>
 
 /// The name of the next member as a text's key, the key of its value, and the members after it; `None` where there is
 /// none.
+#[inline(always)]
 pub fn next_member(members: &[u8]) -> Option<(&[u8], &[u8], &[u8])>
     ensures over { (more : List ℕ) → members.now ≡ members_key no_members ++ more → result ≡ None }
     ensures next { (name : List ℕ) → (t : Tree) → IsReadable t → (ms : Members) → (more : List ℕ)

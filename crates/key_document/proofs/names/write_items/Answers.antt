@@ -22,7 +22,7 @@ returns-in_err-retaining-clause-written c = λ ts h ns i e f b.
     let v = array (items_beside ns ts) in
     let n = item_first first ts ns c.items.retaining c.items.items.now old c.items.out.items (c.items.invariant.left ts h ns i e f b) (λ more g. no_some _ (c.in-Some.ensures.over more g)) in
     let x = c.in-Some.ensures.next n.item n.readable n.others [] n.occurs in
-    let gone = c.is_name.ensures ns i f n.item n.readable x.0 in
+    let gone = c.is_name.ensures ns (c.gather-others.ensures ns i f) n.item n.readable x.0 in
     let y = c.in_err-retaining.ensures.passed first (key_of v) (counts_at v) (key_of n.item) (counts_at n.item) (counts_at_items n.others) (items_key (items_beside ns n.others)) (counts_at_items (items_beside ns n.others)) old
     (item_here first ts ns c.items.retaining c.items.items.now old c.items.out.items n c.in-Some.rest.now x.1) (one_each n.item n.readable.proper)
     (item_ready first ts ns c.items.retaining c.items.items.now old c.items.out.items n c.is_name.result gone) in
@@ -36,7 +36,7 @@ items-preserved c = record {
       let v = array (items_beside ns ts) in
       let n = item_first first ts ns c.items.retaining c.items.items.now old c.items.out.items (c.items.invariant.left ts h ns i e f b) (λ more g. no_some _ (c.in-Some.ensures.over more g)) in
       let x = c.in-Some.ensures.next n.item n.readable n.others [] n.occurs in
-      let gone = c.is_name.ensures ns i f n.item n.readable x.0 in
+      let gone = c.is_name.ensures ns (c.gather-others.ensures ns i f) n.item n.readable x.0 in
       let y = c.in_ok-retaining.ensures.passed first (key_of v) (counts_at v) (key_of n.item) (counts_at n.item) (counts_at_items n.others) (items_key (items_beside ns n.others)) (counts_at_items (items_beside ns n.others)) old
       (item_here first ts ns c.items.retaining c.items.items.now old c.items.out.items n c.in-Some.rest.now x.1) (one_each n.item n.readable.proper)
       (item_ready first ts ns c.items.retaining c.items.items.now old c.items.out.items n c.is_name.result gone) in
