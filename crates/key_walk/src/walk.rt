@@ -143,6 +143,7 @@ pub fn next_member(members: &[u8]) -> Option<(&[u8], &[u8], &[u8])>
 }
 
 // The name and the key that the bytes begin with, and what follows.
+#[inline(always)]
 fn member_of(members: &[u8]) -> Option<(&[u8], &[u8], &[u8])>
     ensures next { (name : List ℕ) → (t : Tree) → IsReadable t → (more : List ℕ)
         → members.now ≡ text_key name ++ (key_of t ++ more) → SplitsNamed result (text_key name) (key_of t) more }
