@@ -29,18 +29,31 @@ use std::cmp::Ordering;
 
 /// The answer, without a line feed.
 pub fn answer(alloc: Global, line: &str) -> Result<String, AllocError> {
-    match line.split_once(' ') {
-        Some(("s", texts)) => of_texts(alloc, Grammar::Standard, texts),
-        Some(("e", texts)) => of_texts(alloc, Grammar::Extended, texts),
-        Some(("j", texts)) => of_texts(alloc, Grammar::Json, texts),
-        Some(("x", texts)) => of_texts(alloc, Grammar::ExtendedJson, texts),
-        Some(("k", text)) => of_key(alloc, text),
-        Some(("b", body)) => of_body(alloc, body),
-        Some(("n", words)) => match numbers::answer(alloc, words)? {
+    let Some((letter, texts)) = line.split_once(' ') else {
+        return unknown(alloc);
+    };
+    if let Some(mode) = mode_of(letter) {
+        return of_texts(alloc, mode, texts);
+    }
+    match letter {
+        "k" => of_key(alloc, texts),
+        "b" => of_body(alloc, texts),
+        "n" => match numbers::answer(alloc, texts)? {
             Some(answer) => Ok(answer),
             None => unknown(alloc),
         },
         _ => unknown(alloc),
+    }
+}
+
+/// The mode that a letter stands for.
+pub fn mode_of(letter: &str) -> Option<Grammar> {
+    match letter {
+        "s" => Some(Grammar::Standard),
+        "e" => Some(Grammar::Extended),
+        "j" => Some(Grammar::Json),
+        "x" => Some(Grammar::ExtendedJson),
+        _ => None,
     }
 }
 

@@ -1,7 +1,8 @@
-//! The calls on a text. A line of the input is a letter for the mode (`s` standard, `e` extended, `j` JSON, `x`
-//! extended JSON), a space, and the text in hexadecimal. Each call has a line of its own: its name, a space, and the
-//! text of its answer or what is printed of the error.
+//! The calls over values and trees that allocate, on a text: a letter for the mode, a space, and the text in
+//! hexadecimal. Each call has a line of its own: its name, a space, and the text of its answer or what is printed of the
+//! error.
 
+use crate::answer::mode_of;
 use jsonb::{Error, Grammar, JsonAst, Result, Value};
 use std::alloc::Global;
 use std::borrow::CowStr;
@@ -29,14 +30,10 @@ fn put_line<W: Write>(out: &mut W, name: &str, answer: &Result<Vec<u8>>) -> io::
 ///
 /// A line of another form is `InvalidInput`, and so is one for which there is no memory.
 pub fn report<W: Write>(alloc: Global, line: &str, out: &mut W) -> io::Result<()> {
-    let (mode, text) = match line.split_once(' ') {
-        Some(("s", text)) => (Grammar::Standard, text),
-        Some(("e", text)) => (Grammar::Extended, text),
-        Some(("j", text)) => (Grammar::Json, text),
-        Some(("x", text)) => (Grammar::ExtendedJson, text),
-        _ => return Err(io::Error::from(io::ErrorKind::InvalidInput)),
+    let Some((letter, text)) = line.split_once(' ') else {
+        return Err(io::Error::from(io::ErrorKind::InvalidInput));
     };
-    let Ok(text) = hex::decode(alloc, text) else {
+    let (Some(mode), Ok(text)) = (mode_of(letter), hex::decode(alloc, text)) else {
         return Err(io::Error::from(io::ErrorKind::InvalidInput));
     };
     report_text(alloc, mode, &text, out)
