@@ -4,6 +4,7 @@
 pub mod meter;
 
 use meter::Meter;
+use std::env::VarError;
 use std::fs::File;
 use std::io::{BufReader, IsTerminal, Read, Write};
 use std::process::ExitCode;
@@ -104,6 +105,15 @@ fn is_doubtful(rt: &HostRuntime, options: &Options, pointer: &str) -> bool {
     }
 }
 
+// Whether a terminal is shown colours: NO_COLOR isn't set, or empty.
+fn has_colours(rt: &(impl Env + AllocGlobal)) -> bool {
+    match env::var(rt, "NO_COLOR") {
+        Ok(word) => word.is_empty(),
+        Err(VarError::NotPresent) => true,
+        Err(_) => false,
+    }
+}
+
 fn main(rt: HostRuntime) -> ExitCode {
     let Ok(words) = words(&rt) else {
         let _ = writeln!(
@@ -131,6 +141,7 @@ fn main(rt: HostRuntime) -> ExitCode {
             // A person reads each line as it comes.
             if rt.stdout().is_terminal() {
                 options.block = 1;
+                options.colours = has_colours(&rt);
             }
             ExitCode::from(run(&rt, &options))
         }

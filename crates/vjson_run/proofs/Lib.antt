@@ -1,6 +1,7 @@
 pub mod Arranged
 pub mod Buffered
 pub mod Chosen
+pub mod Coloured
 pub mod Counts
 pub mod Cuts
 pub mod Down

@@ -15,6 +15,7 @@ use Rattle.vjson_text.specs.declared.reader.Layout.{Layout}
 use Rattle.vjson_text.specs.declared.reader.Layout.TheVariants.{Compact, Indent}
 use Rattle.vjson_run.proofs.Lists.{any_behind, zipped_more}
 use Rattle.vjson_run.proofs.PartKeys.{part_key_is}
+use Rattle.vjson_run.specs.Colours.{IsShownAs}
 use Rattle.vjson_run.specs.Answers.{AppendsCell, AppendsCounted, AppendsLine, AppendsOne, AreCounted, IsCell, IsCounted, IsFound, IsLaidOut, IsLineText, IsOne, IsShown, LacksSome, PrintsKeyed, counted_none, counted_part, given_default, layout_of, shown_part}
 use Rattle.jsonb_spec.specs.Program.Printed.{Prints, first_keys, printed, row_of, separated, separator}
 use Rattle.vjson_run.specs.Keys.{AppendsPiece, AppendsTurned, HasPartKey, IsKeyBy, IsKeyOf, IsPartOf, IsPiece, LacksPart}
@@ -36,10 +37,10 @@ text_part g layout text old new h =
 fed : (old mid new bytes : List ℕ) → mid ≡ old ++ bytes → new ≡ mid ++ 10 ∷ [] → new ≡ old ++ printed bytes
 fed old mid new bytes first second = second ∙ ap (λ l. l ++ 10 ∷ []) first ∙ append_assoc old bytes (10 ∷ [])
 
-pub prints_text : (o : Options) (text old mid new : List ℕ) → AppendsTextOf o.grammar (layout_of o) text old mid → new ≡ mid ++ 10 ∷ [] → Prints (IsLaidOut o text) old new
-prints_text o text old mid new h fed_to =
+pub prints_text : (o : Options) (text old mid new : List ℕ) → o.colours ≡ false → AppendsTextOf o.grammar (layout_of o) text old mid → new ≡ mid ++ 10 ∷ [] → Prints (IsLaidOut o text) old new
+prints_text o text old mid new plain h fed_to =
     let laid = text_part o.grammar (layout_of o) text old mid h in
-    record { bytes = laid.0; is_printed = laid.1; appended = fed old mid new laid.0 laid.2 fed_to }
+    record { bytes = laid.0; is_printed = (laid.0, laid.1, subst (λ b. IsShownAs b laid.0 laid.0) (sym plain) refl); appended = fed old mid new laid.0 laid.2 fed_to }
 
 pub part_there : (g : Grammar) (keys : List (List ℕ)) (text bytes : List ℕ) → AppendsPartOf g keys text [] bytes true → IsPartOf g keys text bytes
 part_there g keys text bytes h = record {

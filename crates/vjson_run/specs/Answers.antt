@@ -8,6 +8,7 @@ use Rattle.jsonb_spec.specs.Program.Raw.{IsRaw}
 use Rattle.text_scan.specs.declared.parser.Grammar.{Grammar}
 use Rattle.vjson_text.specs.declared.reader.Layout.{Layout}
 use Rattle.vjson_text.specs.declared.reader.Layout.TheVariants.{Compact, Indent}
+use Rattle.vjson_run.specs.Colours.{IsShownAs}
 use Rattle.vjson_run.specs.Keys.{IsKeyOf, IsPartOf, LacksPart}
 use Rattle.jsonb_spec.specs.Program.Keys.{keys_of}
 use Rattle.jsonb_spec.specs.Program.KeyLine.{key_line}
@@ -38,9 +39,10 @@ layout_of options = unwrap_or options.layout (if options.lines then Compact else
 abbrev pub paths_of : Options → List (List (List ℕ))
 paths_of options = first_keys options.paths.items ∷ map keys_of (drop 1 options.paths.items)
 
--- What `format` prints: the text laid out.
+-- What `format` prints: the text laid out, as a terminal has it.
 abbrev pub IsLaidOut : Options → List ℕ → List ℕ → Type 0
-IsLaidOut options text bytes = AppendsTextOf options.grammar (layout_of options) text [] bytes
+IsLaidOut options text bytes =
+    (laid : List ℕ) × AppendsTextOf options.grammar (layout_of options) text [] laid × IsShownAs options.colours laid bytes
 
 -- one part alone as it is, and of several each as a cell
 abbrev pub cell_of : Options → List ℕ → List ℕ
@@ -54,7 +56,7 @@ pub record IsRawCell (options : Options) (part bytes : List ℕ) : Type 0 where
 
 -- What `get` prints of the serialized form of a part: that, or with `--raw` the characters of a string.
 abbrev pub IsShown : Options → List ℕ → List ℕ → Type 0
-IsShown options part bytes = MatchBool options.raw (IsRawCell options part bytes) (bytes ≡ part)
+IsShown options part bytes = MatchBool options.raw (IsRawCell options part bytes) (IsShownAs options.colours part bytes)
 
 -- What `get` prints for a path: the text's part there, or the default where it has none.
 pub data IsCell (options : Options) (text : List ℕ) (keys : List (List ℕ)) (bytes : List ℕ) : Type 0 where

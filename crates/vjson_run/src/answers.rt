@@ -24,6 +24,7 @@ ghost use Rattle.vjson_run.specs.declared.options.Options.{Options};
 ghost use Rattle.vjson_run.specs.Keys.{AppendsPiece, AppendsTurned, HasPartKey, IsKeyOf, LacksPart};
 ghost use Rattle.jsonb_spec.specs.Program.Keys.{keys_of};
 
+use crate::colours;
 use crate::lines::{append_key_line, append_line as append_row};
 use crate::options::{Command, Condition, Options, Part};
 use std::alloc::{AllocError, Global};
@@ -71,6 +72,27 @@ fn layout_of(options: &Options) -> Layout
     }
 }
 
+// Prints the text laid out, in colours.
+fn format_coloured(
+    alloc: Global,
+    options: &Options,
+    text: &[u8],
+    out: &mut Vec<u8>,
+) -> Result<(), Fault>
+    ensures ok { options.now.colours ≡ true
+        → OnOk result (Prints (IsLaidOut options.now text.now) out.old.items out.new.items) }
+    ensures err { IfErr result (λ f. f ≢ Fault.NoMemory → out.new.items ≡ out.old.items) }
+    ensures rejected { Rejects options.now.grammar text.now result }
+    ensures memory { result ≡ Err Fault.NoMemory → MayTakeMemory options.now.grammar text.now }
+{
+    let mut laid = Vec::new(alloc);
+    let layout = layout_of(options);
+    vjson_text::append(alloc, options.grammar, layout, text, &mut laid)?;
+    colours::show(true, &laid, out)?;
+    out.push(b'\n')?;
+    Ok(())
+}
+
 /// Prints the text laid out.
 ///
 /// # Errors
@@ -82,6 +104,9 @@ pub fn format(alloc: Global, options: &Options, text: &[u8], out: &mut Vec<u8>) 
     ensures rejected { Rejects options.now.grammar text.now result }
     ensures memory { result ≡ Err Fault.NoMemory → MayTakeMemory options.now.grammar text.now }
 {
+    if options.colours {
+        return format_coloured(alloc, options, text, out);
+    }
     let layout = layout_of(options);
     vjson_text::append(alloc, options.grammar, layout, text, out)?;
     out.push(b'\n')?;
@@ -150,7 +175,7 @@ fn append_shown(
     ensures memory { IfErr result (λ f. f ≡ Fault.NoMemory) }
 {
     if !options.raw {
-        row.extend_from_slice(part)?;
+        colours::show(options.colours, part, row)?;
         return Ok(());
     }
     if options.paths.len() < 2 {

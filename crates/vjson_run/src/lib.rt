@@ -2,6 +2,7 @@
 #![tactic(auto)]
 
 pub mod answers;
+pub mod colours;
 pub mod input;
 pub mod lines;
 pub mod location;

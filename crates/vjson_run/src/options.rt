@@ -110,6 +110,8 @@ pub struct Options {
     pub reverse: bool,
     pub check: bool,
     pub canonical: bool,
+    /// Whether `format` prints in colours: on a terminal.
+    pub colours: bool,
     pub quiet: bool,
     pub progress: Progress,
     /// How many bytes of the output are held before they are written.
@@ -316,6 +318,7 @@ fn new_options(alloc: Global, command: Command) -> Options {
         reverse: false,
         check: false,
         canonical: false,
+        colours: false,
         quiet: false,
         progress: Progress::Late,
         block: BLOCK,
