@@ -66,7 +66,7 @@ impl<'a> Handler<'a> for PassedPart {
         Ok(PassedPart)
     }
 
-    fn root(sink: &mut Steps, value: &Self) -> Result<(), AllocError> {
+    fn root(sink: &mut Steps, value: &Self, from: usize, to: usize) -> Result<(), AllocError> {
         Ok(())
     }
 

@@ -17,8 +17,8 @@ use Rattle.jsonb_spec.specs.Parsing.Scalar.{scalar_at}
 use Rattle.jsonb_spec.specs.Parsing.Document.{value_at}
 use Rattle.jsonb_spec.specs.Source.{Source, null_source, source_alone}
 use Rattle.text_parse.specs.Stack.{array_end, finish_open, next_part_at, object_end, resume}
-use Rattle.jsonb_spec.specs.Source.Open.{Open, add_part, elements_so_far, members_so_far}
-use Rattle.text_parse.specs.Slots.{Fits, is_due}
+use Rattle.jsonb_spec.specs.Source.Open.{Open, elements_so_far, members_so_far}
+use Rattle.text_parse.specs.Slots.{Fits}
 
 -- an array or an object begins here
 abbrev pub OpensContainer : List ℕ → Type 0
@@ -54,21 +54,11 @@ resume_stack size mode depth closed (c ∷ cs) rest =
 
 -- ---- what a step leaves
 
--- A scalar becomes the next part of the innermost container.
-abbrev pub TakesTree : {R I M K : Type 0} → (List ℕ → R → Bool → List (Frame I M K) → List Open → Type 0) → List ℕ
-    → Tree → R → Frame I M K → R → Frame I M K → Type 0
-TakesTree {R} {I} {M} {K} Holds text t old before new after =
-    (c : Open) → (fs : List (Frame I M K)) → (cs : List Open) → Fits before c
-    → Holds text old (is_due before) (before ∷ fs) (c ∷ cs)
-    → Holds text new false (after ∷ fs) (add_part c (source_alone t) ∷ cs)
-
--- A scalar was put into the innermost container, and is what is parsed.
-abbrev pub IsPut : {R I M K X F : Type 0} → Bool → Option Error
-    → (List ℕ → R → Bool → List (Frame I M K) → List Open → Type 0) → List ℕ → Result X F → R → Frame I M K
-    → Parse Tree → R → Frame I M K → List ℕ → Type 0
-IsPut silent reported Holds text result old before read new after rest =
-    ElseFails silent reported result read
-    (λ _. (t : Tree) × (read ≡ Ok (t, rest)) × TakesTree Holds text t old before new after)
+-- A scalar was put in, and is what is parsed.
+abbrev pub IsPut : {X F : Type 0} → Bool → Option Error → (Source → Type 0) → Result X F → Parse Tree → List ℕ
+    → Type 0
+IsPut silent reported IsIn result read rest =
+    ElseFails silent reported result read (λ _. (t : Tree) × (read ≡ Ok (t, rest)) × IsIn (source_alone t))
 
 -- ---- the containers that are open
 

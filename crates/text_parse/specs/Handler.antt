@@ -37,6 +37,10 @@ abbrev pub BuildsAll : {X Y : Type 0} → Bool → (X → Y → Type 0) → Resu
 BuildsAll {X} {Y} silent Sees (Ok x) read = (y : Y) × Sees x y × (read ≡ Ok y)
 BuildsAll silent Sees (Err reported) read = Misses silent reported read
 
+-- The text ends after a value of this source, or what was reported is the fault.
+abbrev pub Ends : {X F : Type 0} → Source → Option Error → Result X F → Result Source Fault → Type 0
+Ends s reported result read = ElseFails false reported result read (λ _. read ≡ Ok s)
+
 -- Memory ran out, or nothing was reported.
 abbrev pub IsUnreported : Bool → Option Error → Type 0
 IsUnreported silent None = silent ≡ true

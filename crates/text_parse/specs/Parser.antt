@@ -119,6 +119,10 @@ abbrev pub source_at : Parser → Result Source Fault
 source_at p =
     source_from (size_of p) (grammar_of p.grammar) (skip_closed_whitespace (grammar_of p.grammar) (rest_of p))
 
+-- the whole text, behind that whitespace
+abbrev pub source_here : Parser → Result Source Fault
+source_here p = source_from (size_of p) (grammar_of p.grammar) (rest_of p)
+
 -- A string or a key is what this function parses; memory runs out only where the text has a backslash.
 pub record ParsesString {X : Type 0} (view : X → Mark × List ℕ) (read : ℕ → Mode → List ℕ → Parse (Mark × List ℕ))
     (result : Result X Error) (old new : Parser) : Type 0 where

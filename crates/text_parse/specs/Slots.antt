@@ -25,10 +25,13 @@ abbrev pub is_due : {I M K : Type 0} → Frame I M K → Bool
 is_due (variants.Array items) = false
 is_due (variants.Object o) = true
 
--- A source of which this holds becomes the next part of the innermost container.
-abbrev pub Takes : {R I M K : Type 0} → (List ℕ → R → Bool → List (Frame I M K) → List Open → Type 0)
-    → (List ℕ → Source → Type 0) → R → Frame I M K → R → Frame I M K → Type 0
-Takes {R} {I} {M} {K} Holds Is old before new after =
-    (text : List ℕ) → (s : Source) → (c : Open) → (fs : List (Frame I M K)) → (cs : List Open) → Fits before c
-    → Holds text old (is_due before) (before ∷ fs) (c ∷ cs) → Is text s
-    → Holds text new false (after ∷ fs) (add_part c s ∷ cs)
+-- A source becomes the next part of the innermost container.
+abbrev pub TakesPart : {R I M K : Type 0} → (List ℕ → R → Bool → List (Frame I M K) → List Open → Type 0)
+    → R → Frame I M K → R → Frame I M K → List ℕ → Source → Type 0
+TakesPart {R} {I} {M} {K} Holds old before new after text s =
+    (c : Open) → (fs : List (Frame I M K)) → (cs : List Open) → Fits before c
+    → Holds text old (is_due before) (before ∷ fs) (c ∷ cs) → Holds text new false (after ∷ fs) (add_part c s ∷ cs)
+
+-- A source of which the first holds is put in.
+abbrev pub Takes : (List ℕ → Source → Type 0) → (List ℕ → Source → Type 0) → Type 0
+Takes Is IsIn = (text : List ℕ) → (s : Source) → Is text s → IsIn text s

@@ -1,26 +1,28 @@
 -- What a call of the parser leaves, and what a handler made of it.
-use Rattle.std.specs.Prelude.{◌≡◌, ℕ, ◌<◌, ◌≤◌, Bool, false, List, ◌∷◌, length, Contains, MatchBool, Ok, Some, Result, IfErr, IfOk, OnOk}
+use Rattle.std.specs.Prelude.{◌≡◌, ◌⊎◌, ℕ, ◌<◌, ◌≤◌, Bool, true, false, List, ◌∷◌, length, Contains, MatchBool, Ok, Some, Result, IfErr, IfOk, OnOk}
 use Rattle.jsonb_spec.specs.Ascii as ascii
 use Rattle.jsonb_spec.specs.Code.{Code}
 use Rattle.jsonb_spec.specs.Grammar.{max_depth}
 use Rattle.jsonb_spec.specs.Mode.{Mode, strictness}
 use Rattle.jsonb_spec.specs.Tree.{Mark, Tree}
-use Rattle.jsonb_spec.specs.Source.{Source}
+use Rattle.jsonb_spec.specs.Source.{Source, source_alone}
 use Rattle.jsonb_core.specs.declared.error.Error.TheVariants.{OutOfMemory}
 use Rattle.text_scan.specs.Answer.{grammar_of}
 use Rattle.jsonb_spec.specs.Source.Open.{Open}
 use Rattle.jsonb_spec.specs.Parsing.{Parse, begins}
 use Rattle.jsonb_spec.specs.Parsing.Container.{is_left_out}
 use Rattle.jsonb_spec.specs.Parsing.Whitespace.{skip_whitespace}
-use Rattle.text_parse.specs.Frames.{AtPart, IsPut, OpensContainer, ParsesParts, TakesTree, scalar_or_null}
+use Rattle.text_parse.specs.Frames.{AtPart, IsPut, OpensContainer, ParsesParts, scalar_or_null}
 use Rattle.text_parse.specs.Handler.{AsKey, AsScalar, Begins, Builds, ElseFails, IsUnreported, Misses}
 use Rattle.text_parse.specs.Parser.{Advances, AdvancesOver, Skips, parse_at, rest_of, size_of}
-use Rattle.text_parse.specs.Slots.{Fits, Takes}
+use Rattle.text_parse.specs.Scalars.{IsGiven}
+use Rattle.text_parse.specs.Slots.{Fits, Takes, TakesPart}
 use Rattle.text_parse.specs.Stack.{next_part_at, part_end}
 use Rattle.text_parse.specs.declared.parser.Parser.{Parser}
 use Rattle.text_parse.specs.declared.parser.frame.Frame.{Frame}
 use Rattle.text_parse.specs.declared.parser.frame.OpenObject.{OpenObject}
 use Rattle.text_parse.specs.declared.parser.handler.Handler.{Ghosts}
+use Rattle.text_parse.specs.declared.parser.slot.Given.{Given}
 
 -- After a part its comma was passed, or the closing byte of its container (true).
 pub record EndsPart {F : Type 0} (code : Code) (close : ℕ) (result : Result Bool F) (old new : Parser) : Type 0 where
@@ -49,25 +51,33 @@ module _ {V R I M K : Type 0} (h : Ghosts V R I M K) where
     -- the parser has gone on in its input
     pub advances : Advances old new
 
-  -- A value of a source of which this holds was put into a container, and the parser stays; or memory ran out, or
-  -- nothing was reported.
+  -- The value of the text was given, and is of this source.
+  abbrev pub IsRoot : Given V → List ℕ → Source → Type 0
+  IsRoot root text s = IsGiven h.sees h.is_verbatim root.value root.from root.to text s
+
+  -- A value of a source of which this holds was put in, and the parser stays; or memory ran out, or nothing was
+  -- reported.
   pub record PutsIn {X F : Type 0} (Is : List ℕ → Source → Type 0) (result : Result X F) (old new : Parser)
-      (sink filled : R) (before after : Frame I M K) : Type 0 where
-    -- The source is the last part of the container that is open.
-    pub put : OnOk result (Takes h.holds Is sink before filled after)
+      (sink filled : R) (IsIn : List ℕ → Source → Type 0) (writes : Bool) : Type 0 where
+    -- the source is in
+    pub put : OnOk result (Takes Is IsIn)
     -- the parser stays
     pub same : OnOk result (new ≡ old)
     -- a failure is want of memory, or nothing was reported of it
     pub reported : IfErr result (λ _. IsUnreported h.silent new.reported)
+    -- Memory runs out only where the slot takes some.
+    pub memory : IfErr result (λ _. new.reported ≡ Some OutOfMemory → writes ≡ true)
     -- the input is the same, and so is what was in the sink before the text
     pub advances : AdvancesOver h.base old new sink filled
 
-  -- A scalar that this function parses was put into a container.
+  -- A scalar that this function parses was put in.
   pub record Puts {X F : Type 0} (read : ℕ → Mode → List ℕ → Parse Tree) (result : Result X F)
-      (old new : Parser) (sink filled : R) (before after : Frame I M K) : Type 0 where
-    -- the scalar is the last part of the innermost container, or what was reported is its fault
-    pub parses : IsPut h.silent new.reported h.holds old.buf.now result sink before (parse_at read old) filled after
-        (rest_of new)
+      (old new : Parser) (sink filled : R) (IsIn : List ℕ → Source → Type 0) (writes : Bool) : Type 0 where
+    -- the scalar is in, or what was reported is its fault
+    pub parses : IsPut h.silent new.reported (IsIn old.buf.now) result (parse_at read old) (rest_of new)
+    -- Memory runs out only where the text has a backslash, or the slot takes some.
+    pub memory : IfErr result (λ _. new.reported ≡ Some OutOfMemory → Contains old.buf.now ascii.backslash
+        ⊎ (writes ≡ true))
     -- the parser has gone on, and what was in the sink before the text stays
     pub advances : AdvancesOver h.base old new sink filled
 
@@ -85,7 +95,7 @@ module _ {V R I M K : Type 0} (h : Ghosts V R I M K) where
     pub none_opens : NoneOpens start
     pub tree : Tree
     pub parses : parse_at read start ≡ Ok (tree, rest_of new)
-    pub put : TakesTree h.holds start.buf.now tree sink before filled after
+    pub put : TakesPart h.holds sink before filled after start.buf.now (source_alone tree)
 
   -- A scalar that this function parses was put in, or the parser stops where a container begins (true).
   pub record PutsOrStops {F : Type 0} (read : ℕ → Mode → List ℕ → Parse Tree) (result : Result Bool F)

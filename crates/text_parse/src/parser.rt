@@ -2,14 +2,14 @@
 
 ghost use Rattle.std.specs.Prelude.{◌≡◌, ◌≢◌, ◌+◌, ◌<◌, ◌≤◌, ℕ, List, [], ◌∷◌, drop, take, ◌⊎◌, MatchOption, IfOk, IfErr, IfSome, Err, None, Ok, Some, true, length};
 ghost use Rattle.jsonb_core.specs.Error.CodeView.{code_of};
-ghost use Rattle.text_scan.specs.Answer.{grammar_of, mode_of, NamesFault, Gives};
+ghost use Rattle.text_scan.specs.Answer.{grammar_of, mode_of, NamesFault};
 ghost use Rattle.jsonb_spec.specs.Parsing.Memory.{MayAllocate};
 ghost use Rattle.jsonb_spec.specs.Parsing.{begins, fault_at};
 ghost use Rattle.jsonb_spec.specs.Parsing.Whitespace.{skip_closed_whitespace};
 ghost use Rattle.jsonb_spec.specs.Parsing.Document.{at_end, comment_at, source_of};
 ghost use Rattle.jsonb_spec.specs.Mode.{strictness};
-ghost use Rattle.jsonb_spec.specs.Source.{Source};
-ghost use Rattle.text_parse.specs.Handler.{BuildsAll, ElseFails, IsWritten, Misses};
+ghost use Rattle.jsonb_spec.specs.Source.{Source, null_source};
+ghost use Rattle.text_parse.specs.Handler.{BuildsAll, ElseFails, Ends, IsWritten, Misses};
 ghost use Rattle.text_parse.specs.Grammars.{may_cut};
 
 mod ascii;
@@ -31,7 +31,8 @@ mod whitespace;
 use ascii::is_short_ascii;
 pub use frame::{Frame, OpenObject};
 use handler::{Failed, Handler};
-use jsonb_core::error::{Error, ParseErrorCode, Result};
+use jsonb_core::error::{Error, ParseErrorCode};
+use slot::{Given, Root};
 use std::alloc::{AllocError, Global};
 pub use text::{Scalar, Text};
 pub use text_scan::parser::{Grammar, Mode};
@@ -117,8 +118,8 @@ struct Parser<'a> {
 }
 
 impl<'a> Parser<'a> {
-    ghost use Rattle.text_parse.specs.Parser.{Advances, IsTextOf, TakesByte, Reports, rest_of, size_of, source_at};
-    ghost use Rattle.text_parse.specs.Steps.{MakesScalar};
+    ghost use Rattle.text_parse.specs.Parser.{Advances, IsTextOf, TakesByte, Reports, rest_of, size_of, source_at, source_here};
+    ghost use Rattle.text_parse.specs.Steps.{IsRoot, MakesScalar, NoneOpens};
     ghost use Rattle.jsonb_spec.specs.Parsing.Scalar.{scalar_at};
 
     // The next byte.
@@ -234,37 +235,69 @@ impl<'a> Parser<'a> {
         ensures base { V.base sink.new ≡ V.base sink.old }
     {
         self.skip_closed_whitespace();
+        if self.begins_container() {
+            let value = self.parse_container::<V>(sink, text)?;
+            if let Err(failed) = self.end_document() {
+                value.dismantle();
+                return Err(failed);
+            }
+            return Ok(value);
+        }
+        let mut root = Given {
+            value: V::scalar(Scalar::Null),
+            from: 0,
+            to: 0,
+        };
+        self.parse_root::<V>(sink, &mut root, text)?;
+        let Ok(()) = V::root(sink, &root.value, root.from, root.to) else {
+            return Err(self.out_of_memory());
+        };
+        Ok(root.value)
+    }
+
+    // The rest of a text whose value holds no others. Where there is no value, what was given stays.
+    #[inline(always)]
+    fn parse_root<V: Handler<'a>>(
+        &mut self,
+        sink: &mut V::Sink,
+        root: &mut Given<V>,
+        text: &'a str,
+    ) -> std::result::Result<(), Failed>
+        requires same { IsTextOf text.now self.old }
+        requires cuts { may_cut V.reports_plain text.now (grammar_of self.old.grammar) ≡ true }
+        requires other { NoneOpens self.old }
+        requires null { IsRoot V.Handler root.old self.old.buf.now null_source }
+        ensures parses { ElseFails V.silent self.new.reported result (source_here self.old) (λ _. (s : Source)
+            × ((sink.new ≡ sink.old) × IsRoot V.Handler root.new self.old.buf.now s) × (source_here self.old ≡ Ok s)) }
+        ensures memory { IfErr result (λ _. self.new.reported ≡ Some Error.OutOfMemory → MayAllocate self.old.buf.now) }
+        ensures base { V.base sink.new ≡ V.base sink.old }
+    {
         if self.offset >= self.buf.len() {
             return match self.mode {
                 Mode::Standard => {
                     Err(self.fail(Error::Syntax(ParseErrorCode::InvalidEOF, self.buf.len())))
                 }
-                Mode::Extended => self.put_root::<V>(sink, V::scalar(Scalar::Null)),
+                Mode::Extended => Ok(()),
             };
         }
         if self.opens_comment() {
-            if let Err(error) = self.end_in_comment() {
-                return Err(self.fail(error));
-            }
-            return self.put_root::<V>(sink, V::scalar(Scalar::Null));
+            return self.end_in_comment();
         }
-        if self.begins_container() {
-            let value = self.parse_container::<V>(sink, text)?;
-            if let Err(error) = self.end_document() {
-                value.dismantle();
-                return Err(self.fail(error));
-            }
-            return Ok(value);
+        if self.take_byte(b'"') {
+            self.put_later_quoted::<V, Root>(sink, root, Root, text)?;
+            return self.end_document();
         }
         let value = self.parse_root_scalar::<V>(text)?;
-        if let Err(error) = self.end_document() {
-            return Err(self.fail(error));
-        }
-        self.put_root::<V>(sink, value)
+        *root = Given {
+            value,
+            from: 0,
+            to: 0,
+        };
+        self.end_document()
     }
 
-    // A scalar that is a text's value. It is a call of its own: inlined, it would prevent the loop over parts from
-    // being so.
+    // A scalar that is a text's value and no string in double quotes. It is a call of its own: inlined, it would
+    // prevent the loop over parts from being so.
     #[inline(never)]
     fn parse_root_scalar<V: Handler<'a>>(&mut self, text: &'a str) -> std::result::Result<V, Failed>
         requires same { IsTextOf text.now self.old }
@@ -273,29 +306,12 @@ impl<'a> Parser<'a> {
         self.parse_scalar(text)
     }
 
-    // Puts in a scalar that is a text's value.
-    #[inline(always)]
-    fn put_root<V: Handler<'a>>(
-        &mut self,
-        sink: &mut V::Sink,
-        value: V,
-    ) -> std::result::Result<V, Failed>
-        ensures put { IfOk result (λ v. (text : List ℕ) → (s : Source) → V.holds text sink.old true [] []
-            → V.sees value s → V.filled text sink.new v s [] []) }
-        ensures memory { IfErr result (λ _. (self.new.reported ≡ Some Error.OutOfMemory) × (V.writes ≡ true)) }
-        ensures base { V.base sink.new ≡ V.base sink.old }
-    {
-        let Ok(()) = V::root(sink, &value) else {
-            return Err(self.out_of_memory());
-        };
-        Ok(value)
-    }
-
     // The end of a text, after its value.
-    fn end_document(&mut self) -> Result<()>
-        ensures parses { (s : Source) → Gives (λ _. s) result (at_end (size_of self.old) (grammar_of self.old.grammar) s
-            (skip_closed_whitespace (grammar_of self.old.grammar) (rest_of self.old))) }
-        ensures takes_no_memory { result ≢ Err Error.OutOfMemory }
+    #[inline(always)]
+    fn end_document(&mut self) -> std::result::Result<(), Failed>
+        ensures parses { (s : Source) → Ends s self.new.reported result (at_end (size_of self.old)
+            (grammar_of self.old.grammar) s (skip_closed_whitespace (grammar_of self.old.grammar) (rest_of self.old))) }
+        ensures takes_no_memory { IfErr result (λ _. self.new.reported ≢ Some Error.OutOfMemory) }
     {
         self.skip_closed_whitespace();
         if self.offset >= self.buf.len() {
@@ -305,21 +321,21 @@ impl<'a> Parser<'a> {
             return self.end_in_comment();
         }
         let after = self.offset + 1;
-        Err(Error::Syntax(ParseErrorCode::UnexpectedTrailingCharacters, after))
+        Err(self.fail(Error::Syntax(ParseErrorCode::UnexpectedTrailingCharacters, after)))
     }
 
     // A text may end in a line comment without its end, and in no other comment.
-    fn end_in_comment(&self) -> Result<()>
-        requires { self.now.offset < size_of self.now }
-        ensures parses { (s : Source) → Gives (λ _. s) result (comment_at (size_of self.now) s
-            (drop 1 (rest_of self.now))) }
-        ensures takes_no_memory { result ≢ Err Error.OutOfMemory }
+    fn end_in_comment(&mut self) -> std::result::Result<(), Failed>
+        requires { self.old.offset < size_of self.old }
+        ensures parses { (s : Source) → Ends s self.new.reported result (comment_at (size_of self.old) s
+            (drop 1 (rest_of self.old))) }
+        ensures takes_no_memory { IfErr result (λ _. self.new.reported ≢ Some Error.OutOfMemory) }
     {
         let next = self.offset + 1;
         if next < self.buf.len() && self.buf[next] == b'/' {
             Ok(())
         } else {
-            Err(Error::Syntax(ParseErrorCode::InvalidEOF, self.buf.len()))
+            Err(self.fail(Error::Syntax(ParseErrorCode::InvalidEOF, self.buf.len())))
         }
     }
 }

@@ -1,5 +1,5 @@
 -- A value that holds no others, built of what the steps in it give.
-use Rattle.std.proofs.Common.{◌≡◌, ◌≢◌, pos, neg_ℤ, ◌+◌, ◌-◌, ℕ, true, false, List, [], ◌∷◌, ◌++◌, codes, length, Option, Some, Result, Ok, Err, IfOk, IfErr, refl, ap, sym, subst, ◌∙◌, arith, length-drop, length-append, append_assoc, drop, ◌<◌, take, slice_range, ap₂, Bool, OnOk, IfOk, eqb, true≢false, inl, inr}
+use Rattle.std.proofs.Common.{◌≡◌, ◌≢◌, ◌⊎◌, Contains, pos, neg_ℤ, ◌+◌, ◌-◌, ℕ, true, false, List, [], ◌∷◌, ◌++◌, codes, length, Option, Some, Result, Ok, Err, IfOk, IfErr, refl, ap, sym, subst, ◌∙◌, arith, length-drop, length-append, append_assoc, drop, ◌<◌, take, slice_range, ap₂, Bool, OnOk, IfOk, eqb, true≢false, inl, inr}
 use Rattle.std.specs.Prelude.{slice_index}
 use Rattle.std.proofs.Math.Seq.{take-append_seam}
 use Rattle.std.proofs.lemmas.Bool.{cases_Bool, cond-false, eqb-true}
@@ -14,7 +14,6 @@ use Rattle.jsonb_spec.specs.Parsing.{Fault, Parse, begins, ◌>>=◌}
 use Rattle.jsonb_spec.specs.Parsing.Number.{is_number_start}
 use Rattle.jsonb_spec.specs.Parsing.Scalar.{begins_number, letters_at, null_at, null_or, number_at, number_value_at, or_else, other_scalar_at, quoted_at, scalar_at}
 use Rattle.jsonb_spec.specs.Parsing.String.{string_at}
-use Rattle.jsonb_spec.specs.Source.Open.{Open}
 use Rattle.jsonb_spec.specs.Source.{Source, number_source, source_alone}
 use Rattle.jsonb_spec.specs.Grammar.StandardNumber.{IsStandardNumber}
 use Rattle.jsonb_spec.specs.Text.Encoded.{IsEncoded, IsEncodedAt, KeyHoldsAt}
@@ -28,11 +27,12 @@ use Rattle.text_parse.specs.declared.parser.text.Text.TheVariants as texts
 use Rattle.text_parse.specs.Literals.{literal_text, literal_tree}
 use Rattle.text_parse.specs.declared.parser.scalar.Literal.{Literal}
 use Rattle.text_parse.specs.declared.parser.scalar.Literal.TheVariants as literals
-use Rattle.text_parse.specs.declared.parser.frame.Frame.{Frame}
+use Rattle.text_parse.specs.declared.parser.handler.Handler.{Ghosts}
+use Rattle.text_parse.specs.Steps.{Puts, PutsIn}
 use Rattle.text_parse.specs.Handler.{AsKey, Builds, IsUnreported}
 use Rattle.text_parse.specs.Frames.{IsPut}
 use Rattle.text_parse.specs.Slots.{Takes}
-use Rattle.text_parse.specs.Parser.{Advances, IsBehind, rest_of, size_of}
+use Rattle.text_parse.specs.Parser.{Advances, AdvancesOver, IsBehind, parse_at, rest_of, size_of}
 use Rattle.jsonb_spec.specs.Text.{in_quotes}
 use Rattle.jsonb_spec.specs.Text.NumberText.{number_text}
 use Rattle.std.proofs.lemmas.List.{drop_more}
@@ -43,6 +43,7 @@ use Rattle.text_parse.proofs.Scalars.Encodings.{null_or_word}
 use Rattle.text_parse.proofs.Scalars.FirstBytes.{number_here, scalar_as, scalar_is}
 use Rattle.text_scan.proofs.Containers.JoinedParts.{on_byte-none}
 use Rattle.text_scan.proofs.Numbers.Steps.{starts_here}
+use Rattle.text_parse.proofs.Steps.Advancing.{goes_on}
 use Rattle.text_parse.proofs.Steps.Failures.{memory_misses, unreported_misses}
 use Rattle.text_parse.proofs.Steps.Outcomes.{same_size}
 
@@ -70,10 +71,36 @@ null_missed size mode bytes e is other h = null_or_missed size (strictness mode)
 
 -- ---- what is parsed is put in
 
-pub put_so : {R I M K F : Type 0} (silent : Bool) (Holds : List ℕ → R → Bool → List (Frame I M K) → List Open → Type 0) (Is : List ℕ → Source → Type 0) (text : List ℕ) (q r : Parser) (old new : R) (result : Result Unit F) (before : Frame I M K) (t : Tree) (read : Parse Tree) (after : Frame I M K)
-    → OnOk result (Takes Holds Is old before new after) → OnOk result (r ≡ q) → IfErr result (λ _. IsUnreported silent r.reported) → Is text (source_alone t) → read ≡ Ok (t, rest_of q) → IsPut silent r.reported Holds text result old before read new after (rest_of r)
-put_so silent Holds Is text q r old new (Ok x) before t read after put same reported there is = (t, is ∙ ap (λ o. Ok (t, rest_of o)) (sym same), λ c fs cs fits holds. put text (source_alone t) c fs cs fits holds there)
-put_so silent Holds Is text q r old new (Err f) before t read after put same reported there is = unreported_misses silent r.reported read reported
+parses_so : {X F : Type 0} (silent : Bool) (Is IsIn : List ℕ → Source → Type 0) (text : List ℕ) (q r : Parser) (result : Result X F) (t : Tree) (read : Parse Tree)
+    → OnOk result (Takes Is IsIn) → OnOk result (r ≡ q) → IfErr result (λ _. IsUnreported silent r.reported) → Is text (source_alone t) → read ≡ Ok (t, rest_of q) → IsPut silent r.reported (IsIn text) result read (rest_of r)
+parses_so silent Is IsIn text q r (Ok x) t read put same reported there is = (t, is ∙ ap (λ o. Ok (t, rest_of o)) (sym same), put text (source_alone t) there)
+parses_so silent Is IsIn text q r (Err f) t read put same reported there is = unreported_misses silent r.reported read reported
+
+slot_alone : {X F : Type 0} (A B C : Type 0) (result : Result X F) → IfErr result (λ _. A → C) → IfErr result (λ _. A → B ⊎ C)
+slot_alone A B C (Ok x) h = tt
+slot_alone A B C (Err f) h = λ a. inr (h a)
+
+onto : {R : Type 0} {base : R → List (List ℕ)} (p q r : Parser) (sink filled : R) → Advances p q → AdvancesOver base q r sink filled → AdvancesOver base p r sink filled
+onto p q r sink filled on further = record { parser = goes_on p q r on further.parser; base = further.base }
+
+module _ {V R I M K X F : Type 0} (h : Ghosts V R I M K) {result : Result X F} {p q r : Parser} {sink filled : R} {IsIn : List ℕ → Source → Type 0} {writes : Bool} (on : Advances p q) where
+  -- what was parsed up to here
+  pub put_so : {Is : List ℕ → Source → Type 0} {read : ℕ → Mode → List ℕ → Parse Tree} (t : Tree) → PutsIn h Is result q r sink filled IsIn writes → Is p.buf.now (source_alone t) → parse_at read p ≡ Ok (t, rest_of q) → Puts h read result p r sink filled IsIn writes
+  put_so {Is} {read} t put there is =
+      record {
+        parses = parses_so h.silent Is IsIn p.buf.now q r result t (parse_at read p) put.put put.same put.reported there is;
+        memory = slot_alone _ _ _ result put.memory;
+        advances = onto p q r sink filled on put.advances;
+      }
+
+  -- what is parsed from here on
+  pub puts_on : {read other : ℕ → Mode → List ℕ → Parse Tree} → parse_at other p ≡ parse_at read q → Puts h read result q r sink filled IsIn writes → Puts h other result p r sink filled IsIn writes
+  puts_on {read} {other} same puts =
+      record {
+        parses = subst (λ b. IsPut h.silent r.reported (IsIn b.now) result (parse_at other p) (rest_of r)) on.buf (subst (λ x. IsPut h.silent r.reported (IsIn q.buf.now) result x (rest_of r)) (sym same) puts.parses);
+        memory = subst (λ b. IfErr result (λ _. r.reported ≡ Some OutOfMemory → Contains b.now 92 ⊎ (writes ≡ true))) on.buf puts.memory;
+        advances = onto p q r sink filled on puts.advances;
+      }
 
 -- ---- where a scalar is
 

@@ -1,5 +1,5 @@
 -- A parser that goes on in the same input.
-use Rattle.std.proofs.Common.{◌≡◌, ℕ, ◌+◌, true, false, true≢false, eqb, inl, inr, List, [], ◌∷◌, length, drop, Result, Err, Contains, get_or, refl, sym, ap, ◌∙◌, arith, length-drop}
+use Rattle.std.proofs.Common.{◌≡◌, ℕ, ◌+◌, true, false, true≢false, eqb, inl, inr, List, [], ◌∷◌, length, drop, Result, Err, Contains, get_or, refl, sym, ap, subst, ◌∙◌, arith, length-drop}
 use Rattle.jsonb_spec.specs.Code.Code.{expected_some_ident}
 use Rattle.text_scan.specs.Answer.{Fails, NamesFault}
 use Rattle.text_parse.specs.Parser.{Advances}
@@ -24,6 +24,9 @@ fails other f read is r = absurd is
 
 pub stays : (p : Parser) → Advances p p
 stays p = record { buf = refl; mode = refl; grammar = refl; onward = omega arith }
+
+pub stays_on : (p q : Parser) → q ≡ p → Advances p q
+stays_on p q same = subst (λ r. Advances p r) (sym same) (stays p)
 
 pub goes_on : (p q r : Parser) → Advances p q → Advances q r → Advances p r
 goes_on p q r a b = record { buf = b.buf ∙ a.buf; mode = b.mode ∙ a.mode; grammar = b.grammar ∙ a.grammar; onward = omega (arith, a.onward, b.onward) }

@@ -1,15 +1,11 @@
 -- A failure that says its fault, or says nothing.
-use Rattle.std.proofs.Common.{◌≡◌, Bool, MatchBool, true, false, List, ℕ, Option, None, Some, Result, Ok, Err, IfOk, IfErr, OnOk, ◌⊎◌, inr, sym, subst, true≢false}
+use Rattle.std.proofs.Common.{◌≡◌, Bool, MatchBool, true, false, List, ℕ, Option, None, Some, Result, Ok, Err, IfOk, OnOk, sym, subst, ◌∙◌, true≢false}
 use Rattle.jsonb_core.specs.declared.error.Error.{Error}
 use Rattle.jsonb_core.specs.declared.error.Error.TheVariants.{OutOfMemory}
 use Rattle.text_scan.specs.Answer.{Fails}
-use Rattle.jsonb_spec.specs.Tree.{Tree}
-use Rattle.jsonb_spec.specs.Source.Open.{Open}
 use Rattle.jsonb_spec.specs.Parsing.{Fault, Parse, ◌>>=◌}
 use Rattle.jsonb_spec.specs.Source.{Source}
-use Rattle.text_parse.specs.Handler.{Builds, ElseFails, IsUnreported, IsWritten, Misses}
-use Rattle.text_parse.specs.Frames.{IsPut}
-use Rattle.text_parse.specs.declared.parser.frame.Frame.{Frame}
+use Rattle.text_parse.specs.Handler.{Builds, ElseFails, Ends, IsUnreported, Misses}
 use Rattle.text_parse.proofs.Steps.Outcomes.{fails_through}
 
 -- what is reported of an error that is the fault of parsing
@@ -46,15 +42,10 @@ pub ok_if : {X F P : Type 0} {Q : X → Type 0} (r : Result X F) → ((x : X) �
 ok_if (Ok x) f h = f x h
 ok_if (Err e) f h = tt
 
--- want of memory where a document is written
-pub written_memory : {X F : Type 0} (P T A : Type 0) (writes : Bool) (r : Result X F) (read : Result Source Fault) (s : Source) → read ≡ Ok s → IfErr r (λ _. A × (writes ≡ true)) → IfErr r (λ _. T → P ⊎ IsWritten writes read)
-written_memory P T A writes (Ok x) read s e h = tt
-written_memory P T A writes (Err f) read s e h = λ t. inr (h.1, (s, e))
-
--- a scalar that is a text's value
-pub root_put : {V F : Type 0} (Q : Type 0) (silent : Bool) (reported : Option Error) (Filled : V → Source → Type 0) (r : Result V F) (read : Result Source Fault) (s : Source) → read ≡ Ok s → IfOk r (λ v. Filled v s) → IfErr r (λ _. (reported ≡ Some OutOfMemory) × Q) → ElseFails silent reported r read (λ v. (s : Source) × Filled v s × (read ≡ Ok s))
-root_put Q silent reported Filled (Ok v) read s e put memory = (s, put, e)
-root_put Q silent reported Filled (Err f) read s e put memory = memory_misses silent reported read memory.0
+-- the end of a text is that of the whole
+pub ends_as : {X F : Type 0} (Holds : Source → Type 0) (silent : Bool) (reported : Option Error) (result : Result X F) (s : Source) (read whole : Result Source Fault) → whole ≡ read → Holds s → Ends s reported result read → ElseFails silent reported result whole (λ _. (s : Source) × Holds s × (whole ≡ Ok s))
+ends_as Holds silent reported (Ok x) s read whole same holds ends = (s, holds, same ∙ ends)
+ends_as Holds silent reported (Err f) s read whole same holds ends = misses_same silent reported read whole same (reports_always silent reported read ends)
 
 -- what is so of a call that was asked whether it stops
 pub stops_if : (P Q : Type 0) (b : Bool) → b ≡ true → MatchBool b P Q → P
@@ -72,8 +63,3 @@ builds_same silent reported Sees result read other rest same h = subst (λ q. Bu
 pub builds_always : {X F Y : Type 0} (silent : Bool) (reported : Option Error) (Sees : X → Y → Type 0) (result : Result X F) (read : Parse Y) (rest : List ℕ) → Builds false reported Sees result read rest → Builds silent reported Sees result read rest
 builds_always silent reported Sees (Ok x) read rest h = h
 builds_always silent reported Sees (Err f) read rest h = reports_always silent reported read h
-
--- and of what is put in
-pub puts_same : {R I M K X F : Type 0} (silent : Bool) (reported : Option Error) (Holds : List ℕ → R → Bool → List (Frame I M K) → List Open → Type 0) (result : Result X F) (text other_text : List ℕ) → other_text ≡ text → (old : R) (before : Frame I M K) (read other : Parse Tree) (new : R) (after : Frame I M K) (rest : List ℕ) → other ≡ read
-    → IsPut silent reported Holds text result old before read new after rest → IsPut silent reported Holds other_text result old before other new after rest
-puts_same silent reported Holds result text other_text same_text old before read other new after rest same h = subst (λ u. IsPut silent reported Holds u result old before other new after rest) (sym same_text) (subst (λ q. IsPut silent reported Holds text result old before q new after rest) (sym same) h)

@@ -111,10 +111,15 @@ pub trait Handler<'a>: Drop + Sized {
         requires space { offset + length body.now < 2 ^ 64 }
         ensures { SeesContents sees offset result (body_of (mode_of mode) body.now) };
 
-    /// The whole text is this scalar.
-    fn root(sink: &mut Self::Sink, value: &Self) -> std::result::Result<(), AllocError>
+    /// The whole text is this scalar. Of one that is held, this range of the text is the serialized form.
+    fn root(
+        sink: &mut Self::Sink,
+        value: &Self,
+        from: usize,
+        to: usize,
+    ) -> std::result::Result<(), AllocError>
         ensures filled { OnOk result ((text : List ℕ) → (s : Source) → holds text sink.old true [] []
-            → sees value.now s → filled text sink.new value.now s [] []) }
+            → IsGiven sees is_verbatim value.now from to text s → filled text sink.new value.now s [] []) }
         ensures memory { IfErr result (λ _. writes ≡ true) }
         ensures base { base sink.new ≡ base sink.old };
 

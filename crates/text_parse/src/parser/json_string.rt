@@ -9,9 +9,10 @@ use jsonb_core::plain::{plain_len, run_of_sixteen};
 use text_common::verbatim::{Verbatim, is_verbatim_letter, short_byte};
 use text_scan::util::units_len;
 
-// Where such a string ends, or its front that was passed, and whether that is serialized as it is.
+// How many bytes of such a string were passed, its front or all up to its closing quote, and whether these are
+// serialized as they are.
 #[derive(Clone, Copy)]
-struct JsonEnd {
+struct Passed {
     end: usize,
     is_same: bool,
 }
@@ -19,7 +20,7 @@ struct JsonEnd {
 // Passes the front of the string, from the byte after its opening quote on, as long as its escapes are of one letter: up
 // to what else is there, or near the end of the bytes.
 #[inline(always)]
-fn short_front(bytes: &[u8]) -> JsonEnd
+fn short_front(bytes: &[u8]) -> Passed
     ensures { IsJsonFront bytes.now result.end result.is_same }
 {
     let mut end = 0;
@@ -31,7 +32,7 @@ fn short_front(bytes: &[u8]) -> JsonEnd
             continue;
         }
         if bytes[end] != b'\\' {
-            return JsonEnd { end, is_same };
+            return Passed { end, is_same };
         }
         let letter = bytes[end + 1];
         if is_verbatim_letter(letter) {
@@ -39,17 +40,17 @@ fn short_front(bytes: &[u8]) -> JsonEnd
             continue;
         }
         let Some(_short) = short_byte(letter) else {
-            return JsonEnd { end, is_same };
+            return Passed { end, is_same };
         };
         is_same = false;
         end += 2;
     }
-    JsonEnd { end, is_same }
+    Passed { end, is_same }
 }
 
 // The end of any such string, from its front on.
 #[inline(never)]
-fn json_end(bytes: &[u8], front: JsonEnd) -> Option<JsonEnd>
+fn json_end(bytes: &[u8], front: Passed) -> Option<Passed>
     requires { IsJsonFront bytes.now front.end front.is_same }
     ensures { IfSome result (λ found. IsJsonEnd bytes.now found.end found.is_same) }
 {
@@ -61,7 +62,7 @@ fn json_end(bytes: &[u8], front: JsonEnd) -> Option<JsonEnd>
             return None;
         }
         if bytes[end] == b'"' {
-            return Some(JsonEnd { end, is_same });
+            return Some(Passed { end, is_same });
         }
         if bytes[end] != b'\\' || end + 1 >= bytes.len() {
             return None;
@@ -86,7 +87,7 @@ fn json_end(bytes: &[u8], front: JsonEnd) -> Option<JsonEnd>
 
 // The end of such a string, which mostly has escapes of one letter alone.
 #[inline(always)]
-fn string_end(bytes: &[u8]) -> Option<JsonEnd>
+fn string_end(bytes: &[u8]) -> Option<Passed>
     ensures { IfSome result (λ found. IsJsonEnd bytes.now found.end found.is_same) }
 {
     let front = short_front(bytes);

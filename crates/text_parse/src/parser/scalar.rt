@@ -81,7 +81,7 @@ impl<'a> Parser<'a> {
         from: usize,
     ) -> Result<(), Failed>
         ensures { PutsIn V.Handler (IsGiven V.sees V.is_verbatim value from self.old.offset) result self.old self.new sink.old
-            sink.new (S.before container.old slot) (S.after container.new) }
+            sink.new (S.takes sink.old container.old slot sink.new container.new) S.writes }
     {
         let put = slot.put(sink, container, value, from, self.offset);
         self.put_result(put)
@@ -108,7 +108,7 @@ impl<'a> Parser<'a> {
         requires same { IsTextOf text.now self.old }
         requires cuts { may_cut V.reports_plain text.now (grammar_of self.old.grammar) ≡ true }
         ensures { Puts V.Handler (λ size mode. quoted_at size mode ascii.quote) result
-            self.old self.new sink.old sink.new (S.before container.old slot) (S.after container.new) }
+            self.old self.new sink.old sink.new (S.takes sink.old container.old slot sink.new container.new) S.writes }
     {
         let from = self.offset - 1;
         if let Some(cut) = self.cut_string(V::wants().plain, text) {
@@ -121,7 +121,7 @@ impl<'a> Parser<'a> {
     // The same, where whitespace is before the string. It is apart, so that the loop over elements has the code
     // for strings once.
     #[inline(never)]
-    fn put_later_quoted<V: Handler<'a>, S: Slot<'a, V>>(
+    pub(super) fn put_later_quoted<V: Handler<'a>, S: Slot<'a, V>>(
         &mut self,
         sink: &mut V::Sink,
         container: &mut S::Container,
@@ -132,7 +132,7 @@ impl<'a> Parser<'a> {
         requires same { IsTextOf text.now self.old }
         requires cuts { may_cut V.reports_plain text.now (grammar_of self.old.grammar) ≡ true }
         ensures { Puts V.Handler (λ size mode. quoted_at size mode ascii.quote) result
-            self.old self.new sink.old sink.new (S.before container.old slot) (S.after container.new) }
+            self.old self.new sink.old sink.new (S.takes sink.old container.old slot sink.new container.new) S.writes }
     {
         self.put_quoted::<V, S>(sink, container, slot, text)
     }
@@ -149,8 +149,8 @@ impl<'a> Parser<'a> {
     ) -> Result<(), Failed>
         requires same { IsTextOf text.now self.old }
         requires cuts { may_cut V.reports_plain text.now (grammar_of self.old.grammar) ≡ true }
-        ensures { Puts V.Handler scalar_at result self.old self.new sink.old sink.new (S.before container.old slot)
-            (S.after container.new) }
+        ensures { Puts V.Handler scalar_at result self.old self.new sink.old sink.new
+            (S.takes sink.old container.old slot sink.new container.new) S.writes }
     {
         if self.take_byte(b'"') {
             return self.put_later_quoted::<V, S>(sink, container, slot, text);
@@ -175,8 +175,8 @@ impl<'a> Parser<'a> {
     ) -> Result<(), Failed>
         requires strict { strictness (grammar_of self.old.grammar) ≡ strict }
         requires same { IsTextOf text.now self.old }
-        ensures { Puts V.Handler scalar_at result self.old self.new sink.old sink.new (S.before container.old slot)
-            (S.after container.new) }
+        ensures { Puts V.Handler scalar_at result self.old self.new sink.old sink.new
+            (S.takes sink.old container.old slot sink.new container.new) S.writes }
     {
         let from = self.offset;
         match self.strict_front(V::wants().verbatim) {
@@ -203,8 +203,8 @@ impl<'a> Parser<'a> {
     ) -> Result<(), Failed>
         requires point { IsBeforePoint (rest_of self.old) front }
         requires same { IsTextOf text.now self.old }
-        ensures { Puts V.Handler scalar_at result self.old self.new sink.old sink.new (S.before container.old slot)
-            (S.after container.new) }
+        ensures { Puts V.Handler scalar_at result self.old self.new sink.old sink.new
+            (S.takes sink.old container.old slot sink.new container.new) S.writes }
     {
         let from = self.offset;
         if self.verbatim_decimal(V::wants().verbatim, front) {
@@ -222,8 +222,8 @@ impl<'a> Parser<'a> {
         container: &mut S::Container,
         slot: S,
     ) -> Result<(), Failed>
-        ensures { Puts V.Handler number_value_at result self.old self.new sink.old sink.new (S.before container.old slot)
-            (S.after container.new) }
+        ensures { Puts V.Handler number_value_at result self.old self.new sink.old sink.new
+            (S.takes sink.old container.old slot sink.new container.new) S.writes }
     {
         let value = self.parse_number_value::<V>()?;
         self.put::<V, S>(sink, container, slot, value, self.offset)
@@ -240,8 +240,8 @@ impl<'a> Parser<'a> {
         text: &'a str,
     ) -> Result<(), Failed>
         requires same { IsTextOf text.now self.old }
-        ensures { Puts V.Handler scalar_at result self.old self.new sink.old sink.new (S.before container.old slot)
-            (S.after container.new) }
+        ensures { Puts V.Handler scalar_at result self.old self.new sink.old sink.new
+            (S.takes sink.old container.old slot sink.new container.new) S.writes }
     {
         let from = self.offset;
         if !matches!(self.peek(), Some(b'a'..=b'z')) {
@@ -271,8 +271,8 @@ impl<'a> Parser<'a> {
     ) -> Result<(), Failed>
         requires decimals { takes_decimals (grammar_of self.old.grammar) ≡ true }
         requires same { IsTextOf text.now self.old }
-        ensures { Puts V.Handler scalar_at result self.old self.new sink.old sink.new (S.before container.old slot)
-            (S.after container.new) }
+        ensures { Puts V.Handler scalar_at result self.old self.new sink.old sink.new
+            (S.takes sink.old container.old slot sink.new container.new) S.writes }
     {
         let from = self.offset;
         if let Some(verbatim) = self.verbatim_number(V::wants().verbatim) {
@@ -296,8 +296,8 @@ impl<'a> Parser<'a> {
         text: &'a str,
     ) -> Result<(), Failed>
         requires same { IsTextOf text.now self.old }
-        ensures { Puts V.Handler scalar_at result self.old self.new sink.old sink.new (S.before container.old slot)
-            (S.after container.new) }
+        ensures { Puts V.Handler scalar_at result self.old self.new sink.old sink.new
+            (S.takes sink.old container.old slot sink.new container.new) S.writes }
     {
         let from = self.offset;
         match self.short_literal() {
@@ -326,7 +326,7 @@ impl<'a> Parser<'a> {
         requires opened { IsBehind ascii.quote self.old }
         requires same { IsTextOf text.now self.old }
         ensures { Puts V.Handler (λ size mode. quoted_at size mode ascii.quote) result
-            self.old self.new sink.old sink.new (S.before container.old slot) (S.after container.new) }
+            self.old self.new sink.old sink.new (S.takes sink.old container.old slot sink.new container.new) S.writes }
     {
         let from = self.offset - 1;
         if let Some(verbatim) = self.json_string(V::wants().verbatim, text) {
@@ -352,8 +352,8 @@ impl<'a> Parser<'a> {
         text: &'a str,
     ) -> Result<(), Failed>
         requires same { IsTextOf text.now self.old }
-        ensures { Puts V.Handler scalar_at result self.old self.new sink.old sink.new (S.before container.old slot)
-            (S.after container.new) }
+        ensures { Puts V.Handler scalar_at result self.old self.new sink.old sink.new
+            (S.takes sink.old container.old slot sink.new container.new) S.writes }
     {
         if self.next_begins_number() {
             return self.put_number::<V, S>(sink, container, slot);
@@ -435,8 +435,8 @@ impl<'a> Parser<'a> {
             self.new }
     {
         self.offset += 1;
-        if let Some(cut) = self.whole_string(quote, text) {
-            return Ok(V::scalar(Scalar::String(cut)));
+        if let Some(body) = self.whole_string(quote, text) {
+            return Ok(V::scalar(Scalar::String(Text::Borrowed(body))));
         }
         self.parse_escaped_string(quote, text)
     }

@@ -149,21 +149,16 @@ impl<'a> Parser<'a> {
         Some(Text::Plain(body))
     }
 
-    // A string without escapes, from the byte after its opening quote of this kind on.
+    // A string without escapes, from the byte after its opening quote of this kind on, where the grammar isn't JSON.
     #[inline(always)]
-    pub(super) fn whole_string(&mut self, quote: u8, text: &'a str) -> Option<Text<'a>>
+    pub(super) fn whole_string(&mut self, quote: u8, text: &'a str) -> Option<&'a str>
         requires quote { IsAfterQuote quote self.old }
         requires same { IsTextOf text.now self.old }
-        ensures cuts { CutsString (λ text. (text_view text).1) quote result self.old self.new }
-        ensures cut { IfSome result IsCut }
+        ensures { CutsString (λ s. s.now) quote result self.old self.new }
     {
         if self.is_json() {
-            if quote != b'"' {
-                return None;
-            }
-            return self.cut_string(true, text);
+            return None;
         }
-        let body = self.borrowed_string(quote, text)?;
-        Some(Text::Borrowed(body))
+        self.borrowed_string(quote, text)
     }
 }

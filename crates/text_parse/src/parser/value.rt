@@ -18,7 +18,7 @@ ghost use Rattle.jsonb_spec.specs.Parsing.Document.{value_at};
 ghost use Rattle.jsonb_spec.specs.Parsing.Scalar.{scalar_at};
 ghost use Rattle.jsonb_spec.specs.Source.{Source};
 ghost use Rattle.jsonb_spec.specs.Source.Open.{Open};
-ghost use Rattle.text_parse.specs.Slots.{Fits};
+ghost use Rattle.text_parse.specs.Slots.{Fits, TakesPart};
 ghost use Rattle.text_parse.specs.Steps.{EndsPart, FillsFrame, Puts, PutsNext, PutsOrStops, Turns};
 
 use super::frame::{Frame, OpenObject};
@@ -251,8 +251,8 @@ impl<'a> Parser<'a> {
     ) -> Result<(), Failed>
         requires same { IsTextOf text.now self.old }
         requires cuts { may_cut V.reports_plain text.now (grammar_of self.old.grammar) ≡ true }
-        ensures { Puts V.Handler scalar_or_null result self.old self.new sink.old sink.new (Array items.old)
-            (Array items.new) }
+        ensures { Puts V.Handler scalar_or_null result self.old self.new sink.old sink.new
+            (TakesPart V.holds sink.old (Array items.old) sink.new (Array items.new)) true }
     {
         if !self.is_left_out() {
             return self.put_scalar::<V, Element>(sink, items, Element, text);

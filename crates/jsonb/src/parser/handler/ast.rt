@@ -82,7 +82,7 @@ impl<'a> Handler<'a> for JsonAst<'a> {
     }
 
     #[inline(always)]
-    fn root(sink: &mut (), value: &Self) -> Result<(), AllocError> {
+    fn root(sink: &mut (), value: &Self, from: usize, to: usize) -> Result<(), AllocError> {
         Ok(())
     }
 

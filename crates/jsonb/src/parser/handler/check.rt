@@ -77,7 +77,12 @@ impl<'a, const PLAIN: bool> Handler<'a> for CheckedPart<PLAIN> {
     }
 
     #[inline(always)]
-    fn root(sink: &mut CheckSink<'a>, value: &Self) -> Result<(), AllocError> {
+    fn root(
+        sink: &mut CheckSink<'a>,
+        value: &Self,
+        from: usize,
+        to: usize,
+    ) -> Result<(), AllocError> {
         Ok(())
     }
 

@@ -129,8 +129,8 @@ impl<'a, S: Sink<'a>> Handler<'a> for SinkPart<'a, S> {
     }
 
     #[inline(always)]
-    fn root(sink: &mut S, value: &Self) -> Result<(), AllocError> {
-        sink.fill(&value.part, 0, 0)
+    fn root(sink: &mut S, value: &Self, from: usize, to: usize) -> Result<(), AllocError> {
+        value.fill(sink, from, to)
     }
 
     #[inline(always)]

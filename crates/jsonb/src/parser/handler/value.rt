@@ -93,7 +93,7 @@ impl<'a, const PLAIN: bool> Handler<'a> for ValuePart<'a, PLAIN> {
     }
 
     #[inline(always)]
-    fn root(sink: &mut (), value: &Self) -> Result<(), AllocError> {
+    fn root(sink: &mut (), value: &Self, from: usize, to: usize) -> Result<(), AllocError> {
         Ok(())
     }
 

@@ -1,5 +1,6 @@
-use Rattle.std.proofs.Common.{sym, ◌∙◌}
+use Rattle.std.proofs.Common.{false, sym, ◌∙◌}
 use Rattle.text_parse.proofs.Document.{ends_comment, ends_trailing, ends_well}
+use Rattle.text_parse.proofs.Steps.Failures.{reports_fault}
 use Rattle.text_parse.proofs.parser.Parser.end_document.Goals as goal
 
 pub returns-then-self-clause-parses : goal.returns-then-self-clause-parses
@@ -13,4 +14,4 @@ returns-then-opens_comment-clause-parses c = λ t.
 
 pub returns-clause-parses : goal.returns-clause-parses
 returns-clause-parses c = λ t.
-    ends_trailing c.args.self.now c.skip_closed_whitespace.new.self t c.skip_closed_whitespace.ensures.rest c.skip_closed_whitespace.ensures.advances c.if-self.false (sym c.opens_comment.ensures.value ∙ c.if-opens_comment.false)
+    reports_fault false c.fail.new.self.reported _ _ c.fail.ensures.reported (ends_trailing c.args.self.now c.skip_closed_whitespace.new.self t c.skip_closed_whitespace.ensures.rest c.skip_closed_whitespace.ensures.advances c.if-self.false (sym c.opens_comment.ensures.value ∙ c.if-opens_comment.false))

@@ -1,5 +1,6 @@
-use Rattle.std.proofs.Common.{inl, inr}
+use Rattle.std.proofs.Common.{false, inl, inr}
 use Rattle.text_parse.proofs.Document.{comment_closed, comment_open}
+use Rattle.text_parse.proofs.Steps.Failures.{reports_fault}
 use Rattle.text_parse.proofs.parser.Parser.end_in_comment.Goals as goal
 use Rattle.text_parse.proofs.parser.Parser.end_in_comment.Goals.{else-next-self-via-then-next-self+else-self-next-eq47, else-next-self-via-else-next-self}
 
@@ -8,8 +9,8 @@ returns-then-self-next-eq47-clause-parses c = λ t. comment_closed c.args.self.n
 
 pub returns-else-next-self-clause-parses : goal.returns-else-next-self-clause-parses
 returns-else-next-self-clause-parses c = λ t.
-    comment_open c.args.self.now.buf.now c.args.self.now.offset t
+    reports_fault false c.fail.new.self.reported _ _ c.fail.ensures.reported (comment_open c.args.self.now.buf.now c.args.self.now.offset t
     (elim c.else-next-self.branch [
       | else-next-self-via-then-next-self+else-self-next-eq47 w ↦ inr (w.if-next-self.true, w.if-self-next-eq47.false)
       | else-next-self-via-else-next-self w ↦ inl w.if-next-self.false
-    ])
+    ]))

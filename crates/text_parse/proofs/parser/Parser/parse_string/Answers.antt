@@ -5,8 +5,7 @@ use Rattle.text_scan.specs.Answer.{grammar_of}
 use Rattle.jsonb_spec.specs.Parsing.Scalar.{quoted_at}
 use Rattle.text_parse.specs.Handler.{AsScalar}
 use Rattle.text_parse.specs.Parser.{rest_of, size_of}
-use Rattle.text_parse.specs.Scalars.{text_view}
-use Rattle.text_parse.proofs.Scalars.Built.{cut_seen, string_read}
+use Rattle.text_parse.proofs.Scalars.Built.{string_read}
 use Rattle.text_parse.proofs.Steps.Failures.{builds_same}
 use Rattle.text_parse.proofs.parser.Parser.parse_string.Goals as goal
 
@@ -15,12 +14,11 @@ returns-in-Some g c =
     record {
       parses =
           let p = c.args.self.now in
-          let cut = c.in-Some in
-          let body = (text_view cut.cut).1 in (
+          let body = c.in-Some.body.now in (
             string plain body,
-            cut_seen g.V.Handler.sees g.V.Handler.is_verbatim g.V.Handler.preserves c.scalar.result cut.cut cut.ensures.cut c.scalar.ensures,
+            c.scalar.ensures,
             ap (quoted_at (size_of p) (grammar_of p.grammar) c.args.quote) (drop-drop 1 p.offset p.buf.now)
-                ∙ string_read (size_of p) (grammar_of p.grammar) c.args.quote (drop (p.offset + 1) p.buf.now) (plain, body) _ cut.ensures.cuts.parses,
+                ∙ string_read (size_of p) (grammar_of p.grammar) c.args.quote (drop (p.offset + 1) p.buf.now) (plain, body) _ c.in-Some.ensures.parses,
           );
       memory = search rules;
       advances = search rules;
@@ -34,7 +32,7 @@ returns g c =
           let quote = c.args.quote in
           builds_same g.V.Handler.silent c.parse_escaped_string.new.self.reported (AsScalar g.V.Handler.sees) c.parse_escaped_string.result _ _ _
           (ap (quoted_at (size_of p) (grammar_of p.grammar) quote) (drop-drop 1 p.offset p.buf.now)
-          ∙ sym (ap (λ o. quoted_at (size_of o) (grammar_of o.grammar) quote (rest_of o)) c.in_default.ensures.cuts.stays))
+          ∙ sym (ap (λ o. quoted_at (size_of o) (grammar_of o.grammar) quote (rest_of o)) c.in_default.ensures.stays))
           c.parse_escaped_string.ensures.parses;
       memory = search rules;
       advances = search rules;

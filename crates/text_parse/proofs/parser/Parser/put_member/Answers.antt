@@ -1,10 +1,9 @@
-use Rattle.std.proofs.Common.{refl, ap, subst, sym, ◌∙◌}
+use Rattle.std.proofs.Common.{refl, subst}
 use Rattle.std.proofs.lemmas.Result.{err_from_is_err_and}
 use Rattle.jsonb_spec.specs.Parsing.Scalar.{scalar_at}
-use Rattle.text_parse.specs.Frames.{TakesTree}
 use Rattle.text_parse.specs.Handler.{Misses}
 use Rattle.text_parse.specs.Parser.{parse_at}
-use Rattle.text_parse.specs.declared.parser.frame.Frame.TheVariants as variants
+use Rattle.text_parse.proofs.Scalars.Built.{puts_on, scalar_still}
 use Rattle.text_parse.proofs.Steps.Failures.{misses_same}
 use Rattle.text_parse.proofs.Steps.Outcomes.{scalar_quoted}
 use Rattle.text_parse.proofs.parser.Parser.put_member.Goals as goal
@@ -22,18 +21,15 @@ returns-in_err-put_quoted-clause-puts g c =
 
 pub returns-then-take_byte-clause-puts : goal.returns-then-take_byte-clause-puts
 returns-then-take_byte-clause-puts g c =
-    let p = c.args.self.now in
-    let o = c.take_byte.new.self in
-    let e = c.if-take_byte.ensures.rest in
     let on = c.take_byte.ensures.advances in
-    let put = c.in_ok-put_quoted.ensures.parses in
+    let put = (puts_on g.V.Handler on {other = scalar_at} (scalar_quoted c.args.self.now c.take_byte.new.self on c.if-take_byte.ensures.rest) c.in_ok-put_quoted.ensures).parses in
     record {
       puts =
           record {
             none_opens = c.if-begins_container.ensures.other;
             tree = put.0;
-            parses = scalar_quoted p o on e ∙ put.1;
-            put = subst (λ b. TakesTree g.V.Handler.holds b.now put.0 c.args.sink.now (variants.Object (record { members = c.args.object.now.members; key = c.args.key })) c.put_quoted.new.sink (variants.Object c.put_quoted.new.container)) on.buf put.2;
+            parses = put.1;
+            put = put.2;
           };
       fails = tt;
     }
@@ -63,15 +59,14 @@ returns-in_err-put_scalar-clause-puts g c =
 
 pub returns-clause-puts : goal.returns-clause-puts
 returns-clause-puts g c =
-    let still = c.if-take_byte.ensures.rest in
-    let put = c.in_ok-put_scalar.ensures.parses in
+    let put = (puts_on g.V.Handler c.take_byte.ensures.advances {other = scalar_at} (scalar_still c.args.self.now c.take_byte.new.self c.if-take_byte.ensures.rest) c.in_ok-put_scalar.ensures).parses in
     record {
       puts =
           record {
             none_opens = c.if-begins_container.ensures.other;
             tree = put.0;
-            parses = ap (parse_at scalar_at) (sym still) ∙ put.1;
-            put = subst (λ q. TakesTree g.V.Handler.holds q.buf.now put.0 c.args.sink.now (variants.Object (record { members = c.args.object.now.members; key = c.args.key })) c.put_scalar.new.sink (variants.Object c.put_scalar.new.container)) still put.2;
+            parses = put.1;
+            put = put.2;
           };
       fails = tt;
     }

@@ -1,9 +1,9 @@
-use Rattle.std.proofs.Common.{refl, subst, ◌∙◌, rules}
+use Rattle.std.proofs.Common.{refl, subst, rules}
 use Rattle.std.proofs.lemmas.Result.{err_from_is_err_and}
 use Rattle.jsonb_spec.specs.Parsing.Whitespace.{skip_whitespace}
-use Rattle.text_parse.specs.Frames.{TakesTree}
+use Rattle.text_parse.specs.Frames.{scalar_or_null}
 use Rattle.text_parse.specs.Parser.{Skips}
-use Rattle.text_parse.specs.declared.parser.frame.Frame.TheVariants as variants
+use Rattle.text_parse.proofs.Scalars.Built.{puts_on}
 use Rattle.text_parse.proofs.Scalars.Elements.{quote_no_container, quote_stays, quoted_element}
 use Rattle.text_parse.proofs.Steps.Failures.{misses_same}
 use Rattle.text_parse.proofs.parser.Parser.put_next.Goals as goal
@@ -31,7 +31,7 @@ returns-then-take_byte g c =
     let o = c.take_byte.new.self in
     let e = c.if-take_byte.ensures.rest in
     let on = c.take_byte.ensures.advances in
-    let put = c.in_ok-put_quoted.ensures.parses in
+    let put = (puts_on g.V.Handler on {other = scalar_or_null} (quoted_element p o e on) c.in_ok-put_quoted.ensures).parses in
     record {
       start = p;
       skips = quote_stays p o e;
@@ -40,8 +40,8 @@ returns-then-take_byte g c =
             puts = record {
               none_opens = quote_no_container p o e;
               tree = put.0;
-              parses = quoted_element p o e on ∙ put.1;
-              put = subst (λ b. TakesTree g.V.Handler.holds b.now put.0 c.args.sink.now (variants.Array c.args.items.now) c.put_quoted.new.sink (variants.Array c.put_quoted.new.container)) on.buf put.2;
+              parses = put.1;
+              put = put.2;
             };
             fails = tt;
           };

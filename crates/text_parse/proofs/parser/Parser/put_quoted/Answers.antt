@@ -1,4 +1,4 @@
-use Rattle.std.proofs.Common.{inl, rules}
+use Rattle.std.proofs.Common.{inl}
 use Rattle.jsonb_spec.specs.Tree.{string}
 use Rattle.jsonb_spec.specs.Tree.Mark.{plain}
 use Rattle.text_scan.specs.Answer.{grammar_of}
@@ -10,15 +10,12 @@ use Rattle.text_parse.proofs.parser.Parser.put_quoted.Goals as goal
 
 pub returns-in-Some : goal.returns-in-Some
 returns-in-Some g c =
-    record {
-      parses =
-          let p = c.args.self.now in
-          let q = c.cut_string.new.self in
-          let h = g.V.Handler in
-          let cut = c.in-Some in
-          let body = (text_view cut.cut).1 in
-          put_so h.silent h.holds _ p.buf.now q c.put.new.self c.args.sink.now c.put.new.sink c.put.result (g.S.Slot.before c.args.container.now c.args.slot) (string plain body) _ (g.S.Slot.after c.put.new.container) c.put.ensures.put c.put.ensures.same c.put.ensures.reported
-          (inl (cut_seen h.sees h.is_verbatim h.preserves c.scalar-string.result cut.cut cut.ensures.cut c.scalar-string.ensures, λ some. key_holds p p q body c.requires.opened.0 (stays p) c.cut_string.ensures.cuts.advances c.requires.opened cut.ensures.cuts.encoded))
-          (string_read (size_of p) (grammar_of p.grammar) 34 (rest_of p) (plain, body) _ cut.ensures.cuts.parses);
-      advances = search rules;
-    }
+    let p = c.args.self.now in
+    let q = c.cut_string.new.self in
+    let h = g.V.Handler in
+    let cut = c.in-Some in
+    let body = (text_view cut.cut).1 in
+    let on = c.cut_string.ensures.cuts.advances in
+    put_so h on (string plain body) c.put.ensures
+    (inl (cut_seen h.sees h.is_verbatim h.preserves c.scalar-string.result cut.cut cut.ensures.cut c.scalar-string.ensures, λ some. key_holds p p q body c.requires.opened.0 (stays p) on c.requires.opened cut.ensures.cuts.encoded))
+    (string_read (size_of p) (grammar_of p.grammar) 34 (rest_of p) (plain, body) _ cut.ensures.cuts.parses)
