@@ -213,7 +213,8 @@ uint32_t vizhoniku_reason(uint32_t mode, const unsigned char *text, size_t text_
 
 /* A sort key as a stored document. The calls below take the key of a value, as vizhoniku_sort_key wrote it, and find
  * the keys of its parts in it: an offset and a size. No text is parsed, no value is made, and nothing is
- * kept. A part's range is the key of the part, to which each of these calls may be applied again.
+ * kept. A part's range is the key of the part, to which each of these calls may be applied again. A key is changed as a
+ * document is, by vizhoniku_document_set and its kin.
  *
  * Any bytes may be passed, and a range lies within them. They aren't checked as a whole: of bytes that are the key of
  * no value a call says VIZHONIKU_NO_KEY, or finds something in them. The keys of binary data, dates, times and
@@ -343,53 +344,6 @@ uint32_t vizhoniku_path_step(const unsigned char *name, size_t name_size, unsign
  * among all items. */
 uint32_t vizhoniku_key_contains(const unsigned char *key, size_t key_size, const unsigned char *other,
                                 size_t other_size);
-
-/* A sort key changed. The calls below take whole keys, as vizhoniku_sort_key or these calls wrote them, and write the key
- * of another value to the start of the buffer. No text is parsed and no value is made: what stays is copied as it is.
- *
- *  - VIZHONIKU_ACCEPTED: *size bytes were written. The rest of the buffer is as before.
- *  - VIZHONIKU_TOO_SHORT: *size bytes are needed, and nothing was written.
- *  - VIZHONIKU_NO_PART: nothing changes, so the key that was passed is the answer. *size is 0, and nothing was written.
- *  - VIZHONIKU_TOO_DEEP, VIZHONIKU_NO_PATH, VIZHONIKU_NO_KEY, VIZHONIKU_OUT_OF_MEMORY: *size is 0, and nothing was
- *    written.
- *
- * Any bytes may be passed; they aren't checked as a whole, and of bytes that are no key any bytes may be written.
- *
- * The bytes D1 00 00 are the key of an object with no members, and D2 00 that of an array with no items.
- *
- * A path is a JSON Pointer (RFC 6901), as of vizhoniku_key_part. In an array a step is the index of an item in decimal
- * digits without leading zeros; with a minus sign before them it counts from the end, where -1 is the last item. Digits
- * of 2^64 and more are no index. */
-
-/* Sets the part at the path, as jsonb_set of PostgreSQL does: the part that is there is replaced. Where only the last
- * step leads nowhere and create isn't 0, a member is added to an object; to an array an item is added at its end, or at
- * its front for an index that counts from the end. VIZHONIKU_NO_PART: the path has no steps, an earlier step leads
- * nowhere or is in no array and no object, a step in an array is no index, or the last step leads nowhere and create is
- * 0. */
-uint32_t vizhoniku_key_set(const unsigned char *key, size_t key_size, const unsigned char *path, size_t path_size,
-                           const unsigned char *part, size_t part_size, uint32_t create, unsigned char *buffer,
-                           size_t buffer_size, size_t *size);
-
-/* Removes the part at the path, as the operator #- of PostgreSQL's jsonb does. VIZHONIKU_NO_PART: there is no such part,
- * or the path has no steps. The status is never VIZHONIKU_TOO_DEEP. */
-uint32_t vizhoniku_key_remove(const unsigned char *key, size_t key_size, const unsigned char *path, size_t path_size,
-                              unsigned char *buffer, size_t buffer_size, size_t *size);
-
-/* Puts a member into an object, instead of the one of that name where there is one. The name is UTF-8 as it is, with no
- * escapes. VIZHONIKU_NO_PART: the value is no object. VIZHONIKU_NO_PATH: the name isn't UTF-8. */
-uint32_t vizhoniku_key_put(const unsigned char *key, size_t key_size, const unsigned char *name, size_t name_size,
-                           const unsigned char *value, size_t value_size, unsigned char *buffer, size_t buffer_size,
-                           size_t *size);
-
-/* Puts an item at the end of an array. VIZHONIKU_NO_PART: the value is no array. */
-uint32_t vizhoniku_key_push(const unsigned char *key, size_t key_size, const unsigned char *item, size_t item_size,
-                            unsigned char *buffer, size_t buffer_size, size_t *size);
-
-/* Merges two values, as the operator || of PostgreSQL's jsonb does: two objects to one with the members of both, where
- * those of the right one win; else two arrays to one, for which a value that is no array is an array of itself. The
- * status is neither VIZHONIKU_NO_PART nor VIZHONIKU_NO_PATH. */
-uint32_t vizhoniku_key_merge(const unsigned char *left, size_t left_size, const unsigned char *right, size_t right_size,
-                             unsigned char *buffer, size_t buffer_size, size_t *size);
 
 /* The zeros that end decimals, where they are stored apart from a sort key, which has all of a value but them (documents,
  * below, hold both): writes the text of a value from the one that vizhoniku_key_text writes of its key, and its zeros.
@@ -530,35 +484,53 @@ uint32_t vizhoniku_walk_next(const unsigned char *document, size_t document_size
  * VIZHONIKU_ACCEPTED the walk stays where it is. */
 uint32_t vizhoniku_walk_skip(const unsigned char *document, size_t document_size, struct vizhoniku_walk *walk);
 
-/* Sets the part at the path, as vizhoniku_key_set does. */
+/* A document changed, by the calls below: no text is parsed and no value is made, and what stays is copied as it is. They
+ * change sort keys too: where none of the documents that are passed has zeros, the sort key of the changed value is
+ * written.
+ *
+ * The bytes D1 00 00 are the document of an object with no members, and D2 00 that of an array with no items.
+ *
+ * A path is a JSON Pointer (RFC 6901), as of vizhoniku_key_part. In an array a step is the index of an item in decimal
+ * digits without leading zeros; with a minus sign before them it counts from the end, where -1 is the last item. Digits
+ * of 2^64 and more are no index. */
+
+/* Sets the part at the path, as jsonb_set of PostgreSQL does: the part that is there is replaced. Where only the last
+ * step leads nowhere and create isn't 0, a member is added to an object; to an array an item is added at its end, or at
+ * its front for an index that counts from the end. VIZHONIKU_NO_PART: the path has no steps, an earlier step leads
+ * nowhere or is in no array and no object, a step in an array is no index, or the last step leads nowhere and create is
+ * 0. */
 uint32_t vizhoniku_document_set(const unsigned char *document, size_t document_size, const unsigned char *path,
                                 size_t path_size, const unsigned char *part, size_t part_size, uint32_t create,
                                 unsigned char *buffer, size_t buffer_size, size_t *size);
 
-/* Removes the part at the path, as vizhoniku_key_remove does. */
+/* Removes the part at the path, as the operator #- of PostgreSQL's jsonb does. VIZHONIKU_NO_PART: there is no such part,
+ * or the path has no steps. The status is never VIZHONIKU_TOO_DEEP. */
 uint32_t vizhoniku_document_remove(const unsigned char *document, size_t document_size, const unsigned char *path,
                                    size_t path_size, unsigned char *buffer, size_t buffer_size, size_t *size);
 
-/* Puts a member into an object, as vizhoniku_key_put does. */
+/* Puts a member into an object, instead of the one of that name where there is one. The name is UTF-8 as it is, with no
+ * escapes. VIZHONIKU_NO_PART: the value is no object. VIZHONIKU_NO_PATH: the name isn't UTF-8. */
 uint32_t vizhoniku_document_put(const unsigned char *document, size_t document_size, const unsigned char *name,
                                 size_t name_size, const unsigned char *value, size_t value_size, unsigned char *buffer,
                                 size_t buffer_size, size_t *size);
 
-/* Puts an item at the end of an array, as vizhoniku_key_push does. */
+/* Puts an item at the end of an array. VIZHONIKU_NO_PART: the value is no array. */
 uint32_t vizhoniku_document_push(const unsigned char *document, size_t document_size, const unsigned char *item,
                                  size_t item_size, unsigned char *buffer, size_t buffer_size, size_t *size);
 
 /* Inserts the part at the path. Where the last step leads into an array, the part is put before the item of that index,
  * or behind it if after isn't 0; at the end where there are fewer items; and before all of them where there are fewer
  * than an index with a minus sign counts from the end. Where it leads into an object, the part is a new member:
- * VIZHONIKU_PRESENT, where the object has one of that name; *size is 0, and nothing was written. The path is as that of
- * vizhoniku_key_set; VIZHONIKU_NO_PART: a step before the last one leads nowhere, or the last one is no index of an
- * array. So jsonb_insert of PostgreSQL does with jsonb. */
+ * VIZHONIKU_PRESENT, where the object has one of that name; *size is 0, and nothing was written. VIZHONIKU_NO_PART: a
+ * step before the last one leads nowhere, or the last one is no index of an array. So jsonb_insert of PostgreSQL does
+ * with jsonb. */
 uint32_t vizhoniku_document_insert(const unsigned char *document, size_t document_size, const unsigned char *path,
                                    size_t path_size, const unsigned char *part, size_t part_size, uint32_t after,
                                    unsigned char *buffer, size_t buffer_size, size_t *size);
 
-/* Merges two values, as vizhoniku_key_merge does. */
+/* Merges two values, as the operator || of PostgreSQL's jsonb does: two objects to one with the members of both, where
+ * those of the right one win; else two arrays to one, for which a value that is no array is an array of itself. The
+ * status is neither VIZHONIKU_NO_PART nor VIZHONIKU_NO_PATH. */
 uint32_t vizhoniku_document_merge(const unsigned char *left, size_t left_size, const unsigned char *right,
                                   size_t right_size, unsigned char *buffer, size_t buffer_size, size_t *size);
 

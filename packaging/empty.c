@@ -54,18 +54,6 @@ uint32_t proved_key_of_string(const unsigned char *text, size_t text_size, unsig
 uint32_t proved_path_step(const unsigned char *name, size_t name_size, unsigned char *buffer, size_t buffer_size,
                           size_t *size);
 uint32_t proved_key_contains(const unsigned char *key, size_t key_size, const unsigned char *other, size_t other_size);
-uint32_t proved_key_set(const unsigned char *key, size_t key_size, const unsigned char *path, size_t path_size,
-                        const unsigned char *part, size_t part_size, uint32_t create, unsigned char *buffer,
-                        size_t buffer_size, size_t *size);
-uint32_t proved_key_remove(const unsigned char *key, size_t key_size, const unsigned char *path, size_t path_size,
-                           unsigned char *buffer, size_t buffer_size, size_t *size);
-uint32_t proved_key_put(const unsigned char *key, size_t key_size, const unsigned char *name, size_t name_size,
-                        const unsigned char *value, size_t value_size, unsigned char *buffer, size_t buffer_size,
-                        size_t *size);
-uint32_t proved_key_push(const unsigned char *key, size_t key_size, const unsigned char *item, size_t item_size,
-                         unsigned char *buffer, size_t buffer_size, size_t *size);
-uint32_t proved_key_merge(const unsigned char *left, size_t left_size, const unsigned char *right, size_t right_size,
-                          unsigned char *buffer, size_t buffer_size, size_t *size);
 uint32_t proved_text_with_zeros(const unsigned char *text, size_t text_size, const unsigned char *zeros,
                                 size_t zeros_size, unsigned char *buffer, size_t buffer_size, size_t *size);
 uint32_t proved_document(uint32_t mode, const unsigned char *text, size_t text_size, unsigned char *buffer,
@@ -265,39 +253,6 @@ uint32_t vizhoniku_path_step(const unsigned char *name, size_t name_size, unsign
 uint32_t vizhoniku_key_contains(const unsigned char *key, size_t key_size, const unsigned char *other,
                                 size_t other_size) {
   return proved_key_contains(bytes_at(key, key_size), key_size, bytes_at(other, other_size), other_size);
-}
-
-uint32_t vizhoniku_key_set(const unsigned char *key, size_t key_size, const unsigned char *path, size_t path_size,
-                           const unsigned char *part, size_t part_size, uint32_t create, unsigned char *buffer,
-                           size_t buffer_size, size_t *size) {
-  return proved_key_set(bytes_at(key, key_size), key_size, bytes_at(path, path_size), path_size,
-                        bytes_at(part, part_size), part_size, create, buffer_at(buffer, buffer_size), buffer_size,
-                        size);
-}
-
-uint32_t vizhoniku_key_remove(const unsigned char *key, size_t key_size, const unsigned char *path, size_t path_size,
-                              unsigned char *buffer, size_t buffer_size, size_t *size) {
-  return proved_key_remove(bytes_at(key, key_size), key_size, bytes_at(path, path_size), path_size,
-                           buffer_at(buffer, buffer_size), buffer_size, size);
-}
-
-uint32_t vizhoniku_key_put(const unsigned char *key, size_t key_size, const unsigned char *name, size_t name_size,
-                           const unsigned char *value, size_t value_size, unsigned char *buffer, size_t buffer_size,
-                           size_t *size) {
-  return proved_key_put(bytes_at(key, key_size), key_size, bytes_at(name, name_size), name_size,
-                        bytes_at(value, value_size), value_size, buffer_at(buffer, buffer_size), buffer_size, size);
-}
-
-uint32_t vizhoniku_key_push(const unsigned char *key, size_t key_size, const unsigned char *item, size_t item_size,
-                            unsigned char *buffer, size_t buffer_size, size_t *size) {
-  return proved_key_push(bytes_at(key, key_size), key_size, bytes_at(item, item_size), item_size,
-                         buffer_at(buffer, buffer_size), buffer_size, size);
-}
-
-uint32_t vizhoniku_key_merge(const unsigned char *left, size_t left_size, const unsigned char *right, size_t right_size,
-                             unsigned char *buffer, size_t buffer_size, size_t *size) {
-  return proved_key_merge(bytes_at(left, left_size), left_size, bytes_at(right, right_size), right_size,
-                          buffer_at(buffer, buffer_size), buffer_size, size);
 }
 
 uint32_t vizhoniku_text_with_zeros(const unsigned char *text, size_t text_size, const unsigned char *zeros,

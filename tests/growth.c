@@ -1,10 +1,11 @@
 /* Calls a function of the library over the sort key, or the document, of the text on standard input: growth FUNCTION
- * [PATH], where growth document_without leaves out all members by their names, or of an array the items of its second
- * item that its first one names; or over the text: growth check as JSON, growth text, growth sort_key and growth
- * document as extended JSON, which may reject it, growth lines, and growth error_path for a text that extended JSON
- * rejects; growth document_next over all parts of the text's document, growth walk_next over all its events, growth
- * document_text for the text of it, and growth text_with_zeros with one zero for each number before a comma. The status
- * is the one that the call returns, and 0 where the parts have ended. tests/growth counts the instructions of it. */
+ * [PATH [key]], where a part is put at the path that has zeros, or with the last word none; growth document_without
+ * leaves out all members by their names, or of an array the items of its second item that its first one names; or over
+ * the text: growth check as JSON, growth text, growth sort_key and growth document as extended JSON, which may reject
+ * it, growth lines, and growth error_path for a text that extended JSON rejects; growth document_next over all parts
+ * of the text's document, growth walk_next over all its events, growth document_text for the text of it, and growth
+ * text_with_zeros with one zero for each number before a comma. The status is the one that the call returns, and 0
+ * where the parts have ended. tests/growth counts the instructions of it. */
 #include <stdio.h>
 #include <stdlib.h>
 #include <string.h>
@@ -85,15 +86,11 @@ int main(int count, char **words) {
   if (count < 3) return 2;
   const unsigned char *path = (const unsigned char *)words[2];
   size_t path_size = strlen(words[2]);
-  if (!strcmp(words[1], "key_set"))
-    return (int)vizhoniku_key_set(key, key_size, path, path_size, null_key, sizeof null_key, 0, buffer, ROOM, &size);
-  if (!strcmp(words[1], "key_remove"))
-    return (int)vizhoniku_key_remove(key, key_size, path, path_size, buffer, ROOM, &size);
+  const unsigned char *part = count > 3 ? null_key : with_zero;
+  size_t part_size = count > 3 ? sizeof null_key : sizeof with_zero;
   if (!strcmp(words[1], "document_insert"))
-    return (int)vizhoniku_document_insert(key, key_size, path, path_size, with_zero, sizeof with_zero, 0, buffer, ROOM,
-                                          &size);
-  uint32_t status =
-      vizhoniku_document_set(key, key_size, path, path_size, with_zero, sizeof with_zero, 0, buffer, ROOM, &size);
+    return (int)vizhoniku_document_insert(key, key_size, path, path_size, part, part_size, 0, buffer, ROOM, &size);
+  uint32_t status = vizhoniku_document_set(key, key_size, path, path_size, part, part_size, 0, buffer, ROOM, &size);
   if (!strcmp(words[1], "document_set")) return (int)status;
   if (status) return 2;
   return (int)vizhoniku_document_remove(buffer, size, path, path_size, key, ROOM, &key_size);

@@ -431,11 +431,6 @@ enum key_function {
   TABLE_CHECK,
   KEY_ESCAPED_PART,
   KEY_TEXT,
-  KEY_SET,
-  KEY_REMOVE,
-  KEY_PUT,
-  KEY_PUSH,
-  KEY_MERGE,
   DOCUMENT_TEXT,
   DOCUMENT_PART,
   DOCUMENT_RANGE,
@@ -463,7 +458,6 @@ static const char *const key_functions[] = {
     "vizhoniku_key_check", "vizhoniku_key_count", "vizhoniku_key_next", "vizhoniku_key_member", "vizhoniku_key_item",
     "vizhoniku_key_part", "vizhoniku_key_string", "vizhoniku_key_contains", "vizhoniku_document_check",
     "vizhoniku_walk_next", "vizhoniku_table_member", "vizhoniku_table_check", "vizhoniku_key_part with an escape", "vizhoniku_key_text",
-    "vizhoniku_key_set", "vizhoniku_key_remove", "vizhoniku_key_put", "vizhoniku_key_push", "vizhoniku_key_merge",
     "vizhoniku_document_text", "vizhoniku_document_part",
     "vizhoniku_document_range", "vizhoniku_document_next", "vizhoniku_document_set", "vizhoniku_document_remove",
     "vizhoniku_document_put", "vizhoniku_document_push", "vizhoniku_document_insert", "vizhoniku_document_merge",
@@ -513,13 +507,6 @@ static uint32_t call_over_key(enum key_function function, const struct text *key
     case KEY_ESCAPED_PART:
       return vizhoniku_key_part(key->bytes, key->size, (const unsigned char *)"/~0/a~1b", 8, &offset, &part_size);
     case KEY_TEXT: return vizhoniku_key_text(key->bytes, key->size, buffer, room, size);
-    case KEY_SET:
-      return vizhoniku_key_set(key->bytes, key->size, PATH, 2, null_key, sizeof null_key, 1, buffer, room, size);
-    case KEY_REMOVE: return vizhoniku_key_remove(key->bytes, key->size, PATH, 2, buffer, room, size);
-    case KEY_PUT:
-      return vizhoniku_key_put(key->bytes, key->size, NAME, 4, null_key, sizeof null_key, buffer, room, size);
-    case KEY_PUSH:
-      return vizhoniku_key_push(key->bytes, key->size, null_key, sizeof null_key, buffer, room, size);
     case DOCUMENT_CHECK: return vizhoniku_document_check(key->bytes, key->size);
     case WALK:
       status = vizhoniku_walk_begin(key->bytes, key->size, &walk, &event);
@@ -548,8 +535,6 @@ static uint32_t call_over_key(enum key_function function, const struct text *key
     case DOCUMENT_INSERT:
       return vizhoniku_document_insert(key->bytes, key->size, PATH, 2, null_key, sizeof null_key, 1, buffer, room,
                                        size);
-    case DOCUMENT_MERGE:
-      return vizhoniku_document_merge(key->bytes, key->size, key->bytes, key->size, buffer, room, size);
     case DOCUMENT_WITHOUT:
       return vizhoniku_document_without(key->bytes, key->size, names, sizeof names, buffer, room, size);
     case DOCUMENT_STRIP: return vizhoniku_document_strip_nulls(key->bytes, key->size, 1, buffer, room, size);
@@ -560,7 +545,7 @@ static uint32_t call_over_key(enum key_function function, const struct text *key
     case PATH_STEP: return vizhoniku_path_step(key->bytes, key->size, buffer, room, size);
     case ERROR_PATH:
       return vizhoniku_error_path(VIZHONIKU_JSON, key->bytes, key->size, &why, buffer, room, size);
-    default: return vizhoniku_key_merge(key->bytes, key->size, key->bytes, key->size, buffer, room, size);
+    default: return vizhoniku_document_merge(key->bytes, key->size, key->bytes, key->size, buffer, room, size);
   }
 }
 

@@ -194,7 +194,7 @@ static struct text make(const struct shape *shape) {
  * by a number. */
 enum function {
   CHECK, TEXT, LINES, SORT_KEY, TEXT_AND_KEY, DOCUMENT, PART, COMPARE, MESSAGE, REASON, KEY_CHECK, KEY_TEXT, KEY_PART,
-  KEY_COUNT, KEY_CONTAINS, KEY_SET, KEY_REMOVE, KEY_MERGE, DOCUMENT_CHECK, DOCUMENT_TEXT, DOCUMENT_PART,
+  KEY_COUNT, KEY_CONTAINS, DOCUMENT_CHECK, DOCUMENT_TEXT, DOCUMENT_PART,
   DOCUMENT_NEXT, DOCUMENT_SET, DOCUMENT_REMOVE, DOCUMENT_INSERT, DOCUMENT_MERGE, DOCUMENT_STRIP, WALK, TABLE,
   TABLE_CHECK, TEXT_WITH_ZEROS, ERROR_PATH, FUNCTIONS
 };
@@ -204,7 +204,7 @@ static const char *const functions[] = {
     "vizhoniku_document", "vizhoniku_part",
     "vizhoniku_compare", "vizhoniku_message", "vizhoniku_reason", "vizhoniku_key_check", "vizhoniku_key_text",
     "vizhoniku_key_part",
-    "vizhoniku_key_count", "vizhoniku_key_contains", "vizhoniku_key_set", "vizhoniku_key_remove", "vizhoniku_key_merge",
+    "vizhoniku_key_count", "vizhoniku_key_contains",
     "vizhoniku_document_check", "vizhoniku_document_text", "vizhoniku_document_part",
     "vizhoniku_document_next", "vizhoniku_document_set", "vizhoniku_document_remove", "vizhoniku_document_insert",
     "vizhoniku_document_merge", "vizhoniku_document_strip_nulls", "vizhoniku_walk_next", "vizhoniku_table",
@@ -216,9 +216,7 @@ static const size_t told[FUNCTIONS][2] = {
     [CHECK] = {3, 0},         [TEXT] = {20, 110},      [SORT_KEY] = {20, 110},     [TEXT_AND_KEY] = {20, 110},
     [PART] = {4, 110},        [COMPARE] = {20, 110},   [MESSAGE] = {3, 0},         [KEY_CHECK] = {5, 0},
     [KEY_TEXT] = {2, 0},      [KEY_PART] = {2, 0},     [KEY_COUNT] = {2, 0},       [KEY_CONTAINS] = {25, 0},
-    [KEY_SET] = {2, 0},       [KEY_REMOVE] = {2, 0},   [KEY_MERGE] = {2, 0},       [TEXT_WITH_ZEROS] = {2, 0},
-    [ERROR_PATH] = {4, 0},    [REASON] = {3, 0},
-    [LINES] = {20, 110},
+    [ERROR_PATH] = {4, 0},    [REASON] = {3, 0},       [LINES] = {20, 110},        [TEXT_WITH_ZEROS] = {2, 0},
     [DOCUMENT] = {20, 110},   [DOCUMENT_CHECK] = {5, 0}, [DOCUMENT_TEXT] = {3, 0}, [DOCUMENT_PART] = {2, 0},
     [DOCUMENT_NEXT] = {2, 0}, [DOCUMENT_SET] = {2, 0}, [DOCUMENT_INSERT] = {2, 0}, [DOCUMENT_REMOVE] = {2, 0},
     [DOCUMENT_MERGE] = {3, 0}, [DOCUMENT_STRIP] = {2, 0}, [WALK] = {2, 0},         [TABLE] = {2, 0},        [TABLE_CHECK] = {2, 0},
@@ -278,19 +276,6 @@ static void *run(void *given) {
     case KEY_CONTAINS:
       call->status = vizhoniku_key_contains(call->key, call->key_size, call->key, call->key_size);
       break;
-    case KEY_SET:
-      /* The whole is set for the deepest part, which is mostly too deep. */
-      call->status = vizhoniku_key_set(call->key, call->key_size, call->path->bytes, call->path->size, call->key,
-                                       call->key_size, 1, call->buffer, call->room, &size);
-      break;
-    case KEY_REMOVE:
-      call->status = vizhoniku_key_remove(call->key, call->key_size, call->path->bytes, call->path->size, call->buffer,
-                                          call->room, &size);
-      break;
-    case KEY_MERGE:
-      call->status = vizhoniku_key_merge(call->key, call->key_size, call->key, call->key_size, call->buffer, call->room,
-                                         &size);
-      break;
     case DOCUMENT:
       call->status = vizhoniku_document(call->mode, bytes, text_size, call->buffer, call->room, &size, &error);
       break;
@@ -310,6 +295,7 @@ static void *run(void *given) {
       if (call->status == VIZHONIKU_NO_PART) call->status = VIZHONIKU_ACCEPTED; /* all parts were written */
       break;
     case DOCUMENT_SET:
+      /* The whole is set for the deepest part, which is mostly too deep. */
       call->status = vizhoniku_document_set(call->key, call->key_size, call->path->bytes, call->path->size, call->key,
                                             call->key_size, 1, call->buffer, call->room, &size);
       break;
@@ -436,8 +422,7 @@ static void measure(const struct shape *shape, const struct stack *stack) {
     /* A comment is refused in standard mode, and a fault in both. */
     int is_read = shape->end == WHOLE || (shape->end == COMMENT && call.mode == VIZHONIKU_EXTENDED) ||
                   call.function == ERROR_PATH;
-    int is_deep = (call.function == KEY_SET || call.function == DOCUMENT_SET || call.function == DOCUMENT_INSERT) &&
-                  whole == VIZHONIKU_TOO_DEEP;
+    int is_deep = (call.function == DOCUMENT_SET || call.function == DOCUMENT_INSERT) && whole == VIZHONIKU_TOO_DEEP;
     int is_untabled = (call.function == TABLE || call.function == TABLE_CHECK) && !has_table(&call);
     uint32_t expected = is_untabled ? VIZHONIKU_NO_PART : is_read ? VIZHONIKU_ACCEPTED : VIZHONIKU_REJECTED;
     if (!is_deep && whole != expected) wrong++;

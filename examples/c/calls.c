@@ -340,52 +340,43 @@ static void print_key(const char *what, uint32_t status, const unsigned char *ke
   printf("\n");
 }
 
-/* Changes keys: {"a":[1]}, {"b":null} and [], of docs/SORT_KEYS.md's format. */
+/* Changes documents that have no zeros, and so are keys: {"a":[1]}, {"b":null} and [], of docs/SORT_KEYS.md's format. */
 static void change_keys(void) {
   static const unsigned char key[] = {0xD1, 'a', 0, 1, 0xD2, 0xA1, 0x14, 0, 0, 0};
   static const unsigned char other[] = {0xD1, 'b', 0, 1, 0xD3, 0, 0}, array[] = {0xD2, 0};
   unsigned char out[40];
   size_t size = 99;
-  uint32_t status = vizhoniku_key_set(key, sizeof key, BYTES("/a/0"), array, sizeof array, 0, out, sizeof out, &size);
+  uint32_t status;
+  status = vizhoniku_document_set(key, sizeof key, BYTES("/a/0"), array, sizeof array, 0, out, sizeof out, &size);
   print_key("set", status, out, size);
-  status = vizhoniku_key_set(key, sizeof key, BYTES("/a/-2"), array, sizeof array, 1, out, sizeof out, &size);
+  status = vizhoniku_document_set(key, sizeof key, BYTES("/a/-2"), array, sizeof array, 1, out, sizeof out, &size);
   print_key("added in front", status, out, size);
-  status = vizhoniku_key_set(key, sizeof key, BYTES("/c"), array, sizeof array, 0, out, sizeof out, &size);
+  status = vizhoniku_document_set(key, sizeof key, BYTES("/c"), array, sizeof array, 0, out, sizeof out, &size);
   print_key("not added", status, out, size);
-  status = vizhoniku_key_set(key, sizeof key, BYTES("/c"), array, sizeof array, 1, out, 14, &size);
+  status = vizhoniku_document_set(key, sizeof key, BYTES("/c"), array, sizeof array, 1, out, 14, &size);
   print_key("too short", status, out, size);
-  status = vizhoniku_key_remove(key, sizeof key, BYTES("/a"), out, sizeof out, &size);
+  status = vizhoniku_document_remove(key, sizeof key, BYTES("/a"), out, sizeof out, &size);
   print_key("removed", status, out, size);
-  status = vizhoniku_key_remove(key, sizeof key, BYTES("a"), out, sizeof out, &size);
+  status = vizhoniku_document_remove(key, sizeof key, BYTES("a"), out, sizeof out, &size);
   print_key("no path", status, out, size);
-  status = vizhoniku_key_merge(key, sizeof key, other, sizeof other, out, sizeof out, &size);
+  status = vizhoniku_document_merge(key, sizeof key, other, sizeof other, out, sizeof out, &size);
   print_key("merged", status, out, size);
-  status = vizhoniku_key_merge(array, sizeof array, other, sizeof other, out, sizeof out, &size);
+  status = vizhoniku_document_merge(array, sizeof array, other, sizeof other, out, sizeof out, &size);
   print_key("joined", status, out, size);
-  status = vizhoniku_key_put(other, sizeof other, BYTES("a"), array, sizeof array, out, sizeof out, &size);
+  status = vizhoniku_document_put(other, sizeof other, BYTES("a"), array, sizeof array, out, sizeof out, &size);
   print_key("put", status, out, size);
-  status = vizhoniku_key_put(array, sizeof array, BYTES("a"), array, sizeof array, out, sizeof out, &size);
+  status = vizhoniku_document_put(array, sizeof array, BYTES("a"), array, sizeof array, out, sizeof out, &size);
   print_key("not put", status, out, size);
-  status = vizhoniku_key_put(other, sizeof other, BYTES("\xC3"), array, sizeof array, out, sizeof out, &size);
+  status = vizhoniku_document_put(other, sizeof other, BYTES("\xC3"), array, sizeof array, out, sizeof out, &size);
   print_key("no name", status, out, size);
-  status = vizhoniku_key_push(array, sizeof array, other, sizeof other, out, sizeof out, &size);
+  status = vizhoniku_document_push(array, sizeof array, other, sizeof other, out, sizeof out, &size);
   print_key("pushed", status, out, size);
-  status = vizhoniku_key_push(other, sizeof other, array, sizeof array, out, sizeof out, &size);
+  status = vizhoniku_document_push(other, sizeof other, array, sizeof array, out, sizeof out, &size);
   print_key("not pushed", status, out, size);
-  status = vizhoniku_key_set(NULL, 0, NULL, 0, NULL, 0, 0, NULL, 0, &size);
-  print_key("null set", status, out, size);
-  status = vizhoniku_key_set(key, sizeof key, BYTES("/a"), NULL, 0, 0, NULL, 0, &size);
+  status = vizhoniku_document_set(key, sizeof key, BYTES("/a"), NULL, 0, 0, NULL, 0, &size);
   print_key("null part", status, out, size);
-  status = vizhoniku_key_remove(NULL, 0, NULL, 0, NULL, 0, &size);
-  print_key("null removed", status, out, size);
-  status = vizhoniku_key_merge(NULL, 0, NULL, 0, NULL, 0, &size);
-  print_key("null merged", status, out, size);
-  status = vizhoniku_key_put(NULL, 0, NULL, 0, NULL, 0, NULL, 0, &size);
-  print_key("null put", status, out, size);
-  status = vizhoniku_key_put(other, sizeof other, NULL, 0, array, sizeof array, out, sizeof out, &size);
+  status = vizhoniku_document_put(other, sizeof other, NULL, 0, array, sizeof array, out, sizeof out, &size);
   print_key("put at an empty name", status, out, size);
-  status = vizhoniku_key_push(NULL, 0, NULL, 0, NULL, 0, &size);
-  print_key("null pushed", status, out, size);
 }
 
 /* Leaves parts out of the documents {"a":[null,2.0],"b":null} and ["a",1.50], by the names of {"a":null} and {"b":null}. */

@@ -77,16 +77,18 @@ static uint32_t call(int which, uint32_t mode, const unsigned char *text, size_t
     case 6: return vizhoniku_key_text(key, sizeof key, buffer, capacity, &size);
     case 7: return vizhoniku_key_part(object_key, sizeof object_key, path, sizeof path, &size, &key_size);
     case 8:
-      return vizhoniku_key_set(object_key, sizeof object_key, path, sizeof path, key, sizeof key, 1, buffer, capacity,
-                               &size);
-    case 9: return vizhoniku_key_remove(object_key, sizeof object_key, path, sizeof path, buffer, capacity, &size);
-    case 10: return vizhoniku_key_merge(object_key, sizeof object_key, key, sizeof key, buffer, capacity, &size);
-    case 12: return vizhoniku_key_put(object_key, sizeof object_key, path, 2, key, sizeof key, buffer, capacity, &size);
+      return vizhoniku_document_set(object_key, sizeof object_key, path, sizeof path, key, sizeof key, 1, buffer,
+                                    capacity, &size);
+    case 9: return vizhoniku_document_remove(object_key, sizeof object_key, path, sizeof path, buffer, capacity, &size);
+    case 10: return vizhoniku_document_merge(object_key, sizeof object_key, key, sizeof key, buffer, capacity, &size);
+    case 12:
+      return vizhoniku_document_put(object_key, sizeof object_key, path, 2, key, sizeof key, buffer, capacity, &size);
     case 14:
       return vizhoniku_text_with_zeros(shortest, sizeof shortest - 1, zeros, sizeof zeros, buffer, capacity, &size);
-    case 13: return vizhoniku_key_push(key, sizeof key, key, sizeof key, buffer, capacity, &size);
+    case 13: return vizhoniku_document_push(key, sizeof key, key, sizeof key, buffer, capacity, &size);
     case 11:
-      return vizhoniku_key_merge(object_key, sizeof object_key, object_key, sizeof object_key, buffer, capacity, &size);
+      return vizhoniku_document_merge(object_key, sizeof object_key, object_key, sizeof object_key, buffer, capacity,
+                                      &size);
     case 15: return vizhoniku_reason(mode, text, text_size, buffer, capacity, &size);
     case 16: return vizhoniku_key_of_string(key + 2, 2, buffer, capacity, &size);
     case 17: return vizhoniku_path_step(path, sizeof path, buffer, capacity, &size);

@@ -140,45 +140,6 @@ static inline struct outcome call_key_name(const unsigned char *name, size_t nam
   return outcome;
 }
 
-static inline struct outcome call_key_set(const unsigned char *key, size_t key_size, const unsigned char *path,
-                                          size_t path_size, const unsigned char *part, size_t part_size,
-                                          uint32_t create, unsigned char *buffer, size_t buffer_size) {
-  struct outcome outcome = {0};
-  outcome.status = vizhoniku_key_set(key, key_size, path, path_size, part, part_size, create, buffer, buffer_size,
-                                     &outcome.size);
-  return outcome;
-}
-
-static inline struct outcome call_key_remove(const unsigned char *key, size_t key_size, const unsigned char *path,
-                                             size_t path_size, unsigned char *buffer, size_t buffer_size) {
-  struct outcome outcome = {0};
-  outcome.status = vizhoniku_key_remove(key, key_size, path, path_size, buffer, buffer_size, &outcome.size);
-  return outcome;
-}
-
-static inline struct outcome call_key_put(const unsigned char *key, size_t key_size, const unsigned char *name,
-                                          size_t name_size, const unsigned char *value, size_t value_size,
-                                          unsigned char *buffer, size_t buffer_size) {
-  struct outcome outcome = {0};
-  outcome.status = vizhoniku_key_put(key, key_size, name, name_size, value, value_size, buffer, buffer_size,
-                                     &outcome.size);
-  return outcome;
-}
-
-static inline struct outcome call_key_push(const unsigned char *key, size_t key_size, const unsigned char *item,
-                                           size_t item_size, unsigned char *buffer, size_t buffer_size) {
-  struct outcome outcome = {0};
-  outcome.status = vizhoniku_key_push(key, key_size, item, item_size, buffer, buffer_size, &outcome.size);
-  return outcome;
-}
-
-static inline struct outcome call_key_merge(const unsigned char *left, size_t left_size, const unsigned char *right,
-                                            size_t right_size, unsigned char *buffer, size_t buffer_size) {
-  struct outcome outcome = {0};
-  outcome.status = vizhoniku_key_merge(left, left_size, right, right_size, buffer, buffer_size, &outcome.size);
-  return outcome;
-}
-
 static inline struct outcome call_document(uint32_t mode, const unsigned char *text, size_t text_size,
                                            unsigned char *buffer, size_t buffer_size) {
   struct outcome outcome = {0};

@@ -203,9 +203,12 @@ func (key Key) Contains(other Key) bool {
 	return status == C.VIZHONIKU_ACCEPTED
 }
 
-// The key that a call writes, with space for so many bytes more than the key has at first.
+// The key that a change of a document writes of a key, with space for so many bytes more than that has at first.
 func (key Key) changed(more int, call func(buffer *C.uchar, capacity C.size_t) C.struct_outcome) (Key, error) {
 	written, outcome := appended(nil, len(key)+more+16, call)
+	if outcome.status == C.VIZHONIKU_NO_DOCUMENT {
+		return "", ErrKey
+	}
 	return Key(stringOf(written)), errorOfStatus(outcome.status)
 }
 
@@ -218,15 +221,15 @@ func (key Key) Set(path string, part Key, create bool) (Key, error) {
 		creates = 1
 	}
 	return key.changed(len(path)+len(part), func(buffer *C.uchar, capacity C.size_t) C.struct_outcome {
-		return C.call_key_set(key.begin(), key.size(), beginOf(path), size(len(path)), part.begin(), part.size(), creates,
-			buffer, capacity)
+		return C.call_document_set(key.begin(), key.size(), beginOf(path), size(len(path)), part.begin(), part.size(),
+			creates, buffer, capacity)
 	})
 }
 
 // Remove returns the key without the part at the path. The error is ErrNoPart where there is none, or ErrPath.
 func (key Key) Remove(path string) (Key, error) {
 	return key.changed(0, func(buffer *C.uchar, capacity C.size_t) C.struct_outcome {
-		return C.call_key_remove(key.begin(), key.size(), beginOf(path), size(len(path)), buffer, capacity)
+		return C.call_document_remove(key.begin(), key.size(), beginOf(path), size(len(path)), buffer, capacity)
 	})
 }
 
@@ -234,8 +237,8 @@ func (key Key) Remove(path string) (Key, error) {
 // is no object, ErrPath where the name isn't UTF-8, or ErrTooDeep.
 func (key Key) Put(name string, value Key) (Key, error) {
 	return key.changed(len(name)+len(value), func(buffer *C.uchar, capacity C.size_t) C.struct_outcome {
-		return C.call_key_put(key.begin(), key.size(), beginOf(name), size(len(name)), value.begin(), value.size(), buffer,
-			capacity)
+		return C.call_document_put(key.begin(), key.size(), beginOf(name), size(len(name)), value.begin(), value.size(),
+			buffer, capacity)
 	})
 }
 
@@ -243,7 +246,7 @@ func (key Key) Put(name string, value Key) (Key, error) {
 // ErrTooDeep.
 func (key Key) Push(item Key) (Key, error) {
 	return key.changed(len(item), func(buffer *C.uchar, capacity C.size_t) C.struct_outcome {
-		return C.call_key_push(key.begin(), key.size(), item.begin(), item.size(), buffer, capacity)
+		return C.call_document_push(key.begin(), key.size(), item.begin(), item.size(), buffer, capacity)
 	})
 }
 
@@ -251,6 +254,6 @@ func (key Key) Push(item Key) (Key, error) {
 // both, where those of the other win; else two arrays to one, where a value that is no array is one of itself.
 func (key Key) Merge(other Key) (Key, error) {
 	return key.changed(len(other), func(buffer *C.uchar, capacity C.size_t) C.struct_outcome {
-		return C.call_key_merge(key.begin(), key.size(), other.begin(), other.size(), buffer, capacity)
+		return C.call_document_merge(key.begin(), key.size(), other.begin(), other.size(), buffer, capacity)
 	})
 }

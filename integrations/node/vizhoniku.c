@@ -490,17 +490,17 @@ static napi_value next(napi_env env, napi_callback_info info) {
   return name;
 }
 
-/* keyRemove(key, path, to, offset) and its kin */
+/* documentRemove(document, path, to, offset) and its kin */
 static napi_value bytes_of_two(napi_env env, napi_callback_info info) {
   return bytes_of(env, info, "bbwo", write_two);
 }
 
-/* keyPut(key, name, value, to, offset) and documentPut */
+/* documentPut(document, name, value, to, offset) */
 static napi_value bytes_of_three(napi_env env, napi_callback_info info) {
   return bytes_of(env, info, "bbbwo", write_three);
 }
 
-/* keySet(key, path, part, create, to, offset) and documentSet */
+/* documentSet(document, path, part, create, to, offset) */
 static napi_value bytes_of_set(napi_env env, napi_callback_info info) {
   return bytes_of(env, info, "bbbfwo", write_set);
 }
@@ -526,15 +526,10 @@ static const struct call calls[] = {
     {"begin", begin, {NULL}},
     {"next", next, {NULL}},
     {"documentPart", bytes_of_two, {.two = vizhoniku_document_part}},
-    {"keySet", bytes_of_set, {.set = vizhoniku_key_set}},
     {"documentSet", bytes_of_set, {.set = vizhoniku_document_set}},
-    {"keyRemove", bytes_of_two, {.two = vizhoniku_key_remove}},
     {"documentRemove", bytes_of_two, {.two = vizhoniku_document_remove}},
-    {"keyPut", bytes_of_three, {.three = vizhoniku_key_put}},
     {"documentPut", bytes_of_three, {.three = vizhoniku_document_put}},
-    {"keyPush", bytes_of_two, {.two = vizhoniku_key_push}},
     {"documentPush", bytes_of_two, {.two = vizhoniku_document_push}},
-    {"keyMerge", bytes_of_two, {.two = vizhoniku_key_merge}},
     {"documentMerge", bytes_of_two, {.two = vizhoniku_document_merge}},
 };
 

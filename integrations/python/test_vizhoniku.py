@@ -917,7 +917,7 @@ class Changed(unittest.TestCase):
         return value
 
     def set(self, value: Any, path: str, part: Any, create: bool) -> Any:
-        """As the header says it of vizhoniku_key_set."""
+        """As the header says it of vizhoniku_document_set."""
         steps, value = self.steps(path), copy.deepcopy(value)
         around = self.find(value, steps[:-1]) if steps else None
         if isinstance(around, dict) and (create or steps[-1] in around):

@@ -1,6 +1,5 @@
 pub mod Interface
 pub mod Lines
-pub mod KeyEdit
 pub mod KeyParts
 pub mod KeyText
 pub mod Zeros

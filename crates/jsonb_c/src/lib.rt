@@ -34,7 +34,6 @@ pub mod document_insert;
 pub mod document_walk;
 pub mod document_without;
 pub mod key;
-pub mod key_change;
 pub mod key_contains;
 pub mod lines;
 pub mod rejected;

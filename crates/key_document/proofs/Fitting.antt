@@ -64,7 +64,7 @@ module _ (at count : ℕ) (entries : List ℕ) where
 
 -- ---- zeros by what is known of the next number
 
-none_needed : (n plain : ℕ) → zeros_of plain (replicate n 0) ≡ []
+pub none_needed : (n plain : ℕ) → zeros_of plain (replicate n 0) ≡ []
 none_needed zero plain = refl
 none_needed (suc n) plain = none_needed n (suc plain)
 

@@ -18,6 +18,7 @@ pub mod ItemsJoined
 pub mod MembersJoined
 pub mod StepsCopied
 pub mod NoZeros
+pub mod FewestDigits
 pub mod OpenCounts
 pub mod DueZeros
 pub mod Texts

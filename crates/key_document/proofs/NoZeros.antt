@@ -1,4 +1,4 @@
--- Values without zeros, merged.
+-- Values without zeros, changed.
 use Rattle.std.proofs.Common.{◌≡◌, ℕ, zero, suc, ◌+◌, ◌==◌, Bool, true, false, ◌&&◌, if◌then◌else◌, inl, inr, Some, List, [], ◌∷◌, ◌++◌, length, replicate, refl, sym, ap, subst, ◌∙◌, arith, length-append}
 use Rattle.std.proofs.lemmas.Bool.{cond-false, ne_eqb}
 use Rattle.std.specs.Ordering.{match_ordering}
@@ -21,6 +21,7 @@ use Rattle.key_document.proofs.Merging.{joined_counts, items_counts_end}
 use Rattle.jsonb_spec.specs.Edit.{as_items, merge, merged_members}
 use Rattle.jsonb_spec.specs.SortKey.FewestDigits.{with_fewest_digits}
 use Rattle.jsonb_spec.specs.Document.Zeros.{counts_in, counts_in_items, counts_in_members, entry_of, in_sevens, plain_behind, zeros_in, zeros_of}
+use Rattle.key_document.specs.Splices.{spliced_counts}
 use Rattle.key_zeros.proofs.NumberedTexts.{counts_of, numbers_of}
 use Rattle.key_zeros.proofs.Splitting.{split}
 
@@ -101,6 +102,14 @@ both_merged t u a b = array_zero t u a b
 
 pub none_merged : (t u : Tree) → length (zeros_at t) ≡ 0 → length (zeros_at u) ≡ 0 → zeros_at (merge t u) ≡ []
 none_merged t u a b = no_zeros 0 (counts_at (merge t u)) (both_merged t u (all_zero 0 (counts_at t) a) (all_zero 0 (counts_at u) b))
+
+-- a part put where no zeros are, and none in it
+pub none_spliced : (front entry part behind : List ℕ) (name : ℕ) → length (zeros_of 0 (front ++ (entry ++ behind))) ≡ 0 → length (zeros_of 0 part) ≡ 0 → zeros_of 0 (spliced_counts front name part behind) ≡ []
+none_spliced front entry part behind name a b =
+    let old = all_zero 0 (front ++ (entry ++ behind)) a in
+    let rest = second_zero entry behind (second_zero front (entry ++ behind) old) in
+    no_zeros 0 (spliced_counts front name part behind)
+    (both_zero front (replicate name 0 ++ (part ++ behind)) (first_zero front (entry ++ behind) old) (both_zero (replicate name 0) (part ++ behind) (name_zero name) (both_zero part behind (all_zero 0 part b) rest)))
 
 -- a part of a value without zeros
 pub none_within : (t : Tree) (names : List (List ℕ)) (part : Tree) → IsReadable t → part_at names t ≡ Some part → length (zeros_at t) ≡ 0 → zeros_at part ≡ []

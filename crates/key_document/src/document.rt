@@ -16,6 +16,7 @@ pub(crate) const ZEROS_MARK: u8 = 0xFF;
 /// The key of a document, and its zeros by the bytes of the key. Of other bytes they are two ranges of them.
 ///
 /// It looks at the last bytes alone, at most ten.
+#[inline(always)]
 pub fn split_document(document: &[u8]) -> (&[u8], &[u8])
     ensures key { OfDocument document.now (λ t. result.0.now ≡ key_of t) }
     ensures zeros { OfDocument document.now (λ t. result.1.now ≡ zeros_at t) }
@@ -37,6 +38,8 @@ pub fn split_document(document: &[u8]) -> (&[u8], &[u8])
 }
 
 // The size that the bytes end with, and those before it.
+#[cold]
+#[inline(never)]
 fn size_at_end(bytes: &[u8]) -> Option<(usize, &[u8])>
     ensures found { (size : ℕ) → size < 2 ^ 63 → (front : List ℕ) → bytes.now ≡ front ++ reverse (in_sevens 8 size)
         → MatchOption result ⊥ (λ r. (r.0 ≡ size) × (r.1.now ≡ front)) }

@@ -22,8 +22,8 @@ use key_edit::splice::splice;
 use key_walk::walk::front;
 
 /// Appends the document of the value without its part at the path of these names, and returns whether there is one.
-/// Where there is none, nothing is appended. The names are as in `append_without_part` of the crate `key_edit`, and
-/// each number that stays holds all its digits.
+/// Where there is none, nothing is appended. A name is that of a member, or in an array an index in decimal digits, or
+/// with a minus sign from the end, where -1 is the last item. Each number that stays holds all its digits.
 ///
 /// # Errors
 ///
@@ -59,8 +59,9 @@ pub fn append_without_part(
 }
 
 /// Appends the document of the value with this part, of which the document is passed, at the path of these names, and
-/// says whether there is such a slot. Where there is none, nothing is appended. The names and `create` are as in
-/// `append_with_part` of the crate `key_edit`, and each number holds all its digits.
+/// says whether there is such a slot. Where there is none, nothing is appended. A part that is there is replaced. Where
+/// only the last name leads nowhere, and `create` is true, a member is added to an object, and an item to an array: at
+/// its end, or at its front for an index that counts from the end. Each number holds all its digits.
 ///
 /// # Errors
 ///
@@ -89,6 +90,7 @@ pub fn append_with_part(
 }
 
 /// Appends the document with this part, of which the document is passed, at the slot in the key, and returns true.
+#[inline(always)]
 pub(crate) fn put_document(
     out: &mut Vec<u8>,
     key: &[u8],

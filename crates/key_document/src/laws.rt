@@ -1,22 +1,23 @@
 //! What is known of documents beside their functions.
 
-ghost use Rattle.std.specs.Prelude.{◌≡◌, ◌≤◌, ◌+◌, ◌*◌, ◌++◌, [], List, ℕ, length, Option};
+ghost use Rattle.std.specs.Prelude.{◌≡◌, ◌≤◌, ◌↔◌, ◌+◌, ◌*◌, ◌++◌, [], Bool, List, ℕ, length, Option, option_map};
 ghost use Rattle.std.specs.declared.cmp.Ordering.TheVariants.{Less, Equal, Greater};
-ghost use Rattle.jsonb_spec.specs.SortKey.Readable.{IsReadable};
+ghost use Rattle.jsonb_spec.specs.SortKey.Readable.{IsAnyNumber, IsReadable};
 ghost use Rattle.jsonb_spec.specs.Keys.{IsBelowKeys};
 ghost use Rattle.jsonb_spec.specs.SortKey.Open.{name_key};
 ghost use Rattle.std.specs.Ordering.{ordering_then};
 ghost use Rattle.jsonb_spec.specs.Order.{bytes_cmp, tree_cmp};
 ghost use Rattle.jsonb_spec.specs.Proper.{IsProper};
 ghost use Rattle.jsonb_spec.specs.SortKey.{key_of};
+ghost use Rattle.jsonb_spec.specs.SortKey.FewestDigits.{with_fewest_digits};
 ghost use Rattle.jsonb_spec.specs.Text.{tree_text};
-ghost use Rattle.jsonb_spec.specs.Text.Range.{IsInRange};
+ghost use Rattle.jsonb_spec.specs.Text.Range.{IsInRange, IsWithin};
 ghost use Rattle.jsonb_spec.specs.Tree.{Tree, Trees, Members, more_members};
 ghost use Rattle.jsonb_spec.specs.Document.PartAt.{IsPartBehind};
 ghost use Rattle.jsonb_spec.specs.Document.{behind_key, document_of, zeros_at, zeros_mark, EndsUnlike};
 ghost use Rattle.jsonb_spec.specs.Document.Counts.{counts_of_items, counts_at, counts_at_items};
 ghost use Rattle.jsonb_spec.specs.Edit.Splices.{Agrees, AreSplices, Spliced};
-ghost use Rattle.jsonb_spec.specs.Edit.{Outcome, changed_at, joined_items, merged_members};
+ghost use Rattle.jsonb_spec.specs.Edit.{Outcome, changed_at, joined_items, merge, merged_members, with_item, with_member, with_part, without_part};
 ghost use Rattle.key_edit.specs.Spots.{SlotIn};
 ghost use Rattle.key_edit.specs.declared.slot.Slot.{Slot};
 ghost use Rattle.jsonb_spec.specs.Document.Numbers.{counts_taken};
@@ -29,6 +30,27 @@ pub fn documents_order()
         ≡ ordering_then (tree_cmp t u) (bytes_cmp (behind_key (zeros_at t)) (behind_key (zeros_at u))) }
     ensures bounds { (t u : Tree) → IsProper t → IsProper u → bytes_cmp (document_of t) (key_of u)
         ≡ ordering_then (tree_cmp t u) (bytes_cmp (behind_key (zeros_at t)) []) }
+{}
+
+/// A key is the document of the value with the fewest digits. Changed, that value is the changed value with the fewest
+/// digits, which nests as deep. So a call over documents that is passed keys makes the key of the changed value.
+pub fn keys_are_documents()
+    ensures document { (t : Tree) → IsReadable t
+        → IsReadable (with_fewest_digits t) × (document_of (with_fewest_digits t) ≡ key_of t) }
+    ensures depth { (t : Tree) → (depth : ℕ)
+        → IsWithin IsAnyNumber (with_fewest_digits t) depth ↔ IsWithin IsAnyNumber t depth }
+    ensures removed { (names : List (List ℕ)) → (t : Tree)
+        → without_part names (with_fewest_digits t) ≡ option_map with_fewest_digits (without_part names t) }
+    ensures set { (names : List (List ℕ)) → (t part : Tree) → (create : Bool)
+        → with_part names (with_fewest_digits part) create (with_fewest_digits t)
+        ≡ option_map with_fewest_digits (with_part names part create t) }
+    ensures member { (name : List ℕ) → (t part : Tree)
+        → with_member name (with_fewest_digits part) (with_fewest_digits t)
+        ≡ option_map with_fewest_digits (with_member name part t) }
+    ensures item { (t part : Tree) → with_item (with_fewest_digits part) (with_fewest_digits t)
+        ≡ option_map with_fewest_digits (with_item part t) }
+    ensures merged { (t u : Tree)
+        → merge (with_fewest_digits t) (with_fewest_digits u) ≡ with_fewest_digits (merge t u) }
 {}
 
 /// There is a count for each byte of a key.

@@ -24,6 +24,7 @@ pub(crate) struct Lengths {
 /// Appends what follows the new key, which begins at `start`, and returns true: its zeros, and their end. They are
 /// those of the old key, which has so many bytes, before the slot and behind it, and between them those of the part.
 /// After an error the new key is gone too.
+#[inline(always)]
 pub(crate) fn splice_tail(
     out: &mut Vec<u8>,
     start: usize,
@@ -39,6 +40,9 @@ pub(crate) fn splice_tail(
     ensures answer { IfOk result (λ answer. answer ≡ true) }
     ensures preserves { CutsOnError start result out.old out.new }
 {
+    if zeros.is_empty() && part_zeros.is_empty() {
+        return Ok(true);
+    }
     match splice_zeros(out, key_len, zeros, part_zeros, lengths) {
         Ok(()) => Ok(true),
         Err(error) => {
@@ -49,6 +53,7 @@ pub(crate) fn splice_tail(
 }
 
 // Appends the zeros, and their end.
+#[inline(never)]
 fn splice_zeros(
     out: &mut Vec<u8>,
     key_len: usize,

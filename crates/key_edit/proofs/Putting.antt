@@ -9,12 +9,11 @@ use Rattle.jsonb_spec.specs.SortKey.{key_of}
 use Rattle.jsonb_spec.specs.Text.Appending.{AppendsAllOrNothing}
 use Rattle.jsonb_spec.specs.Text.Range.{IsWithin}
 use Rattle.jsonb_spec.specs.Tree.{Tree}
-use Rattle.jsonb_spec.specs.Edit.{Outcome, becomes, changed_at, set_to}
+use Rattle.jsonb_spec.specs.Edit.{Outcome, becomes, set_to}
 use Rattle.key_edit.specs.Edit.{AppendsKey, Edits}
 use Rattle.jsonb_spec.specs.Edit.Spots.{Answers}
-use Rattle.key_edit.specs.Spots.{SlotIn, SpotIn, Occurs}
+use Rattle.key_edit.specs.Spots.{SpotIn, Occurs}
 use Rattle.key_edit.specs.declared.error.EditError.{EditError}
-use Rattle.key_edit.specs.declared.slot.Slot.{Slot}
 use Rattle.key_edit.specs.declared.spot.Spot.{Spot}
 use Rattle.key_edit.proofs.Located.{tree_fits}
 
@@ -67,8 +66,3 @@ put_reported old new (Some v) a = (record { ok = a.ok; fits = a.fits; errors = t
 pub fault_reported : (old new : Vec ℕ Global) (e : EditError) (x : Option Tree) → MatchOption x ⊥ (λ v. AppendsKey {X = Unit {0}} v (Err e) old new) → Edits x (Err e) old new
 fault_reported old new e None a = absurd a
 fault_reported old new e (Some v) a = (record { ok = tt; fits = tt; errors = a.errors }, tt)
-
--- what is reported of a slot
-abbrev pub ReportedSlot : Tree → List (List ℕ) → List ℕ → Option Slot → Type 0
-ReportedSlot t names key reported = MatchOption reported ((change : Option Tree → Outcome) → changed_at change names t ≡ None)
-    (SlotIn (λ change. changed_at change names t) key)

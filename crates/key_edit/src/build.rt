@@ -1,4 +1,4 @@
-//! Objects and arrays with a part more.
+//! Objects and arrays without parts, and arrays with an item more.
 
 ghost use Rattle.std.specs.Prelude.{◌≡◌, Ok, false};
 ghost use Rattle.jsonb_spec.specs.SortKey.Readable.{IsAnyNumber};
@@ -6,14 +6,12 @@ ghost use Rattle.jsonb_spec.specs.SortKey.{items_key};
 ghost use Rattle.jsonb_spec.specs.Text.Appending.{Extends};
 ghost use Rattle.jsonb_spec.specs.Text.Range.{AreWithin};
 ghost use Rattle.jsonb_spec.specs.Tree.{Trees, array, more_trees, no_trees};
-ghost use Rattle.jsonb_spec.specs.Edit.{joined_items, with_item, with_member, PreservesOnError};
+ghost use Rattle.jsonb_spec.specs.Edit.{joined_items, with_item, PreservesOnError};
 ghost use Rattle.key_edit.specs.Edit.{AppendsKey, EditsKeys};
 ghost use Rattle.jsonb_spec.specs.SortKey.AtKeys.{OfKey};
 
-use crate::edit::put_part;
 use crate::error::EditError;
 use crate::merge::{as_item, without_end};
-use crate::slot::member_slot;
 use crate::splice::splice;
 use jsonb_core::sort_key::kind;
 use key_walk::walk::{items_of, kind_of};
@@ -24,36 +22,13 @@ pub const EMPTY_OBJECT: [u8; 3] = [kind::OBJECT, kind::TERMINATOR, kind::TERMINA
 /// The sort key of an array without items.
 pub const EMPTY_ARRAY: [u8; 2] = [kind::ARRAY, kind::TERMINATOR];
 
-/// Appends the key of the object with this member, of whose value the key is passed, and returns whether it is an
-/// object. A member of that name is replaced. Where it is none, nothing is appended.
-///
-/// # Errors
-///
-/// As of `append_with_part`.
-pub fn append_with_member(
-    out: &mut Vec<u8>,
-    key: &[u8],
-    name: &str,
-    value: &[u8],
-) -> Result<bool, EditError>
-    ensures edits { EditsKeys (with_member name.now) key.now value.now result out.old out.new }
-    ensures preserves { PreservesOnError result out.old out.new }
-{
-    let Some(slot) = member_slot(key, name)? else {
-        return Ok(false);
-    };
-    match put_part(out, key, &slot, value) {
-        Ok(()) => Ok(true),
-        Err(error) => Err(error),
-    }
-}
-
 /// Appends the key of the array with this item at its end, of which the key is passed, and returns whether it is an
 /// array. Where it is none, nothing is appended.
 ///
 /// # Errors
 ///
-/// As of `append_with_part`.
+/// As of `append_merged`.
+#[inline(always)]
 pub fn append_with_item(out: &mut Vec<u8>, key: &[u8], item: &[u8]) -> Result<bool, EditError>
     ensures edits { EditsKeys with_item key.now item.now result out.old out.new }
     ensures preserves { PreservesOnError result out.old out.new }

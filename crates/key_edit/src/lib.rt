@@ -1,4 +1,4 @@
-//! Values that are held as their sort keys, changed by splicing: parts set and removed, values merged.
+//! Values that are held as their sort keys, changed by splicing: the slots of parts, parts put there, values merged.
 #![tactic(auto)]
 
 pub mod build;
@@ -13,7 +13,6 @@ pub mod splice;
 pub mod spot;
 mod step;
 
-pub use build::{EMPTY_ARRAY, EMPTY_OBJECT, append_with_item, append_with_member};
-pub use edit::{append_with_part, append_without_part};
+pub use build::{EMPTY_ARRAY, EMPTY_OBJECT, append_with_item};
 pub use error::EditError;
 pub use merge::append_merged;

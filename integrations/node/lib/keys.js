@@ -12,11 +12,6 @@ const KINDS = ['none', 'null', 'boolean', 'number', 'string', 'array', 'object']
 /** The calls of the library over what a class has. */
 const CALLS = Symbol('calls');
 
-function callsOf(make, prefix) {
-  const names = ['Check', 'Text', 'Set', 'Remove', 'Put', 'Push', 'Merge'];
-  return Object.fromEntries([['make', make], ...names.map((name) => [name.toLowerCase(), native[prefix + name]])]);
-}
-
 /** Where a call writes the range of a part. */
 const range = new Float64Array(native.SLOTS);
 
@@ -49,10 +44,14 @@ function bytesFor(Class, value) {
   return ofValue(value, (text, mode) => bytesOfText(Class.prototype[CALLS].make, text, mode));
 }
 
-/** What a call writes of a key or a document, with so many bytes more at most, or the same where nothing changes. */
+/**
+ * What a change of a document writes of a key or a document, with so many bytes more at most, or the same where nothing
+ * changes.
+ */
 function changed(stored, more, call) {
   const bytes = written(stored.bytes.length + more + MORE, call);
   if (bytes === -native.NO_PART) return stored;
+  if (bytes === -native.NO_DOCUMENT && stored instanceof Key) throw failure(-native.NO_KEY);
   if (typeof bytes === 'number') throw failure(bytes);
   return new stored.constructor(bytes, TRUSTED);
 }
@@ -119,13 +118,13 @@ class Stored {
     const part = bytesFor(this.constructor, value);
     stringOf(path, 'a path');
     return changed(this, 3 * path.length + part.length, (to, from) =>
-      this[CALLS].set(this.bytes, path, part, create, to, from)
+      native.documentSet(this.bytes, path, part, create, to, from)
     );
   }
 
   remove(path) {
     stringOf(path, 'a path');
-    return changed(this, 0, (to, from) => this[CALLS].remove(this.bytes, path, to, from));
+    return changed(this, 0, (to, from) => native.documentRemove(this.bytes, path, to, from));
   }
 
   put(name, value) {
@@ -133,19 +132,19 @@ class Stored {
     const part = bytesFor(this.constructor, value);
     stringOf(name, 'a name');
     return changed(this, 3 * name.length + part.length, (to, from) =>
-      this[CALLS].put(this.bytes, name, part, to, from)
+      native.documentPut(this.bytes, name, part, to, from)
     );
   }
 
   push(item) {
     needKind(this, 'array');
     const part = bytesFor(this.constructor, item);
-    return changed(this, part.length, (to, from) => this[CALLS].push(this.bytes, part, to, from));
+    return changed(this, part.length, (to, from) => native.documentPush(this.bytes, part, to, from));
   }
 
   merge(other) {
     const part = bytesFor(this.constructor, other);
-    return changed(this, part.length, (to, from) => this[CALLS].merge(this.bytes, part, to, from));
+    return changed(this, part.length, (to, from) => native.documentMerge(this.bytes, part, to, from));
   }
 
   value() {
@@ -214,7 +213,7 @@ class Key extends Stored {
     return this.kind === 'object' ? this.entries() : this.values();
   }
 }
-Key.prototype[CALLS] = callsOf(native.sortKey, 'key');
+Key.prototype[CALLS] = { make: native.sortKey, check: native.keyCheck, text: native.keyText };
 
 class Document extends Stored {
   get key() {
@@ -230,6 +229,6 @@ class Document extends Stored {
     return new Document(bytes, TRUSTED);
   }
 }
-Document.prototype[CALLS] = callsOf(native.document, 'document');
+Document.prototype[CALLS] = { make: native.document, check: native.documentCheck, text: native.documentText };
 
 module.exports = { Document, Key };

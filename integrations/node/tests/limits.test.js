@@ -155,7 +155,7 @@ test('the module in C takes any arguments without harm', () => {
     }
   }
   assert.ok(returned > 1000 && thrown > 1000, `${returned}, ${thrown}`);
-  throws(() => native.keyRemove(bytes, '/a', bytes, 0), TypeError, 'the bytes are those that are written to');
+  throws(() => native.documentRemove(bytes, '/a', bytes, 0), TypeError, 'the bytes are those that are written to');
   assert.strictEqual(native.sortKey(3, '[1]', Buffer.alloc(9), 6), 4);
   assert.strictEqual(native.sortKey(3, '[1]', Buffer.alloc(9), 5), 4);
   for (const mode of [4, 7, 1.5, NaN, -1, 2 ** 32, Infinity]) assert.strictEqual(native.check(mode, '[1]'), -3);

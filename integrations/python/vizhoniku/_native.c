@@ -137,12 +137,13 @@ static PyObject *bytes_of(const struct written *written) {
   return PyBytes_FromStringAndSize((const char *)written->at, (Py_ssize_t)written->size);
 }
 
-/* What a call of the library does. Behind what is of keys is the same of documents. First come those that write
- * nothing, or few bytes of many, and from TEXT on those that write about as many as they take. */
+/* What a call of the library does. Behind what is of keys is the same of documents, whose changes are those of keys too.
+ * First come those that write nothing, or few bytes of many, and from TEXT on those that write about as many as they
+ * take. */
 enum what {
   CHECK, IS_VALID, COMPARE, KEY_CHECK, DOCUMENT_CHECK, KEY_CONTAINS, PART, REASON, ERROR_PATH, DOCUMENT_PART,
-  DOCUMENT_RANGE, TEXT, TEXT_AND_KEY, SORT_KEY, DOCUMENT, KEY_TEXT, DOCUMENT_TEXT, KEY_SET, DOCUMENT_SET, KEY_REMOVE,
-  DOCUMENT_REMOVE, KEY_PUT, DOCUMENT_PUT, KEY_PUSH, DOCUMENT_PUSH, KEY_MERGE, DOCUMENT_MERGE
+  DOCUMENT_RANGE, TEXT, TEXT_AND_KEY, SORT_KEY, DOCUMENT, KEY_TEXT, DOCUMENT_TEXT, DOCUMENT_SET, DOCUMENT_REMOVE,
+  DOCUMENT_PUT, DOCUMENT_PUSH, DOCUMENT_MERGE
 };
 
 /* A call of the library: what it takes, and what it writes. */
@@ -179,23 +180,6 @@ static void end_call(struct call *call) {
 #define IN(text) (text).at, (text).size
 #define OUT(written) (written).at, (written).capacity, &(written).size
 
-/* The calls that there are of keys and of documents. */
-#define OF_BOTH(WHAT, kind) \
-  case WHAT##_CHECK: \
-    return vizhoniku_##kind##_check(IN(call->text)); \
-  case WHAT##_TEXT: \
-    return vizhoniku_##kind##_text(IN(call->text), OUT(call->written)); \
-  case WHAT##_SET: \
-    return vizhoniku_##kind##_set(IN(call->text), IN(call->step), IN(call->part), call->create, OUT(call->written)); \
-  case WHAT##_REMOVE: \
-    return vizhoniku_##kind##_remove(IN(call->text), IN(call->step), OUT(call->written)); \
-  case WHAT##_PUT: \
-    return vizhoniku_##kind##_put(IN(call->text), IN(call->step), IN(call->part), OUT(call->written)); \
-  case WHAT##_PUSH: \
-    return vizhoniku_##kind##_push(IN(call->text), IN(call->part), OUT(call->written)); \
-  case WHAT##_MERGE: \
-    return vizhoniku_##kind##_merge(IN(call->text), IN(call->part), OUT(call->written))
-
 /* Calls the library once. */
 static uint32_t call_once(struct call *call) {
   switch (call->what) {
@@ -224,8 +208,24 @@ static uint32_t call_once(struct call *call) {
     return vizhoniku_sort_key(call->mode, IN(call->text), OUT(call->written), &call->error);
   case DOCUMENT:
     return vizhoniku_document(call->mode, IN(call->text), OUT(call->written), &call->error);
-  OF_BOTH(KEY, key);
-  OF_BOTH(DOCUMENT, document);
+  case KEY_CHECK:
+    return vizhoniku_key_check(IN(call->text));
+  case DOCUMENT_CHECK:
+    return vizhoniku_document_check(IN(call->text));
+  case KEY_TEXT:
+    return vizhoniku_key_text(IN(call->text), OUT(call->written));
+  case DOCUMENT_TEXT:
+    return vizhoniku_document_text(IN(call->text), OUT(call->written));
+  case DOCUMENT_SET:
+    return vizhoniku_document_set(IN(call->text), IN(call->step), IN(call->part), call->create, OUT(call->written));
+  case DOCUMENT_REMOVE:
+    return vizhoniku_document_remove(IN(call->text), IN(call->step), OUT(call->written));
+  case DOCUMENT_PUT:
+    return vizhoniku_document_put(IN(call->text), IN(call->step), IN(call->part), OUT(call->written));
+  case DOCUMENT_PUSH:
+    return vizhoniku_document_push(IN(call->text), IN(call->part), OUT(call->written));
+  case DOCUMENT_MERGE:
+    return vizhoniku_document_merge(IN(call->text), IN(call->part), OUT(call->written));
   }
   return VIZHONIKU_UNKNOWN_MODE;
 }
@@ -453,12 +453,6 @@ static struct text key_in(PyObject *self) {
   return key;
 }
 
-/* Begins a call of a key or of a document, which is that of keys or the one behind it. */
-static void begin_call_of(struct call *call, enum what what, PyObject *self) {
-  begin_call(call, what + is_document(self));
-  call->text = bytes_in(self);
-}
-
 /* Makes a key or a document of bytes, to which it takes the caller's reference. */
 static PyObject *make_stored(PyTypeObject *type, PyObject *data) {
   if (!data) return NULL;
@@ -589,7 +583,8 @@ static PyObject *document_key(PyObject *self, void *unused) {
 static PyObject *key_py_text(PyObject *self, PyObject *none) {
   struct call call;
   (void)none;
-  begin_call_of(&call, KEY_TEXT, self);
+  begin_call(&call, KEY_TEXT + is_document(self));
+  call.text = bytes_in(self);
   uint32_t status = call_library(&call, call.text.size);
   PyObject *text = status == VIZHONIKU_ACCEPTED ? str_of(&call.written) : raise_status(state_of(self), status);
   end_call(&call);
@@ -609,7 +604,7 @@ static PyObject *stored_by(PyObject *self, struct call *call, size_t read, PyObj
   PyObject *result = NULL;
   if (status == VIZHONIKU_ACCEPTED)
     result = make_stored(Py_TYPE(self), bytes_of(&call->written));
-  else if (status == VIZHONIKU_NO_PATH && (call->what == KEY_PUT || call->what == DOCUMENT_PUT))
+  else if (status == VIZHONIKU_NO_PATH && call->what == DOCUMENT_PUT)
     PyErr_SetObject(PyExc_ValueError, state_of(self)->no_name);
   else
     result = not_found(state_of(self), status, absent);
@@ -1106,19 +1101,21 @@ static PyObject *key_py_contains(PyObject *self, PyObject *const *given, Py_ssiz
  * the change has one, and then comes the value. */
 static PyObject *changed(PyObject *self, const struct function *change, PyObject *const *given, Py_ssize_t count,
                          PyObject *keywords) {
-  enum what what = change->what;
-  int has_step = what == KEY_SET || what == KEY_REMOVE || what == KEY_PUT, create = 1;
+  enum what what = change->what, read = SORT_KEY + is_document(self);
+  int has_step = what == DOCUMENT_SET || what == DOCUMENT_REMOVE || what == DOCUMENT_PUT, create = 1;
   PyObject *arguments[MOST];
   struct call call;
   if (!sort_arguments(change, given, count, keywords, arguments)) return NULL;
-  if (what == KEY_PUT && !PyUnicode_Check(arguments[0])) return raise_type("a name is a str, and not %U", arguments[0]);
-  if (what == KEY_PUT && !need_kind(self, VIZHONIKU_OBJECT, VIZHONIKU_OBJECT)) return NULL;
-  if (what == KEY_PUSH && !need_kind(self, VIZHONIKU_ARRAY, VIZHONIKU_ARRAY)) return NULL;
-  if (what == KEY_SET && arguments[2] && (create = PyObject_IsTrue(arguments[2])) < 0) return NULL;
-  begin_call_of(&call, what, self);
+  if (what == DOCUMENT_PUT && !PyUnicode_Check(arguments[0]))
+    return raise_type("a name is a str, and not %U", arguments[0]);
+  if (what == DOCUMENT_PUT && !need_kind(self, VIZHONIKU_OBJECT, VIZHONIKU_OBJECT)) return NULL;
+  if (what == DOCUMENT_PUSH && !need_kind(self, VIZHONIKU_ARRAY, VIZHONIKU_ARRAY)) return NULL;
+  if (what == DOCUMENT_SET && arguments[2] && (create = PyObject_IsTrue(arguments[2])) < 0) return NULL;
+  begin_call(&call, what);
+  call.text = bytes_in(self);
   call.create = (uint32_t)create;
   if ((!has_step || read_text(arguments[0], A_TEXT, &call.step)) &&
-      (what == KEY_REMOVE || read_value(state_of(self), SORT_KEY + is_document(self), arguments[has_step], &call.part)))
+      (what == DOCUMENT_REMOVE || read_value(state_of(self), read, arguments[has_step], &call.part)))
     return stored_by(self, &call, call.text.size, self);
   end_call(&call);
   return NULL;
@@ -1130,11 +1127,11 @@ static PyObject *changed(PyObject *self, const struct function *change, PyObject
     return changed(self, &change, given, count, keywords); \
   }
 
-CHANGE(set, KEY_SET, 2, {"path", "value", "create", NULL})
-CHANGE(remove, KEY_REMOVE, 1, {"path", NULL})
-CHANGE(put, KEY_PUT, 2, {"name", "value", NULL})
-CHANGE(push, KEY_PUSH, 1, {"item", NULL})
-CHANGE(merge, KEY_MERGE, 1, {"other", NULL})
+CHANGE(set, DOCUMENT_SET, 2, {"path", "value", "create", NULL})
+CHANGE(remove, DOCUMENT_REMOVE, 1, {"path", NULL})
+CHANGE(put, DOCUMENT_PUT, 2, {"name", "value", NULL})
+CHANGE(push, DOCUMENT_PUSH, 1, {"item", NULL})
+CHANGE(merge, DOCUMENT_MERGE, 1, {"other", NULL})
 
 /* ISO C has no pointer to void for a function; Python's slots ask for it, as POSIX does. */
 #define SLOT(call) ((void *)(uintptr_t)(call))

@@ -74,11 +74,6 @@ extern "C" {
     pub fn vizhoniku_key_boolean(key: *const u8, key_size: usize, value: *mut u32) -> u32;
     pub fn vizhoniku_key_integer(key: *const u8, key_size: usize, value: *mut i64) -> u32;
     pub fn vizhoniku_key_contains(key: *const u8, key_size: usize, other: *const u8, other_size: usize) -> u32;
-    pub fn vizhoniku_key_set(key: *const u8, key_size: usize, path: *const u8, path_size: usize, part: *const u8, part_size: usize, create: u32, buffer: *mut u8, buffer_size: usize, size: *mut usize) -> u32;
-    pub fn vizhoniku_key_remove(key: *const u8, key_size: usize, path: *const u8, path_size: usize, buffer: *mut u8, buffer_size: usize, size: *mut usize) -> u32;
-    pub fn vizhoniku_key_put(key: *const u8, key_size: usize, name: *const u8, name_size: usize, value: *const u8, value_size: usize, buffer: *mut u8, buffer_size: usize, size: *mut usize) -> u32;
-    pub fn vizhoniku_key_push(key: *const u8, key_size: usize, item: *const u8, item_size: usize, buffer: *mut u8, buffer_size: usize, size: *mut usize) -> u32;
-    pub fn vizhoniku_key_merge(left: *const u8, left_size: usize, right: *const u8, right_size: usize, buffer: *mut u8, buffer_size: usize, size: *mut usize) -> u32;
     pub fn vizhoniku_document(mode: u32, text: *const u8, text_size: usize, buffer: *mut u8, buffer_size: usize, size: *mut usize, error: *mut TextError) -> u32;
     pub fn vizhoniku_document_check(document: *const u8, document_size: usize) -> u32;
     pub fn vizhoniku_document_text(document: *const u8, document_size: usize, buffer: *mut u8, buffer_size: usize, size: *mut usize) -> u32;

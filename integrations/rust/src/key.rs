@@ -512,7 +512,7 @@ impl KeyRef {
         self.changed(path.len() + part.0.len(), |key, key_size, buffer, capacity, size| {
             // SAFETY: as in `to_text`, and the path and the part have their sizes.
             unsafe {
-                ffi::vizhoniku_key_set(
+                ffi::vizhoniku_document_set(
                     key,
                     key_size,
                     path.as_ptr(),
@@ -543,7 +543,7 @@ impl KeyRef {
     pub fn remove(&self, path: &str) -> Result<Option<Key>, Error> {
         self.changed(0, |key, key_size, buffer, capacity, size| {
             // SAFETY: as in `to_text`, and the path has its size.
-            unsafe { ffi::vizhoniku_key_remove(key, key_size, path.as_ptr(), path.len(), buffer, capacity, size) }
+            unsafe { ffi::vizhoniku_document_remove(key, key_size, path.as_ptr(), path.len(), buffer, capacity, size) }
         })
     }
 
@@ -564,7 +564,7 @@ impl KeyRef {
         self.changed(name.len() + value.0.len(), |key, key_size, buffer, capacity, size| {
             // SAFETY: as in `to_text`, and the name and the value have their sizes.
             unsafe {
-                ffi::vizhoniku_key_put(
+                ffi::vizhoniku_document_put(
                     key,
                     key_size,
                     name.as_ptr(),
@@ -595,7 +595,10 @@ impl KeyRef {
     pub fn push(&self, item: &KeyRef) -> Result<Option<Key>, Error> {
         self.changed(item.0.len(), |key, key_size, buffer, capacity, size| {
             // SAFETY: as in `to_text`, and the item has its size.
-            unsafe { ffi::vizhoniku_key_push(key, key_size, item.0.as_ptr(), item.0.len(), buffer, capacity, size) }
+            unsafe {
+                let (item, item_size) = (item.0.as_ptr(), item.0.len());
+                ffi::vizhoniku_document_push(key, key_size, item, item_size, buffer, capacity, size)
+            }
         })
     }
 
@@ -616,7 +619,10 @@ impl KeyRef {
     pub fn merge(&self, other: &KeyRef) -> Result<Key, Error> {
         let merged = self.changed(other.0.len(), |key, key_size, buffer, capacity, size| {
             // SAFETY: as in `to_text`, and the other key has its size.
-            unsafe { ffi::vizhoniku_key_merge(key, key_size, other.0.as_ptr(), other.0.len(), buffer, capacity, size) }
+            unsafe {
+                let (other, other_size) = (other.0.as_ptr(), other.0.len());
+                ffi::vizhoniku_document_merge(key, key_size, other, other_size, buffer, capacity, size)
+            }
         })?;
         Ok(merged.unwrap_or_else(|| self.to_owned()))
     }
