@@ -169,7 +169,7 @@ push_counts false one ts = refl
 
 -- ---- what stays is nested no deeper
 
-picked : {X : Type 0} (Is : X → Type 0) (b : Bool) (x y : X) → Is x → Is y → Is (if b then x else y)
+pub picked : {X : Type 0} (Is : X → Type 0) (b : Bool) (x y : X) → Is x → Is y → Is (if b then x else y)
 picked Is true x y p q = p
 picked Is false x y p q = q
 

@@ -10,6 +10,7 @@ use Rattle.jsonb_spec.specs.Document.PartAt.{IsBehind, IsPartBehind}
 use Rattle.jsonb_spec.specs.Document.Numbers.{counts_taken}
 use Rattle.jsonb_spec.specs.Document.PartsOf.{IsWhole, OccursIn, OccursInItems, OccursInMembers}
 use Rattle.jsonb_spec.specs.Document.Counts.{counts_at, counts_at_items, counts_at_members}
+use Rattle.key_walk.proofs.Occurrence.{regroup}
 
 -- ---- a part
 
@@ -18,9 +19,6 @@ whole_behind t before numbers part w =
     subst (λ p. IsPartBehind t before p) (sym w.2)
     (subst (λ b. IsPartBehind t b t) (sym w.0)
     (record { counts_before = []; one_each = refl; behind = []; counts_behind = []; key_is = sym (append-nil (key_of t)); counts_are = sym (append-nil (counts_at t)) }))
-
-regroup : (a b c d : List ℕ) → (a ++ (b ++ c)) ++ d ≡ a ++ (b ++ (c ++ d))
-regroup a b c d = simp append_assoc
 
 more_behind : (key counts before more others : List ℕ) (part : Tree) → IsBehind key counts before part → IsBehind (key ++ more) (counts ++ others) before part
 more_behind key counts before more others part x = record {

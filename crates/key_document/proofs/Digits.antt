@@ -22,7 +22,7 @@ use Rattle.jsonb_core.proofs.SortKeys.Kinds.{is_small}
 use Rattle.jsonb_core.proofs.Trees.Runs.{heads}
 use Rattle.jsonb_spec.specs.SortKey.FewestDigits.{spare_zeros}
 use Rattle.jsonb_spec.specs.Document.Scan.{is_number_byte, ending_of}
-use Rattle.key_zeros.proofs.Decimals.{text_passed}
+use Rattle.key_zeros.proofs.Decimals.{text_passed, digit_byte}
 use Rattle.key_zeros.proofs.NumberedTexts as numbered
 use Rattle.key_document.specs.FromText.{AreDigitsOf, AreDigitsOfNumber, EndsNumber, is_digit, magnitude_from, scale_from, scale_with, with_digit}
 use Rattle.key_document.specs.declared.from_text.digits.Digits.{Digits}
@@ -110,10 +110,6 @@ pointed (suc scale) m small =
     ⊎_elim (λ inside. pointed_inside_digits scale m small inside) (λ outside. pointed_before_digits scale m small outside) (cases_lt (suc scale) (length (decimal m)))
 
 -- ---- digits are read
-
-digit_byte : (c : ℕ) → 48 ≤ c → c ≤ 57 → is_number_byte c ≡ true
-digit_byte c low high =
-    (λ i. ne_eqb c 45 (λ e. omega (arith, e, low)) i || (ne_eqb c 46 (λ e. omega (arith, e, low)) i || (lt-ltb 47 c (omega (arith, low)) i && lt-ltb c 58 (omega (arith, high)) i)))
 
 digit_is : (c : ℕ) → 48 ≤ c → c ≤ 57 → is_digit c ≡ true
 digit_is c low high = (λ i. lt-ltb 47 c (omega (arith, low)) i && lt-ltb c 58 (omega (arith, high)) i)

@@ -1,12 +1,12 @@
 -- What is appended behind zeros, turned around in the buffer.
-use Rattle.std.proofs.Common.{◌≡◌, ℕ, zero, suc, ◌+◌, ◌-◌, ◌<◌, ◌≤◌, List, [], ◌∷◌, ◌++◌, length, take, drop, Result, Ok, Err, OnErr, is_ok, if◌then◌else◌, refl, sym, ap, ap₂, ◌∙◌, arith, append_assoc, length-append}
-use Rattle.std.specs.Prelude.{reverse, Vec, vec_len, vec_capacity}
+use Rattle.std.proofs.Common.{◌≡◌, true≢false, ℕ, zero, suc, ◌+◌, ◌-◌, ◌<◌, ◌≤◌, List, [], ◌∷◌, ◌++◌, length, take, drop, Result, Ok, Err, MatchResult, OnErr, is_ok, if◌then◌else◌, refl, sym, ap, ap₂, ◌∙◌, arith, append_assoc, length-append}
+use Rattle.std.specs.Prelude.{IsErr, reverse, Vec, vec_len, vec_capacity}
 use Rattle.std.specs.declared.alloc.Global.{Global}
 use Rattle.std.specs.declared.alloc.AllocError.{AllocError}
 use Rattle.std.proofs.Math.Seq.{take-length, take-append_seam, drop-append_seam}
 use Rattle.std.proofs.lemmas.List.{length-reverse, reverse-append}
 use Rattle.jsonb_spec.specs.Text.Appending.{Appends}
-use Rattle.jsonb_spec.specs.Document.{end_of}
+use Rattle.jsonb_spec.specs.Document.{behind_key, end_of}
 use Rattle.jsonb_spec.specs.Document.Zeros.{in_sevens}
 
 -- the end of some zeros
@@ -39,3 +39,19 @@ ends_with (Ok x) old new mid bytes text cap len e t long a b items full =
     record { ok = is; retained = record { more = text; extended = is }; full = tt; capacity = omega (arith, a, b) }
 ends_with (Err x) old new mid bytes text cap len e t long a b items full =
     record { ok = tt; retained = record { more = bytes; extended = items ∙ e }; full = omega (arith, full, long, a, ap length t, length-append bytes (255 ∷ [])); capacity = omega (arith, a, b) }
+
+-- ---- behind the zeros
+
+pub none_behind : (zeros : List ℕ) → length zeros ≡ 0 → zeros ≡ behind_key zeros
+none_behind [] e = refl
+none_behind (z ∷ zs) e = absurd (omega (arith, e))
+
+module _ (old new : Vec ℕ Global) (before zeros : List ℕ) (start size : ℕ) (at : length before ≡ start) (e : old.items ≡ before ++ zeros) (is : size ≡ length zeros) where
+  pub ended_whole : (r : Result (Unit {0}) AllocError) → Appends r old new (end_of size) → MatchResult r (λ _. new.items ≡ before ++ behind_key zeros) (λ e. vec_capacity old < start + length (behind_key zeros))
+  ended_whole (Ok x) a = a.ok ∙ ap₂ (λ l n. l ++ end_of n) e is ∙ append_assoc before zeros (end_of (length zeros))
+  ended_whole (Err x) a = omega (arith, a.full, at, old.ok.0, ap length e, length-append before zeros, length-append zeros (end_of (length zeros)), ap (λ n. length (end_of n)) is)
+
+  pub not_ended : (r : Result (Unit {0}) AllocError) → IsErr r → (size ≡ 0 → ⊥) → vec_capacity old < vec_len old + length (in_sevens 8 size) → MatchResult r (λ _. new.items ≡ before ++ behind_key zeros) (λ e. vec_capacity old < start + length (behind_key zeros))
+  not_ended (Ok x) h some full = absurd (true≢false (sym h))
+  not_ended (Err x) h some full =
+      omega (arith, full, at, old.ok.0, ap length e, length-append before zeros, length-append zeros (end_of (length zeros)), ap (λ n. length (end_of n)) is, ap length (end_some size some), length-append (reverse (in_sevens 8 size)) (255 ∷ []), length-reverse (in_sevens 8 size))

@@ -15,6 +15,7 @@ use Rattle.jsonb_core.proofs.SortKeys.Digits.{ten, last_pair, more_pairs}
 use Rattle.jsonb_core.proofs.SortKeys.Kinds.{is_small}
 use Rattle.jsonb_spec.specs.Document.{EndsUnlike}
 use Rattle.jsonb_core.proofs.SortKeys.Numbers.{IsSmall, positive, negative, nothing_there, magnitude_split}
+use Rattle.jsonb_core.proofs.SortKeys.Pairs.{single_digit}
 
 -- the bytes end, and with one below 254
 pub record EndsBelow (bytes : List ℕ) : Type 0 where
@@ -35,13 +36,9 @@ record EndsEven (xs : List ℕ) : Type 0 where
   some : 0 < pair
   below : pair < 100
 
-one_digit : (m : ℕ) → digits_key 1 m ≡ (20 * m) ∷ []
-unfolding digits_key
-one_digit m = refl
-
 digits_end : (count m : ℕ) → 0 < m → m < 10 ^ count → EndsEven (digits_key count m)
 digits_end zero m some small = absurd (omega (arith, some, small))
-digits_end (suc zero) m some small = record { front = []; pair = 10 * m; is = one_digit m ∙ ap (λ n. n ∷ []) {x = 20 * m} {y = 2 * (10 * m)} (omega arith); some = omega (arith, some); below = omega (arith, small) }
+digits_end (suc zero) m some small = record { front = []; pair = 10 * m; is = single_digit m ∙ ap (λ n. n ∷ []) {x = 20 * m} {y = 2 * (10 * m)} (omega arith); some = omega (arith, some); below = omega (arith, small) }
 digits_end (suc (suc count)) m some small = elim (cases_eq (m % 10 ^ count) 0) [
   | inl none ↦ record {
     front = [];

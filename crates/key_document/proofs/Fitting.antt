@@ -7,7 +7,7 @@ use Rattle.jsonb_spec.specs.SortKey.{key_of, number_key, text_key}
 use Rattle.jsonb_spec.specs.Tree.{Num, Tree, null, boolean, string, number, array, object, binary, date, timestamp, timestamp_tz, interval, Trees, no_trees, more_trees, Members, no_members, more_members}
 use Rattle.key_document.specs.Check.{AreAtMost, Fits, FitsFrom, IsCounted, ZerosFit, most_at, most_at_items, most_at_members, most_open, most_zeros}
 use Rattle.key_document.specs.declared.due.ZerosDue.{ZerosDue}
-use Rattle.key_text.proofs.Counts.{items_each, members_each, one_each}
+use Rattle.key_text.proofs.Counts.{items_each, members_each, one_each, replicate_more}
 use Rattle.key_document.proofs.Trailing.{as_long, none_at_most}
 use Rattle.jsonb_spec.specs.SortKey.Open.{Open, items, members, is_object, open_key, end_key, name_key, IsOpen, IsScalar}
 use Rattle.jsonb_spec.specs.SortKey.Parts.{opened_tree}
@@ -17,6 +17,7 @@ use Rattle.jsonb_spec.specs.SortKey.Steps.{IsOver, IsPart}
 use Rattle.key_zeros.proofs.Splitting.{entry_first, plain_first}
 use Rattle.key_zeros.proofs.Taking.{counts_long, one_pending, pending_occurs}
 use Rattle.jsonb_spec.specs.Document.Counts.{counts_at, counts_at_items, counts_at_members}
+use Rattle.key_walk.proofs.Occurrence.{regroup}
 
 -- ---- byte by byte
 
@@ -133,23 +134,20 @@ module _ (left : ℕ) (zeros most : List ℕ) (long : length most ≡ left) (som
       }
 
   -- some zeros fit where what is known of the first number fits
-  pub fit_from : (before at count : ℕ) (behind entries : List ℕ) → before < left → at ≡ left - before → 0 < count → zeros ≡ in_sevens 8 before ++ behind → behind ≡ count ∷ entries
-      → ((more : List ℕ) → zeros ≡ in_sevens 8 before ++ more → behind ≡ more) → ((x : FirstDue) → before ≡ x.before) → FitsFrom at count entries most ↔ ZerosFit most zeros
-  fit_from before at count behind entries low is counted e f one first = (
+  pub fit_from : (before at count : ℕ) (entries : List ℕ) → before < left → at ≡ left - before → 0 < count → zeros ≡ in_sevens 8 before ++ count ∷ entries
+      → ((x : FirstDue) → (before ≡ x.before) × (count ≡ x.count) × (entries ≡ zeros_of 0 x.later)) → FitsFrom at count entries most ↔ ZerosFit most zeros
+  fit_from before at count entries low is counted e first = (
     λ h.
         let c = counts_for at count entries most h (omega (arith, is, low)) 0 in
         record {
           counts = c.counts;
           at_most = c.at_most;
-          are = e ∙ ap₂ (λ n b. in_sevens 8 n ++ b) {x = before} {y = 0 + (length most - at)} (omega (arith, is, low, long)) f ∙ sym c.are;
+          are = e ∙ ap (λ n. in_sevens 8 n ++ count ∷ entries) {x = before} {y = 0 + (length most - at)} (omega (arith, is, low, long)) ∙ sym c.are;
         },
     λ z.
         let x = first_due z in
         let same = first x in
-        let there = sym f ∙ one (x.count ∷ zeros_of 0 x.later) (x.occurs ∙ ap (λ n. in_sevens 8 n ++ x.count ∷ zeros_of 0 x.later) (sym same)) in
-        let counts_same : count ≡ x.count = heads count x.count entries (zeros_of 0 x.later) there in
-        subst (λ c. FitsFrom at c entries most) (sym counts_same)
-        (due_from x.before x.count at entries x.later most x.at_most x.counted (tails count x.count entries (zeros_of 0 x.later) there) (omega (arith, is, same, long))),
+        subst (λ c. FitsFrom at c entries most) (sym same.1) (due_from x.before x.count at entries x.later most x.at_most x.counted same.2 (omega (arith, is, same.0, long))),
   )
 
 -- ---- a scalar
@@ -244,11 +242,8 @@ module _ (at count : ℕ) (entries : List ℕ) (n : Num) (most : List ℕ) (here
       let x = some_due at count entries (most_zeros n) behind_number here h in
       (x.1, x.2)
 
-  pub number_passed : (0 < count) → count ≤ most_zeros n → (next : Option ZerosDue)
-      → MatchOption next (ZerosFit behind_number entries → ⊥) (λ due. Fits due behind_number ↔ ZerosFit behind_number entries)
-      → MatchOption next (FitsFrom at count entries (most_at (number n) ++ most) → ⊥) (λ due. Fits due most ↔ FitsFrom at count entries (most_at (number n) ++ most))
-  number_passed some low None h = λ f. h (number_due f).1
-  number_passed some low (Some due) h =
+  pub number_passed : (0 < count) → count ≤ most_zeros n → (due : ZerosDue) → Fits due behind_number ↔ ZerosFit behind_number entries → Fits due most ↔ FitsFrom at count entries (most_at (number n) ++ most)
+  number_passed some low due h =
       let x = none_passed due.at due.count due.entries.now (length (number_key n) - 1) most in
       (λ f. inl (here, some, low, h.0 (x.0 f)), λ f. x.1 (h.1 (number_due f).1))
 
@@ -280,9 +275,6 @@ over_most (items (more_trees t ts)) under h = absurd h
 over_most (members no_members) under h = refl
 over_most (members (more_members k t ms)) under h = absurd h
 
-regroup : (a b c d : List ℕ) → (a ++ (b ++ c)) ++ d ≡ a ++ (b ++ (c ++ d))
-regroup a b c d = simp append_assoc
-
 part_most : (o : Open) (name : List ℕ) (value : Tree) (others : Open) (under : List Open) → IsPart o name value others → most_left (o ∷ under) ≡ replicate (length (name_key (is_object o) name)) 0 ++ (most_at value ++ most_left (others ∷ under))
 part_most (items no_trees) name value others under p = absurd p
 part_most (items (more_trees t ts)) name value others under p =
@@ -296,10 +288,6 @@ part_most (members (more_members k t ms)) name value others under p =
 pub opened_most : (inside : Open) → most_at (opened_tree inside) ≡ 0 ∷ most_open inside
 opened_most (items ts) = refl
 opened_most (members ms) = refl
-
-more_none : (m n : ℕ) (xs : List ℕ) → replicate m 0 ++ (replicate n 0 ++ xs) ≡ replicate (m + n) 0 ++ xs
-more_none zero n xs = ap (λ k. replicate k 0 ++ xs) {x = n} {y = 0 + n} (omega arith)
-more_none (suc m) n xs = ap (λ t. 0 ∷ t) (more_none m n xs) ∙ ap (λ k. replicate k 0 ++ xs) {x = suc (m + n)} {y = suc m + n} (omega arith)
 
 module _ (begun : ZerosDue) (all : List ℕ) (due : ZerosDue) where
   fitting_on : (left n more : ℕ) (opens others : List Open) → left ≡ n + more → most_left opens ≡ replicate n 0 ++ most_left others → Fitting begun all due left opens → Fitting begun all due more others
@@ -319,7 +307,7 @@ module _ (begun : ZerosDue) (all : List ℕ) (due : ZerosDue) where
   opening_fits left more o name value others inside under p w long f =
       let n = length (name_key (is_object o) name) in
       fitting_on left (n + 1) more (o ∷ under) (inside ∷ others ∷ under) (omega (arith, long))
-      (part_most o name value others under p ∙ ap (λ cs. replicate n 0 ++ (cs ++ most_left (others ∷ under))) (ap most_at w ∙ opened_most inside) ∙ more_none n 1 (most_open inside ++ most_left (others ∷ under))) f
+      (part_most o name value others under p ∙ ap (λ cs. replicate n 0 ++ (cs ++ most_left (others ∷ under))) (ap most_at w ∙ opened_most inside) ∙ replicate_more n 1 (most_open inside ++ most_left (others ∷ under))) f
 
   -- What fits where a value is due.
   pub record FittingHere (left : ℕ) (value : Tree) (opens : List Open) : Type 0 where

@@ -19,8 +19,8 @@ use Rattle.jsonb_spec.specs.Document.{zeros_at}
 use Rattle.key_document.specs.FromText.{mark_behind, mark_key, string_key}
 use Rattle.key_document.specs.Tokens.{Token, tokens_text, tokens_key, tokens_counts, AreTokens, FindsZeros, ZerosFrom}
 use Rattle.key_document.specs.declared.from_text.FirstZeros.{FirstZeros}
-use Rattle.key_document.proofs.Joining.{zeros_behind_plain}
 use Rattle.key_document.proofs.Tokens.{tokens_of, string_text, text_written, are_tokens, key_written, counts_written, StringFirst, NumberFirst, MarkFirst, string_first, number_first, mark_first, none_left_of}
+use Rattle.key_zeros.proofs.Taking.{zeros_behind_plain}
 
 -- the parts of a value's text
 pub whole_text : (t : Tree) → IsReadable t → tree_text t ≡ tokens_text (tokens_of t [])

@@ -10,6 +10,7 @@ use Rattle.key_document.specs.declared.error.DocumentError.TheVariants.{OutOfMem
 use Rattle.key_document.specs.declared.splice.Lengths.{Lengths}
 use Rattle.jsonb_spec.specs.Document.Zeros.{zeros_of, plain_at_end, plain_behind}
 use Rattle.key_zeros.proofs.Joining.{zeros_joined}
+use Rattle.key_zeros.proofs.Taking.{zeros_behind_plain}
 
 -- no more bytes without zeros are at the end than there are
 pub plain_bound : (plain : ℕ) (counts : List ℕ) → plain_at_end plain counts ≤ plain + length counts
@@ -18,10 +19,6 @@ plain_bound plain (zero ∷ counts) = omega (arith, plain_bound (suc plain) coun
 plain_bound plain (suc c ∷ counts) =
     let e : plain_behind plain (suc c) ≡ 0 = cond-false (suc c == 0) (suc plain) 0 (ne_eqb (suc c) 0 (λ e. omega (arith, e))) in
     omega (arith, ap (λ p. plain_at_end p counts) {x = plain_behind plain (suc c)} {y = 0} e, plain_bound 0 counts)
-
-pub zeros_behind_plain : (n plain : ℕ) (xs : List ℕ) → zeros_of plain (replicate n 0 ++ xs) ≡ zeros_of (plain + n) xs
-zeros_behind_plain zero plain xs = ap (λ p. zeros_of p xs) {x = plain} {y = plain + 0} (omega arith)
-zeros_behind_plain (suc n) plain xs = zeros_behind_plain n (suc plain) xs ∙ ap (λ p. zeros_of p xs) {x = suc plain + n} {y = plain + suc n} (omega arith)
 
 -- the zeros of the whole are those of three parts
 pub three_parts : (front : List ℕ) (name : ℕ) (part behind : List ℕ) (named more : ℕ) → named ≡ plain_at_end 0 front + name → more ≡ plain_at_end named part

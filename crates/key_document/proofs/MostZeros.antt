@@ -64,17 +64,6 @@ module _ (negative : Bool) (bytes : List ℕ) (digits read : ℕ) (rest : List �
 
 -- ---- the number of a key
 
-module _ (n : Num) (sign : Bool) (bytes more : List ℕ) (s : IsSigned n sign bytes more) where
-  there : exponent_of sign bytes ≡ read_as s.exponent (map (invert_if sign) (digits_key s.count (unsigned_abs n.whole)) ++ more)
-  there = ap (exponent_of sign) s.occurs ∙ exponent_read sign s.exponent (map (invert_if sign) (digits_key s.count (unsigned_abs n.whole)) ++ more) s.low
-
-  -- an exponent is read
-  pub some_exponent : None ≡ exponent_of sign bytes → ⊥
-  some_exponent none = none_some _ (none ∙ there)
-
-  pub is_exponent : (exponent : ℕ) (digits : List ℕ) → read_as exponent digits ≡ exponent_of sign bytes → (exponent ≡ s.exponent) × (digits ≡ map (invert_if sign) (digits_key s.count (unsigned_abs n.whole)) ++ more)
-  is_exponent exponent digits read = some_pair exponent s.exponent digits _ (read ∙ there)
-
 -- 0 may end in as many as there may be digits
 pub zero_most : (n : Num) → n.whole ≡ pos 0 → 38 ≡ most_zeros n
 zero_most n none =

@@ -6,6 +6,7 @@ use Rattle.jsonb_spec.specs.Document.Counts.{counts_at, counts_at_items, counts_
 use Rattle.jsonb_spec.specs.SortKey.Open.{Open, items, members, is_object, end_key, name_key}
 use Rattle.jsonb_spec.specs.SortKey.Parts.{opened_tree}
 use Rattle.jsonb_spec.specs.SortKey.Steps.{IsOver, IsPart}
+use Rattle.key_walk.proofs.Occurrence.{regroup}
 
 -- ---- an end
 
@@ -16,9 +17,6 @@ over_bytes (members no_members) under h = refl
 over_bytes (members (more_members k t ms)) under h = absurd h
 
 -- ---- a part
-
-pub regroup : (a b c d : List ℕ) → (a ++ (b ++ c)) ++ d ≡ a ++ (b ++ (c ++ d))
-regroup a b c d = simp append_assoc
 
 pub part_bytes : (o : Open) (name : List ℕ) (value : Tree) (others : Open) (under : List Open) → IsPart o name value others → opens_counts (o ∷ under) ≡ replicate (length (name_key (is_object o) name)) 0 ++ (counts_at value ++ opens_counts (others ∷ under))
 part_bytes (items no_trees) name value others under p = absurd p

@@ -7,7 +7,7 @@ use Rattle.key_document.specs.declared.error.DocumentError.{DocumentError}
 use Rattle.key_document.specs.declared.error.DocumentError.TheVariants.{OutOfMemory}
 use Rattle.jsonb_spec.specs.Document.Numbers.{Pends, PendsAt}
 use Rattle.jsonb_spec.specs.Document.Zeros.{zeros_of}
-use Rattle.key_zeros.proofs.Taking.{SkipLeft, CopyLeft, copies_some, none_skipped, entry_reached}
+use Rattle.key_zeros.proofs.Taking.{SkipLeft, CopyLeft, copies_some, none_skipped, entry_reached, drop_entry}
 
 -- what pends of the counts that are left, of which so many are still to be passed
 pub record PassLeft (counts : List ℕ) (bytes left : ℕ) (next : Option (ℕ × ℕ × Bor (List ℕ))) : Type 0 where
@@ -19,11 +19,6 @@ pub passes : (counts : List ℕ) (bytes : ℕ) (next : Option (ℕ × ℕ × Bor
 passes counts bytes next p enough = record { rest = zeros_of 0 counts; skip = record { others = counts; occurs = refl; same = refl; enough = enough; fewer = omega arith }; pends = p }
 
 -- ---- and copied
-
-drop_entry : (left before count : ℕ) (xs : List ℕ) → before < left → drop left (replicate before 0 ++ count ∷ xs) ≡ drop (left - (before + 1)) xs
-drop_entry zero before count xs h = absurd (omega (arith, h))
-drop_entry (suc left) zero count xs h = ap (λ n. drop n xs) {x = left} {y = suc left - (0 + 1)} (omega arith)
-drop_entry (suc left) (suc before) count xs h = drop_entry left before count xs (omega (arith, h)) ∙ ap (λ n. drop n xs) {x = left - (before + 1)} {y = suc left - (suc before + 1)} (omega arith)
 
 -- What is left to copy of so many bytes, and what pends of it.
 pub record CopyOn (counts : List ℕ) (plain bytes : ℕ) (old now : List ℕ) (left more : ℕ) (next : Option (ℕ × ℕ × Bor (List ℕ))) : Type 0 where

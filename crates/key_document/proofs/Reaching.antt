@@ -19,6 +19,7 @@ use Rattle.jsonb_spec.specs.Proper.{IsProper}
 use Rattle.jsonb_spec.specs.Tree.{Tree, array, object, Trees, no_trees, more_trees, Members, no_members, more_members}
 use Rattle.key_walk.proofs.Occurrence.{below_all, equal_names}
 use Rattle.jsonb_spec.specs.Edit.{Outcome, stays, goes, becomes, member_before, changed_member, item_before, changed_item, step_named, changed_at_step, changed_part, part_with, within, changed_at}
+use Rattle.key_walk.proofs.Finds.{child_there}
 
 none_some : {A : Type 0} {a : A} → None ≡ Some a → ⊥
 none_some e = cc
@@ -100,15 +101,6 @@ step_is (c ∷ cs) index e = elim (cases_eq c 45) [
 
 -- ---- a child, and a part within it
 
-child_is : (name : List ℕ) (t u : Tree) → child_at name t ≡ Some u → IsChild t name u
-child_is name (object ms) u e = e
-child_is name (array ts) u e = by (index_named name) refl e
-  where
-    by : (o : Option ℕ) → index_named name ≡ o → option_and_then (item_at ts) o ≡ Some u → IsChild (array ts) name u
-    by None is e = absurd (none_some e)
-    by (Some index) is e = (index, names_index name index is, e)
-child_is name t u e = absurd (none_some e)
-
 child_part : (name : List ℕ) (t u : Tree) → IsProper t → child_at name t ≡ Some u → ChangesPart (λ change. changed_part change name t) u
 child_part name (object ms) u p e = inside object (λ change. changed_member change name ms) u (members_part name ms u p.0 e)
 child_part name (array ts) u p e = by (index_named name) refl e
@@ -137,7 +129,7 @@ at_part name (next ∷ names) t part p e = by (λ u q f. at_part next names u pa
     by within_it None is e = absurd (none_some e)
     by within_it (Some u) is e =
         let outer = child_part name t u p is in
-        let inner = within_it u (part_proper t (name ∷ []) u (u, child_is name t u is, refl) p) e in
+        let inner = within_it u (part_proper t (name ∷ []) u (u, child_there name t u is, refl) p) e in
         record {
           same = λ change.
               outer.same (within (changed_at change (next ∷ names))) ∙ ap (λ x. changed_part (λ there. part_with x) name t) (inner.same change)

@@ -10,11 +10,11 @@ use Rattle.key_document.specs.Cursor.{IsLeftAt, IsLeftBehind, IsLeftOf}
 use Rattle.jsonb_spec.specs.Document.{zeros_at}
 use Rattle.key_document.specs.declared.cursor.ZerosLeft.{ZerosLeft}
 use Rattle.key_text.proofs.Counts.{one_each}
-use Rattle.key_document.proofs.Joining.{zeros_behind_plain}
 use Rattle.jsonb_spec.specs.Document.Numbers.{PendsAt}
 use Rattle.jsonb_spec.specs.Document.Zeros.{entry_of, plain_at_end, plain_behind, zeros_of}
 use Rattle.key_zeros.proofs.Joining.{zeros_joined}
 use Rattle.jsonb_spec.specs.Document.Counts.{counts_at}
+use Rattle.key_zeros.proofs.Taking.{zeros_behind_plain}
 
 -- what is left at the end is found by its length
 dropped : (all front others : List ℕ) → all ≡ front ++ others → drop (length all - length others) all ≡ others

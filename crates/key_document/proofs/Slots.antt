@@ -180,6 +180,3 @@ pub record PartFound (o : Option Tree) (rest : List ℕ) : Type 0 where
 pub part_found : (bytes : List ℕ) (o : Option Tree) (rest : Bor (List ℕ)) → Finds bytes o (Ok (Some rest)) → PartFound o rest.now
 part_found bytes None rest f = absurd f
 part_found bytes (Some part) rest f = record { part = part; is = refl; readable = f.readable; behind = f.behind; occurs = f.occurs }
-
-pub no_rest : (more : List ℕ) → None ≡ Some more → ⊥
-no_rest more e = cc

@@ -19,11 +19,12 @@ use Rattle.jsonb_spec.specs.Edit.LeftOut.{is_null, items_without_nulls, members_
 use Rattle.key_document.specs.Retaining.{AreAhead, IsBegun, Retains, unless}
 use Rattle.key_document.specs.declared.retain.Output.{Output}
 use Rattle.key_document.specs.declared.retain.Retaining.{Retaining}
-use Rattle.key_document.proofs.Beside.{push_counts, push_key}
+use Rattle.key_document.proofs.Beside.{push_counts, push_key, picked}
 use Rattle.key_text.proofs.Counts.{one_each}
 use Rattle.key_document.proofs.OpenCounts.{opened_bytes, over_bytes, part_bytes}
 use Rattle.key_document.proofs.Retained.{PassedNext, retains_begun}
 use Rattle.jsonb_spec.specs.Document.Counts.{counts_at, counts_at_items, counts_at_members, counts_open, opens_counts}
+use Rattle.key_document.proofs.Walks.{over_key, opened_key}
 
 -- ---- what stays
 
@@ -67,12 +68,6 @@ null_first depth (object ms) r s first rest bytes more e f = absurd s
 null_first depth t r s first rest bytes more e f = absurd r.within
 
 -- ---- an end
-
-over_key : (over : Open) (under : List Open) → IsOver over → opens_key (over ∷ under) ≡ end_key (is_object over) ++ opens_key under
-over_key (items no_trees) under h = refl
-over_key (items (more_trees t ts)) under h = absurd h
-over_key (members no_members) under h = refl
-over_key (members (more_members k t ms)) under h = absurd h
 
 bare_over : (b : Bool) (over : Open) → IsOver over → bare b over ≡ over
 bare_over b (items no_trees) h = refl
@@ -174,10 +169,6 @@ module _ (b : Bool) (rest behind : List ℕ) (o : Open) (name : List ℕ) (value
   not_null (items ts) = refl
   not_null (members ms) = refl
 
-  opened_key : (inside : Open) → key_of (opened_tree inside) ≡ opening_byte (is_object inside) ∷ open_key inside
-  opened_key (items ts) = refl
-  opened_key (members ms) = refl
-
   bare_kind : (inside : Open) → is_object (bare b inside) ≡ is_object inside
   bare_kind (items ts) = refl
   bare_kind (members ms) = refl
@@ -223,10 +214,6 @@ strip_begun (members ms) b begun bytes old h =
     (ap (λ l. 209 ∷ l) (sym (append-nil (members_key (members_without_nulls b ms))))) (ap (λ l. 0 ∷ l) (sym (append-nil (counts_at_members (members_without_nulls b ms)))))
 
 -- ---- what stays is nested no deeper
-
-picked : {X : Type 0} (Is : X → Type 0) (b : Bool) (x y : X) → Is x → Is y → Is (if b then x else y)
-picked Is true x y p q = p
-picked Is false x y p q = q
 
 one_deeper : (P Q : ℕ → Type 0) (depth : ℕ) → ((d : ℕ) → P d → Q d) → IsOneDeeper P depth → IsOneDeeper Q depth
 one_deeper P Q zero h w = absurd w

@@ -31,8 +31,3 @@ only_memory (Err e) error document h p = λ t r d. h ∙ p t r d
 pub of_memory : (e : KeyError) → (e ≡ key_errors.Invalid → ⊥) → of_key_error e ≡ OutOfMemory
 of_memory key_errors.Invalid other = absurd (other refl)
 of_memory key_errors.OutOfMemory other = refl
-
--- what holds at all holds where a call fails
-pub where_failed : {X E P : Type 0} (r : Result X E) → P → OnErr r P
-where_failed (Ok x) p = tt
-where_failed (Err e) p = p

@@ -18,6 +18,7 @@ use Rattle.key_document.specs.FromText.{closed, EndsNumber, is_name, mark_behind
 use Rattle.key_document.specs.Tokens.{Token, mark_part, string_part, number_part, tokens_text, tokens_key, tokens_counts, IsMark, AreTokens}
 use Rattle.key_document.proofs.Items.{kind_of}
 use Rattle.jsonb_spec.specs.Document.Counts.{counts_at, counts_at_items, counts_at_members}
+use Rattle.key_zeros.proofs.NumberedTexts.{none_left, one_more}
 
 -- what may follow a value: no byte of a number, and no colon
 abbrev pub EndsValue : List ℕ → Type 0
@@ -63,14 +64,6 @@ abbrev mutual
 comma_text : (first : Bool) (k : List Token) → tokens_text (comma_token first k) ≡ comma_before first ++ tokens_text k
 comma_text true k = refl
 comma_text false k = refl
-
-none_left : (first : Bool) (behind : List ℕ) → behind ≡ texts_left first [] ++ behind
-none_left true behind = refl
-none_left false behind = refl
-
-one_more : (first : Bool) (a : List ℕ) (texts : List (List ℕ)) (behind : List ℕ) → comma_before first ++ (a ++ (texts_left false texts ++ behind)) ≡ texts_left first (a ∷ texts) ++ behind
-one_more first a texts behind =
-    sym (ap (λ t. t ++ behind) (texts_left-comma first a texts) ∙ append_assoc (comma_before first) (a ++ texts_left false texts) behind ∙ ap (λ t. comma_before first ++ t) (append_assoc a (texts_left false texts) behind))
 
 pub string_text : (bytes behind : List ℕ) → 34 ∷ closed bytes behind ≡ quoted_text bytes ++ behind
 string_text bytes behind = ap (λ t. 34 ∷ t) (sym (append_assoc (flat_map byte_text bytes) (34 ∷ []) behind))

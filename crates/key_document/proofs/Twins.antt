@@ -33,6 +33,8 @@ use Rattle.jsonb_spec.specs.SortKey.Text.{value_text}
 use Rattle.key_text.proofs.Spares.{fewest_has, fewest_key, fewest_proper}
 use Rattle.key_text.proofs.Whole.{array_text, object_text}
 use Rattle.jsonb_spec.specs.Document.Zeros.{counts_in, counts_in_items, counts_in_members}
+use Rattle.jsonb_core.proofs.SortKeys.Digits.{ten}
+use Rattle.key_value.proofs.Numbers.{cancel}
 
 -- ---- counts that go together
 
@@ -73,20 +75,13 @@ alike_joined a b c d p q r s x y = record {
 
 -- ---- numbers
 
-ten : (n : ℕ) → 0 < 10 ^ n
-ten zero = omega arith
-ten (suc n) = omega (arith, ten n, pow-suc 10 n)
-
-cancelled : (a b k : ℕ) → 0 < k → a * k ≡ b * k → a ≡ b
-cancelled a b k some e = nat_cmp-IsAntisymmetric a b (nat_cmp-scaled a b k some ∙ is_equal (a * k) (b * k) e)
-
 -- with a scale that is less, the last digit of the other is 0
 not_less : (a b s t : ℕ) → a * 10 ^ t ≡ b * 10 ^ s → (t ≡ 0) ⊎ (b % 10 ≢ 0) → s < t → ⊥
 not_less a b s t e few less =
     let d = t - s - 1 in
     let T : 10 ^ t ≡ 10 ^ suc d * 10 ^ s = ap (λ k. 10 ^ k) {x = t} {y = suc d + s} (omega (arith, less)) ∙ pow-add 10 (suc d) s in
     let one : a * 10 ^ suc d * 10 ^ s ≡ b * 10 ^ s = omega (arith, e, ap (λ k. a * k) T) in
-    let is : a * 10 ^ suc d ≡ b = cancelled (a * 10 ^ suc d) b (10 ^ s) (ten s) one in
+    let is : a * 10 ^ suc d ≡ b = cancel (a * 10 ^ suc d) b (10 ^ s) (ten s) one in
     let last : b % 10 ≡ 0 = omega (arith, is, ap (λ k. a * k) (pow-suc 10 d)) in
     elim few [
       | inl none ↦ omega (arith, none, less)

@@ -10,7 +10,7 @@ use Rattle.key_document.specs.Walk.{IsWalkAt, IsNameMet, IsValueMet, MeetsFirst,
 use Rattle.key_document.specs.declared.error.DocumentError.{DocumentError}
 use Rattle.key_document.specs.declared.walk.Met.{Met}
 use Rattle.key_document.specs.declared.walk.Walk.{Walk}
-use Rattle.key_document.proofs.OpenCounts.{opened_bytes, over_bytes, part_bytes, regroup}
+use Rattle.key_document.proofs.OpenCounts.{opened_bytes, over_bytes, part_bytes}
 use Rattle.key_text.proofs.Counts.{one_each, opens_each}
 use Rattle.jsonb_spec.specs.Document.Counts.{counts_at, counts_open, opens_counts}
 use Rattle.jsonb_spec.specs.SortKey.Readable.{IsAnyNumber, IsReadable, IsReadableAt}
@@ -22,6 +22,7 @@ use Rattle.jsonb_spec.specs.SortKey.Steps.{BeginsWithEnd, IsOver, IsPart, opens_
 use Rattle.jsonb_spec.specs.SortKey.Open.{Open, items, members, end_key, is_object, name_key, open_key, opening_byte, IsOpen, IsScalar}
 use Rattle.key_walk.specs.Parts.{kind_of_tree}
 use Rattle.jsonb_spec.specs.SortKey.Parts.{opened_tree}
+use Rattle.key_walk.proofs.Occurrence.{regroup}
 
 -- ---- marks
 
@@ -87,7 +88,7 @@ within_document t opens offset behind document p is = omega (arith, within_key t
 
 -- ---- keys of what is open
 
-over_key : (o : Open) (under : List Open) → IsOver o → opens_key (o ∷ under) ≡ end_key (is_object o) ++ opens_key under
+pub over_key : (o : Open) (under : List Open) → IsOver o → opens_key (o ∷ under) ≡ end_key (is_object o) ++ opens_key under
 over_key (items no_trees) under h = refl
 over_key (items (more_trees t ts)) under h = absurd h
 over_key (members no_members) under h = refl
@@ -145,7 +146,7 @@ opened_event : (name : Option (List ℕ)) (o : Open) → (events_of name (opened
 opened_event name (items ts) = (refl, refl, refl)
 opened_event name (members ms) = (refl, refl, refl)
 
-opened_key : (o : Open) → key_of (opened_tree o) ≡ opening_byte (is_object o) ∷ open_key o
+pub opened_key : (o : Open) → key_of (opened_tree o) ≡ opening_byte (is_object o) ∷ open_key o
 opened_key (items ts) = refl
 opened_key (members ms) = refl
 
@@ -233,16 +234,6 @@ begun_scalar t r scalar met kind unnamed at size zeros new offset_is depth_is le
 
 pub whole_counts : (t : Tree) → drop 0 (counts_at t) ≡ counts_at t ++ []
 whole_counts t = sym (append-nil (counts_at t))
-
--- its kind is known
-pub kind_known : (t : Tree) → IsReadable t → None ≡ kind_of_tree t → ⊥
-kind_known null r e = none_some _ e
-kind_known (boolean b) r e = none_some _ e
-kind_known (string mark text) r e = none_some _ e
-kind_known (number n) r e = none_some _ e
-kind_known (array ts) r e = none_some _ e
-kind_known (object ms) r e = none_some _ e
-kind_known t r e = r.within
 
 pub some_key : (t : Tree) → IsReadable t → 0 < length (key_of t)
 some_key t r = omega (arith, some_byte 512 t r)

@@ -11,8 +11,8 @@ use Rattle.jsonb_spec.specs.Document.Scan.{is_number_byte}
 use Rattle.jsonb_spec.specs.Document.Zeros.{entry_of, plain_behind, zeros_of}
 use Rattle.key_document.specs.FromText.{mark_behind, mark_key, string_key}
 use Rattle.key_document.specs.Tokens.{Token, tokens_text, tokens_key, tokens_counts, AreTokens}
-use Rattle.key_document.proofs.Joining.{zeros_behind_plain}
 use Rattle.key_document.proofs.Tokens.{StringFirst, NumberFirst, MarkFirst, string_first, number_first, mark_first, none_left_of}
+use Rattle.key_zeros.proofs.Taking.{zeros_behind_plain}
 
 -- What is left of parts whose keys are in the buffer, and of their zeros, of which the rest is written.
 pub record ZerosLeft (front : List ℕ) (tokens : List Token) (begun_plain : ℕ) (rest : List ℕ) (at plain : ℕ) (old now : List ℕ) : Type 0 where

@@ -1,25 +1,22 @@
 //! Whether bytes are a document: checked with no memory.
 
-ghost use Rattle.std.specs.Prelude.{◌≡◌, ◌<◌, ◌≤◌, ◌^◌, ◌++◌, ◌↔◌, ℕ, List, length, map, reverse, IfSome, IsTrue, MatchOption};
+ghost use Rattle.std.specs.Prelude.{◌≡◌, ◌<◌, ◌≤◌, ◌^◌, ◌++◌, ◌↔◌, ℕ, List, length, map, IfSome, IsTrue, MatchOption};
 ghost use Rattle.jsonb_spec.specs.Proper.{IsProper, IsProperNumber};
 ghost use Rattle.jsonb_spec.specs.SortKey.{digits_key, invert_if, key_of, number_key};
 ghost use Rattle.jsonb_spec.specs.Tree.{Num, Tree};
 ghost use Rattle.key_document.specs.Check.{Fits, IsCounted, IsStripped, ZerosFit, most_at, most_open, most_zeros};
 ghost use Rattle.jsonb_spec.specs.Document.Check.{IsDocumentInRange};
-ghost use Rattle.jsonb_spec.specs.Document.{end_of};
-ghost use Rattle.jsonb_spec.specs.SortKey.AtKeys.{Leaves, OfKey};
+ghost use Rattle.jsonb_spec.specs.SortKey.AtKeys.{OfKey};
 ghost use Rattle.jsonb_spec.specs.SortKey.Open.{Open, IsOpen, IsScalar, is_object, open_key};
 ghost use Rattle.jsonb_spec.specs.Document.PartsOf.{number_count, numbers_in};
-ghost use Rattle.jsonb_spec.specs.Document.Zeros.{in_sevens};
 
-use crate::document::{ZEROS_MARK, split_document};
-use crate::due::ZerosDue;
+use crate::document::split_document;
+use crate::due::{ZerosDue, zeros_due};
 use jsonb_core::sort_key::kind;
 use key_value::number::{invert_if, read_exponent};
 use key_walk::is_sort_key;
 use key_walk::skip::opening;
 use key_walk::steps::{Step, Steps};
-use key_zeros::entry::next_entry;
 use key_zeros::number_count;
 
 // How many digits a number has at most, before the point and behind it.
@@ -35,77 +32,11 @@ const POINT: u32 = 255;
 pub fn is_document(document: &[u8]) -> bool
     ensures { IsTrue result ↔ IsDocumentInRange document.now }
 {
-    // Of any bytes these are two ranges that are together no longer, so the bytes are split anew by their lengths.
-    let (first, second) = split_document(document);
-    let (key, behind) = document.split_at(first.len());
-    let (zeros, end) = behind.split_at(second.len());
-    if !is_end(zeros.len(), end) {
-        return false;
-    }
+    let (key, zeros) = split_document(document);
     if !is_sort_key(key) {
         return false;
     }
     zeros_fit(key, zeros)
-}
-
-// Whether the bytes are what follows zeros that take so many bytes.
-fn is_end(size: usize, bytes: &[u8]) -> bool
-    ensures { size < 2 ^ 63 → IsTrue result ↔ (bytes.now ≡ end_of size) }
-{
-    if size == 0 {
-        return bytes.is_empty();
-    }
-    let Some((last, front)) = bytes.split_last() else {
-        return false;
-    };
-    if *last != ZEROS_MARK {
-        return false;
-    }
-    is_size(size, front)
-}
-
-// Whether the bytes are the number, seven bits in a byte, the lowest last.
-fn is_size(size: usize, bytes: &[u8]) -> bool
-    ensures { size < 2 ^ 63 → IsTrue result ↔ (reverse bytes.now ≡ in_sevens 8 size) }
-{
-    let mut left = size;
-    let mut rest = bytes;
-    'sevens: while let Some((byte, others)) = rest.split_last() {
-        if left < 128 {
-            if usize::from(*byte) != left {
-                return false;
-            }
-            return others.is_empty();
-        }
-        if usize::from(*byte) != 128 + left % 128 {
-            return false;
-        }
-        left /= 128;
-        rest = others;
-    }
-    false
-}
-
-// The bytes behind the number that they begin with, seven bits in a byte, the lowest first.
-fn after_sevens(number: usize, bytes: &[u8]) -> Option<&[u8]>
-    ensures { number < 2 ^ 63 → (more : List ℕ) → Leaves result more ↔ (bytes.now ≡ in_sevens 8 number ++ more) }
-{
-    let mut left = number;
-    let mut rest = bytes;
-    'sevens: while let Some((byte, others)) = rest.split_first() {
-        if left < 128 {
-            if usize::from(*byte) != left {
-                return None;
-            }
-            return Some(others);
-        }
-        if usize::from(*byte) != 128 + left % 128 {
-            return None;
-        }
-        left /= 128;
-        rest = others;
-    }
-    None
 }
 
 // Whether the zeros are those of numbers of this key, each of which stays in range with them. A function of its own, so
@@ -114,7 +45,7 @@ fn after_sevens(number: usize, bytes: &[u8]) -> Option<&[u8]>
 fn zeros_fit(key: &[u8], zeros: &[u8]) -> bool
     ensures { OfKey key.now (λ t. IsTrue result ↔ ZerosFit (most_at t) zeros.now) }
 {
-    let Some(due) = next_due(key.len(), zeros) else {
+    let Ok(due) = zeros_due(key.len(), zeros) else {
         return false;
     };
     if due.at == 0 {
@@ -130,41 +61,6 @@ fn zeros_fit(key: &[u8], zeros: &[u8]) -> bool
             None => false,
         },
     }
-}
-
-// What is known of the first number with zeros, where so many bytes of the key are left.
-fn next_due<'z>(left: usize, zeros: &'z [u8]) -> Option<ZerosDue<'z>>
-    ensures due { left < 2 ^ 63 → (most : List ℕ) → length most ≡ left
-        → MatchOption result (ZerosFit most zeros.now → ⊥) (λ due. Fits due most ↔ ZerosFit most zeros.now) }
-    ensures counted { IfSome result IsCounted }
-{
-    if zeros.is_empty() {
-        return Some(ZerosDue {
-            at: 0,
-            count: 0,
-            entries: zeros,
-        });
-    }
-    let Some((before, _, _)) = next_entry(zeros) else {
-        return None;
-    };
-    if before >= left {
-        return None;
-    }
-    let Some(behind) = after_sevens(before, zeros) else {
-        return None;
-    };
-    let Some((count, entries)) = behind.split_first() else {
-        return None;
-    };
-    if *count == 0 {
-        return None;
-    }
-    Some(ZerosDue {
-        at: left - before,
-        count: *count,
-        entries,
-    })
 }
 
 // Whether they are those of numbers of an array or an object, from the parts on, which the bytes are.
@@ -210,7 +106,10 @@ fn pass_scalar<'z>(first: u8, bytes: &[u8], due: &ZerosDue<'z>) -> Option<ZerosD
     if u32::from(due.count) > most_zeros(bytes) {
         return None;
     }
-    next_due(bytes.len().saturating_sub(1), due.entries)
+    let Ok(next) = zeros_due(bytes.len().saturating_sub(1), due.entries) else {
+        return None;
+    };
+    Some(next)
 }
 
 // How many zeros the number may end in whose key the bytes begin with.

@@ -1,9 +1,10 @@
 //! What is due of a document's zeros while its key is walked.
 
-ghost use Rattle.std.specs.Prelude.{◌≡◌, ◌<◌, ◌^◌, ◌++◌, ◌∷◌, ℕ, suc, List, length, replicate, MatchResult};
+ghost use Rattle.std.specs.Prelude.{◌≡◌, ◌<◌, ◌^◌, ◌++◌, ◌∷◌, ◌↔◌, ℕ, suc, List, length, replicate, IfOk, MatchResult};
 ghost use Rattle.jsonb_spec.specs.Proper.{IsProperNumber};
 ghost use Rattle.jsonb_spec.specs.Text.NumberText.{number_text};
 ghost use Rattle.jsonb_spec.specs.Tree.{Num};
+ghost use Rattle.key_document.specs.Check.{Fits, IsCounted, ZerosFit};
 ghost use Rattle.key_document.specs.DueZeros.{AreDue};
 ghost use Rattle.jsonb_spec.specs.Document.Counts.{count_of};
 ghost use Rattle.key_text.specs.Counts.{Completes};
@@ -30,8 +31,11 @@ pub(crate) struct ZerosDue<'z> {
 
 /// What is known of the first number with zeros, where so many bytes of the key are left.
 pub(crate) fn zeros_due(left: usize, zeros: &[u8]) -> Result<ZerosDue<'_>, KeyError>
-    ensures { left < 2 ^ 63 → (counts : List ℕ) → length counts ≡ left → zeros.now ≡ zeros_of 0 counts
+    ensures due { left < 2 ^ 63 → (counts : List ℕ) → length counts ≡ left → zeros.now ≡ zeros_of 0 counts
         → MatchResult result (λ due. AreDue due counts) (λ e. ⊥) }
+    ensures fits { left < 2 ^ 63 → (most : List ℕ) → length most ≡ left
+        → MatchResult result (λ due. Fits due most ↔ ZerosFit most zeros.now) (λ e. ZerosFit most zeros.now → ⊥) }
+    ensures counted { IfOk result IsCounted }
 {
     if zeros.is_empty() {
         return Ok(ZerosDue {
@@ -43,10 +47,14 @@ pub(crate) fn zeros_due(left: usize, zeros: &[u8]) -> Result<ZerosDue<'_>, KeyEr
     let Some((before, count, entries)) = next_entry(zeros) else {
         return Err(KeyError::Invalid);
     };
-    let Some(at) = left.checked_sub(before) else {
+    if before >= left {
         return Err(KeyError::Invalid);
-    };
-    Ok(ZerosDue { at, count, entries })
+    }
+    Ok(ZerosDue {
+        at: left - before,
+        count,
+        entries,
+    })
 }
 
 impl<'z> ZerosDue<'z> {

@@ -91,8 +91,7 @@ fn append_tail(
     let (_, rest) = text.split_at(passed);
     let end = out.len();
     append_zeros(rest, first.at, first.at.saturating_sub(start), out)?;
-    let size = out.len().saturating_sub(end);
-    end_zeros(size, out)?;
+    end_zeros(end, out)?;
     Ok(())
 }
 

@@ -66,8 +66,7 @@ fn merge_tail(
     }
     let start = out.len();
     merge_zeros(out, key, zeros, other, other_zeros)?;
-    let size = out.len().saturating_sub(start);
-    end_zeros(size, out)?;
+    end_zeros(start, out)?;
     Ok(())
 }
 

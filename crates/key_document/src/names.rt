@@ -104,8 +104,7 @@ fn write_tail(
     let start = out.len();
     let all = all_left(zeros)?;
     write_answer(key, names, Output::Zeros(0, all), out)?;
-    let size = out.len().saturating_sub(start);
-    end_zeros(size, out)?;
+    end_zeros(start, out)?;
     Ok(())
 }
 

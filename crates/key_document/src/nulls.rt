@@ -85,8 +85,7 @@ fn write_tail(
     let start = out.len();
     let all = all_left(zeros)?;
     write_value(key, in_arrays, Output::Zeros(0, all), out)?;
-    let size = out.len().saturating_sub(start);
-    end_zeros(size, out)?;
+    end_zeros(start, out)?;
     Ok(())
 }
 

@@ -69,8 +69,7 @@ fn splice_zeros(
 {
     let start = out.len();
     join_zeros(out, key_len, zeros, part_zeros, lengths)?;
-    let size = out.len().saturating_sub(start);
-    end_zeros(size, out)?;
+    end_zeros(start, out)?;
     Ok(())
 }
 
@@ -139,7 +138,6 @@ pub(crate) fn take_zeros<'z>(
     let start = out.len();
     let rest = pass(left, gap)?;
     let (_, behind) = copy(0, rest, size, out)?;
-    let zeros_len = out.len().saturating_sub(start);
-    end_zeros(zeros_len, out)?;
+    end_zeros(start, out)?;
     Ok(behind)
 }

@@ -11,7 +11,6 @@ use Rattle.jsonb_spec.specs.Keys.{IsBelowKeys, KeysAscend}
 use Rattle.jsonb_spec.specs.Order.{bytes_cmp}
 use Rattle.jsonb_spec.specs.SortKey.{key_of, members_key, text_key}
 use Rattle.jsonb_spec.specs.Tree.{Tree, object, Members, no_members, more_members}
-use Rattle.jsonb_core.proofs.Trees.MembersInOrder.{turned}
 use Rattle.key_value.proofs.Texts.{none_some, some_same}
 use Rattle.jsonb_spec.specs.SortKey.AtKeys.{OfKey}
 use Rattle.jsonb_spec.specs.SortKey.Found.{members_len, IsRange}
@@ -20,6 +19,7 @@ use Rattle.key_walk.proofs.Occurrence.{below_all, equal_names, true_false}
 use Rattle.key_table.specs.Results.{ReportsRange, GivesRange}
 use Rattle.jsonb_spec.specs.Table.{has_table, in_two, member_offsets, table_mark, table_of, table_of_members}
 use Rattle.key_table.proofs.Having.{entries_long, most_size, table_some}
+use Rattle.key_walk.proofs.Holding.{one_passed}
 
 -- ---- the member of an index
 
@@ -49,10 +49,6 @@ pub record MemberAt (ms : Members) (i first : ℕ) : Type 0 where
   pub skips : (wanted : List ℕ) → bytes_cmp name wanted ≡ Less → find_member (bytes_eq wanted) ms ≡ find_member (bytes_eq wanted) others
   pub there : (wanted : List ℕ) → bytes_cmp wanted name ≡ Equal → find_member (bytes_eq wanted) ms ≡ Some value
 
--- a name that is above another one
-other_name : (wanted k : List ℕ) (t : Tree) (ms : Members) → bytes_cmp k wanted ≡ Less → find_member (bytes_eq wanted) (more_members k t ms) ≡ find_member (bytes_eq wanted) ms
-other_name wanted k t ms less = ap (λ b. if b then Some t else find_member (bytes_eq wanted) ms) (equal_names wanted k ∙ ap is_eq (turned k wanted less))
-
 pub member_at : (ms : Members) (i first : ℕ) → KeysAscend ms → i < members_len ms → MemberAt ms i first
 member_at no_members i first a h = absurd (omega (arith, h))
 member_at (more_members k t ms) zero first a h = record {
@@ -71,7 +67,7 @@ member_at (more_members k t ms) zero first a h = record {
   entries = refl;
   below = a.0;
   above = λ l b. b.0;
-  skips = λ wanted less. other_name wanted k t ms less;
+  skips = λ wanted less. one_passed wanted k t ms less;
   there = λ wanted same. ap (λ b. if b then Some t else find_member (bytes_eq wanted) ms) (equal_names wanted k ∙ ap is_eq same);
 }
 member_at (more_members k t ms) (suc i) first a h =
@@ -93,8 +89,8 @@ member_at (more_members k t ms) (suc i) first a h =
       entries = ap (λ l. in_two first ++ l) m.entries;
       below = m.below;
       above = λ l b. m.above l b.1;
-      skips = λ wanted less. other_name wanted k t ms (nat_list_cmp_total.trans k m.name wanted (m.above k a.0) less) ∙ m.skips wanted less;
-      there = λ wanted same. other_name wanted k t ms (ap (bytes_cmp k) (exact_bytes wanted m.name same) ∙ m.above k a.0) ∙ m.there wanted same;
+      skips = λ wanted less. one_passed wanted k t ms (nat_list_cmp_total.trans k m.name wanted (m.above k a.0) less) ∙ m.skips wanted less;
+      there = λ wanted same. one_passed wanted k t ms (ap (bytes_cmp k) (exact_bytes wanted m.name same) ∙ m.above k a.0) ∙ m.there wanted same;
     }
   where
     regrouped : (a b c d : List ℕ) → a ++ (b ++ (c ++ d)) ≡ (a ++ (b ++ c)) ++ d

@@ -58,9 +58,6 @@ not_there ms table entries left n m r same matches leaves none all =
 pub false_never : IsTrue false → ⊥
 false_never is = true_false (sym is)
 
-pub says_no : {X : Type 0} → (X → ⊥) → IsTrue false ↔ X
-says_no none = (λ is. absurd (false_never is), λ x. absurd (none x))
-
 -- the end of a table by what is behind the number
 module _ (bytes : List ℕ) (n : ℕ) (r : Option (Bor (List ℕ))) (leaves : (rest : List ℕ) → Leaves r rest ↔ (bytes ≡ in_two n ++ rest)) where
   pub ends_with : (x : Bor (List ℕ)) → r ≡ Some x → 1 ≤ length x.now → length x.now < 2 → IsTrue (nat_eq (slice_index_or x.now 0 0) table_mark) ↔ (bytes ≡ in_two n ++ table_mark ∷ [])

@@ -46,7 +46,7 @@ zeros_are_digits : (n : ℕ) → AreDigits (replicate n 48)
 zeros_are_digits zero = tt
 zeros_are_digits (suc n) = (omega arith, omega arith, zeros_are_digits n)
 
-digit_byte : (c : ℕ) → 48 ≤ c → c ≤ 57 → is_number_byte c ≡ true
+pub digit_byte : (c : ℕ) → 48 ≤ c → c ≤ 57 → is_number_byte c ≡ true
 digit_byte c low high =
     (λ i. ne_eqb c 45 (λ e. omega (arith, e, low)) i || (ne_eqb c 46 (λ e. omega (arith, e, low)) i || (lt-ltb 47 c (omega (arith, low)) i && lt-ltb c 58 (omega (arith, high)) i)))
 

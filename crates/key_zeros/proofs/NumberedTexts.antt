@@ -84,11 +84,11 @@ gap_written : (write : Num → List ℕ) (gap : List ℕ) (k : NumberedText) →
 gap_written write gap (last_gap behind) = refl
 gap_written write gap (gap_then behind n k) = append_assoc gap behind (write n ++ bytes_with write k)
 
-none_left : (first : Bool) (behind : List ℕ) → behind ≡ texts_left first [] ++ behind
+pub none_left : (first : Bool) (behind : List ℕ) → behind ≡ texts_left first [] ++ behind
 none_left true behind = refl
 none_left false behind = refl
 
-one_more : (first : Bool) (a : List ℕ) (texts : List (List ℕ)) (behind : List ℕ) → comma_before first ++ (a ++ (texts_left false texts ++ behind)) ≡ texts_left first (a ∷ texts) ++ behind
+pub one_more : (first : Bool) (a : List ℕ) (texts : List (List ℕ)) (behind : List ℕ) → comma_before first ++ (a ++ (texts_left false texts ++ behind)) ≡ texts_left first (a ∷ texts) ++ behind
 one_more first a texts behind =
     sym (ap (λ t. t ++ behind) (texts_left-comma first a texts) ∙ append_assoc (comma_before first) (a ++ texts_left false texts) behind ∙ ap (λ t. comma_before first ++ t) (append_assoc a (texts_left false texts) behind))
 

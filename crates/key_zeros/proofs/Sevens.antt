@@ -1,7 +1,7 @@
 -- Numbers in groups of seven bits, written and read from the lowest on.
-use Rattle.std.proofs.Common.{◌≡◌, ℕ, zero, suc, ◌+◌, ◌-◌, ◌*◌, ◌/◌, ◌%◌, ◌^◌, ◌<◌, ◌≤◌, inl, inr, List, [], ◌∷◌, ◌++◌, length, refl, sym, ap, ◌∙◌, arith, append-nil, length-append}
+use Rattle.std.proofs.Common.{◌≡◌, ℕ, zero, suc, ◌+◌, ◌-◌, ◌*◌, ◌/◌, ◌%◌, ◌^◌, ◌<◌, ◌≤◌, inl, inr, List, [], ◌∷◌, ◌++◌, length, refl, sym, ap, ap₂, ◌∙◌, arith, append-nil, length-append}
 use Rattle.std.proofs.Math.Nat.{pow-suc, pow-zero, mul-le-mul_left}
-use Rattle.std.proofs.lemmas.Bool.{cond-true, cond-false, cases_lt, lt-ltb, le-ltb}
+use Rattle.std.proofs.lemmas.Bool.{cond-true, cond-false, cases_eq, cases_lt, lt-ltb, le-ltb}
 use Rattle.std.specs.Bool.{nat_lt}
 use Rattle.jsonb_core.proofs.Appending.Appended.{IsUnderway, begun, goes_on, fits}
 use Rattle.jsonb_core.proofs.Trees.Runs.{heads, tails}
@@ -61,25 +61,32 @@ pub record SevensToCome (all n unit : ℕ) (rest more : List ℕ) : Type 0 where
   pub left : ℕ
   pub scale : unit * 128 ^ groups ≡ 2 ^ 56
   pub sum : n + left * unit ≡ all
+  pub some : left ≡ 0 → (all ≡ 0) × (unit ≡ 1)
   pub occurs : rest ≡ in_sevens groups left ++ more
 
 -- Whatever number the bytes begin with, the rest of it is left.
 abbrev pub ReadsSevens : List ℕ → ℕ → ℕ → List ℕ → Type 0
 ReadsSevens bytes n unit rest = (all : ℕ) → all < 2 ^ 63 → (more : List ℕ) → bytes ≡ in_sevens 8 all ++ more → SevensToCome all n unit rest more
 
+pub reads_begun : (bytes : List ℕ) → ReadsSevens bytes 0 1 bytes
+reads_begun bytes = λ all small more e. record { groups = 8; left = all; scale = omega arith; sum = omega arith; some = λ none. (none, refl); occurs = e }
+
 -- a byte that is the last one
-pub last_read : (byte : ℕ) (others bytes rest : List ℕ) (n unit : ℕ) → ReadsSevens bytes n unit rest → rest ≡ byte ∷ others → byte < 128 → (all : ℕ) → all < 2 ^ 63 → (more : List ℕ) → bytes ≡ in_sevens 8 all ++ more → (n + byte * unit ≡ all) × (others ≡ more)
+pub last_read : (byte : ℕ) (others bytes rest : List ℕ) (n unit : ℕ) → ReadsSevens bytes n unit rest → rest ≡ byte ∷ others → byte < 128 → (all : ℕ) → all < 2 ^ 63 → (more : List ℕ) → bytes ≡ in_sevens 8 all ++ more
+    → (n + byte * unit ≡ all) × (others ≡ more) × (byte ≡ 0 → (all ≡ 0) × (unit ≡ 1))
 last_read byte others bytes rest n unit so_far first low all small more e =
     let s = so_far all small more e in
-    go s.groups s.left s.sum (sym first ∙ s.occurs)
+    go s.groups s.left s.sum s.some (sym first ∙ s.occurs)
   where
-    ends : (left : ℕ) → n + left * unit ≡ all → byte ∷ others ≡ left ∷ more → (n + byte * unit ≡ all) × (others ≡ more)
-    ends left sum is = (omega (arith, sum, ap (λ x. x * unit) (heads byte left others more is)), tails byte left others more is)
+    ends : (left : ℕ) → n + left * unit ≡ all → (left ≡ 0 → (all ≡ 0) × (unit ≡ 1)) → byte ∷ others ≡ left ∷ more → (n + byte * unit ≡ all) × (others ≡ more) × (byte ≡ 0 → (all ≡ 0) × (unit ≡ 1))
+    ends left sum some is =
+        let same = heads byte left others more is in
+        (omega (arith, sum, ap (λ x. x * unit) same), tails byte left others more is, λ none. some (sym same ∙ none))
 
-    go : (groups left : ℕ) → n + left * unit ≡ all → byte ∷ others ≡ in_sevens groups left ++ more → (n + byte * unit ≡ all) × (others ≡ more)
-    go zero left sum is = ends left sum (is ∙ ap (λ t. t ++ more) (last left))
-    go (suc groups) left sum is = elim (cases_lt left 128) [
-      | inl one ↦ ends left sum (is ∙ ap (λ t. t ++ more) (few (suc groups) left one))
+    go : (groups left : ℕ) → n + left * unit ≡ all → (left ≡ 0 → (all ≡ 0) × (unit ≡ 1)) → byte ∷ others ≡ in_sevens groups left ++ more → (n + byte * unit ≡ all) × (others ≡ more) × (byte ≡ 0 → (all ≡ 0) × (unit ≡ 1))
+    go zero left sum some is = ends left sum some (is ∙ ap (λ t. t ++ more) (last left))
+    go (suc groups) left sum some is = elim (cases_lt left 128) [
+      | inl one ↦ ends left sum some (is ∙ ap (λ t. t ++ more) (few (suc groups) left one))
       | inr other ↦ absurd (omega (arith, low, heads byte (128 + left % 128) others (in_sevens groups (left / 128) ++ more) (is ∙ ap (λ t. t ++ more) (many groups left other))))
     ]
 
@@ -119,6 +126,7 @@ module _ (byte : ℕ) (others bytes rest : List ℕ) (n unit : ℕ) (so_far : Re
               left = left / 128;
               scale = omega (arith, scale, ap (λ x. unit * x) (pow-suc 128 groups));
               sum = omega (arith, sum, ap (λ x. x * unit) low, ap (λ x. x * unit) split);
+              some = λ none. absurd (omega (arith, none, other));
               occurs = tails byte (128 + left % 128) others (in_sevens groups (left / 128) ++ more) there;
             }
       ]
@@ -128,3 +136,41 @@ pub byte_there : (bytes rest : List ℕ) (n unit : ℕ) → ReadsSevens bytes n 
 byte_there bytes rest n unit so_far none all small more e =
     let s = so_far all small more e in
     omega (arith, none, ap length s.occurs, some_sevens s.groups s.left, length-append (in_sevens s.groups s.left) more)
+
+-- ---- what is read is what they begin with
+
+-- Whatever number the rest begins with, the bytes begin with the one of which it is left.
+pub record SevensRead (bytes : List ℕ) (n unit : ℕ) (rest : List ℕ) : Type 0 where
+  pub groups : ℕ
+  pub scale : unit * 128 ^ groups ≡ 2 ^ 56
+  pub whole : (left : ℕ) → (left ≡ 0 → unit ≡ 1) → (more : List ℕ) → rest ≡ in_sevens groups left ++ more → bytes ≡ in_sevens 8 (n + left * unit) ++ more
+
+pub read_begun : (bytes : List ℕ) → SevensRead bytes 0 1 bytes
+read_begun bytes = record { groups = 8; scale = omega arith; whole = λ left some more e. e ∙ ap (λ k. in_sevens 8 k ++ more) {x = left} {y = 0 + left * 1} (omega arith) }
+
+module _ (byte : ℕ) (others bytes rest : List ℕ) (n unit : ℕ) (s : SevensRead bytes n unit rest) (first : rest ≡ byte ∷ others) where
+  -- a byte that is the last one
+  pub read_ends : byte < 128 → (byte ≡ 0 → unit ≡ 1) → bytes ≡ in_sevens 8 (n + byte * unit) ++ others
+  read_ends low some = s.whole byte some others (first ∙ ap (λ l. l ++ others) (sym (few s.groups byte low)))
+
+  -- one that more follow
+  pub read_on : (bits : ℕ) → byte ≡ 128 + bits → bits < 128 → unit ≤ 2 ^ 49 → SevensRead bytes (n + bits * unit) (unit * 128) others
+  read_on bits is few_bits narrow = go s.groups s.scale s.whole
+    where
+      go : (groups : ℕ) → unit * 128 ^ groups ≡ 2 ^ 56 → ((left : ℕ) → (left ≡ 0 → unit ≡ 1) → (more : List ℕ) → rest ≡ in_sevens groups left ++ more → bytes ≡ in_sevens 8 (n + left * unit) ++ more)
+          → SevensRead bytes (n + bits * unit) (unit * 128) others
+      go zero scale whole = absurd (omega (arith, narrow, scale, ap (λ x. unit * x) (pow-zero 128)))
+      go (suc groups) scale whole = record {
+        groups = groups;
+        scale = omega (arith, scale, ap (λ x. unit * x) (pow-suc 128 groups));
+        whole = λ left some more e.
+            let all = bits + left * 128 in
+            let high : 128 ≤ all = elim (cases_eq left 0) [
+              | inl none ↦ absurd (omega (arith, some none))
+              | inr one ↦ omega (arith, one)
+            ] in
+            let low : byte ≡ 128 + all % 128 = omega (arith, is, few_bits) in
+            let up : left ≡ all / 128 = omega (arith, few_bits) in
+            let there = first ∙ ap₂ (λ b l. b ∷ l) low (e ∙ ap (λ k. in_sevens groups k ++ more) up) ∙ ap (λ l. l ++ more) (sym (many groups all high)) in
+            whole all (λ none. absurd (omega (arith, none, high))) more there ∙ ap (λ k. in_sevens 8 k ++ more) {x = n + all * unit} {y = n + bits * unit + left * (unit * 128)} (omega arith);
+      }

@@ -80,7 +80,7 @@ drop_zeros zero before xs h = ap (λ n. replicate n 0 ++ xs) {x = before} {y = b
 drop_zeros (suc left) zero xs h = absurd (omega (arith, h))
 drop_zeros (suc left) (suc before) xs h = drop_zeros left before xs (omega (arith, h)) ∙ ap (λ n. replicate n 0 ++ xs) {x = before - left} {y = suc before - suc left} (omega arith)
 
-drop_entry : (left before count : ℕ) (xs : List ℕ) → before < left → drop left (replicate before 0 ++ count ∷ xs) ≡ drop (left - (before + 1)) xs
+pub drop_entry : (left before count : ℕ) (xs : List ℕ) → before < left → drop left (replicate before 0 ++ count ∷ xs) ≡ drop (left - (before + 1)) xs
 drop_entry zero before count xs h = absurd (omega (arith, h))
 drop_entry (suc left) zero count xs h = ap (λ n. drop n xs) {x = left} {y = suc left - (0 + 1)} (omega arith)
 drop_entry (suc left) (suc before) count xs h = drop_entry left before count xs (omega (arith, h)) ∙ ap (λ n. drop n xs) {x = left - (before + 1)} {y = suc left - (suc before + 1)} (omega arith)
@@ -132,7 +132,7 @@ take_entry zero before count xs h = absurd (omega (arith, h))
 take_entry (suc left) zero count xs h = ap (λ n. count ∷ take n xs) {x = left} {y = suc left - (0 + 1)} (omega arith)
 take_entry (suc left) (suc before) count xs h = ap (λ t. 0 ∷ t) (take_entry left before count xs (omega (arith, h)) ∙ ap (λ n. replicate before 0 ++ count ∷ take n xs) {x = left - (before + 1)} {y = suc left - (suc before + 1)} (omega arith))
 
-zeros_behind_plain : (n plain : ℕ) (xs : List ℕ) → zeros_of plain (replicate n 0 ++ xs) ≡ zeros_of (plain + n) xs
+pub zeros_behind_plain : (n plain : ℕ) (xs : List ℕ) → zeros_of plain (replicate n 0 ++ xs) ≡ zeros_of (plain + n) xs
 zeros_behind_plain zero plain xs = ap (λ p. zeros_of p xs) {x = plain} {y = plain + 0} (omega arith)
 zeros_behind_plain (suc n) plain xs = zeros_behind_plain n (suc plain) xs ∙ ap (λ p. zeros_of p xs) {x = suc plain + n} {y = plain + suc n} (omega arith)
 

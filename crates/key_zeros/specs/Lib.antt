@@ -1,3 +1,4 @@
 pub mod Scan
 pub mod ErrorText
 pub mod Appending
+pub mod Turned

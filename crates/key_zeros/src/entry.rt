@@ -4,6 +4,7 @@ ghost use Rattle.std.specs.Prelude.{◌≡◌, ◌<◌, ◌≤◌, ◌^◌, ◌+
 ghost use Rattle.jsonb_spec.specs.Text.Appending.{Appends};
 ghost use Rattle.jsonb_spec.specs.SortKey.Text.{Preserves};
 ghost use Rattle.jsonb_spec.specs.Document.Zeros.{in_sevens, entry_of, plain_behind};
+ghost use Rattle.key_zeros.specs.Turned.{turned};
 
 use std::alloc::AllocError;
 
@@ -43,10 +44,11 @@ pub fn next_entry(zeros: &[u8]) -> Option<(usize, u8, &[u8])>
     ensures found { (plain count : ℕ) → plain < 2 ^ 63 → 0 < count → (more : List ℕ)
         → zeros.now ≡ in_sevens 8 plain ++ count ∷ more
         → MatchOption result ⊥ (λ r. (r.0 ≡ plain) × (r.1 ≡ count) × (r.2.now ≡ more)) }
+    ensures first { IfSome result (λ r. zeros.now ≡ in_sevens 8 r.0 ++ r.1 ∷ r.2.now) }
     ensures some { IfSome result (λ r. (r.0 < 2 ^ 63) × (0 < r.1)) }
     ensures shorter { IfSome result (λ r. length r.2.now < length zeros.now) }
 {
-    let (plain, behind) = read_sevens(zeros)?;
+    let (plain, behind) = read_sevens(false, zeros)?;
     let (count, rest) = behind.split_first()?;
     if *count == 0 {
         return None;
@@ -54,10 +56,13 @@ pub fn next_entry(zeros: &[u8]) -> Option<(usize, u8, &[u8])>
     Some((plain, *count, rest))
 }
 
-// The number below 2^63 that the bytes begin with, seven bits in a byte, and the bytes after it.
-fn read_sevens(bytes: &[u8]) -> Option<(usize, &[u8])>
-    ensures found { (n : ℕ) → n < 2 ^ 63 → (more : List ℕ) → bytes.now ≡ in_sevens 8 n ++ more
-        → MatchOption result ⊥ (λ r. (r.0 ≡ n) × (r.1.now ≡ more)) }
+/// The number below 2^63 that the bytes begin with, seven bits in a byte, and the bytes after it; or, from the end, the
+/// one that they end with, the lowest bits last, and the bytes before it.
+#[inline(always)]
+pub fn read_sevens(from_end: bool, bytes: &[u8]) -> Option<(usize, &[u8])>
+    ensures found { (n : ℕ) → n < 2 ^ 63 → (more : List ℕ) → turned from_end bytes.now ≡ in_sevens 8 n ++ more
+        → MatchOption result ⊥ (λ r. (r.0 ≡ n) × (turned from_end r.1.now ≡ more)) }
+    ensures first { IfSome result (λ r. turned from_end bytes.now ≡ in_sevens 8 r.0 ++ turned from_end r.1.now) }
     ensures small { IfSome result (λ r. r.0 < 2 ^ 63) }
     ensures shorter { IfSome result (λ r. length r.1.now < length bytes.now) }
 {
@@ -65,8 +70,12 @@ fn read_sevens(bytes: &[u8]) -> Option<(usize, &[u8])>
     // What one in the next byte means.
     let mut unit: usize = 1;
     let mut rest = bytes;
-    'sevens: while let Some((byte, others)) = rest.split_first() {
+    'sevens: while let Some((byte, others)) = split_byte(from_end, rest) {
         if *byte < 128 {
+            // A number has no seven bits in front that are 0, but for 0 itself.
+            if *byte == 0 && unit > 1 {
+                return None;
+            }
             return Some((n + usize::from(*byte) * unit, others));
         }
         if unit > 1 << 49 {
@@ -77,4 +86,16 @@ fn read_sevens(bytes: &[u8]) -> Option<(usize, &[u8])>
         rest = others;
     }
     None
+}
+
+// The first byte, or the last one, and the others.
+#[inline(always)]
+fn split_byte(from_end: bool, bytes: &[u8]) -> Option<(&u8, &[u8])>
+    ensures split { MatchOption result (length (turned from_end bytes.now) ≡ 0)
+        (λ r. (turned from_end bytes.now ≡ r.0.now ∷ turned from_end r.1.now) × (length r.1.now < length bytes.now)) }
+{
+    if from_end {
+        return bytes.split_last();
+    }
+    bytes.split_first()
 }

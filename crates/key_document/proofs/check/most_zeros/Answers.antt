@@ -1,8 +1,8 @@
 use Rattle.std.proofs.Common.{◌∙◌, unsigned_abs, arith}
 use Rattle.std.specs.Bool.{nat_lt}
-use Rattle.key_value.proofs.Signs.{signed_read, some_bytes}
+use Rattle.key_value.proofs.Signs.{signed_read, some_bytes, is_exponent, some_exponent}
 use Rattle.key_value.proofs.Wholes.{most}
-use Rattle.key_document.proofs.MostZeros.{is_exponent, most_are, some_exponent, zero_most}
+use Rattle.key_document.proofs.MostZeros.{most_are, zero_most}
 use Rattle.key_text.proofs.KeyNumbers.{zero_there}
 use Rattle.key_document.proofs.check.most_zeros.Goals as goal
 

@@ -1,7 +1,6 @@
 use Rattle.std.proofs.Common.{◌≡◌, ◌+◌, ◌<◌, ◌≤◌, ◌^◌, ◌++◌, length, drop, refl, sym, subst, ap, ◌∙◌, arith, append_assoc, length-append}
 use Rattle.std.specs.Prelude.{vec_len, vec_capacity}
 use Rattle.jsonb_spec.specs.SortKey.{key_of}
-use Rattle.key_text.proofs.Appending.{both, no_capacity_second}
 use Rattle.jsonb_spec.specs.Document.Zeros.{zeros_of}
 use Rattle.jsonb_spec.specs.Document.{behind_key, end_of, zeros_at}
 use Rattle.key_document.specs.Tokens.{tokens_counts, tokens_key, tokens_text}
@@ -37,12 +36,8 @@ returns-in_err-end_zeros-clause-appended c = λ t z before k s.
     let fit : c.saturating_sub.result + length (tokens_key z.tokens) < 2 ^ 63 = omega (arith, plain, ap length k, length-append before (key_of t), ap length z.key_is, length-append z.front (tokens_key z.tokens), c.args.out.now.ok.0, c.args.out.now.ok.1, c.args.out.now.small) in
     let same : zeros_of c.saturating_sub.result (tokens_counts z.tokens) ≡ zeros_at t = ap (λ n. zeros_of n (tokens_counts z.tokens)) plain ∙ sym z.zeros_are in
     let joined : mid.items ≡ c.args.out.now.items ++ zeros = c.in_ok-append_zeros.ensures.appended z.tokens z.are text (before ++ z.front) key offset fit ∙ ap (λ l. c.args.out.now.items ++ l) same in
-    let long = length-append c.args.out.now.items zeros in
-    let size : c.saturating_sub-size.result ≡ length zeros = omega (arith, c.saturating_sub-size.ensures, c.len.ensures, c.len-end.ensures, c.args.out.now.ok.0, mid.ok.0, ap length joined, long) in
-    let small : c.saturating_sub-size.result < 2 ^ 63 = omega (arith, size, mid.ok.0, mid.ok.1, mid.small, ap length joined, long) in
-    let full = subst (λ n. vec_capacity mid < vec_len mid + length (end_of n)) size (c.in_err-end_zeros.ensures.ended small).full in
-    lacks_zeros c.from_residual-in_err-end_zeros.result OutOfMemory c.args.out.now c.end_zeros.new.out (zeros ++ end_of (length zeros)) (behind_key zeros) c.from_residual-in_err-end_zeros.ensures.1 refl
-    (no_capacity_second c.args.out.now mid zeros (end_of (length zeros)) joined c.in_ok-append_zeros.ensures.preserves.capacity full) (omega arith)
+    let full = c.in_err-end_zeros.ensures.ended c.args.out.now.items zeros (omega (arith, c.len-end.ensures, c.args.out.now.ok.0)) joined in
+    lacks_zeros c.from_residual-in_err-end_zeros.result OutOfMemory c.args.out.now c.end_zeros.new.out (behind_key zeros) (behind_key zeros) c.from_residual-in_err-end_zeros.ensures.1 refl (omega (arith, full, c.in_ok-append_zeros.ensures.preserves.capacity, c.len-end.ensures)) (omega arith)
 
 pub returns-clause-appended : goal.returns-clause-appended
 returns-clause-appended c = λ t z before k s.
@@ -56,7 +51,4 @@ returns-clause-appended c = λ t z before k s.
     let fit : c.saturating_sub.result + length (tokens_key z.tokens) < 2 ^ 63 = omega (arith, plain, ap length k, length-append before (key_of t), ap length z.key_is, length-append z.front (tokens_key z.tokens), c.args.out.now.ok.0, c.args.out.now.ok.1, c.args.out.now.small) in
     let same : zeros_of c.saturating_sub.result (tokens_counts z.tokens) ≡ zeros_at t = ap (λ n. zeros_of n (tokens_counts z.tokens)) plain ∙ sym z.zeros_are in
     let joined : mid.items ≡ c.args.out.now.items ++ zeros = c.in_ok-append_zeros.ensures.appended z.tokens z.are text (before ++ z.front) key offset fit ∙ ap (λ l. c.args.out.now.items ++ l) same in
-    let long = length-append c.args.out.now.items zeros in
-    let size : c.saturating_sub-size.result ≡ length zeros = omega (arith, c.saturating_sub-size.ensures, c.len.ensures, c.len-end.ensures, c.args.out.now.ok.0, mid.ok.0, ap length joined, long) in
-    let small : c.saturating_sub-size.result < 2 ^ 63 = omega (arith, size, mid.ok.0, mid.ok.1, mid.small, ap length joined, long) in
-    both c.args.out.now.items mid.items c.end_zeros.new.out.items zeros (end_of (length zeros)) joined ((c.in_ok-end_zeros.ensures.ended small).ok ∙ ap (λ n. mid.items ++ end_of n) size)
+    c.in_ok-end_zeros.ensures.ended c.args.out.now.items zeros (omega (arith, c.len-end.ensures, c.args.out.now.ok.0)) joined

@@ -1,7 +1,6 @@
 use Rattle.std.proofs.Common.{◌≡◌, ◌+◌, ◌<◌, ◌^◌, ◌++◌, length, refl, subst, sym, ap, ◌∙◌, append-nil, arith, eqb-true, length-append}
 use Rattle.std.specs.Prelude.{vec_len, vec_capacity}
 use Rattle.jsonb_spec.specs.Edit.{merge}
-use Rattle.key_text.proofs.Appending.{no_capacity_second}
 use Rattle.jsonb_spec.specs.Document.{behind_key, end_of, zeros_at}
 use Rattle.key_document.specs.declared.error.DocumentError.TheVariants.{OutOfMemory}
 use Rattle.key_document.proofs.Joining.{lacks_zeros}
@@ -18,9 +17,5 @@ returns-in_err-end_zeros-clause-merged c = λ t u r i e z f w fit.
     let zeros = zeros_at (merge t u) in
     let mid = c.merge_zeros.new.out in
     let joined : mid.items ≡ c.args.out.now.items ++ zeros = c.in_ok-merge_zeros.ensures.merged t u r i e z f w fit in
-    let long = length-append c.args.out.now.items zeros in
-    let size : c.saturating_sub-size.result ≡ length zeros = omega (arith, c.saturating_sub-size.ensures, c.len.ensures, c.len-start.ensures, c.args.out.now.ok.0, mid.ok.0, ap length joined, long) in
-    let small : c.saturating_sub-size.result < 2 ^ 63 = omega (arith, size, mid.ok.0, mid.ok.1, mid.small, ap length joined, long) in
-    let full = subst (λ n. vec_capacity mid < vec_len mid + length (end_of n)) size (c.in_err-end_zeros.ensures.ended small).full in
-    lacks_zeros c.from_residual-in_err-end_zeros.result OutOfMemory c.args.out.now c.end_zeros.new.out (zeros ++ end_of (length zeros)) (behind_key zeros) c.from_residual-in_err-end_zeros.ensures.1 refl
-    (no_capacity_second c.args.out.now mid zeros (end_of (length zeros)) joined c.in_ok-merge_zeros.ensures.preserves.capacity full) (omega arith)
+    let full = c.in_err-end_zeros.ensures.ended c.args.out.now.items zeros (omega (arith, c.len-start.ensures, c.args.out.now.ok.0)) joined in
+    lacks_zeros c.from_residual-in_err-end_zeros.result OutOfMemory c.args.out.now c.end_zeros.new.out (behind_key zeros) (behind_key zeros) c.from_residual-in_err-end_zeros.ensures.1 refl (omega (arith, full, c.in_ok-merge_zeros.ensures.preserves.capacity, c.len-start.ensures)) (omega arith)

@@ -1,7 +1,6 @@
 use Rattle.std.proofs.Common.{◌≡◌, ◌+◌, ◌<◌, ◌^◌, ◌++◌, length, refl, sym, subst, ap, ◌∙◌, append-nil, arith, eqb-true, length-append}
 use Rattle.std.specs.Prelude.{vec_len, vec_capacity}
 use Rattle.jsonb_spec.specs.Document.Counts.{counts_at}
-use Rattle.key_text.proofs.Appending.{both, no_capacity_second}
 use Rattle.jsonb_spec.specs.Document.{behind_key, end_of, zeros_at}
 use Rattle.jsonb_spec.specs.Edit.LeftOut.{beside_names}
 use Rattle.key_document.specs.declared.error.DocumentError.TheVariants.{OutOfMemory}
@@ -35,12 +34,8 @@ returns-in_err-end_zeros-clause-written c = λ ns h f t r e z u is.
     let zeros = zeros_at u in
     let mid = c.write_answer.new.out in
     let joined : mid.items ≡ c.args.out.now.items ++ zeros = (some_written (Zeros 0 c.in_ok-all.all) (beside_names ns t) u c.in_ok-write_answer.field-0 c.args.out.now mid is (c.in_ok-write_answer.ensures.written ns h f t r e (pends, omega (arith, small)))).1 in
-    let long = length-append c.args.out.now.items zeros in
-    let size : c.saturating_sub-size.result ≡ length zeros = omega (arith, c.saturating_sub-size.ensures, c.len.ensures, c.len-start.ensures, c.args.out.now.ok.0, mid.ok.0, ap length joined, long) in
-    let few : c.saturating_sub-size.result < 2 ^ 63 = omega (arith, size, mid.ok.0, mid.ok.1, mid.small, ap length joined, long) in
-    let full = subst (λ n. vec_capacity mid < vec_len mid + length (end_of n)) size (c.in_err-end_zeros.ensures.ended few).full in
-    lacks_zeros c.from_residual-in_err-end_zeros.result OutOfMemory c.args.out.now c.end_zeros.new.out (zeros ++ end_of (length zeros)) (behind_key zeros) c.from_residual-in_err-end_zeros.ensures.1 refl
-    (no_capacity_second c.args.out.now mid zeros (end_of (length zeros)) joined c.in_ok-write_answer.ensures.preserves.capacity full) (omega arith)
+    let full = c.in_err-end_zeros.ensures.ended c.args.out.now.items zeros (omega (arith, c.len-start.ensures, c.args.out.now.ok.0)) joined in
+    lacks_zeros c.from_residual-in_err-end_zeros.result OutOfMemory c.args.out.now c.end_zeros.new.out (behind_key zeros) (behind_key zeros) c.from_residual-in_err-end_zeros.ensures.1 refl (omega (arith, full, c.in_ok-write_answer.ensures.preserves.capacity, c.len-start.ensures)) (omega arith)
 
 pub returns-clause-written : goal.returns-clause-written
 returns-clause-written c = λ ns h f t r e z u is.
@@ -49,7 +44,4 @@ returns-clause-written c = λ ns h f t r e z u is.
     let zeros = zeros_at u in
     let mid = c.write_answer.new.out in
     let joined : mid.items ≡ c.args.out.now.items ++ zeros = (some_written (Zeros 0 c.in_ok-all.all) (beside_names ns t) u c.in_ok-write_answer.field-0 c.args.out.now mid is (c.in_ok-write_answer.ensures.written ns h f t r e (pends, omega (arith, small)))).1 in
-    let long = length-append c.args.out.now.items zeros in
-    let size : c.saturating_sub-size.result ≡ length zeros = omega (arith, c.saturating_sub-size.ensures, c.len.ensures, c.len-start.ensures, c.args.out.now.ok.0, mid.ok.0, ap length joined, long) in
-    let few : c.saturating_sub-size.result < 2 ^ 63 = omega (arith, size, mid.ok.0, mid.ok.1, mid.small, ap length joined, long) in
-    both c.args.out.now.items mid.items c.end_zeros.new.out.items zeros (end_of (length zeros)) joined ((c.in_ok-end_zeros.ensures.ended few).ok ∙ ap (λ n. mid.items ++ end_of n) size)
+    c.in_ok-end_zeros.ensures.ended c.args.out.now.items zeros (omega (arith, c.len-start.ensures, c.args.out.now.ok.0)) joined

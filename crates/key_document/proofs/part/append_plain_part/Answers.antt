@@ -1,5 +1,5 @@
 use Rattle.std.proofs.Common.{◌≡◌, [], ◌++◌, Ok, append-nil, length, map, string_bytes, refl, true, subst, sym, ap, ◌∙◌, arith}
-use Rattle.key_value.proofs.Texts.{some_same}
+use Rattle.key_value.proofs.Texts.{some_same, none_some}
 use Rattle.jsonb_spec.specs.PartAt.{part_at}
 use Rattle.jsonb_spec.specs.SortKey.{key_of}
 use Rattle.key_walk.specs.Found.{Finds}
@@ -7,7 +7,7 @@ use Rattle.key_document.specs.Changes.{Answers}
 use Rattle.jsonb_spec.specs.Document.{behind_key}
 use Rattle.key_document.proofs.Changing.{answer_lacking, nothing_appended}
 use Rattle.key_document.proofs.NoZeros.{none_within}
-use Rattle.key_document.proofs.Slots.{no_error, none_there, part_found, no_rest}
+use Rattle.key_document.proofs.Slots.{no_error, none_there, part_found}
 use Rattle.key_document.proofs.part.append_plain_part.Goals as goal
 
 pub returns-in_err-rest-clause-answers : goal.returns-in_err-rest-clause-answers
@@ -22,7 +22,7 @@ pub returns-in_default-after_key-clause-answers : goal.returns-in_default-after_
 returns-in_default-after_key-clause-answers c = λ t r e none.
     let o = part_at (map string_bytes c.args.names.now) t in
     let p = part_found c.args.key.now o c.in-Some.rest (subst (λ a. Finds c.args.key.now o (Ok a)) c.in-Some.is (c.in_ok-rest.ensures.finds.found t r [] (e ∙ sym (append-nil (key_of t))))) in
-    absurd (no_rest _ (c.in_default-after_key.ensures.found p.part p.readable p.behind p.occurs))
+    absurd (none_some _ (c.in_default-after_key.ensures.found p.part p.readable p.behind p.occurs))
 
 pub returns-in_err-extend_from_slice-clause-answers : goal.returns-in_err-extend_from_slice-clause-answers
 returns-in_err-extend_from_slice-clause-answers c = λ t r e none.

@@ -1,7 +1,6 @@
 use Rattle.std.proofs.Common.{◌≡◌, ◌+◌, ◌<◌, ◌^◌, ◌++◌, drop, length, take, refl, sym, ap, subst, ◌∙◌, arith, length-append}
 use Rattle.std.specs.Prelude.{vec_len, vec_capacity}
 use Rattle.std.proofs.Math.Seq.{take-append_seam, drop-append_seam}
-use Rattle.key_text.proofs.Appending.{both, no_capacity_second}
 use Rattle.jsonb_spec.specs.Document.Numbers.{Pends}
 use Rattle.jsonb_spec.specs.Document.Zeros.{zeros_of}
 use Rattle.jsonb_spec.specs.Document.{behind_key, end_of}
@@ -33,12 +32,8 @@ returns-in_err-end_zeros-clause-taken c = λ before part behind p o s fit.
     let rest = subst (λ l. Pends l c.in_ok-rest.rest) passed (c.in_ok-rest.ensures.found all fit p (omega (arith, o, long))) in
     let w = c.in_ok-behind.ensures.found (part ++ behind) rest (omega (arith, s, more)) (omega (arith, fit, long)) (omega (arith, s, fit, long, more)) in
     let joined : mid.items ≡ c.args.out.now.items ++ zeros = w.0 ∙ ap (λ l. c.args.out.now.items ++ zeros_of 0 l) taken in
-    let sum = length-append c.args.out.now.items zeros in
-    let size : c.saturating_sub-zeros_len.result ≡ length zeros = omega (arith, c.saturating_sub-zeros_len.ensures, c.len.ensures, c.len-start.ensures, c.args.out.now.ok.0, mid.ok.0, ap length joined, sum) in
-    let small : c.saturating_sub-zeros_len.result < 2 ^ 63 = omega (arith, size, mid.ok.0, mid.ok.1, mid.small, ap length joined, sum) in
-    let full = subst (λ n. vec_capacity mid < vec_len mid + length (end_of n)) size (c.in_err-end_zeros.ensures.ended small).full in
-    lacks_zeros c.from_residual-in_err-end_zeros.result OutOfMemory c.args.out.now c.end_zeros.new.out (zeros ++ end_of (length zeros)) (behind_key zeros) c.from_residual-in_err-end_zeros.ensures.1 refl
-    (no_capacity_second c.args.out.now mid zeros (end_of (length zeros)) joined c.in_ok-behind.ensures.preserves.capacity full) (omega arith)
+    let full = c.in_err-end_zeros.ensures.ended c.args.out.now.items zeros (omega (arith, c.len-start.ensures, c.args.out.now.ok.0)) joined in
+    lacks_zeros c.from_residual-in_err-end_zeros.result OutOfMemory c.args.out.now c.end_zeros.new.out (behind_key zeros) (behind_key zeros) c.from_residual-in_err-end_zeros.ensures.1 refl (omega (arith, full, c.in_ok-behind.ensures.preserves.capacity, c.len-start.ensures)) (omega arith)
 
 pub returns-clause-taken : goal.returns-clause-taken
 returns-clause-taken c = λ before part behind p o s fit.
@@ -52,10 +47,7 @@ returns-clause-taken c = λ before part behind p o s fit.
     let rest = subst (λ l. Pends l c.in_ok-rest.rest) passed (c.in_ok-rest.ensures.found all fit p (omega (arith, o, long))) in
     let w = c.in_ok-behind.ensures.found (part ++ behind) rest (omega (arith, s, more)) (omega (arith, fit, long)) (omega (arith, s, fit, long, more)) in
     let joined : mid.items ≡ c.args.out.now.items ++ zeros = w.0 ∙ ap (λ l. c.args.out.now.items ++ zeros_of 0 l) taken in
-    let sum = length-append c.args.out.now.items zeros in
-    let size : c.saturating_sub-zeros_len.result ≡ length zeros = omega (arith, c.saturating_sub-zeros_len.ensures, c.len.ensures, c.len-start.ensures, c.args.out.now.ok.0, mid.ok.0, ap length joined, sum) in
-    let small : c.saturating_sub-zeros_len.result < 2 ^ 63 = omega (arith, size, mid.ok.0, mid.ok.1, mid.small, ap length joined, sum) in
-    both c.args.out.now.items mid.items c.end_zeros.new.out.items zeros (end_of (length zeros)) joined ((c.in_ok-end_zeros.ensures.ended small).ok ∙ ap (λ n. mid.items ++ end_of n) size)
+    c.in_ok-end_zeros.ensures.ended c.args.out.now.items zeros (omega (arith, c.len-start.ensures, c.args.out.now.ok.0)) joined
 
 pub returns-clause-rest : goal.returns-clause-rest
 returns-clause-rest c = λ before part behind p o s fit.

@@ -2,16 +2,17 @@ use Rattle.std.proofs.Common.{◌≡◌, inl, inr, [], length, append-nil, ap, a
 use Rattle.std.proofs.lemmas.List.{get_or-set_same}
 use Rattle.jsonb_spec.specs.SortKey.{key_of}
 use Rattle.jsonb_spec.specs.Document.Walk.{kind_mark}
-use Rattle.key_document.proofs.Walks.{begun_opened, begun_scalar, kind_known, opened_or_scalar, some_key, whole_counts}
+use Rattle.key_document.proofs.Walks.{begun_opened, begun_scalar, opened_or_scalar, some_key, whole_counts}
 use Rattle.key_document.proofs.walk.begin_walk.Goals as goal
 use Rattle.key_value.proofs.Texts.{none_some, some_same}
 use Rattle.jsonb_spec.specs.SortKey.Open.{is_object}
 use Rattle.key_walk.specs.Parts.{kind_of_tree}
+use Rattle.key_walk.proofs.Occurrence.{has_kind}
 
 pub returns-in_default-clause-met : goal.returns-in_default-clause-met
 returns-in_default-clause-met c = λ t r e.
     let is_key : c.split_document.result.0.now ≡ key_of t = c.split_document.ensures.key t r e in
-    absurd (kind_known t r (c.in_default.ensures.kind t r [] (is_key ∙ sym (append-nil (key_of t)))))
+    absurd (has_kind t r (c.in_default.ensures.kind t r [] (is_key ∙ sym (append-nil (key_of t)))))
 
 pub returns-in-Some-opens-clause-met : goal.returns-in-Some-opens-clause-met
 returns-in-Some-opens-clause-met c = λ t r e.

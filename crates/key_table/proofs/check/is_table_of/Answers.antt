@@ -5,8 +5,9 @@ use Rattle.key_walk.specs.Found.{IsNext}
 use Rattle.jsonb_spec.specs.SortKey.Open.{members}
 use Rattle.jsonb_spec.specs.Table.{in_two}
 use Rattle.key_table.proofs.Walking.{all_walked, begun, first_walked, next_shorter, no_fault, stepped, table_left}
-use Rattle.key_table.proofs.Splitting.{Matches, false_never, matches_on, not_there, says_no}
+use Rattle.key_table.proofs.Splitting.{Matches, false_never, matches_on, not_there}
 use Rattle.key_table.proofs.check.is_table_of.Goals as goal
+use Rattle.key_document.proofs.Checked.{refused}
 
 pub members-init : goal.members-init
 members-init c = record { matches = λ ms p w e. begun (Matches ms c.args.table.now c.args.table.now) ms c.args.members.now p w e (λ is. is, λ is. is); within = omega arith }
@@ -35,7 +36,7 @@ returns-in_default-after_two c = λ ms p w e.
     let x = c.members.invariant.matches ms p w e in
     let next = c.in-Ok.ensures.next (members x.rest) refl (x.proper, x.within) [] (x.occurs ∙ sym (append-nil (members_key x.rest))) in
     let f = first_walked (Matches ms c.args.table.now c.members.entries.now) ms c.args.members.now c.members.left.now c.members.count c.in-Some.field-0-0 c.in-Some.others x (subst (λ a. IsNext (members x.rest) [] (Ok a)) c.in-Some.is next) in
-    says_no (λ both. not_there ms c.args.table.now c.members.entries.now (table_left f.next (c.members.count + 1) f.rest) f.offset _ c.after_two.result (omega (arith, f.at)) f.is c.after_two.ensures c.in_default-after_two.is both.1)
+    refused (λ both. not_there ms c.args.table.now c.members.entries.now (table_left f.next (c.members.count + 1) f.rest) f.offset _ c.after_two.result (omega (arith, f.at)) f.is c.after_two.ensures c.in_default-after_two.is both.1)
 
 pub members-preserved : goal.members-preserved
 members-preserved c = record {

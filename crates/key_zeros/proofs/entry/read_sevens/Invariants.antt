@@ -1,10 +1,12 @@
 use Rattle.std.proofs.Common.{◌≤◌, ◌<◌, ◌^◌, length}
-use Rattle.key_zeros.proofs.Sevens.{ReadsSevens}
+use Rattle.key_zeros.specs.Turned.{turned}
+use Rattle.key_zeros.proofs.Sevens.{ReadsSevens, SevensRead}
 use Rattle.key_zeros.proofs.entry.read_sevens.Given as goal
 
 abbrev pub invariant-sevens : goal.invariant-sevens
 invariant-sevens l = record {
-  reads : ReadsSevens l.bytes l.n l.unit l.rest;
+  reads : ReadsSevens (turned l.from_end l.bytes) l.n l.unit (turned l.from_end l.rest);
+  read : SevensRead (turned l.from_end l.bytes) l.n l.unit (turned l.from_end l.rest);
   within : length l.rest ≤ length l.bytes;
   below : l.n < l.unit;
   narrow : l.unit ≤ 2 ^ 56;

@@ -18,4 +18,4 @@ returns-clause-completes c = λ n proper front long is passed counts here due.
     let x = due_now c.args.self.now passed (count_of n) counts due here in
     let text = take_rest c.deref.result.now c.args.start ∙ ap (drop c.args.start) c.deref.ensures.value in
     let whole = whole_text n proper front c.args.buf.now.items c.args.start long is c.ending_of-pointed.result.pointed c.ending_of-pointed.result.zeros c.args.self.now.count c.ending_of-pointed.result.rest.now _ text c.ending_of-pointed.ensures.exact x.same x.some in
-    (c.in_ok-append_ending.ensures.ok ∙ sym whole, c.in_ok-next.ensures (omega (arith, x.short, here, c.saturating_sub.ensures)) counts (omega (arith, here, c.saturating_sub.ensures)) x.entries)
+    (c.in_ok-append_ending.ensures.ok ∙ sym whole, c.in_ok-next.ensures.due (omega (arith, x.short, here, c.saturating_sub.ensures)) counts (omega (arith, here, c.saturating_sub.ensures)) x.entries)
