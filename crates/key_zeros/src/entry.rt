@@ -66,16 +66,20 @@ pub fn read_sevens(from_end: bool, bytes: &[u8]) -> Option<(usize, &[u8])>
     ensures small { IfSome result (λ r. r.0 < 2 ^ 63) }
     ensures shorter { IfSome result (λ r. length r.1.now < length bytes.now) }
 {
-    let mut n: usize = 0;
+    let (first, more) = split_byte(from_end, bytes)?;
+    if *first < 128 {
+        return Some((usize::from(*first), more));
+    }
+    let mut n = usize::from(*first - 128);
     // What one in the next byte means.
-    let mut unit: usize = 1;
-    let mut rest = bytes;
+    let mut unit: usize = 128;
+    let mut rest = more;
     'sevens: while let Some((byte, others)) = split_byte(from_end, rest) {
+        // A number of several bytes has no seven bits in front that are 0.
+        if *byte == 0 {
+            return None;
+        }
         if *byte < 128 {
-            // A number has no seven bits in front that are 0, but for 0 itself.
-            if *byte == 0 && unit > 1 {
-                return None;
-            }
             return Some((n + usize::from(*byte) * unit, others));
         }
         if unit > 1 << 49 {

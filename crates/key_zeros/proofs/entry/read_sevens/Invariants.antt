@@ -10,6 +10,7 @@ invariant-sevens l = record {
   within : length l.rest ≤ length l.bytes;
   below : l.n < l.unit;
   narrow : l.unit ≤ 2 ^ 56;
+  several : 128 ≤ l.unit;
 }
 
 abbrev pub decreases-sevens : goal.decreases-sevens
