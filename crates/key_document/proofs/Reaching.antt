@@ -20,11 +20,9 @@ use Rattle.jsonb_spec.specs.Tree.{Tree, array, object, Trees, no_trees, more_tre
 use Rattle.key_walk.proofs.Occurrence.{below_all, equal_names}
 use Rattle.jsonb_spec.specs.Edit.{Outcome, stays, goes, becomes, member_before, changed_member, item_before, changed_item, step_named, changed_at_step, changed_part, part_with, within, changed_at}
 use Rattle.key_walk.proofs.Finds.{child_there}
+use Rattle.key_document.proofs.Changing.{none_some}
 
-none_some : {A : Type 0} {a : A} → None ≡ Some a → ⊥
-none_some e = cc
-
-some_none : {A : Type 0} {a : A} → Some a ≡ None → ⊥
+pub some_none : {A : Type 0} {a : A} → Some a ≡ None → ⊥
 some_none e = cc
 
 becomes_stays : (t : Tree) → becomes t ≡ stays → ⊥

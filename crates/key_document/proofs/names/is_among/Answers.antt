@@ -5,9 +5,7 @@ use Rattle.jsonb_spec.specs.Edit.LeftOut.{has_name}
 use Rattle.key_document.specs.Gathered.{NamesAhead}
 use Rattle.key_document.proofs.NamesLeft.{name_first, name_found, name_other, name_same, no_name_left}
 use Rattle.key_document.proofs.names.is_among.Goals as goal
-
-no_some : {A : Type 0} (x : A) → Some x ≡ None → ⊥
-no_some x e = cc
+use Rattle.key_document.proofs.Reaching.{some_none}
 
 pub returns-then-is_in : goal.returns-then-is_in
 returns-then-is_in c = λ bytes e ns g.
@@ -24,7 +22,7 @@ names-init c = record {
 pub returns-then-eq : goal.returns-then-eq
 returns-then-eq c = λ bytes e ns g.
     let l = c.names.invariant.ahead bytes e ns g in
-    let n = name_first _ bytes ns c.names.rest.now l (λ more h. no_some _ (c.in-Some.ensures.over more h)) in
+    let n = name_first _ bytes ns c.names.rest.now l (λ more h. some_none (c.in-Some.ensures.over more h)) in
     let x = c.in-Some.ensures.next n.name n.value n.readable n.others [] n.occurs in
     sym (name_found bytes ns c.names.rest.now n (name_same bytes n.name c.in-Some.name.now c.args.text.now _ c.if-eq.ensures e x.0))
 
@@ -32,7 +30,7 @@ pub names-preserved : goal.names-preserved
 names-preserved c = record {
   ahead = λ bytes e ns g.
       let l = c.names.invariant.ahead bytes e ns g in
-      let n = name_first _ bytes ns c.names.rest.now l (λ more h. no_some _ (c.in-Some.ensures.over more h)) in
+      let n = name_first _ bytes ns c.names.rest.now l (λ more h. some_none (c.in-Some.ensures.over more h)) in
       let x = c.in-Some.ensures.next n.name n.value n.readable n.others [] n.occurs in
       name_other bytes ns c.names.rest.now n c.in-Some.others.now (name_same bytes n.name c.in-Some.name.now c.args.text.now _ c.if-eq.ensures e x.0) x.2;
 }

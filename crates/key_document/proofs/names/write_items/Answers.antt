@@ -8,9 +8,7 @@ use Rattle.key_text.proofs.Counts.{one_each}
 use Rattle.key_document.proofs.NamesLeft.{item_first, item_goes_wrong, item_here, item_ready, items_begun, next_items, no_items}
 use Rattle.key_document.proofs.Retained.{answer_finished}
 use Rattle.key_document.proofs.names.write_items.Goals as goal
-
-no_some : {A : Type 0} (x : A) → Some x ≡ None → ⊥
-no_some x e = cc
+use Rattle.key_document.proofs.Reaching.{some_none}
 
 pub items-init : goal.items-init
 items-init c = record { left = λ ts h ns i e f b. items_begun ts ns c.args.begun.now c.args.key.now c.args.out.now.items h e b; preserves = retained c.args.out.now }
@@ -20,7 +18,7 @@ returns-in_err-retaining-clause-written c = λ ts h ns i e f b.
     let first = c.args.begun.now.output in
     let old = c.args.out.now.items in
     let v = array (items_beside ns ts) in
-    let n = item_first first ts ns c.items.retaining c.items.items.now old c.items.out.items (c.items.invariant.left ts h ns i e f b) (λ more g. no_some _ (c.in-Some.ensures.over more g)) in
+    let n = item_first first ts ns c.items.retaining c.items.items.now old c.items.out.items (c.items.invariant.left ts h ns i e f b) (λ more g. some_none (c.in-Some.ensures.over more g)) in
     let x = c.in-Some.ensures.next n.item n.readable n.others [] n.occurs in
     let gone = c.is_name.ensures ns (c.gather-others.ensures ns i f) n.item n.readable x.0 in
     let y = c.in_err-retaining.ensures.passed first (key_of v) (counts_at v) (key_of n.item) (counts_at n.item) (counts_at_items n.others) (items_key (items_beside ns n.others)) (counts_at_items (items_beside ns n.others)) old
@@ -34,7 +32,7 @@ items-preserved c = record {
       let first = c.args.begun.now.output in
       let old = c.args.out.now.items in
       let v = array (items_beside ns ts) in
-      let n = item_first first ts ns c.items.retaining c.items.items.now old c.items.out.items (c.items.invariant.left ts h ns i e f b) (λ more g. no_some _ (c.in-Some.ensures.over more g)) in
+      let n = item_first first ts ns c.items.retaining c.items.items.now old c.items.out.items (c.items.invariant.left ts h ns i e f b) (λ more g. some_none (c.in-Some.ensures.over more g)) in
       let x = c.in-Some.ensures.next n.item n.readable n.others [] n.occurs in
       let gone = c.is_name.ensures ns (c.gather-others.ensures ns i f) n.item n.readable x.0 in
       let y = c.in_ok-retaining.ensures.passed first (key_of v) (counts_at v) (key_of n.item) (counts_at n.item) (counts_at_items n.others) (items_key (items_beside ns n.others)) (counts_at_items (items_beside ns n.others)) old
