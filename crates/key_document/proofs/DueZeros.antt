@@ -1,8 +1,9 @@
 -- The zeros that are due at a number, or aren't.
-use Rattle.std.proofs.Common.{◌≡◌, ◌≢◌, Bool, Result, Ok, Err, ap₂, ℕ, zero, suc, ◌^◌, ◌<◌, inl, inr, List, [], ◌∷◌, ◌++◌, length, replicate, drop, sym, ap, ◌∙◌, arith, append-nil, append_assoc, length-append, false}
+use Rattle.std.proofs.Common.{◌≡◌, ◌≢◌, Bool, true, ◌||◌, ◌==◌, if◌then◌else◌, refl, Result, Ok, Err, ap₂, ℕ, zero, suc, ◌^◌, ◌<◌, inl, inr, List, [], ◌∷◌, ◌++◌, length, replicate, drop, sym, ap, ◌∙◌, arith, append-nil, append_assoc, length-append, false}
 use Rattle.std.specs.Prelude.{IsErrAnd, Vec, vec_capacity}
 use Rattle.std.specs.declared.alloc.Global.{Global}
 use Rattle.std.proofs.Math.Seq.{drop-append_seam}
+use Rattle.std.specs.List.{list_any}
 use Rattle.jsonb_spec.specs.Proper.{IsProperNumber}
 use Rattle.jsonb_spec.specs.Text.NumberText.{number_text}
 use Rattle.jsonb_spec.specs.Tree.{Num}
@@ -15,7 +16,7 @@ use Rattle.jsonb_spec.specs.Document.Counts.{count_of, ending_text}
 use Rattle.key_text.specs.Counts.{Completes}
 use Rattle.jsonb_spec.specs.SortKey.FewestDigits.{fewest_digits}
 use Rattle.key_text.proofs.Counts.{none_next}
-use Rattle.jsonb_spec.specs.Document.Scan.{ending_of}
+use Rattle.jsonb_spec.specs.Document.Scan.{ending_of, is_number_byte, zeros_with}
 use Rattle.jsonb_spec.specs.Document.Zeros.{zeros_of}
 use Rattle.key_text.proofs.Decimals.{pointed, some_spare}
 use Rattle.key_zeros.proofs.Decimals.{ends_there, shortest_passed}
@@ -73,6 +74,20 @@ module _ (due : ZerosDue) (passed count : ℕ) (counts : List ℕ) (d : AreDue d
 
 -- ---- the text of a number
 
+-- whether bytes that are all of a number have a point
+has_point_there : (p : Bool) (run : ℕ) (bytes : List ℕ) (q : Bool) → ending_of p run bytes ≡ (q, (0, [])) → (p || list_any (λ byte. byte == 46) bytes) ≡ q
+has_point_there true run [] q e = ap (λ r. r.0) e
+has_point_there false run [] q e = ap (λ r. r.0) e
+has_point_there p run (byte ∷ bytes) q e = by_byte (is_number_byte byte) (has_point_there (p || byte == 46) (zeros_with p run byte) bytes q) e
+  where
+    either : (p here rest : Bool) → (p || (here || rest)) ≡ ((p || here) || rest)
+    either true here rest = refl
+    either false here rest = refl
+
+    by_byte : (goes_on : Bool) → (ending_of (p || byte == 46) (zeros_with p run byte) bytes ≡ (q, (0, [])) → ((p || byte == 46) || list_any (λ b. b == 46) bytes) ≡ q) → (if goes_on then ending_of (p || byte == 46) (zeros_with p run byte) bytes else (p, (run, byte ∷ bytes))) ≡ (q, (0, [])) → (p || list_any (λ b. b == 46) (byte ∷ bytes)) ≡ q
+    by_byte true more e = either p (byte == 46) (list_any (λ b. b == 46) bytes) ∙ more e
+    by_byte false more e = absurd (omega (arith, ap (λ r. length r.1.1) e))
+
 module _ (n : Num) (proper : IsProperNumber n) (front buffer : List ℕ) (start : ℕ) (long : length front ≡ start) (is : buffer ≡ front ++ number_text (fewest_digits n)) where
   -- how it ends
   shortest_end : ending_of false 0 (drop start buffer) ≡ (pointed n proper, (0, []))
@@ -84,9 +99,9 @@ module _ (n : Num) (proper : IsProperNumber n) (front buffer : List ℕ) (start 
       ∙ ends_there (pointed n proper) 0 [] tt
 
   -- with its zeros behind it is the whole text
-  pub whole_text : (has_point : Bool) (run count : ℕ) (rest text : List ℕ) → text ≡ drop start buffer → (has_point, (run, rest)) ≡ ending_of false 0 text → count_of n ≡ count → 0 < count → front ++ number_text n ≡ buffer ++ ending_text has_point count
-  whole_text has_point run count rest text there ending same some =
-      let point : has_point ≡ pointed n proper = ap (λ e. e.0) (ending ∙ ap (ending_of false 0) there ∙ shortest_end) in
+  pub whole_text : (has_point : Bool) (count : ℕ) (text : List ℕ) → text ≡ drop start buffer → has_point ≡ list_any (λ byte. byte == 46) text → count_of n ≡ count → 0 < count → front ++ number_text n ≡ buffer ++ ending_text has_point count
+  whole_text has_point count text there point_is same some =
+      let point : has_point ≡ pointed n proper = point_is ∙ has_point_there false 0 text (pointed n proper) (ap (ending_of false 0) there ∙ shortest_end) in
       ap (λ t. front ++ t) (some_spare n proper (omega (arith, same, some)))
       ∙ sym (ap (λ b. b ++ ending_text (pointed n proper) (count_of n)) is ∙ append_assoc front (number_text (fewest_digits n)) (ending_text (pointed n proper) (count_of n)))
       ∙ ap₂ (λ b k. buffer ++ ending_text b k) (sym point) same

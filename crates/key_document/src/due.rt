@@ -16,7 +16,6 @@ use key_text::Zeros;
 use key_value::KeyError;
 use key_zeros::append_ending;
 use key_zeros::entry::next_entry;
-use key_zeros::scan::ending_of;
 
 /// What is known of the next number with zeros while a key is walked.
 #[derive(Clone, Copy)]
@@ -70,7 +69,7 @@ impl<'z> ZerosDue<'z> {
         if start > buf.len() {
             return Err(KeyError::Invalid);
         }
-        let pointed = ending_of(&buf[start..]).pointed;
+        let pointed = buf[start..].contains(&b'.');
         append_ending(pointed, self.count, buf)?;
         let next = zeros_due(self.at.saturating_sub(1), self.entries)?;
         *self = next;

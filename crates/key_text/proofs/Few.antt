@@ -1,10 +1,12 @@
 -- The digits of a number that are within a row of 16, encoded pair by pair.
-use Rattle.std.proofs.Common.{◌≡◌, ◌≢◌, ℕ, suc, ◌+◌, ◌-◌, ◌*◌, ◌/◌, ◌%◌, ◌^◌, ◌<◌, ◌≤◌, inl, inr, false, List, ◌++◌, ◌∷◌, map, get_or, set, drop, take, length, replicate, refl, sym, ap, subst, ◌∙◌, arith, drop-cons}
+use Rattle.std.proofs.Common.{◌≡◌, ◌≢◌, ℕ, suc, ◌+◌, ◌-◌, ◌*◌, ◌/◌, ◌%◌, ◌^◌, ◌<◌, ◌≤◌, inl, inr, false, List, ◌++◌, ◌∷◌, map, get_or, set, drop, take, length, replicate, refl, sym, ap, ap₂, subst, ◌∙◌, arith, drop-cons}
 use Rattle.std.proofs.lemmas.Bool.{cases_eq, cases_lt}
-use Rattle.std.proofs.lemmas.List.{set-append_left, get_or-set_same, length-set, take-append-le}
+use Rattle.std.proofs.lemmas.List.{set-append_left, get_or-set_same, length-set, length-drop, drop-append-le, take-append-le}
+use Rattle.std.specs.Prelude.{slice_range, ◌⊎◌}
 use Rattle.jsonb_spec.specs.SortKey.{digits_key, invert_if}
-use Rattle.key_text.specs.Writes.{IsEncoded, HasPairs}
+use Rattle.key_text.specs.Writes.{AppendsPairs, IsEncoded, HasPairs, TakesNumberOf, scaled_text}
 use Rattle.key_text.proofs.Encoding.{Encodes, EncodedLeft, none_encoded, pair_small, two_encoded, one_encoded, pair_encoded}
+use Rattle.key_text.proofs.NumberTexts.{pointed_scaled}
 
 pub few_begun : (bytes row tail : List ℕ) → row ≡ replicate 16 48 → Encodes false (bytes ++ tail) 0 (bytes ++ tail) (row ++ replicate 32 48)
 few_begun bytes row tail zeros = none_encoded false (bytes ++ tail) (row ++ replicate 32 48) (ap (λ r. r ++ replicate 32 48) zeros)
@@ -88,3 +90,33 @@ whole_read C M pairs front row h some most last few size =
           absurd (n (ap (λ i. get_or row i 0) index ∙ last all))
       | inr there ↦ there
     ]
+
+-- the digits of a number, some of which are behind its point
+pub pointed_taken : (front pairs taken : ℕ) (bytes tail row old new : List ℕ) (C M : ℕ) (more : List ℕ) → HasPairs C M pairs row × (drop pairs bytes ++ tail ≡ more) → (taken ≡ pairs) × AppendsPairs front pairs row old new → 0 < front → (front + 1 < 2 * pairs) ⊎ ((front + 1 ≡ 2 * pairs) × (get_or row front 0 ≢ 48)) → pairs ≤ 8 → length row ≡ 16 → length bytes ≡ 8
+    → TakesNumberOf C M front (bytes ++ tail) taken more old new
+pointed_taken front pairs taken bytes tail row old new C M more (h, ended) (all, a) some behind few size long =
+    elim (cases_eq (get_or row (2 * pairs - 1) 0) 48) [
+      | inl z ↦ record { read = 2 * pairs - 1; row = row ++ replicate 32 48; encoded = h.one z; left = left; appended = a.one z ∙ ap (λ t. old ++ t) (sym (text (2 * pairs - 1) (one z) (omega (arith, few)))) }
+      | inr n ↦ record { read = 2 * pairs; row = row ++ replicate 32 48; encoded = h.two n; left = left; appended = a.two n ∙ ap (λ t. old ++ t) (sym (text (2 * pairs) two (omega (arith, few)))) }
+    ]
+  where
+    left : drop taken (bytes ++ tail) ≡ more
+    left = ap (λ k. drop k (bytes ++ tail)) all ∙ drop-append-le pairs bytes tail (omega (arith, few, long)) ∙ ended
+
+    one : get_or row (2 * pairs - 1) 0 ≡ 48 → front < 2 * pairs - 1
+    one z = elim behind [
+      | inl more ↦ omega (arith, more)
+      | inr last ↦ absurd (last.1 (ap (λ i. get_or row i 0) {x = front} {y = 2 * pairs - 1} (omega (arith, last.0)) ∙ z))
+    ]
+
+    two : front < 2 * pairs
+    two = elim behind [
+      | inl more ↦ omega (arith, more)
+      | inr last ↦ omega (arith, last.0)
+    ]
+
+    text : (read : ℕ) → front < read → read ≤ 16 → scaled_text (255 + front) read (row ++ replicate 32 48) ≡ take front row ++ 46 ∷ slice_range row front read
+    text read inside within =
+        pointed_scaled front read (row ++ replicate 32 48) some inside
+        ∙ ap₂ (λ xs ys. xs ++ 46 ∷ ys) (take-append-le front row (replicate 32 48) (omega (arith, size, inside, within)))
+        (ap (take (read - front)) (drop-append-le front row (replicate 32 48) (omega (arith, size, inside, within))) ∙ take-append-le (read - front) (drop front row) (replicate 32 48) (omega (arith, length-drop front row, size, inside, within)))

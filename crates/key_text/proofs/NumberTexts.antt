@@ -55,6 +55,13 @@ pub point_before : (exponent count : ℕ) (row : List ℕ) → exponent ≤ 255 
 unfolding scaled_text
 point_before exponent count row h = cond-false (nat_lt 255 exponent) _ _ (le-ltb 255 exponent h)
 
+-- where so many digits are before the point
+pub whole_scaled : (front count : ℕ) (row : List ℕ) → 0 < front → count ≤ front → scaled_text (255 + front) count row ≡ take front row
+whole_scaled front count row some h = no_point (255 + front) count row (omega (arith, some)) (omega (arith, h)) ∙ ap (λ k. take k row) {x = 255 + front - 255} (omega arith)
+
+pub pointed_scaled : (front count : ℕ) (row : List ℕ) → 0 < front → front < count → scaled_text (255 + front) count row ≡ take front row ++ 46 ∷ slice_range row front count
+pointed_scaled front count row some h = point_inside (255 + front) count row (omega (arith, some)) (omega (arith, h)) ∙ ap (λ k. take k row ++ 46 ∷ slice_range row k count) {x = 255 + front - 255} (omega arith)
+
 -- ---- the digits in the row
 
 -- all of them

@@ -107,28 +107,20 @@ pub record HasPairs (count magnitude pairs : ℕ) (row : List ℕ) : Type 0 wher
   pub one : get_or row (2 * pairs - 1) 0 ≡ ascii.digit_zero
       → IsEncoded count magnitude (2 * pairs - 1) (row ++ replicate 32 ascii.digit_zero)
 
--- All digits of the number were read, none of which is behind the point, and as many as are before it are appended.
-pub record TakesIntegerOf (count magnitude front : ℕ) (bytes : List ℕ) (taken : ℕ) (more old new : List ℕ)
-    : Type 0 where
-  pub read : ℕ
-  pub row : List ℕ
-  pub encoded : IsEncoded count magnitude read row
-  pub whole : read ≤ front
-  pub left : drop taken bytes ≡ more
-  pub appended : new ≡ old ++ take front row
+-- The digits of these pairs are appended, the last of which may end in a zero, with a point behind so many.
+pub record AppendsPairs (front pairs : ℕ) (row old new : List ℕ) : Type 0 where
+  pub two : get_or row (2 * pairs - 1) 0 ≢ ascii.digit_zero
+      → new ≡ old ++ (take front row ++ ascii.point ∷ slice_range row front (2 * pairs))
+  pub one : get_or row (2 * pairs - 1) 0 ≡ ascii.digit_zero
+      → new ≡ old ++ (take front row ++ ascii.point ∷ slice_range row front (2 * pairs - 1))
 
--- Where some byte was read, this is so of whichever number's digits the bytes begin with.
-abbrev pub TakesInteger : ℕ → List ℕ → ℕ → List ℕ → List ℕ → Type 0
-TakesInteger front bytes taken old new =
-    0 < taken → (count magnitude : ℕ) → magnitude < 10 ^ count → 0 < magnitude → count ≤ 39 → (more : List ℕ)
-    → bytes ≡ map (invert_if false) (digits_key count magnitude) ++ more
-    → TakesIntegerOf count magnitude front bytes taken more old new
-
--- The digits of a number below 100 are appended, if it has as many: it has one only where the other is a zero.
+-- The digits of a number below 100 are appended, of which as many are before the point: a zero isn't behind it.
 pub record AppendsPair (front pair : ℕ) (old new : List ℕ) : Type 0 where
   pub two : front ≡ 2
       → new ≡ old ++ (ascii.digit_zero + pair / 10) ∷ (ascii.digit_zero + pair % 10) ∷ []
-  pub one : front ≡ 1 → (pair % 10 ≡ 0) × (new ≡ old ++ (ascii.digit_zero + pair / 10) ∷ [])
+  pub one : front ≡ 1 → pair % 10 ≡ 0 → new ≡ old ++ (ascii.digit_zero + pair / 10) ∷ []
+  pub pointed : front ≡ 1 → pair % 10 ≢ 0
+      → new ≡ old ++ (ascii.digit_zero + pair / 10) ∷ ascii.point ∷ (ascii.digit_zero + pair % 10) ∷ []
 
 -- The word of which this byte is the key is appended.
 abbrev pub AppendsWord : ℕ → List ℕ → List ℕ → Type 0
@@ -144,3 +136,19 @@ scaled_text exponent count row =
     (if nat_lt (exponent - 255) count then take (exponent - 255) row ++ ascii.point ∷ slice_range row (exponent - 255) count
     else take (exponent - 255) row)
     else ascii.digit_zero ∷ ascii.point ∷ (replicate (255 - exponent) ascii.digit_zero ++ take count row)
+
+-- All digits of a number above 0 were read, and its text is appended, which has so many digits before the point.
+pub record TakesNumberOf (count magnitude front : ℕ) (bytes : List ℕ) (taken : ℕ) (more old new : List ℕ)
+    : Type 0 where
+  pub read : ℕ
+  pub row : List ℕ
+  pub encoded : IsEncoded count magnitude read row
+  pub left : drop taken bytes ≡ more
+  pub appended : new ≡ old ++ scaled_text (255 + front) read row
+
+-- Where some byte was read, this is so of whichever number's digits the bytes begin with.
+abbrev pub TakesNumber : ℕ → List ℕ → ℕ → List ℕ → List ℕ → Type 0
+TakesNumber front bytes taken old new =
+    0 < taken → (count magnitude : ℕ) → magnitude < 10 ^ count → 0 < magnitude → count ≤ 39 → (more : List ℕ)
+    → bytes ≡ map (invert_if false) (digits_key count magnitude) ++ more
+    → TakesNumberOf count magnitude front bytes taken more old new

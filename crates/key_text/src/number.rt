@@ -1,5 +1,5 @@
 //! The text of a number from its key: two digits from each byte.
-ghost use Rattle.std.specs.Prelude.{◌≡◌, ◌+◌, ◌*◌, ◌/◌, ◌%◌, ◌^◌, ◌<◌, ◌≤◌, ◌++◌, ◌∷◌, [], ℕ, List, length, map, false, replicate, take, drop, IsTrue, IsFalse, IfOk, IfSome, MatchOption};
+ghost use Rattle.std.specs.Prelude.{◌≡◌, ◌≢◌, ◌⊎◌, ◌+◌, ◌-◌, ◌*◌, ◌/◌, ◌%◌, ◌^◌, ◌<◌, ◌≤◌, ◌++◌, ◌∷◌, [], ℕ, List, length, map, false, get_or, replicate, slice_range, take, drop, IsTrue, IsFalse, IfOk, IfSome, MatchOption};
 ghost use Rattle.std.specs.Fmt.{sign_text};
 ghost use Rattle.jsonb_spec.specs.Ascii as ascii;
 ghost use Rattle.jsonb_spec.specs.Proper.{IsProperNumber};
@@ -8,13 +8,13 @@ ghost use Rattle.jsonb_spec.specs.Text.Appending.{Appends};
 ghost use Rattle.jsonb_spec.specs.Text.NumberText.{number_text};
 ghost use Rattle.jsonb_spec.specs.Tree.{Num};
 ghost use Rattle.jsonb_spec.specs.SortKey.FewestDigits.{fewest_digits};
-ghost use Rattle.key_text.specs.Writes.{IsEncoded, HasPairs, AppendsLeaving, AppendsPair, Takes, TakesInteger, TakesSome, scaled_text};
+ghost use Rattle.key_text.specs.Writes.{IsEncoded, HasPairs, AppendsLeaving, AppendsPair, Takes, AppendsPairs, TakesNumber, TakesSome, scaled_text};
 ghost use Rattle.jsonb_spec.specs.SortKey.Text.{Preserves};
 
-use crate::append::{append_chunk, append_within};
+use crate::append::{append_chunk, append_one, append_within};
 use jsonb_core::sort_key::kind;
 use key_value::KeyError;
-use key_value::number::{invert_if, read_exponent};
+use key_value::number::{exponent_after, invert_if};
 use std::alloc::AllocError;
 
 // The two digits of each number below 100, and zeros for those below 128.
@@ -33,10 +33,10 @@ const LARGEST: u8 = 0xC7;
 // How many digits a number has at most before the point.
 const MAX_FRONT: u32 = 40;
 
-// Appends the integer whose key begins with this byte and these others, and returns how many of the others are read of
-// it. Where that is 0, nothing is appended: it is no integer above 0, or it is left to `append_number`.
+// Appends the number whose key begins with this byte and these others, and returns how many of the others are read of
+// it. Where that is 0, nothing is appended: it is below 1, or it is left to `append_number`.
 #[inline(always)]
-pub(crate) fn append_integer(first: u8, digits: &[u8], buf: &mut Vec<u8>) -> usize
+pub(crate) fn append_positive(first: u8, digits: &[u8], buf: &mut Vec<u8>) -> usize
     ensures number { 0 < result → (160 < first) × (first < 200) }
     ensures found { 0 < result → (n : Num) → IsProperNumber n → (more : List ℕ)
         → first ∷ digits.now ≡ number_key n ++ more
@@ -64,8 +64,8 @@ pub(crate) fn append_integer(first: u8, digits: &[u8], buf: &mut Vec<u8>) -> usi
     append_many(front, digits, buf)
 }
 
-// Appends an integer of one pair of digits, which has so many of them, if there is space. It has one only where the
-// other is a zero. Returns whether it is appended.
+// Appends a number of one pair of digits, of which so many are before the point, if there is space. Returns whether it
+// is appended.
 #[inline(always)]
 fn append_pair(front: usize, pair: u8, buf: &mut Vec<u8>) -> bool
     requires digits { (0 < front) × (front ≤ 2) × (pair < 128) }
@@ -74,41 +74,78 @@ fn append_pair(front: usize, pair: u8, buf: &mut Vec<u8>) -> bool
     ensures preserves { Preserves buf.old buf.new }
 {
     let (tens, ones) = digits_of_pair(pair);
-    if buf.capacity() - buf.len() < 2 {
+    if buf.capacity() - buf.len() < 3 {
         return false;
     }
+    buf.push_reserved(tens);
     if front == 2 {
-        buf.push_reserved(tens);
         buf.push_reserved(ones);
         return true;
     }
     if ones != b'0' {
-        return false;
+        buf.push_reserved(b'.');
+        buf.push_reserved(ones);
     }
-    buf.push_reserved(tens);
     true
 }
 
-// Appends an integer of so many digits, of which the bytes have those without zeros at the end, if there is space, and
-// returns how many of the bytes are read, or 0.
+// Appends a number with so many digits before its point, of which the bytes have those without zeros at the end, if
+// there is space, and returns how many of the bytes are read, or 0.
 #[inline(always)]
 fn append_few(front: usize, bytes: &[u8; 8], buf: &mut Vec<u8>) -> usize
     requires few { (0 < front) × (front ≤ 16) }
-    ensures found { (tail : List ℕ) → TakesInteger front (bytes.now ++ tail) result buf.old.items buf.new.items }
+    ensures found { (tail : List ℕ) → TakesNumber front (bytes.now ++ tail) result buf.old.items buf.new.items }
     ensures takes { TakesSome bytes.now result buf.old buf.new }
 {
     let mut row = [b'0'; 16];
     let pairs = encode_few(bytes, &mut row);
-    if pairs == 0 || front + 1 < 2 * pairs {
+    if pairs == 0 {
         return 0;
     }
+    if front + 1 < 2 * pairs {
+        return append_pointed(front, pairs, row, buf);
+    }
     if front + 1 == 2 * pairs && row[front] != b'0' {
-        return 0;
+        return append_pointed(front, pairs, row, buf);
     }
     if append_within(&row, front, buf) {
         return pairs;
     }
     0
+}
+
+// Appends the digits that are in these pairs, the last of which may end in a zero, with a point behind so many, and
+// returns how many pairs they are. Where memory lacks, it returns 0, and nothing is appended.
+#[inline(never)]
+fn append_pointed(front: usize, pairs: usize, row: [u8; 16], buf: &mut Vec<u8>) -> usize
+    requires few { (front + 1 < 2 * pairs) ⊎ ((front + 1 ≡ 2 * pairs) × (get_or row front 0 ≢ ascii.digit_zero)) }
+    requires within { pairs ≤ 8 }
+    ensures found { 0 < result → (result ≡ pairs) × AppendsPairs front pairs row buf.old.items buf.new.items }
+    ensures most { result ≤ pairs }
+    ensures none { result ≡ 0 → buf.new.items ≡ buf.old.items }
+    ensures preserves { Preserves buf.old buf.new }
+{
+    let old_len = buf.len();
+    let count = digit_count(pairs, &row);
+    if append_with_point(front, count, &row, buf).is_err() {
+        buf.truncate(old_len);
+        return 0;
+    }
+    pairs
+}
+
+// How many digits these pairs have, without a zero at the end.
+#[inline(always)]
+fn digit_count(pairs: usize, row: &[u8; 16]) -> usize
+    requires { (0 < pairs) × (pairs ≤ 8) }
+    ensures one { get_or row.now (2 * pairs - 1) 0 ≡ ascii.digit_zero → result ≡ 2 * pairs - 1 }
+    ensures two { get_or row.now (2 * pairs - 1) 0 ≢ ascii.digit_zero → result ≡ 2 * pairs }
+    ensures few { (2 * pairs ≤ result + 1) × (result ≤ 2 * pairs) }
+{
+    if row[2 * pairs - 1] == b'0' {
+        return 2 * pairs - 1;
+    }
+    2 * pairs
 }
 
 // Writes the digits to the row, of which the others stay zeros, and returns how many pairs they are, or 0 where they go
@@ -138,8 +175,8 @@ fn encode_few(bytes: &[u8; 8], row: &mut [u8; 16]) -> usize
 // Does so for an integer of any size, in a function of its own, which is called less often.
 #[inline(never)]
 fn append_many(front: usize, bytes: &[u8], buf: &mut Vec<u8>) -> usize
-    requires few { front ≤ 39 }
-    ensures found { TakesInteger front bytes.now result buf.old.items buf.new.items }
+    requires few { (0 < front) × (front ≤ 39) }
+    ensures found { TakesNumber front bytes.now result buf.old.items buf.new.items }
     ensures takes { TakesSome bytes.now result buf.old buf.new }
 {
     let mut row = [b'0'; 48];
@@ -155,23 +192,24 @@ fn append_many(front: usize, bytes: &[u8], buf: &mut Vec<u8>) -> usize
     0
 }
 
-// Appends the text of the number whose key the bytes begin with.
+// Appends the text of the number whose key begins with this byte and these others.
 #[inline(never)]
-pub(crate) fn append_number<'k>(bytes: &'k [u8], buf: &mut Vec<u8>) -> Result<&'k [u8], KeyError>
-    ensures found { (n : Num) → IsProperNumber n → (more : List ℕ) → bytes.now ≡ number_key n ++ more
+pub(crate) fn append_number<'k>(
+    first: u8,
+    others: &'k [u8],
+    buf: &mut Vec<u8>,
+) -> Result<&'k [u8], KeyError>
+    ensures found { (n : Num) → IsProperNumber n → (more : List ℕ) → first ∷ others.now ≡ number_key n ++ more
         → AppendsLeaving result buf.old buf.new more (number_text (fewest_digits n)) }
-    ensures shorter { IfOk result (λ rest. length rest.now < length bytes.now) }
+    ensures within { IfOk result (λ rest. length rest.now ≤ length others.now) }
     ensures preserves { Preserves buf.old buf.new }
 {
-    let Some((first, others)) = bytes.split_first() else {
-        return Err(KeyError::Invalid);
-    };
-    if *first == kind::ZERO {
+    if first == kind::ZERO {
         buf.extend_from_slice(b"0")?;
         return Ok(others);
     }
-    let negative = *first < kind::ZERO;
-    let Some((exponent, digits)) = read_exponent(negative, bytes) else {
+    let negative = first < kind::ZERO;
+    let Some((exponent, digits)) = exponent_after(negative, first, others) else {
         return Err(KeyError::Invalid);
     };
     let mut row = [b'0'; 48];
@@ -255,7 +293,7 @@ fn append_scaled(
         if front >= count {
             return append_row(*row, front, buf);
         }
-        return append_with_point(&row[..front], &row[front..count], buf);
+        return append_with_point(front, count, row, buf);
     }
     append_fraction((255 - exponent) as usize, &row[..count], buf)
 }
@@ -269,14 +307,20 @@ fn append_row(row: [u8; 48], count: usize, buf: &mut Vec<u8>) -> Result<(), Allo
     append_chunk(&row, count, buf)
 }
 
-// Appends digits with a point between them.
-#[inline(never)]
-fn append_with_point(front: &[u8], back: &[u8], buf: &mut Vec<u8>) -> Result<(), AllocError>
-    ensures { Appends result buf.old buf.new (front.now ++ ascii.point ∷ back.now) }
+// Appends the first digits of the row, with a point behind so many.
+#[inline(always)]
+fn append_with_point(
+    front: usize,
+    count: usize,
+    row: &[u8],
+    buf: &mut Vec<u8>,
+) -> Result<(), AllocError>
+    requires { (front ≤ count) × (count ≤ length row.now) }
+    ensures { Appends result buf.old buf.new (take front row.now ++ ascii.point ∷ slice_range row.now front count) }
 {
-    buf.extend_from_slice(front)?;
-    buf.extend_from_slice(b".")?;
-    buf.extend_from_slice(back)
+    append_chunk(row, front, buf)?;
+    append_one(b'.', buf)?;
+    buf.extend_from_slice(&row[front..count])
 }
 
 // Appends digits behind a point and as many zeros.

@@ -19,7 +19,7 @@ ghost use Rattle.key_text.specs.Writes.{AppendsWord, AppendsLeaving, name_text, 
 ghost use Rattle.jsonb_spec.specs.SortKey.Text.{Preserves, LacksCapacity, value_text};
 
 use crate::append::{append_one, append_within};
-use crate::number::{append_integer, append_number};
+use crate::number::{append_number, append_positive};
 use crate::string::{append_long_name, append_long_string, append_short_name, append_short_string};
 use crate::zeros::{NoZeros, Zeros};
 use jsonb_core::plain::plain_len;
@@ -113,45 +113,44 @@ fn append_value<'k, Z: Zeros>(
     };
     match opening(*first) {
         Some(object) => append_parts(object, rest, zeros, buf),
-        None => append_scalar(bytes, zeros, buf),
+        None => append_scalar(*first, rest, zeros, buf),
     }
 }
 
-// Appends the text of a value that is no array and no object.
+// Appends the text of a value that is no array and no object, whose key begins with this byte and the rest. It isn't
+// given both as one, which would have to be held in the loop over parts.
 #[inline(never)]
 fn append_scalar<'k, Z: Zeros>(
-    bytes: &'k [u8],
+    first: u8,
+    rest: &'k [u8],
     zeros: &mut Z,
     buf: &mut Vec<u8>,
 ) -> Result<&'k [u8], KeyError>
     ensures found { (depth : ℕ) → (t : Tree) → IsReadableAt depth t → IsScalar t → (more : List ℕ)
-        → bytes.now ≡ key_of t ++ more → WhereDue (Z.due zeros.old) (counts_at t) more (λ later.
+        → first ∷ rest.now ≡ key_of t ++ more → WhereDue (Z.due zeros.old) (counts_at t) more (λ later.
         AppendsLeaving result buf.old buf.new more (tree_text t) × OnOk result (IsDue (Z.due zeros.new) later)) }
-    ensures shorter { IfOk result (λ rest. length rest.now < length bytes.now) }
+    ensures within { IfOk result (λ left. length left.now ≤ length rest.now) }
     ensures preserves { Preserves buf.old buf.new }
 {
-    let Some((first, rest)) = bytes.split_first() else {
-        return Err(KeyError::Invalid);
-    };
-    if *first == kind::STRING {
+    if first == kind::STRING {
         return append_long_string(plain_len(rest), rest, buf);
     }
-    if *first == kind::NULL {
+    if first == kind::NULL {
         buf.extend_from_slice(b"null")?;
         return Ok(rest);
     }
-    if *first == kind::FALSE {
+    if first == kind::FALSE {
         buf.extend_from_slice(b"false")?;
         return Ok(rest);
     }
-    if *first == kind::TRUE {
+    if first == kind::TRUE {
         buf.extend_from_slice(b"true")?;
         return Ok(rest);
     }
     let start = buf.len();
-    let rest = append_number(bytes, buf)?;
-    zeros.append_next(bytes.len(), start, buf)?;
-    Ok(rest)
+    let left = append_number(first, rest, buf)?;
+    zeros.append_next(rest.len() + 1, start, buf)?;
+    Ok(left)
 }
 
 // Appends what is before a value: a comma, but for the first, and a member's name and a colon.
@@ -269,9 +268,9 @@ fn append_parts<'k, Z: Zeros>(
             return Err(KeyError::Invalid);
         };
         let start = buf.len();
-        let digits = append_integer(*first, others, buf);
+        let digits = append_positive(*first, others, buf);
         if digits > 0 {
-            zeros.append_next(value.len(), start, buf)?;
+            zeros.append_next(others.len() + 1, start, buf)?;
             is_first = false;
             rest = &others[digits..];
             continue;
@@ -293,7 +292,7 @@ fn append_parts<'k, Z: Zeros>(
                 rest = others;
                 continue;
             }
-            rest = append_scalar(value, zeros, buf)?;
+            rest = append_scalar(*first, others, zeros, buf)?;
             continue;
         }
         let Some(inner) = opening(*first) else {

@@ -25,7 +25,16 @@ pub fn read_exponent(negative: bool, bytes: &[u8]) -> Option<(u32, &[u8])>
     ensures read { IfSome result (λ r. ExponentOccurs negative bytes.now r.0 r.1.now) }
 {
     let (first, rest) = bytes.split_first()?;
-    let byte = invert_if(negative, *first);
+    exponent_after(negative, *first, rest)
+}
+
+/// The same of this byte and those after it.
+#[inline]
+pub fn exponent_after(negative: bool, first: u8, rest: &[u8]) -> Option<(u32, &[u8])>
+    ensures exponent { option_map (λ r. (r.0, r.1.now)) result ≡ exponent_of negative (first ∷ rest.now) }
+    ensures read { IfSome result (λ r. ExponentOccurs negative (first ∷ rest.now) r.0 r.1.now) }
+{
+    let byte = invert_if(negative, first);
     if byte == kind::FAR_EXPONENT {
         return read_second(negative, rest);
     }

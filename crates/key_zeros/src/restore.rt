@@ -16,6 +16,9 @@ use crate::scan::after_numbers;
 use key_walk::walk::front;
 use std::alloc::AllocError;
 
+// As many zeros as a number ends with at most.
+static ZEROS: [u8; 255] = [b'0'; 255];
+
 /// Appends the serialized form of a value, from the one with the fewest digits, as `write_text_of_key` of the crate
 /// `key_text` writes it, and the zeros of the value: of each number that zeros end behind the point, in the order of
 /// the text, how many numbers without any come before it since the last with some (seven bits in a byte, the lowest
@@ -95,8 +98,7 @@ pub fn append_ending(pointed: bool, count: u8, buf: &mut Vec<u8>) -> Result<(), 
     ensures { Appends result buf.old buf.new (ending_text pointed count) }
 {
     append_point(pointed, buf)?;
-    let row = [b'0'; 255];
-    buf.extend_from_slice(&row[..usize::from(count)])
+    buf.extend_from_slice(&ZEROS[..usize::from(count)])
 }
 
 // Appends a point behind a number that has none.

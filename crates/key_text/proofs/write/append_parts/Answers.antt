@@ -87,21 +87,21 @@ returns-in_err-append_next-clause-found g c = λ o is h more e later each d.
     let b = value_next c.parts.inside c.parts.is_first c.parts.rest.now c.in_ok-next.next c.in-Value.value c.parts.buf c.begin_next.new.buf c.in-Value.is c.in_ok-next.ensures.begins in
     let n = part_there (g.Z.Zeros.due c.parts.zeros) later c.parts.objects c.parts.depth (c.parts.depth - 1) c.parts.rest.now more c.parts.inside c.parts.is_first o start c.parts.buf.items (omega (arith, c.parts.invariant.some)) c.parts.invariant.inside (c.parts.invariant.writes o is h more e later each d) b.0 in
     let due = b.1 n.next.name _ n.next.occurs in
-    let bounds = c.append_integer-digits.ensures.number c.if-digits-gt0.true in
+    let bounds = c.append_positive-digits.ensures.number c.if-digits-gt0.true in
     let scalar = scalar_there n.next.left n.next.value n.next.readable c.in-Some.first.now c.in-Some.others.now c.in-Value.value.now _ c.in-Some.ensures.cases.0 due.0 (λ z. omega (arith, bounds.1, z)) (λ z. omega (arith, bounds.1, z)) in
     let x = number_there n.next.left n.next.value n.next.readable scalar c.in-Some.first.now c.in-Some.others.now c.in-Value.value.now _ c.in-Some.ensures.cases.0 due.0 (λ z. omega (arith, bounds.1, z)) (λ z. omega (arith, bounds.1, z)) (λ z. omega (arith, bounds.0, z)) (λ z. omega (arith, bounds.0, z)) in
     let there : c.in-Value.value.now ≡ number_key x.0 ++ (opens_key (n.next.others ∷ n.next.under) ++ more) = due.0 ∙ ap (λ v. key_of v ++ (opens_key (n.next.others ∷ n.next.under) ++ more)) x.2 in
     let counts = opens_counts (n.next.others ∷ n.next.under) ++ later in
     let left = due_as (g.Z.Zeros.due c.parts.zeros) (counts_at n.next.value ++ counts) (counts_at (number x.0) ++ counts) (ap (λ v. counts_at v ++ counts) x.2) n.due in
-    let f = c.append_integer-digits.ensures.found c.if-digits-gt0.true x.0 x.1 _ (sym c.in-Some.ensures.cases.0 ∙ there) in
-    let lacks = c.in_err-append_next.ensures.completes x.0 x.1 c.begin_next.new.buf.items (omega (arith, c.len-start.ensures)) f.1 left.passed (behind_first x.0 counts) (number_left x.0 x.1 c.in-Value.value.now (opens_key (n.next.others ∷ n.next.under) ++ more) counts there (each_there (g.Z.Zeros.due c.parts.zeros) later c.parts.objects c.parts.depth c.parts.rest.now more c.parts.inside c.parts.is_first o start c.parts.buf.items n each)) left.due in
+    let f = c.append_positive-digits.ensures.found c.if-digits-gt0.true x.0 x.1 _ (sym c.in-Some.ensures.cases.0 ∙ there) in
+    let lacks = c.in_err-append_next.ensures.completes x.0 x.1 c.begin_next.new.buf.items (omega (arith, c.len-start.ensures)) f.1 left.passed (behind_first x.0 counts) (omega (arith, number_left x.0 x.1 c.in-Value.value.now (opens_key (n.next.others ∷ n.next.under) ++ more) counts there (each_there (g.Z.Zeros.due c.parts.zeros) later c.parts.objects c.parts.depth c.parts.rest.now more c.parts.inside c.parts.is_first o start c.parts.buf.items n each), ap length c.in-Some.ensures.cases.0)) left.due in
     let space = value_fits (g.Z.Zeros.due c.parts.zeros) later c.parts.objects c.parts.depth c.parts.rest.now more c.parts.inside c.parts.is_first o start c.parts.buf.items n c.begin_next.new.buf.items due.1 in
     passed_on (λ rest. rest.now) c.from_residual-in_err-append_next.result c.args.buf.now c.append_next.new.buf more _ c.in_err-append_next.field-0.0 c.from_residual-in_err-append_next.ensures.1 lacks.0
-    (omega (arith, space, ap (λ v. length (tree_text v)) x.2, length-append c.begin_next.new.buf.items (tree_text (number x.0)), length-append c.args.buf.now.items (opening_text c.args.object ∷ []), c.parts.invariant.preserves.capacity, c.begin_next.ensures.preserves.capacity, c.append_integer-digits.ensures.takes.preserves.capacity, lacks.1))
+    (omega (arith, space, ap (λ v. length (tree_text v)) x.2, length-append c.begin_next.new.buf.items (tree_text (number x.0)), length-append c.args.buf.now.items (opening_text c.args.object ∷ []), c.parts.invariant.preserves.capacity, c.begin_next.ensures.preserves.capacity, c.append_positive-digits.ensures.takes.preserves.capacity, lacks.1))
 
 pub returns-in_err-append_next-clause-preserves : goal.returns-in_err-append_next-clause-preserves
 returns-in_err-append_next-clause-preserves g c =
-    preserves_on c.args.buf.now c.parts.buf c.append_next.new.buf c.parts.invariant.preserves (preserves_on c.parts.buf c.begin_next.new.buf c.append_next.new.buf c.begin_next.ensures.preserves (preserves_on c.begin_next.new.buf c.append_integer-digits.new.buf c.append_next.new.buf c.append_integer-digits.ensures.takes.preserves c.in_err-append_next.ensures.preserves))
+    preserves_on c.args.buf.now c.parts.buf c.append_next.new.buf c.parts.invariant.preserves (preserves_on c.parts.buf c.begin_next.new.buf c.append_next.new.buf c.begin_next.ensures.preserves (preserves_on c.begin_next.new.buf c.append_positive-digits.new.buf c.append_next.new.buf c.append_positive-digits.ensures.takes.preserves c.in_err-append_next.ensures.preserves))
 
 pub parts-preserved-then-digits-gt0 : goal.parts-preserved-then-digits-gt0
 parts-preserved-then-digits-gt0 g c =
@@ -111,16 +111,16 @@ parts-preserved-then-digits-gt0 g c =
           let b = value_next c.parts.inside c.parts.is_first c.parts.rest.now c.in_ok-next.next c.in-Value.value c.parts.buf c.begin_next.new.buf c.in-Value.is c.in_ok-next.ensures.begins in
           let n = part_there (g.Z.Zeros.due c.parts.zeros) later c.parts.objects c.parts.depth (c.parts.depth - 1) c.parts.rest.now more c.parts.inside c.parts.is_first o start c.parts.buf.items (omega (arith, c.parts.invariant.some)) c.parts.invariant.inside (c.parts.invariant.writes o is h more e later each d) b.0 in
           let due = b.1 n.next.name _ n.next.occurs in
-          let bounds = c.append_integer-digits.ensures.number c.if-digits-gt0.true in
+          let bounds = c.append_positive-digits.ensures.number c.if-digits-gt0.true in
           let scalar = scalar_there n.next.left n.next.value n.next.readable c.in-Some.first.now c.in-Some.others.now c.in-Value.value.now _ c.in-Some.ensures.cases.0 due.0 (λ z. omega (arith, bounds.1, z)) (λ z. omega (arith, bounds.1, z)) in
           let x = number_there n.next.left n.next.value n.next.readable scalar c.in-Some.first.now c.in-Some.others.now c.in-Value.value.now _ c.in-Some.ensures.cases.0 due.0 (λ z. omega (arith, bounds.1, z)) (λ z. omega (arith, bounds.1, z)) (λ z. omega (arith, bounds.0, z)) (λ z. omega (arith, bounds.0, z)) in
           let there : c.in-Value.value.now ≡ number_key x.0 ++ (opens_key (n.next.others ∷ n.next.under) ++ more) = due.0 ∙ ap (λ v. key_of v ++ (opens_key (n.next.others ∷ n.next.under) ++ more)) x.2 in
           let counts = opens_counts (n.next.others ∷ n.next.under) ++ later in
           let left = due_as (g.Z.Zeros.due c.parts.zeros) (counts_at n.next.value ++ counts) (counts_at (number x.0) ++ counts) (ap (λ v. counts_at v ++ counts) x.2) n.due in
-          let f = c.append_integer-digits.ensures.found c.if-digits-gt0.true x.0 x.1 _ (sym c.in-Some.ensures.cases.0 ∙ there) in
-          let done = c.in_ok-append_next.ensures.completes x.0 x.1 c.begin_next.new.buf.items (omega (arith, c.len-start.ensures)) f.1 left.passed (behind_first x.0 counts) (number_left x.0 x.1 c.in-Value.value.now (opens_key (n.next.others ∷ n.next.under) ++ more) counts there (each_there (g.Z.Zeros.due c.parts.zeros) later c.parts.objects c.parts.depth c.parts.rest.now more c.parts.inside c.parts.is_first o start c.parts.buf.items n each)) left.due in
-          scalar_written (g.Z.Zeros.due c.parts.zeros) later c.parts.objects c.parts.depth c.parts.rest.now more c.parts.inside c.parts.is_first o start c.parts.buf.items n c.begin_next.new.buf.items due.1 (g.Z.Zeros.due c.append_next.new.self) (record { passed = length (number_key x.0) - 1; due = done.1 }) _ c.append_next.new.buf.items (take_rest c.in-Some.others.now c.append_integer-digits.result ∙ f.0) (done.0 ∙ ap (λ v. c.begin_next.new.buf.items ++ tree_text v) (sym x.2));
-      preserves = preserves_on c.args.buf.now c.parts.buf c.append_next.new.buf c.parts.invariant.preserves (preserves_on c.parts.buf c.begin_next.new.buf c.append_next.new.buf c.begin_next.ensures.preserves (preserves_on c.begin_next.new.buf c.append_integer-digits.new.buf c.append_next.new.buf c.append_integer-digits.ensures.takes.preserves c.in_ok-append_next.ensures.preserves));
+          let f = c.append_positive-digits.ensures.found c.if-digits-gt0.true x.0 x.1 _ (sym c.in-Some.ensures.cases.0 ∙ there) in
+          let done = c.in_ok-append_next.ensures.completes x.0 x.1 c.begin_next.new.buf.items (omega (arith, c.len-start.ensures)) f.1 left.passed (behind_first x.0 counts) (omega (arith, number_left x.0 x.1 c.in-Value.value.now (opens_key (n.next.others ∷ n.next.under) ++ more) counts there (each_there (g.Z.Zeros.due c.parts.zeros) later c.parts.objects c.parts.depth c.parts.rest.now more c.parts.inside c.parts.is_first o start c.parts.buf.items n each), ap length c.in-Some.ensures.cases.0)) left.due in
+          scalar_written (g.Z.Zeros.due c.parts.zeros) later c.parts.objects c.parts.depth c.parts.rest.now more c.parts.inside c.parts.is_first o start c.parts.buf.items n c.begin_next.new.buf.items due.1 (g.Z.Zeros.due c.append_next.new.self) (record { passed = length (number_key x.0) - 1; due = done.1 }) _ c.append_next.new.buf.items (take_rest c.in-Some.others.now c.append_positive-digits.result ∙ f.0) (done.0 ∙ ap (λ v. c.begin_next.new.buf.items ++ tree_text v) (sym x.2));
+      preserves = preserves_on c.args.buf.now c.parts.buf c.append_next.new.buf c.parts.invariant.preserves (preserves_on c.parts.buf c.begin_next.new.buf c.append_next.new.buf c.begin_next.ensures.preserves (preserves_on c.begin_next.new.buf c.append_positive-digits.new.buf c.append_next.new.buf c.append_positive-digits.ensures.takes.preserves c.in_ok-append_next.ensures.preserves));
       some = c.parts.invariant.some;
       deep = c.parts.invariant.deep;
       size = c.parts.invariant.size;
@@ -135,11 +135,11 @@ parts-preserved-then-short-gt0 g c =
           let b = value_next c.parts.inside c.parts.is_first c.parts.rest.now c.in_ok-next.next c.in-Value.value c.parts.buf c.begin_next.new.buf c.in-Value.is c.in_ok-next.ensures.begins in
           let n = part_there (g.Z.Zeros.due c.parts.zeros) later c.parts.objects c.parts.depth (c.parts.depth - 1) c.parts.rest.now more c.parts.inside c.parts.is_first o start c.parts.buf.items (omega (arith, c.parts.invariant.some)) c.parts.invariant.inside (c.parts.invariant.writes o is h more e later each d) b.0 in
           let due = b.1 n.next.name _ n.next.occurs in
-          let same = c.append_integer-digits.ensures.takes.none (omega (arith, c.if-digits-gt0.false)) in
+          let same = c.append_positive-digits.ensures.takes.none (omega (arith, c.if-digits-gt0.false)) in
           let x = string_text n.next.left n.next.value n.next.readable c.in-Some.first.now c.in-Some.others.now c.in-Value.value.now _ c.in-Some.ensures.cases.0 due.0 c.if-first.true in
           let f = c.append_short_string-short.ensures.found c.if-short-gt0.true x.0 _ x.1 in
-          scalar_written (g.Z.Zeros.due c.parts.zeros) later c.parts.objects c.parts.depth c.parts.rest.now more c.parts.inside c.parts.is_first o start c.parts.buf.items n c.append_integer-digits.new.buf.items (same ∙ due.1) (g.Z.Zeros.due c.parts.zeros) (due_behind_plain (g.Z.Zeros.due c.parts.zeros) n.next.value _ x.3 n.due) _ c.append_short_string-short.new.buf.items (take_rest c.in-Some.others.now c.append_short_string-short.result ∙ f.0) (f.1 ∙ ap (λ t. c.append_integer-digits.new.buf.items ++ t) (sym x.2));
-      preserves = preserves_on c.args.buf.now c.parts.buf c.append_short_string-short.new.buf c.parts.invariant.preserves (preserves_on c.parts.buf c.begin_next.new.buf c.append_short_string-short.new.buf c.begin_next.ensures.preserves (preserves_on c.begin_next.new.buf c.append_integer-digits.new.buf c.append_short_string-short.new.buf c.append_integer-digits.ensures.takes.preserves (c.append_short_string-short.ensures.takes.preserves)));
+          scalar_written (g.Z.Zeros.due c.parts.zeros) later c.parts.objects c.parts.depth c.parts.rest.now more c.parts.inside c.parts.is_first o start c.parts.buf.items n c.append_positive-digits.new.buf.items (same ∙ due.1) (g.Z.Zeros.due c.parts.zeros) (due_behind_plain (g.Z.Zeros.due c.parts.zeros) n.next.value _ x.3 n.due) _ c.append_short_string-short.new.buf.items (take_rest c.in-Some.others.now c.append_short_string-short.result ∙ f.0) (f.1 ∙ ap (λ t. c.append_positive-digits.new.buf.items ++ t) (sym x.2));
+      preserves = preserves_on c.args.buf.now c.parts.buf c.append_short_string-short.new.buf c.parts.invariant.preserves (preserves_on c.parts.buf c.begin_next.new.buf c.append_short_string-short.new.buf c.begin_next.ensures.preserves (preserves_on c.begin_next.new.buf c.append_positive-digits.new.buf c.append_short_string-short.new.buf c.append_positive-digits.ensures.takes.preserves (c.append_short_string-short.ensures.takes.preserves)));
       some = c.parts.invariant.some;
       deep = c.parts.invariant.deep;
       size = c.parts.invariant.size;
@@ -152,13 +152,13 @@ returns-in_err-rest-clause-found g c = λ o is h more e later each d.
     let b = value_next c.parts.inside c.parts.is_first c.parts.rest.now c.in_ok-next.next c.in-Value.value c.parts.buf c.begin_next.new.buf c.in-Value.is c.in_ok-next.ensures.begins in
     let n = part_there (g.Z.Zeros.due c.parts.zeros) later c.parts.objects c.parts.depth (c.parts.depth - 1) c.parts.rest.now more c.parts.inside c.parts.is_first o start c.parts.buf.items (omega (arith, c.parts.invariant.some)) c.parts.invariant.inside (c.parts.invariant.writes o is h more e later each d) b.0 in
     let due = b.1 n.next.name _ n.next.occurs in
-    let same = c.append_integer-digits.ensures.takes.none (omega (arith, c.if-digits-gt0.false)) in
+    let same = c.append_positive-digits.ensures.takes.none (omega (arith, c.if-digits-gt0.false)) in
     let none_short = c.append_short_string-short.ensures.takes.none (omega (arith, c.if-short-gt0.false)) ∙ same in
     let x = string_text n.next.left n.next.value n.next.readable c.in-Some.first.now c.in-Some.others.now c.in-Value.value.now _ c.in-Some.ensures.cases.0 due.0 c.if-first.true in
     let lacks = c.in_err-rest.ensures.found x.0 _ x.1 in
     let space = value_fits (g.Z.Zeros.due c.parts.zeros) later c.parts.objects c.parts.depth c.parts.rest.now more c.parts.inside c.parts.is_first o start c.parts.buf.items n c.append_short_string-short.new.buf.items (none_short ∙ due.1) in
     passed_on (λ rest. rest.now) c.from_residual-in_err-rest.result c.args.buf.now c.append_long_string.new.buf more _ c.in_err-rest.field-0.0 c.from_residual-in_err-rest.ensures.1 lacks.0
-    (omega (arith, space, ap length x.2, length-append c.args.buf.now.items (opening_text c.args.object ∷ []), c.parts.invariant.preserves.capacity, c.begin_next.ensures.preserves.capacity, c.append_integer-digits.ensures.takes.preserves.capacity, c.append_short_string-short.ensures.takes.preserves.capacity, lacks.1))
+    (omega (arith, space, ap length x.2, length-append c.args.buf.now.items (opening_text c.args.object ∷ []), c.parts.invariant.preserves.capacity, c.begin_next.ensures.preserves.capacity, c.append_positive-digits.ensures.takes.preserves.capacity, c.append_short_string-short.ensures.takes.preserves.capacity, lacks.1))
 
 pub parts-preserved-then-first : goal.parts-preserved-then-first
 parts-preserved-then-first g c =
@@ -168,12 +168,12 @@ parts-preserved-then-first g c =
           let b = value_next c.parts.inside c.parts.is_first c.parts.rest.now c.in_ok-next.next c.in-Value.value c.parts.buf c.begin_next.new.buf c.in-Value.is c.in_ok-next.ensures.begins in
           let n = part_there (g.Z.Zeros.due c.parts.zeros) later c.parts.objects c.parts.depth (c.parts.depth - 1) c.parts.rest.now more c.parts.inside c.parts.is_first o start c.parts.buf.items (omega (arith, c.parts.invariant.some)) c.parts.invariant.inside (c.parts.invariant.writes o is h more e later each d) b.0 in
           let due = b.1 n.next.name _ n.next.occurs in
-          let same = c.append_integer-digits.ensures.takes.none (omega (arith, c.if-digits-gt0.false)) in
+          let same = c.append_positive-digits.ensures.takes.none (omega (arith, c.if-digits-gt0.false)) in
           let none_short = c.append_short_string-short.ensures.takes.none (omega (arith, c.if-short-gt0.false)) ∙ same in
           let x = string_text n.next.left n.next.value n.next.readable c.in-Some.first.now c.in-Some.others.now c.in-Value.value.now _ c.in-Some.ensures.cases.0 due.0 c.if-first.true in
           let y = c.in_ok-rest.ensures.found x.0 _ x.1 in
           scalar_written (g.Z.Zeros.due c.parts.zeros) later c.parts.objects c.parts.depth c.parts.rest.now more c.parts.inside c.parts.is_first o start c.parts.buf.items n c.append_short_string-short.new.buf.items (none_short ∙ due.1) (g.Z.Zeros.due c.parts.zeros) (due_behind_plain (g.Z.Zeros.due c.parts.zeros) n.next.value _ x.3 n.due) c.in_ok-rest.rest.now c.append_long_string.new.buf.items y.0 (y.1 ∙ ap (λ t. c.append_short_string-short.new.buf.items ++ t) (sym x.2));
-      preserves = preserves_on c.args.buf.now c.parts.buf c.append_long_string.new.buf c.parts.invariant.preserves (preserves_on c.parts.buf c.begin_next.new.buf c.append_long_string.new.buf c.begin_next.ensures.preserves (preserves_on c.begin_next.new.buf c.append_integer-digits.new.buf c.append_long_string.new.buf c.append_integer-digits.ensures.takes.preserves (preserves_on c.append_integer-digits.new.buf c.append_short_string-short.new.buf c.append_long_string.new.buf c.append_short_string-short.ensures.takes.preserves (c.in_ok-rest.ensures.preserves))));
+      preserves = preserves_on c.args.buf.now c.parts.buf c.append_long_string.new.buf c.parts.invariant.preserves (preserves_on c.parts.buf c.begin_next.new.buf c.append_long_string.new.buf c.begin_next.ensures.preserves (preserves_on c.begin_next.new.buf c.append_positive-digits.new.buf c.append_long_string.new.buf c.append_positive-digits.ensures.takes.preserves (preserves_on c.append_positive-digits.new.buf c.append_short_string-short.new.buf c.append_long_string.new.buf c.append_short_string-short.ensures.takes.preserves (c.in_ok-rest.ensures.preserves))));
       some = c.parts.invariant.some;
       deep = c.parts.invariant.deep;
       size = c.parts.invariant.size;
@@ -188,22 +188,22 @@ parts-preserved-then-append_word g c =
           let b = value_next c.parts.inside c.parts.is_first c.parts.rest.now c.in_ok-next.next c.in-Value.value c.parts.buf c.begin_next.new.buf c.in-Value.is c.in_ok-next.ensures.begins in
           let n = part_there (g.Z.Zeros.due c.parts.zeros) later c.parts.objects c.parts.depth (c.parts.depth - 1) c.parts.rest.now more c.parts.inside c.parts.is_first o start c.parts.buf.items (omega (arith, c.parts.invariant.some)) c.parts.invariant.inside (c.parts.invariant.writes o is h more e later each d) b.0 in
           let due = b.1 n.next.name _ n.next.occurs in
-          let same = c.append_integer-digits.ensures.takes.none (omega (arith, c.if-digits-gt0.false)) in
+          let same = c.append_positive-digits.ensures.takes.none (omega (arith, c.if-digits-gt0.false)) in
           let away : (c.in-Some.first.now ≢ 209) × (c.in-Some.first.now ≢ 210) = elim c.then-first-lt-OBJECT.branch [
             | then-first-lt-OBJECT-via-then-first-lt-OBJECT w ↦ (λ z. omega (arith, z, w.if-first-lt-OBJECT.true), λ z. omega (arith, z, w.if-first-lt-OBJECT.true))
             | then-first-lt-OBJECT-via-else-first-lt-OBJECT+then-first-gt-ARRAY w ↦ (λ z. omega (arith, z, w.if-first-gt-ARRAY.true), λ z. omega (arith, z, w.if-first-gt-ARRAY.true))
           ] in
           let scalar = scalar_there n.next.left n.next.value n.next.readable c.in-Some.first.now c.in-Some.others.now c.in-Value.value.now _ c.in-Some.ensures.cases.0 due.0 away.0 away.1 in
           let word = word_of n.next.left n.next.value n.next.readable scalar c.in-Some.first.now c.in-Some.others.now c.in-Value.value.now _ c.in-Some.ensures.cases.0 due.0 in
-          let x : (c.in-Some.others.now ≡ opens_key (n.next.others ∷ n.next.under) ++ more) × (c.append_word.new.buf.items ≡ c.append_integer-digits.new.buf.items ++ tree_text n.next.value) × AreZeros (counts_at n.next.value) = elim (c.append_word.ensures.appended c.if-append_word.true) [
-            | inl a ↦ ((word.is_null a.0).0, a.1 ∙ ap (λ t. c.append_integer-digits.new.buf.items ++ t) (sym (word.is_null a.0).1), (word.is_null a.0).2)
+          let x : (c.in-Some.others.now ≡ opens_key (n.next.others ∷ n.next.under) ++ more) × (c.append_word.new.buf.items ≡ c.append_positive-digits.new.buf.items ++ tree_text n.next.value) × AreZeros (counts_at n.next.value) = elim (c.append_word.ensures.appended c.if-append_word.true) [
+            | inl a ↦ ((word.is_null a.0).0, a.1 ∙ ap (λ t. c.append_positive-digits.new.buf.items ++ t) (sym (word.is_null a.0).1), (word.is_null a.0).2)
             | inr b ↦ elim b [
-              | inl a ↦ ((word.is_false a.0).0, a.1 ∙ ap (λ t. c.append_integer-digits.new.buf.items ++ t) (sym (word.is_false a.0).1), (word.is_false a.0).2)
-              | inr a ↦ ((word.is_true a.0).0, a.1 ∙ ap (λ t. c.append_integer-digits.new.buf.items ++ t) (sym (word.is_true a.0).1), (word.is_true a.0).2)
+              | inl a ↦ ((word.is_false a.0).0, a.1 ∙ ap (λ t. c.append_positive-digits.new.buf.items ++ t) (sym (word.is_false a.0).1), (word.is_false a.0).2)
+              | inr a ↦ ((word.is_true a.0).0, a.1 ∙ ap (λ t. c.append_positive-digits.new.buf.items ++ t) (sym (word.is_true a.0).1), (word.is_true a.0).2)
             ]
           ] in
-          scalar_written (g.Z.Zeros.due c.parts.zeros) later c.parts.objects c.parts.depth c.parts.rest.now more c.parts.inside c.parts.is_first o start c.parts.buf.items n c.append_integer-digits.new.buf.items (same ∙ due.1) (g.Z.Zeros.due c.parts.zeros) (due_behind_plain (g.Z.Zeros.due c.parts.zeros) n.next.value _ x.2 n.due) _ c.append_word.new.buf.items x.0 x.1;
-      preserves = preserves_on c.args.buf.now c.parts.buf c.append_word.new.buf c.parts.invariant.preserves (preserves_on c.parts.buf c.begin_next.new.buf c.append_word.new.buf c.begin_next.ensures.preserves (preserves_on c.begin_next.new.buf c.append_integer-digits.new.buf c.append_word.new.buf c.append_integer-digits.ensures.takes.preserves (c.append_word.ensures.preserves)));
+          scalar_written (g.Z.Zeros.due c.parts.zeros) later c.parts.objects c.parts.depth c.parts.rest.now more c.parts.inside c.parts.is_first o start c.parts.buf.items n c.append_positive-digits.new.buf.items (same ∙ due.1) (g.Z.Zeros.due c.parts.zeros) (due_behind_plain (g.Z.Zeros.due c.parts.zeros) n.next.value _ x.2 n.due) _ c.append_word.new.buf.items x.0 x.1;
+      preserves = preserves_on c.args.buf.now c.parts.buf c.append_word.new.buf c.parts.invariant.preserves (preserves_on c.parts.buf c.begin_next.new.buf c.append_word.new.buf c.begin_next.ensures.preserves (preserves_on c.begin_next.new.buf c.append_positive-digits.new.buf c.append_word.new.buf c.append_positive-digits.ensures.takes.preserves (c.append_word.ensures.preserves)));
       some = c.parts.invariant.some;
       deep = c.parts.invariant.deep;
       size = c.parts.invariant.size;
@@ -216,21 +216,21 @@ returns-in_err-rest-2-clause-found g c = λ o is h more e later each d.
     let b = value_next c.parts.inside c.parts.is_first c.parts.rest.now c.in_ok-next.next c.in-Value.value c.parts.buf c.begin_next.new.buf c.in-Value.is c.in_ok-next.ensures.begins in
     let n = part_there (g.Z.Zeros.due c.parts.zeros) later c.parts.objects c.parts.depth (c.parts.depth - 1) c.parts.rest.now more c.parts.inside c.parts.is_first o start c.parts.buf.items (omega (arith, c.parts.invariant.some)) c.parts.invariant.inside (c.parts.invariant.writes o is h more e later each d) b.0 in
     let due = b.1 n.next.name _ n.next.occurs in
-    let same = c.append_integer-digits.ensures.takes.none (omega (arith, c.if-digits-gt0.false)) in
+    let same = c.append_positive-digits.ensures.takes.none (omega (arith, c.if-digits-gt0.false)) in
     let away : (c.in-Some.first.now ≢ 209) × (c.in-Some.first.now ≢ 210) = elim c.then-first-lt-OBJECT.branch [
       | then-first-lt-OBJECT-via-then-first-lt-OBJECT w ↦ (λ z. omega (arith, z, w.if-first-lt-OBJECT.true), λ z. omega (arith, z, w.if-first-lt-OBJECT.true))
       | then-first-lt-OBJECT-via-else-first-lt-OBJECT+then-first-gt-ARRAY w ↦ (λ z. omega (arith, z, w.if-first-gt-ARRAY.true), λ z. omega (arith, z, w.if-first-gt-ARRAY.true))
     ] in
     let scalar = scalar_there n.next.left n.next.value n.next.readable c.in-Some.first.now c.in-Some.others.now c.in-Value.value.now _ c.in-Some.ensures.cases.0 due.0 away.0 away.1 in
     let no_word = c.append_word.ensures.unchanged c.if-append_word.false ∙ same in
-    let lacks = c.in_err-rest-2.ensures.found n.next.left n.next.value n.next.readable scalar _ due.0 (opens_counts (n.next.others ∷ n.next.under) ++ later) (each_there (g.Z.Zeros.due c.parts.zeros) later c.parts.objects c.parts.depth c.parts.rest.now more c.parts.inside c.parts.is_first o start c.parts.buf.items n each) n.due in
+    let lacks = c.in_err-rest-2.ensures.found n.next.left n.next.value n.next.readable scalar _ (sym c.in-Some.ensures.cases.0 ∙ due.0) (opens_counts (n.next.others ∷ n.next.under) ++ later) (each_there (g.Z.Zeros.due c.parts.zeros) later c.parts.objects c.parts.depth c.parts.rest.now more c.parts.inside c.parts.is_first o start c.parts.buf.items n each) n.due in
     let space = value_fits (g.Z.Zeros.due c.parts.zeros) later c.parts.objects c.parts.depth c.parts.rest.now more c.parts.inside c.parts.is_first o start c.parts.buf.items n c.append_word.new.buf.items (no_word ∙ due.1) in
     passed_on (λ rest. rest.now) c.from_residual-in_err-rest-2.result c.args.buf.now c.append_scalar.new.buf more _ c.in_err-rest-2.field-0.0 c.from_residual-in_err-rest-2.ensures.1 lacks.0.0
-    (omega (arith, space, length-append c.args.buf.now.items (opening_text c.args.object ∷ []), c.parts.invariant.preserves.capacity, c.begin_next.ensures.preserves.capacity, c.append_integer-digits.ensures.takes.preserves.capacity, c.append_word.ensures.preserves.capacity, lacks.0.1))
+    (omega (arith, space, length-append c.args.buf.now.items (opening_text c.args.object ∷ []), c.parts.invariant.preserves.capacity, c.begin_next.ensures.preserves.capacity, c.append_positive-digits.ensures.takes.preserves.capacity, c.append_word.ensures.preserves.capacity, lacks.0.1))
 
 pub returns-in_err-rest-2-clause-preserves : goal.returns-in_err-rest-2-clause-preserves
 returns-in_err-rest-2-clause-preserves g c =
-    preserves_on c.args.buf.now c.parts.buf c.append_scalar.new.buf c.parts.invariant.preserves (preserves_on c.parts.buf c.begin_next.new.buf c.append_scalar.new.buf c.begin_next.ensures.preserves (preserves_on c.begin_next.new.buf c.append_integer-digits.new.buf c.append_scalar.new.buf c.append_integer-digits.ensures.takes.preserves (preserves_on c.append_integer-digits.new.buf c.append_word.new.buf c.append_scalar.new.buf c.append_word.ensures.preserves (c.in_err-rest-2.ensures.preserves))))
+    preserves_on c.args.buf.now c.parts.buf c.append_scalar.new.buf c.parts.invariant.preserves (preserves_on c.parts.buf c.begin_next.new.buf c.append_scalar.new.buf c.begin_next.ensures.preserves (preserves_on c.begin_next.new.buf c.append_positive-digits.new.buf c.append_scalar.new.buf c.append_positive-digits.ensures.takes.preserves (preserves_on c.append_positive-digits.new.buf c.append_word.new.buf c.append_scalar.new.buf c.append_word.ensures.preserves (c.in_err-rest-2.ensures.preserves))))
 
 pub parts-preserved-then-first-lt-OBJECT : goal.parts-preserved-then-first-lt-OBJECT
 parts-preserved-then-first-lt-OBJECT g c =
@@ -240,16 +240,16 @@ parts-preserved-then-first-lt-OBJECT g c =
           let b = value_next c.parts.inside c.parts.is_first c.parts.rest.now c.in_ok-next.next c.in-Value.value c.parts.buf c.begin_next.new.buf c.in-Value.is c.in_ok-next.ensures.begins in
           let n = part_there (g.Z.Zeros.due c.parts.zeros) later c.parts.objects c.parts.depth (c.parts.depth - 1) c.parts.rest.now more c.parts.inside c.parts.is_first o start c.parts.buf.items (omega (arith, c.parts.invariant.some)) c.parts.invariant.inside (c.parts.invariant.writes o is h more e later each d) b.0 in
           let due = b.1 n.next.name _ n.next.occurs in
-          let same = c.append_integer-digits.ensures.takes.none (omega (arith, c.if-digits-gt0.false)) in
+          let same = c.append_positive-digits.ensures.takes.none (omega (arith, c.if-digits-gt0.false)) in
           let away : (c.in-Some.first.now ≢ 209) × (c.in-Some.first.now ≢ 210) = elim c.then-first-lt-OBJECT.branch [
             | then-first-lt-OBJECT-via-then-first-lt-OBJECT w ↦ (λ z. omega (arith, z, w.if-first-lt-OBJECT.true), λ z. omega (arith, z, w.if-first-lt-OBJECT.true))
             | then-first-lt-OBJECT-via-else-first-lt-OBJECT+then-first-gt-ARRAY w ↦ (λ z. omega (arith, z, w.if-first-gt-ARRAY.true), λ z. omega (arith, z, w.if-first-gt-ARRAY.true))
           ] in
           let scalar = scalar_there n.next.left n.next.value n.next.readable c.in-Some.first.now c.in-Some.others.now c.in-Value.value.now _ c.in-Some.ensures.cases.0 due.0 away.0 away.1 in
           let no_word = c.append_word.ensures.unchanged c.if-append_word.false ∙ same in
-          let y = c.in_ok-rest-2.ensures.found n.next.left n.next.value n.next.readable scalar _ due.0 (opens_counts (n.next.others ∷ n.next.under) ++ later) (each_there (g.Z.Zeros.due c.parts.zeros) later c.parts.objects c.parts.depth c.parts.rest.now more c.parts.inside c.parts.is_first o start c.parts.buf.items n each) n.due in
+          let y = c.in_ok-rest-2.ensures.found n.next.left n.next.value n.next.readable scalar _ (sym c.in-Some.ensures.cases.0 ∙ due.0) (opens_counts (n.next.others ∷ n.next.under) ++ later) (each_there (g.Z.Zeros.due c.parts.zeros) later c.parts.objects c.parts.depth c.parts.rest.now more c.parts.inside c.parts.is_first o start c.parts.buf.items n each) n.due in
           scalar_written (g.Z.Zeros.due c.parts.zeros) later c.parts.objects c.parts.depth c.parts.rest.now more c.parts.inside c.parts.is_first o start c.parts.buf.items n c.append_word.new.buf.items (no_word ∙ due.1) (g.Z.Zeros.due c.append_scalar.new.zeros) y.1 c.in_ok-rest-2.rest.now c.append_scalar.new.buf.items y.0.0 y.0.1;
-      preserves = preserves_on c.args.buf.now c.parts.buf c.append_scalar.new.buf c.parts.invariant.preserves (preserves_on c.parts.buf c.begin_next.new.buf c.append_scalar.new.buf c.begin_next.ensures.preserves (preserves_on c.begin_next.new.buf c.append_integer-digits.new.buf c.append_scalar.new.buf c.append_integer-digits.ensures.takes.preserves (preserves_on c.append_integer-digits.new.buf c.append_word.new.buf c.append_scalar.new.buf c.append_word.ensures.preserves (c.in_ok-rest-2.ensures.preserves))));
+      preserves = preserves_on c.args.buf.now c.parts.buf c.append_scalar.new.buf c.parts.invariant.preserves (preserves_on c.parts.buf c.begin_next.new.buf c.append_scalar.new.buf c.begin_next.ensures.preserves (preserves_on c.begin_next.new.buf c.append_positive-digits.new.buf c.append_scalar.new.buf c.append_positive-digits.ensures.takes.preserves (preserves_on c.append_positive-digits.new.buf c.append_word.new.buf c.append_scalar.new.buf c.append_word.ensures.preserves (c.in_ok-rest-2.ensures.preserves))));
       some = c.parts.invariant.some;
       deep = c.parts.invariant.deep;
       size = c.parts.invariant.size;
@@ -267,7 +267,7 @@ returns-then-depth-eq-MAX_DEPTH-clause-found g c = λ o is h more e later each d
 
 pub returns-then-depth-eq-MAX_DEPTH-clause-preserves : goal.returns-then-depth-eq-MAX_DEPTH-clause-preserves
 returns-then-depth-eq-MAX_DEPTH-clause-preserves g c =
-    preserves_on c.args.buf.now c.parts.buf c.append_integer-digits.new.buf c.parts.invariant.preserves (preserves_on c.parts.buf c.begin_next.new.buf c.append_integer-digits.new.buf c.begin_next.ensures.preserves (c.append_integer-digits.ensures.takes.preserves))
+    preserves_on c.args.buf.now c.parts.buf c.append_positive-digits.new.buf c.parts.invariant.preserves (preserves_on c.parts.buf c.begin_next.new.buf c.append_positive-digits.new.buf c.begin_next.ensures.preserves (c.append_positive-digits.ensures.takes.preserves))
 
 pub returns-in_err-append_opening-2-clause-found : goal.returns-in_err-append_opening-2-clause-found
 returns-in_err-append_opening-2-clause-found g c = λ o is h more e later each d.
@@ -275,15 +275,15 @@ returns-in_err-append_opening-2-clause-found g c = λ o is h more e later each d
     let b = value_next c.parts.inside c.parts.is_first c.parts.rest.now c.in_ok-next.next c.in-Value.value c.parts.buf c.begin_next.new.buf c.in-Value.is c.in_ok-next.ensures.begins in
     let n = part_there (g.Z.Zeros.due c.parts.zeros) later c.parts.objects c.parts.depth (c.parts.depth - 1) c.parts.rest.now more c.parts.inside c.parts.is_first o start c.parts.buf.items (omega (arith, c.parts.invariant.some)) c.parts.invariant.inside (c.parts.invariant.writes o is h more e later each d) b.0 in
     let due = b.1 n.next.name _ n.next.occurs in
-    let same = c.append_integer-digits.ensures.takes.none (omega (arith, c.if-digits-gt0.false)) in
+    let same = c.append_positive-digits.ensures.takes.none (omega (arith, c.if-digits-gt0.false)) in
     let x = opened_text n.next.left n.next.value n.next.readable c.in-Some.first.now c.in-Some.others.now c.in-Value.value.now _ c.in-Some.ensures.cases.0 due.0 c.in-Some-opening.inner c.in-Some-opening.ensures in
-    let space = opening_fits (g.Z.Zeros.due c.parts.zeros) later c.parts.objects c.parts.depth c.parts.rest.now more c.parts.inside c.parts.is_first o start c.parts.buf.items n c.append_integer-digits.new.buf.items (same ∙ due.1) x.open_there c.in-Some-opening.inner x.text x.counts in
+    let space = opening_fits (g.Z.Zeros.due c.parts.zeros) later c.parts.objects c.parts.depth c.parts.rest.now more c.parts.inside c.parts.is_first o start c.parts.buf.items n c.append_positive-digits.new.buf.items (same ∙ due.1) x.open_there c.in-Some-opening.inner x.text x.counts in
     out_of_memory (λ rest. rest.now) c.from_residual-in_err-append_opening-2.result c.args.buf.now c.append_opening-in-parts.new.buf more _ c.from_residual-in_err-append_opening-2.ensures.1
-    (omega (arith, space, length-append c.args.buf.now.items (opening_text c.args.object ∷ []), c.parts.invariant.preserves.capacity, c.begin_next.ensures.preserves.capacity, c.append_integer-digits.ensures.takes.preserves.capacity, c.in_err-append_opening-2.ensures.full))
+    (omega (arith, space, length-append c.args.buf.now.items (opening_text c.args.object ∷ []), c.parts.invariant.preserves.capacity, c.begin_next.ensures.preserves.capacity, c.append_positive-digits.ensures.takes.preserves.capacity, c.in_err-append_opening-2.ensures.full))
 
 pub returns-in_err-append_opening-2-clause-preserves : goal.returns-in_err-append_opening-2-clause-preserves
 returns-in_err-append_opening-2-clause-preserves g c =
-    preserves_on c.args.buf.now c.parts.buf c.append_opening-in-parts.new.buf c.parts.invariant.preserves (preserves_on c.parts.buf c.begin_next.new.buf c.append_opening-in-parts.new.buf c.begin_next.ensures.preserves (preserves_on c.begin_next.new.buf c.append_integer-digits.new.buf c.append_opening-in-parts.new.buf c.append_integer-digits.ensures.takes.preserves (retained_by c.append_integer-digits.new.buf c.append_opening-in-parts.new.buf c.in_err-append_opening-2.ensures)))
+    preserves_on c.args.buf.now c.parts.buf c.append_opening-in-parts.new.buf c.parts.invariant.preserves (preserves_on c.parts.buf c.begin_next.new.buf c.append_opening-in-parts.new.buf c.begin_next.ensures.preserves (preserves_on c.begin_next.new.buf c.append_positive-digits.new.buf c.append_opening-in-parts.new.buf c.append_positive-digits.ensures.takes.preserves (retained_by c.append_positive-digits.new.buf c.append_opening-in-parts.new.buf c.in_err-append_opening-2.ensures)))
 
 pub parts-preserved : goal.parts-preserved
 parts-preserved g c =
@@ -293,11 +293,11 @@ parts-preserved g c =
           let b = value_next c.parts.inside c.parts.is_first c.parts.rest.now c.in_ok-next.next c.in-Value.value c.parts.buf c.begin_next.new.buf c.in-Value.is c.in_ok-next.ensures.begins in
           let n = part_there (g.Z.Zeros.due c.parts.zeros) later c.parts.objects c.parts.depth (c.parts.depth - 1) c.parts.rest.now more c.parts.inside c.parts.is_first o start c.parts.buf.items (omega (arith, c.parts.invariant.some)) c.parts.invariant.inside (c.parts.invariant.writes o is h more e later each d) b.0 in
           let due = b.1 n.next.name _ n.next.occurs in
-          let same = c.append_integer-digits.ensures.takes.none (omega (arith, c.if-digits-gt0.false)) in
+          let same = c.append_positive-digits.ensures.takes.none (omega (arith, c.if-digits-gt0.false)) in
           let x = opened_text n.next.left n.next.value n.next.readable c.in-Some.first.now c.in-Some.others.now c.in-Value.value.now _ c.in-Some.ensures.cases.0 due.0 c.in-Some-opening.inner c.in-Some-opening.ensures in
-          part_begun (g.Z.Zeros.due c.parts.zeros) later c.parts.objects c.parts.depth c.parts.rest.now more c.parts.inside c.parts.is_first o start c.parts.buf.items n c.append_integer-digits.new.buf.items (same ∙ due.1) x.open_there c.in-Some-opening.inner x.text x.counts x.inner x.deeper x.fits x.is
+          part_begun (g.Z.Zeros.due c.parts.zeros) later c.parts.objects c.parts.depth c.parts.rest.now more c.parts.inside c.parts.is_first o start c.parts.buf.items n c.append_positive-digits.new.buf.items (same ∙ due.1) x.open_there c.in-Some-opening.inner x.text x.counts x.inner x.deeper x.fits x.is
           (omega (arith, c.parts.invariant.deep, c.parts.invariant.size, c.if-depth-eq-MAX_DEPTH.false)) c.in-Some.others.now c.append_opening-in-parts.new.buf.items x.occurs c.in_ok-append_opening-2.ensures.ok;
-      preserves = preserves_on c.args.buf.now c.parts.buf c.append_opening-in-parts.new.buf c.parts.invariant.preserves (preserves_on c.parts.buf c.begin_next.new.buf c.append_opening-in-parts.new.buf c.begin_next.ensures.preserves (preserves_on c.begin_next.new.buf c.append_integer-digits.new.buf c.append_opening-in-parts.new.buf c.append_integer-digits.ensures.takes.preserves (retained_by c.append_integer-digits.new.buf c.append_opening-in-parts.new.buf c.in_ok-append_opening-2.ensures)));
+      preserves = preserves_on c.args.buf.now c.parts.buf c.append_opening-in-parts.new.buf c.parts.invariant.preserves (preserves_on c.parts.buf c.begin_next.new.buf c.append_opening-in-parts.new.buf c.begin_next.ensures.preserves (preserves_on c.begin_next.new.buf c.append_positive-digits.new.buf c.append_opening-in-parts.new.buf c.append_positive-digits.ensures.takes.preserves (retained_by c.append_positive-digits.new.buf c.append_opening-in-parts.new.buf c.in_ok-append_opening-2.ensures)));
       some = omega arith;
       deep = omega (arith, c.parts.invariant.deep, c.if-depth-eq-MAX_DEPTH.false);
       size = simp length-set c.parts.invariant.size;

@@ -1,4 +1,4 @@
-use Rattle.std.proofs.Common.{◌++◌, ap}
+use Rattle.std.proofs.Common.{◌++◌, ap, sym, ◌∙◌}
 use Rattle.key_value.proofs.FirstBytes.{no_key}
 use Rattle.key_walk.proofs.Scalars.{opened_at_top, scalar_there}
 use Rattle.key_text.proofs.Appending.{as_text}
@@ -18,4 +18,4 @@ returns-in-Some-opening-clause-found g c = λ t r more e later each d.
 pub returns-in-None-clause-found : goal.returns-in-None-clause-found
 returns-in-None-clause-found g c = λ t r more e later each d.
     let scalar = scalar_there 512 t r c.in-Some.first.now c.in-Some.rest.now c.args.bytes.now more c.in-Some.ensures.cases.0 e c.in-None.ensures.0 c.in-None.ensures.1 in
-    (c.append_scalar.ensures.found 512 t r scalar more e later each d).0
+    (c.append_scalar.ensures.found 512 t r scalar more (sym c.in-Some.ensures.cases.0 ∙ e) later each d).0
