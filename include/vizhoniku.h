@@ -206,8 +206,9 @@ size_t vizhoniku_character(const unsigned char *text, size_t text_size, size_t f
 uint32_t vizhoniku_message(uint32_t mode, const unsigned char *text, size_t text_size, unsigned char *buffer,
                            size_t buffer_size, size_t *size);
 
-/* Writes the same message without its end `, pos N`, for a program that shows line and column instead:
- * `duplicate object attribute "a"`. The statuses are those of vizhoniku_message. */
+/* Writes what is wrong for a user's eyes, for a program that shows line and column beside it: the same message without its
+ * end `, pos N`, as `duplicate object attribute "a"`, but where that takes to know the parser: `invalid escape: `s` after a
+ * backslash`. The statuses are those of vizhoniku_message. */
 uint32_t vizhoniku_reason(uint32_t mode, const unsigned char *text, size_t text_size, unsigned char *buffer,
                           size_t buffer_size, size_t *size);
 

@@ -57,6 +57,14 @@ CODE_TEXTS = {
     "DepthLimitExceeded": b"depth limit exceeded",
 }
 
+# The codes that are said in other words to those who don't know the parser.
+REASON_TEXTS = {
+    "ExpectedSomeIdent": b"expected a name in quotes, or `true`, `false` or `null`",
+    "InvalidEscaped": b"invalid escape: %b after a backslash",
+    "InvalidHex": b"invalid escape: %b is no hexadecimal digit",
+    "ObjectKeyInvalidCharacter": b"expected the name of a member",
+}
+
 # Arrays in arrays are read, compared and written by calls in calls.
 sys.setrecursionlimit(20000)
 
@@ -71,10 +79,19 @@ class Rejection(Exception):
         self.argument = argument
 
     def printed(self):
-        text = CODE_TEXTS[self.code]
-        if self.argument is not None:
-            text = text % self.argument
-        return text + b", pos %d" % self.position
+        return self.said(CODE_TEXTS[self.code], self.argument) + b", pos %d" % self.position
+
+    def reason(self):
+        """What is wrong for those who don't know the parser."""
+        if self.code not in REASON_TEXTS:
+            return self.said(CODE_TEXTS[self.code], self.argument)
+        byte = self.argument
+        shown = byte is not None and (b"`%c`" if 0x20 <= byte <= 0x7E else b"byte %X") % byte
+        return self.said(REASON_TEXTS[self.code], shown or None)
+
+    @staticmethod
+    def said(text, argument):
+        return text if argument is None else text % argument
 
 
 def is_utf8(data):

@@ -25,7 +25,7 @@ def answer(text, mode):
             fields["argument"] = rejection.argument.hex()
         elif rejection.argument is not None:
             fields["argument"] = rejection.argument
-        return fields | {"printed": rejection.printed().decode()}
+        return fields | {"printed": rejection.printed().decode(), "reason": rejection.reason().decode()}
     return {"tree": reference.described(tree), "text": reference.written(tree).hex()}
 
 

@@ -92,7 +92,7 @@ func TestOnlyJSON(t *testing.T) {
 		"[01]":        "line 1, column 3: invalid number",
 		"[1e5,\n\f1]": "line 2, column 1: expected value",
 		"[\"\t\"]":    "line 1, column 3: control character (\\u0000-\\u001F) found while parsing a string",
-		"{a: 1}":      "line 1, column 2: expected ident",
+		"{a: 1}":      "line 1, column 2: expected a name in quotes, or `true`, `false` or `null`",
 		"[1e39]":      "line 1, column 5: number not carried",
 	} {
 		fault := faultOf(t, text, JSON)

@@ -379,8 +379,8 @@ func TestVectors(t *testing.T) {
 		t.Skip("tests/vectors.jsonl is missing")
 	}
 	type answer struct {
-		Rejected, Text, Printed string
-		Position                int
+		Rejected, Text, Reason string
+		Position               int
 	}
 	var documents [][]byte
 	accepted, rejected := 0, 0
@@ -395,7 +395,7 @@ func TestVectors(t *testing.T) {
 		input, err := hex.DecodeString(row.Input)
 		equal(t, err, nil)
 		for mode, answer := range map[Mode]answer{Standard: row.Standard, Extended: row.Extended} {
-			if mode == Extended && strings.HasPrefix(answer.Printed, "number not carried") {
+			if mode == Extended && answer.Reason == "number not carried" {
 				continue // of these exponents_test.go tries some
 			}
 			written, err := Text(input, mode)
@@ -413,7 +413,7 @@ func TestVectors(t *testing.T) {
 			var why *Error
 			equal(t, errors.As(err, &why), true)
 			equal(t, why.Position, answer.Position)
-			equal(t, strings.ToValidUTF8(fmt.Sprintf("%s, pos %d", why.Message, why.Position), "\ufffd"), answer.Printed)
+			equal(t, strings.ToValidUTF8(why.Message, "\ufffd"), answer.Reason)
 			front := input[:why.Offset]
 			equal(t, why.Line, 1+bytes.Count(front, []byte("\n")))
 			equal(t, why.Column, len(front)-bytes.LastIndexByte(front, '\n'))

@@ -368,12 +368,15 @@ words_of_fault(const VjsonRejection *why)
 	switch (why->error.code)
 	{
 		case VIZHONIKU_OBJECT_DUPLICATE_KEY:
-		case VIZHONIKU_INVALID_ESCAPED:
-		case VIZHONIKU_INVALID_HEX:
-			/* The name, or the byte, is in quotes after a space. */
-			end = strpbrk(words, "\"'");
+			/* The name is in quotes after a space. */
+			end = strchr(words, '"');
 			if (end > words)
 				*(end - 1) = '\0';
+			break;
+		case VIZHONIKU_INVALID_ESCAPED:
+		case VIZHONIKU_INVALID_HEX:
+			/* Which byte is wrong is said after a colon. */
+			words[strcspn(words, ":")] = '\0';
 			break;
 		default:
 			break;

@@ -301,9 +301,8 @@ class Calls(unittest.TestCase):
                     answer = row[mode.name.lower()]
                     if "rejected" in answer:
                         fault = self.rejected(data, mode)
-                        printed = f"{fault.message}, pos {answer['position']}"
-                        self.assertEqual(printed.encode("utf-8", "replace"),
-                                         answer["printed"].encode("utf-8", "replace"), data)
+                        self.assertEqual(fault.message.encode("utf-8", "replace"),
+                                         answer["reason"].encode("utf-8", "replace"), data)
                         self.assertTrue(0 <= fault.index <= len(data))
                     else:
                         self.assertEqual(v.text(data, mode).encode(), bytes.fromhex(answer["text"]), data)

@@ -11,18 +11,18 @@ ghost use Rattle.jsonb_spec.specs.Accessors.{as_boolean};
 ghost use Rattle.jsonb_spec.specs.SortKey.{key_of};
 ghost use Rattle.jsonb_spec.specs.Tree.{Tree, string, escaped};
 ghost use Rattle.jsonb_core.specs.Error.CodeView.{code_of};
-ghost use Rattle.jsonb_spec.specs.Code.Message.{code_text};
+ghost use Rattle.jsonb_spec.specs.Code.Message.{reason_text};
 
 use crate::{
     ACCEPTED, Failure, NO_KEY, NO_PART, NO_PATH, OUT_OF_MEMORY, REJECTED, TOO_SHORT,
     choose_grammar, put, status,
 };
-use error_path::append_step;
 use jsonb::check;
-use jsonb_core::error::{Error, ParseErrorCode};
+use jsonb_core::error::{Error, ParseErrorCode, Reason};
 use jsonb_core::number::Number;
 use jsonb_core::parts::{append_number_key, append_text_key};
 use jsonb_core::sort_key::kind;
+use jsonb_path::append_step;
 use key_value::number::{Decimal, decimal_of, integer_of, short_decimal};
 use key_walk::{Kind, boolean_of, kind_of};
 use std::alloc::{AllocError, Global};
@@ -312,7 +312,8 @@ fn reason_of_text(alloc: Global, mode: u32, text: &[u8]) -> Result<Option<String
 
 // A code in words, or `None` where memory ran out.
 fn words_of_code(alloc: Global, code: &ParseErrorCode) -> Option<String>
-    ensures words { IfSome result (λ words. string_bytes words ≡ code_text (code_of code.now)) }
+    ensures words { IfSome result (λ words. string_bytes words ≡ reason_text (code_of code.now)) }
 {
-    format!(in alloc; "{code}").ok()
+    let reason = Reason { code };
+    format!(in alloc; "{reason}").ok()
 }

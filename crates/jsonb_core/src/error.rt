@@ -5,7 +5,9 @@ ghost use Rattle.jsonb_core.specs.Error.CodeView.{code_of};
 ghost use Rattle.jsonb_core.specs.Error.ErrorView.{error_view};
 
 mod clone;
+mod reason;
 
+pub use reason::Reason;
 use std::alloc::{AllocError, AllocFailed};
 use std::hash::Hash;
 use std::str::Utf8Error;

@@ -2,6 +2,7 @@
 
 ghost use Rattle.std.specs.Prelude.{◌≡◌, ◌≢◌, ◌↔◌};
 
+use jsonb::error::Reason;
 use jsonb::{Error, ParseErrorCode, fault_index};
 use std::alloc::{AllocError, AllocFailed};
 use std::fmt;
@@ -22,7 +23,10 @@ pub enum Message {
 impl fmt::Display for Message {
     fn fmt<W: fmt::Write>(&self, f: &mut fmt::Formatter<W>) -> fmt::Result {
         match self {
-            Message::Code(code) => write!(f, "{code}"),
+            Message::Code(code) => {
+                let reason = Reason { code };
+                write!(f, "{reason}")
+            }
             Message::OutOfRange => f.write_str(
                 "number out of range (38 digits, written out; with --standard, 64-bit integers)",
             ),

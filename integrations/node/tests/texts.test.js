@@ -50,14 +50,14 @@ function faultOf(text, mode) {
   return fault;
 }
 
-function checkRejected(bytes, mode, { rejected, position, printed }) {
+function checkRejected(bytes, mode, { rejected, position, reason }) {
   const fault = faultOf(bytes, mode);
   const index = indexOf(rejected, position, bytes.length);
   const before = bytes.subarray(0, index);
   const begin = before.lastIndexOf(10) + 1;
   const others = bytes.subarray(begin + 1, index + 1); // of the line, up to the byte
   assert.strictEqual(fault.code, codes.get(rejected.toUpperCase()));
-  assert.strictEqual(`${fault.reason}, pos ${position}`, printed);
+  assert.strictEqual(fault.reason, reason);
   assert.strictEqual(fault.offset, index);
   assert.strictEqual(fault.line, 1 + before.filter((byte) => byte === 10).length);
   assert.strictEqual(fault.column, 1 + charactersIn(others) + (index === bytes.length && index > begin ? 1 : 0));
@@ -251,7 +251,7 @@ test('what is rejected is told with line and column', () => {
     ['json', '[01]', 'line 1, column 3: invalid number'],
     ['json', '[1e5,\n\f1]', 'line 2, column 1: expected value'],
     ['json', '["\t"]', 'line 1, column 3: control character (\\u0000-\\u001F) found while parsing a string'],
-    ['json', '{a: 1}', 'line 1, column 2: expected ident'],
+    ['json', '{a: 1}', 'line 1, column 2: expected a name in quotes, or `true`, `false` or `null`'],
     ['json', '[1e39]', 'line 1, column 5: number not carried'],
     ['extended_json', '1e38', 'line 1, column 4: number not carried'],
     ['extended_json', '1e-39', 'line 1, column 5: number not carried'],

@@ -88,7 +88,7 @@ fn only_json() {
         ("[01]", "line 1, column 3, at /0: invalid number"),
         ("[1e5,\n\x0c1]", "line 2, column 1, at /1: expected value"),
         ("[\"\t\"]", "line 1, column 3, at /0: control character (\\u0000-\\u001F) found while parsing a string"),
-        ("{a: 1}", "line 1, column 2: expected ident"),
+        ("{a: 1}", "line 1, column 2: expected a name in quotes, or `true`, `false` or `null`"),
         ("[1e39]", "line 1, column 5, at /0: number not carried"),
     ] {
         assert_eq!(rejection(check(given, Mode::Json)).to_string(), message, "{given}");

@@ -42,8 +42,7 @@ fn each_text_has_its_answer() {
                 let rejection = error.rejection().expect("a rejection");
                 let position = answer.get("position").and_then(KeyRef::as_u64).expect("a position");
                 assert_eq!(rejection.position() as u64, position);
-                let printed = format!("{}, pos {position}", rejection.message());
-                assert_eq!(printed, string(answer, "/printed").expect("a message"));
+                assert_eq!(rejection.message(), string(answer, "/reason").expect("a message"));
                 let code = format!("{:?}", rejection.code()).to_lowercase();
                 assert_eq!(code, string(answer, "/rejected").expect("a code").to_lowercase());
                 assert!(rejection.offset() <= input.len());

@@ -1,7 +1,7 @@
 -- What each status and each out parameter says of the key of a scalar, and of the reason of an error.
 use Rattle.std.specs.Prelude.{◌≡◌, ◌≢◌, ℕ, ℤ, List, Bool, Option, Some, None, Err, FitsSigned, if◌then◌else◌}
 use Rattle.std.specs.Int.{w64}
-use Rattle.jsonb_spec.specs.Code.Message.{code_text}
+use Rattle.jsonb_spec.specs.Code.Message.{reason_text}
 use Rattle.jsonb_spec.specs.SortKey.Decimals.{IsShortDecimal}
 use Rattle.jsonb_spec.specs.Parsing.Document.{document_of}
 use Rattle.jsonb_spec.specs.Accessors.{IsWholeNumber}
@@ -38,4 +38,4 @@ pub record IsReasonOf (number : ℕ) (text bytes : List ℕ) : Type 0 where
   pub code : Code
   pub position : ℕ
   pub exact : document_of mode text ≡ Err (record { code = code; offset = position })
-  pub is_text : bytes ≡ code_text code
+  pub is_text : bytes ≡ reason_text code
