@@ -1,4 +1,3 @@
-pub mod Encoding
 pub mod Between
 pub mod Passing
 pub mod Wrong

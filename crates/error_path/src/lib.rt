@@ -8,4 +8,4 @@ mod place;
 mod steps;
 
 pub use characters::character_at;
-pub use path::{Fault, append_path, append_step, error_path};
+pub use path::{Fault, error_path};

@@ -1,69 +1,17 @@
 //! The path of the part at which a text is rejected.
-ghost use Rattle.std.specs.Prelude.{◌≡◌, ◌++◌, ◌∷◌, [], List, ℕ, map, string_bytes, IfOk, OnOk};
+ghost use Rattle.std.specs.Prelude.{◌≡◌, List, ℕ, IfOk};
 ghost use Rattle.jsonb_spec.specs.Path.ErrorPath.{IsErrorPath};
 ghost use Rattle.error_path.specs.Faults.{text_upto};
-ghost use Rattle.jsonb_spec.specs.Path.{encoded_byte, encoded_key, encoded_keys, IsPath};
+ghost use Rattle.jsonb_spec.specs.Path.{IsPath};
 ghost use Rattle.text_scan.specs.Answer.{grammar_of};
 
 use crate::handler::PassedPart;
 use crate::place::{Place, is_error_path};
 use crate::steps::Steps;
 use jsonb_core::error::{Error, ParseErrorCode};
+use jsonb_path::append_path;
 use std::alloc::{AllocError, Global};
 use text_parse::{Grammar, parse_text};
-
-/// Appends the path (RFC 6901) of these keys.
-///
-/// # Errors
-///
-/// Where `path` could not grow.
-pub fn append_path(keys: &[String], path: &mut Vec<u8>) -> Result<(), AllocError>
-    ensures { OnOk result (path.new.items ≡ path.old.items ++ encoded_keys (map string_bytes keys.now)) }
-{
-    'keys: for key in keys {
-        append_step(key.as_bytes(), path)?;
-    }
-    Ok(())
-}
-
-/// Appends the step of a path (RFC 6901) for this key.
-///
-/// # Errors
-///
-/// Where `path` could not grow.
-pub fn append_step(key: &[u8], path: &mut Vec<u8>) -> Result<(), AllocError>
-    ensures { OnOk result (path.new.items ≡ path.old.items ++ encoded_keys (key.now ∷ [])) }
-{
-    path.push(b'/')?;
-    append_key(key, path)
-}
-
-// Appends a key as it is encoded in a path.
-fn append_key(key: &[u8], path: &mut Vec<u8>) -> Result<(), AllocError>
-    ensures { OnOk result (path.new.items ≡ path.old.items ++ encoded_key key.now) }
-{
-    'bytes: for byte in key {
-        append_byte(*byte, path)?;
-    }
-    Ok(())
-}
-
-// Appends a byte of a key as it is encoded in a path.
-#[inline(always)]
-fn append_byte(byte: u8, path: &mut Vec<u8>) -> Result<(), AllocError>
-    ensures { OnOk result (path.new.items ≡ path.old.items ++ encoded_byte byte) }
-{
-    if byte == b'~' {
-        path.extend_from_slice(b"~0")?;
-        return Ok(());
-    }
-    if byte == b'/' {
-        path.extend_from_slice(b"~1")?;
-        return Ok(());
-    }
-    path.push(byte)?;
-    Ok(())
-}
 
 /// Where a text is rejected.
 #[derive(Clone, Copy)]

@@ -1,3 +1,4 @@
+pub mod Encoding
 pub mod KeyEncoding
 pub mod PartIndex
 pub mod PlainKeys

@@ -3,7 +3,6 @@ pub mod Document
 pub mod DocumentCursor
 pub mod DocumentInsert
 pub mod KeyContains
-pub mod KeyEdit
 pub mod KeyParts
 pub mod KeyText
 pub mod Lines

@@ -3,7 +3,7 @@ use Rattle.std.proofs.lemmas.Bool.{ltb-true}
 use Rattle.std.proofs.lemmas.List.{at_drop_more}
 use Rattle.std.proofs.Common.{◌≡◌, ◌≢◌, ℕ, ◌+◌, ◌<◌, ◌≤◌, suc, ◌==◌, ◌&&◌, Bool, true, false, List, [], ◌∷◌, ◌++◌, drop, get_or, length, ne_eqb, nat_lt, if◌then◌else◌, refl, sym, ap, subst, ◌∙◌, arith, append_assoc, append-nil}
 use Rattle.jsonb_spec.specs.Ascii as ascii
-use Rattle.vjson_run.specs.Colours.{AreShown, no_piece, one_piece, piece_len, shown_piece, string_len}
+use Rattle.jsonb_spec.specs.Program.Colours.{AreShown, no_piece, one_piece, piece_len, shown_piece, string_len}
 
 -- a string ends within the bytes
 pub string_within : (passed : Bool) (cs : List ℕ) → string_len passed cs ≤ length cs

@@ -15,7 +15,7 @@ use Rattle.vjson_text.specs.declared.reader.Layout.{Layout}
 use Rattle.vjson_text.specs.declared.reader.Layout.TheVariants.{Compact, Indent}
 use Rattle.vjson_run.proofs.Lists.{any_behind, zipped_more}
 use Rattle.vjson_run.proofs.PartKeys.{part_key_is}
-use Rattle.vjson_run.specs.Colours.{IsShownAs}
+use Rattle.jsonb_spec.specs.Program.Colours.{IsShownAs}
 use Rattle.vjson_run.specs.Answers.{AppendsCell, AppendsCounted, AppendsLine, AppendsOne, AreCounted, IsCell, IsCounted, IsFound, IsLaidOut, IsLineText, IsOne, IsShown, LacksSome, PrintsKeyed, counted_none, counted_part, given_default, layout_of, shown_part}
 use Rattle.jsonb_spec.specs.Program.Printed.{Prints, first_keys, printed, row_of, separated, separator}
 use Rattle.vjson_run.specs.Keys.{AppendsPiece, AppendsTurned, HasPartKey, IsKeyBy, IsKeyOf, IsPartOf, IsPiece, LacksPart}

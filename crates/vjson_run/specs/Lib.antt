@@ -1,6 +1,5 @@
 pub mod Answers
 pub mod Chosen
-pub mod Colours
 pub mod InOrder
 pub mod Keys
 pub mod Lines

@@ -1,7 +1,7 @@
 //! A text in the colours that jq has on a terminal.
 
 ghost use Rattle.std.specs.Prelude.{◌≡◌, ◌++◌, ◌∷◌, ℕ, List, drop, IfOk, OnOk, true};
-ghost use Rattle.vjson_run.specs.Colours.{AreShown, IsShownAs, colour_of, end_of, is_mark, piece_len, shown_piece, string_len};
+ghost use Rattle.jsonb_spec.specs.Program.Colours.{AreShown, IsShownAs, colour_of, end_of, is_mark, piece_len, shown_piece, string_len};
 
 use std::alloc::AllocError;
 
@@ -53,8 +53,7 @@ fn piece_len(bytes: &[u8]) -> usize
 fn is_mark(byte: u8) -> bool
     ensures { result ≡ is_mark byte }
 {
-    byte == b'['
-        || (byte == b']' || (byte == b'{' || (byte == b'}' || (byte == b',' || byte == b':'))))
+    matches!(byte, b'[' | b']' | b'{' | b'}' | b',' | b':')
 }
 
 // The colour of a piece by its first byte, and by what is behind it: a string before a colon is a key.

@@ -3,7 +3,7 @@ use Rattle.jsonb_spec.specs.Path.{IsPath, encoded_keys}
 use Rattle.text_scan.specs.Answer.{grammar_of}
 use Rattle.text_parse.proofs.Steps.Failures.{stops_if}
 use Rattle.jsonb_spec.specs.Path.ErrorPath.{IsErrorPath}
-use Rattle.error_path.proofs.Encoding.{texts_of}
+use Rattle.jsonb_path.proofs.Encoding.{texts_of}
 use Rattle.error_path.proofs.path.error_path.Goals as goal
 
 pub returns : goal.returns

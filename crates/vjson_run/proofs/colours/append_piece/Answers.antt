@@ -1,5 +1,5 @@
 use Rattle.std.proofs.Common.{◌≤◌, length, subst, sym}
-use Rattle.vjson_run.specs.Colours.{piece_len}
+use Rattle.jsonb_spec.specs.Program.Colours.{piece_len}
 use Rattle.vjson_run.proofs.Coloured.{piece_within}
 use Rattle.vjson_run.proofs.colours.append_piece.Goals as goal
 

@@ -1,5 +1,5 @@
 use Rattle.std.proofs.Common.{◌≡◌, ◌+◌, drop, true}
-use Rattle.vjson_run.specs.Colours.{string_len}
+use Rattle.jsonb_spec.specs.Program.Colours.{string_len}
 use Rattle.vjson_run.proofs.colours.string_len.Given as goal
 
 abbrev pub invariant-bytes : goal.invariant-bytes
