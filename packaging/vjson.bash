@@ -18,7 +18,7 @@ _vjson() {
                 get) words="$words --where --has --lacks --lines --raw --array --default --line-buffered" ;;
                 sort) words="$words --where --has --lacks --lines --unique --reverse --by --down --check --canonical" ;;
                 count) words="$words --where --has --lacks --lines --reverse --by --down" ;;
-                equal) words="$words --quiet" ;;
+                equal) words="$words --quiet --diff" ;;
                 keys) words="$words --where --has --lacks --lines --by --down --canonical --line-buffered" ;;
             esac
             mapfile -t COMPREPLY < <(compgen -W "$words" -- "$word")

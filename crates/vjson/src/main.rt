@@ -10,7 +10,7 @@ use std::io::{BufReader, IsTerminal, Read, Write};
 use std::process::ExitCode;
 use std::rt::Env;
 use std::{env, fs, io, mem};
-use vjson_run::options::{Asked, HELP, Options, Progress, read_words};
+use vjson_run::options::{Asked, Command, HELP, Options, Progress, read_words};
 use vjson_run::session::Session;
 
 // How many bytes are read at once.
@@ -62,7 +62,7 @@ fn feed<W: Write, E: Write>(
     delay: Option<u64>,
 ) {
     let result = if name == "-" {
-        feed_from(rt, session, "<stdin>", delay, rt.stdin())
+        feed_from(rt, session, shown(name), delay, rt.stdin())
     } else {
         match File::open(rt, name) {
             Ok(file) => feed_from(rt, session, name, delay, file),
@@ -70,8 +70,72 @@ fn feed<W: Write, E: Write>(
         }
     };
     if let Err(error) = result {
-        let shown = if name == "-" { "<stdin>" } else { name };
-        session.cannot_read(shown, &error);
+        session.cannot_read(shown(name), &error);
+    }
+}
+
+// The name by which an input is reported.
+fn shown(name: &str) -> &str {
+    if name == "-" { "<stdin>" } else { name }
+}
+
+// All of one input.
+fn read_from<I: Read + Drop>(
+    rt: &HostRuntime,
+    delay: Option<u64>,
+    input: I,
+) -> io::Result<Vec<u8>> {
+    let mut bytes = Vec::new(rt.alloc());
+    let mut meter = Meter::new(rt, delay, input);
+    meter.read_to_end(&mut bytes)?;
+    Ok(bytes)
+}
+
+// All of one file, or of standard input for `-`.
+fn read(rt: &HostRuntime, name: &str, delay: Option<u64>) -> io::Result<Vec<u8>> {
+    if name == "-" {
+        return read_from(rt, delay, rt.stdin());
+    }
+    let file = File::open(rt, name)?;
+    read_from(rt, delay, file)
+}
+
+// The first file's bytes, where `check` accepts them. `None` also where the file can't be read.
+fn read_base(rt: &HostRuntime, options: &Options) -> Option<Vec<u8>> {
+    let name = options.files.first()?.as_str();
+    let mut session = Session::new(rt.alloc(), options, rt.stdout(), rt.stderr());
+    let bytes = match read(rt, name, delay_of(rt, options.progress)) {
+        Ok(bytes) => bytes,
+        Err(error) => {
+            session.cannot_read(shown(name), &error);
+            return None;
+        }
+    };
+    if let Err(error) = session.feed(shown(name), &mut bytes.as_slice()) {
+        session.cannot_read(shown(name), &error);
+    }
+    if session.finish() != 0 {
+        return None;
+    }
+    Some(bytes)
+}
+
+// Has the first file be what the other is compared with. False where it can't be.
+fn set_base(rt: &HostRuntime, options: &mut Options) -> bool {
+    options.command = Command::Check;
+    let Some(bytes) = read_base(rt, options) else {
+        return false;
+    };
+    options.command = Command::Diff;
+    options.base = bytes;
+    true
+}
+
+// The files whose texts are taken: not the first one of `equal --diff`.
+fn compared(options: &Options) -> &[String] {
+    match (options.command, options.files.as_slice()) {
+        (Command::Diff, [_, others @ ..]) => others,
+        (_, files) => files,
     }
 }
 
@@ -82,7 +146,7 @@ fn run(rt: &HostRuntime, options: &Options) -> u8 {
     if options.files.is_empty() {
         feed(rt, &mut session, "-", delay);
     }
-    'files: for name in options.files.iter() {
+    'files: for name in compared(options) {
         if session.is_over() {
             break;
         }
@@ -142,6 +206,9 @@ fn main(rt: HostRuntime) -> ExitCode {
             if rt.stdout().is_terminal() {
                 options.block = 1;
                 options.colours = has_colours(&rt);
+            }
+            if options.command == Command::Diff && !set_base(&rt, &mut options) {
+                return ExitCode::from(2);
             }
             ExitCode::from(run(&rt, &options))
         }

@@ -10,7 +10,7 @@ use Rattle.vjson_run.specs.InOrder.{AreInOrder, AreInOrderSoFar}
 use Rattle.vjson_run.specs.Output.{IsWritten, output}
 use Rattle.vjson_run.specs.Runs.{AreAnswered, AreEqual, AreEqualSoFar, AreLinesFor, AreSorted, HasMade, HasTaken, IsDone, WritesSorted, ends_sorted, is_yes, sorted_text, sorts}
 use Rattle.vjson_run.specs.declared.options.Command.{Command}
-use Rattle.vjson_run.specs.declared.options.Command.TheVariants.{Check, Format, Get, Sort, Equal, Keys}
+use Rattle.vjson_run.specs.declared.options.Command.TheVariants.{Check, Format, Get, Sort, Equal, Diff, Keys}
 use Rattle.vjson_run.specs.declared.options.Options.{Options}
 use Rattle.vjson_run.specs.declared.session.Session.{Session}
 use Rattle.vjson_run.specs.declared.session.Status.{Status}
@@ -57,6 +57,7 @@ module _ {W E : Type 0} (contents : W → Option (List ℕ)) where
   unsorted_done Format s start end texts unsorted retained had = answered_done s start end texts retained had
   unsorted_done Get s start end texts unsorted retained had = answered_done s start end texts retained had
   unsorted_done Keys s start end texts unsorted retained had = answered_done s start end texts retained had
+  unsorted_done Diff s start end texts unsorted retained had = answered_done s start end texts retained had
   unsorted_done Equal s start end texts unsorted retained had = (equal_done s.options.now texts s.last (is_yes s.status) had.0, retained_along start (output contents s.out) end [] had.1 retained)
   unsorted_done Sort s start end texts unsorted retained had = unsorted_sort s.options.now.check (is_yes s.status) s start end texts refl refl unsorted retained had
 
@@ -85,6 +86,7 @@ module _ {W E : Type 0} (contents : W → Option (List ℕ)) where
   sorted_done Get s t start end texts sorted w fine retained had = cc
   sorted_done Keys s t start end texts sorted w fine retained had = cc
   sorted_done Equal s t start end texts sorted w fine retained had = cc
+  sorted_done Diff s t start end texts sorted w fine retained had = cc
 
   by_sorts : (sorted : Bool) (s m t : Session W E) (start : Option (List ℕ)) (texts : List (List ℕ)) → sorts s ≡ sorted → (sorts s ≡ false → m ≡ s) → (sorts s ≡ true → m.status ≢ Trouble → WritesSorted contents s m)
       → m.status ≢ Trouble → IsWritten contents m.out t.out → HasTaken contents start texts s

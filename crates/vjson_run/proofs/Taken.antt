@@ -9,17 +9,18 @@ use Rattle.std.specs.List.{flat_map, list_all}
 use Rattle.vjson_text.specs.Texts.{AppendsKeyOf, IsNoTextOf}
 use Rattle.vjson_run.proofs.InOrder.{disordered_more, in_order_more, out_of_order, rejected_order}
 use Rattle.vjson_run.proofs.Lists.{any_before, any_last, zipped_more}
-use Rattle.vjson_run.specs.Answers.{Answers, IsFound, IsLaidOut, IsOne, LacksSome, PrintsKeyed, asked, checked, checks_order, found, keyed, lacking, laid_out, rejected}
+use Rattle.vjson_run.specs.Answers.{Answers, IsFound, IsLaidOut, IsOne, LacksSome, PrintsKeyed, asked, checked, checks_order, compares, found, keyed, lacking, laid_out, rejected, told}
+use Rattle.jsonb_spec.specs.Program.Differences.{differences}
 use Rattle.jsonb_spec.specs.Program.Printed.{Prints, printed}
 use Rattle.vjson_run.specs.InOrder.{AreInOrderSoFar, is_wrong}
 use Rattle.jsonb_spec.specs.Program.KeyLine.{key_line}
 use Rattle.vjson_run.specs.Output.{output, PrintsNothing, PrintsPart}
 use Rattle.vjson_run.specs.declared.report.Output.{Output}
 use Rattle.jsonb_spec.specs.Program.Answer.{Answer}
-use Rattle.vjson_run.specs.Runs.{AreAnswered, AreLinesFor, IsAnswer, IsLineFor, HasMade, HasTaken, Gets, AddsLine, AreEqual, AreEqualSoFar, ChecksOrder, Compares, Differs, IsRetained, IsSame, Takes, denied, is_yes}
+use Rattle.vjson_run.specs.Runs.{AreAnswered, AreLinesFor, IsAnswer, IsLineFor, HasMade, HasTaken, Gets, AddsLine, AreEqual, AreEqualSoFar, ChecksOrder, Compares, Differs, IsRetained, IsSame, Takes, Tells, denied, is_yes}
 use Rattle.vjson_run.specs.declared.lines.Line.{Line}
 use Rattle.vjson_run.specs.declared.options.Command.{Command}
-use Rattle.vjson_run.specs.declared.options.Command.TheVariants.{Check, Format, Get, Sort, Equal, Keys}
+use Rattle.vjson_run.specs.declared.options.Command.TheVariants.{Check, Format, Get, Sort, Equal, Diff, Keys}
 use Rattle.vjson_run.specs.declared.options.Options.{Options}
 use Rattle.vjson_run.specs.declared.session.Session.{Session}
 use Rattle.vjson_run.specs.declared.session.Status.{Status}
@@ -72,6 +73,10 @@ after false status = denied status
 chosen : (wrong : Bool) (status : Status) → (if wrong then denied status else status) ≡ after (not wrong) status
 chosen true status = refl
 chosen false status = refl
+
+by_good : (good : Bool) (status : Status) → (if good then status else denied status) ≡ after good status
+by_good true status = refl
+by_good false status = refl
 
 untroubled : (good : Bool) (s t : Status) → t ≡ after good s → t ≢ Trouble → s ≢ Trouble
 untroubled true s t is h e = h (is ∙ e)
@@ -160,6 +165,7 @@ module _ {W E : Type 0} (contents : W → Option (List ℕ)) where
   by_command Format s t good part text start before is by h calm fine answer had = moved_answered s t good part text start before h calm fine (ap (λ c. asked c s.options.now.check) is) answer had
   by_command Get s t good part text start before is by h calm fine answer had = moved_answered s t good part text start before h calm fine (ap (λ c. asked c s.options.now.check) is) answer had
   by_command Keys s t good part text start before is by h calm fine answer had = moved_answered s t good part text start before h calm fine (ap (λ c. asked c s.options.now.check) is) answer had
+  by_command Diff s t good part text start before is by h calm fine answer had = moved_answered s t good part text start before h calm fine (ap (λ c. asked c s.options.now.check) is) answer had
   by_command Sort s t good part text start before is by h calm fine answer had = absurd by
   by_command Equal s t good part text start before is by h calm fine answer had = absurd by
 
@@ -168,15 +174,20 @@ module _ {W E : Type 0} (contents : W → Option (List ℕ)) where
       subst (λ o. Made start (before ++ text ∷ []) t o.now.command) (sym h.options)
       (by_command s.options.now.command s t good part text start before refl by h calm fine answer (had (untroubled good s.status t.status (h.status calm) calm) (h.failed fine)))
 
-  pub retained_moves : (s t : Session W E) (part : List ℕ) → IsRetained s t → t.out.bytes.items ≡ s.out.bytes.items ++ part → Moves s t true part
-  retained_moves s t part k bytes = record {
-    options = k.options;
-    failed = λ fine. sym k.error ∙ fine;
-    grows = λ _ start w h. subst (λ x. Appends start (append_known (contents x) t.out.bytes.items) (w ++ part)) (sym k.writer)
+  -- a part is printed, and nothing else that counts changes but the status
+  printed_moves : (s t : Session W E) (good : Bool) (part : List ℕ) → t.options ≡ s.options → t.out.writer ≡ s.out.writer → t.out.error ≡ s.out.error → t.over ≡ s.over → t.status ≡ after good s.status
+      → t.out.bytes.items ≡ s.out.bytes.items ++ part → Moves s t good part
+  printed_moves s t good part options writer error over status bytes = record {
+    options = options;
+    failed = λ fine. sym error ∙ fine;
+    grows = λ _ start w h. subst (λ x. Appends start (append_known (contents x) t.out.bytes.items) (w ++ part)) (sym writer)
         (subst (λ b. Appends start (append_known (contents s.out.writer) b) (w ++ part)) (sym bytes) (grown start (contents s.out.writer) w s.out.bytes.items part h));
-    status = λ _. k.status;
-    over = λ _ _. k.over;
+    status = λ _. status;
+    over = λ _ _. over;
   }
+
+  pub retained_moves : (s t : Session W E) (part : List ℕ) → IsRetained s t → t.out.bytes.items ≡ s.out.bytes.items ++ part → Moves s t true part
+  retained_moves s t part k bytes = printed_moves s t true part k.options k.writer k.error k.over k.status bytes
 
   pub checked_taken : (s t : Session W E) (text : List ℕ) → s.options.now.command ≡ Check → IsOne s.options.now.grammar text → IsSame s t → Takes contents s (text ∷ []) t
   checked_taken s t text is one same =
@@ -190,27 +201,23 @@ module _ {W E : Type 0} (contents : W → Option (List ℕ)) where
   keyed_taken s t text is h retained =
       takes_answered s t true (key_line h.key h.line) text (retained_moves s t (key_line h.key h.line) retained h.appended) (subst IsByText (sym is) tt) (keyed h.key h.line is h.keyed)
 
-  gets_moves : (s t : Session W E) (text : List ℕ) (good : Bool) (part : List ℕ) → Gets s text t → t.status ≡ after good s.status → t.out.bytes.items ≡ s.out.bytes.items ++ part → Moves s t good part
-  gets_moves s t text good part k status bytes = record {
-    options = k.options;
-    failed = λ fine. sym k.error ∙ fine;
-    grows = λ _ start w h. subst (λ x. Appends start (append_known (contents x) t.out.bytes.items) (w ++ part)) (sym k.writer)
-        (subst (λ b. Appends start (append_known (contents s.out.writer) b) (w ++ part)) (sym bytes) (grown start (contents s.out.writer) w s.out.bytes.items part h));
-    status = λ _. status;
-    over = λ _ _. k.over;
-  }
-
   got : (s t : Session W E) (text : List ℕ) (good : Bool) → s.options.now.command ≡ Get → Gets s text t
       → MatchBool good (Prints (IsFound s.options.now text) s.out.bytes.items t.out.bytes.items × (t.status ≡ s.status))
       (LacksSome s.options.now text × (s.options.now.default ≡ None) × (t.out.bytes.items ≡ s.out.bytes.items) × (t.status ≡ denied s.status))
       → Takes contents s (text ∷ []) t
   got s t text true is h part =
-      takes_answered s t true (printed part.0.bytes) text (gets_moves s t text true (printed part.0.bytes) h part.1 part.0.appended) (subst IsByText (sym is) tt) (found part.0.bytes is part.0.is_printed)
+      takes_answered s t true (printed part.0.bytes) text (printed_moves s t true (printed part.0.bytes) h.options h.writer h.error h.over part.1 part.0.appended) (subst IsByText (sym is) tt) (found part.0.bytes is part.0.is_printed)
   got s t text false is h part =
-      takes_answered s t false [] text (gets_moves s t text false [] h part.3 (part.2 ∙ sym (append-nil s.out.bytes.items))) (subst IsByText (sym is) tt) (lacking is part.0 part.1)
+      takes_answered s t false [] text (printed_moves s t false [] h.options h.writer h.error h.over part.3 (part.2 ∙ sym (append-nil s.out.bytes.items))) (subst IsByText (sym is) tt) (lacking is part.0 part.1)
 
   pub gets_taken : (s t : Session W E) (text : List ℕ) → s.options.now.command ≡ Get → Gets s text t → Takes contents s (text ∷ []) t
   gets_taken s t text is h = got s t text h.good is h h.part
+
+  pub told_taken : (s t : Session W E) (text : List ℕ) → s.options.now.command ≡ Diff → Tells s text t → Takes contents s (text ∷ []) t
+  told_taken s t text is h =
+      let part = differences [] h.told.t (Some h.told.u) in
+      takes_answered s t h.good part text (printed_moves s t h.good part h.options h.writer h.error h.over (h.status ∙ by_good h.good s.status) h.told.appended) (subst IsByText (sym is) tt)
+      (told h.good part is (record { t = h.told.t; u = h.told.u; is_one = h.told.is_one; is_other = h.told.is_other; appended = refl; are_equal = h.told.are_equal }))
 
   -- what `sort` has of some texts
   abbrev Collected : Options → Option (List ℕ) → List (List ℕ) → Session W E → Type 0
@@ -285,11 +292,11 @@ module _ {W E : Type 0} (contents : W → Option (List ℕ)) where
   pub record Rejected (s t : Session W E) : Type 0 where
     pub options : t.options ≡ s.options
     pub printed : PrintsNothing contents s.out t.out
-    pub status : s.options.now.command ≢ Equal → t.status ≡ denied s.status
-    pub equal : s.options.now.command ≡ Equal → t.status ≡ Trouble
+    pub status : compares s.options.now.command ≡ false → t.status ≡ denied s.status
+    pub compared : compares s.options.now.command ≡ true → t.status ≡ Trouble
     pub over : checks_order s.options.now ≡ false → t.over ≡ s.over
 
-  rejected_moves : (s t : Session W E) → Rejected s t → s.options.now.command ≢ Equal → Moves s t false []
+  rejected_moves : (s t : Session W E) → Rejected s t → compares s.options.now.command ≡ false → Moves s t false []
   rejected_moves s t h other = record {
     options = h.options;
     failed = h.printed.failed;
@@ -319,30 +326,16 @@ module _ {W E : Type 0} (contents : W → Option (List ℕ)) where
 
   rejected_by : (command : Command) (s t : Session W E) (text : List ℕ) (start : Option (List ℕ)) (before : List (List ℕ)) → s.options.now.command ≡ command → IsNoTextOf s.options.now.grammar text → Rejected s t
       → t.status ≢ Trouble → t.out.error ≡ None → HasTaken contents start before s → Made start (before ++ text ∷ []) t command
-  rejected_by Equal s t text start before is none h calm fine had = absurd (calm (h.equal is))
+  rejected_by Equal s t text start before is none h calm fine had = absurd (calm (h.compared (ap compares is)))
+  rejected_by Diff s t text start before is none h calm fine had = absurd (calm (h.compared (ap compares is)))
   rejected_by Sort s t text start before is none h calm fine had =
-      let status = h.status (λ e. apart (sym is ∙ e)) in
+      let status = h.status (ap compares is) in
       made_sort s.options.now.check s t start (before ++ text ∷ []) refl h.options
       (rejected_by_check s.options.now.check s t text start before refl is none h status fine (subst (Made start before s) is (had (calm_before s t status calm) (h.printed.failed fine))))
-    where
-      apart : Sort ≡ Equal → ⊥
-      apart e = cc
-  rejected_by Check s t text start before is none h calm fine had = subst (Made start (before ++ text ∷ []) t) (ap (λ o. o.now.command) h.options ∙ is) (takes_answered s t false [] text (rejected_moves s t h (λ e. apart (sym is ∙ e))) (subst IsByText (sym is) tt) (rejected none) start before had calm fine)
-    where
-      apart : Check ≡ Equal → ⊥
-      apart e = cc
-  rejected_by Format s t text start before is none h calm fine had = subst (Made start (before ++ text ∷ []) t) (ap (λ o. o.now.command) h.options ∙ is) (takes_answered s t false [] text (rejected_moves s t h (λ e. apart (sym is ∙ e))) (subst IsByText (sym is) tt) (rejected none) start before had calm fine)
-    where
-      apart : Format ≡ Equal → ⊥
-      apart e = cc
-  rejected_by Get s t text start before is none h calm fine had = subst (Made start (before ++ text ∷ []) t) (ap (λ o. o.now.command) h.options ∙ is) (takes_answered s t false [] text (rejected_moves s t h (λ e. apart (sym is ∙ e))) (subst IsByText (sym is) tt) (rejected none) start before had calm fine)
-    where
-      apart : Get ≡ Equal → ⊥
-      apart e = cc
-  rejected_by Keys s t text start before is none h calm fine had = subst (Made start (before ++ text ∷ []) t) (ap (λ o. o.now.command) h.options ∙ is) (takes_answered s t false [] text (rejected_moves s t h (λ e. apart (sym is ∙ e))) (subst IsByText (sym is) tt) (rejected none) start before had calm fine)
-    where
-      apart : Keys ≡ Equal → ⊥
-      apart e = cc
+  rejected_by Check s t text start before is none h calm fine had = subst (Made start (before ++ text ∷ []) t) (ap (λ o. o.now.command) h.options ∙ is) (takes_answered s t false [] text (rejected_moves s t h (ap compares is)) (subst IsByText (sym is) tt) (rejected none) start before had calm fine)
+  rejected_by Format s t text start before is none h calm fine had = subst (Made start (before ++ text ∷ []) t) (ap (λ o. o.now.command) h.options ∙ is) (takes_answered s t false [] text (rejected_moves s t h (ap compares is)) (subst IsByText (sym is) tt) (rejected none) start before had calm fine)
+  rejected_by Get s t text start before is none h calm fine had = subst (Made start (before ++ text ∷ []) t) (ap (λ o. o.now.command) h.options ∙ is) (takes_answered s t false [] text (rejected_moves s t h (ap compares is)) (subst IsByText (sym is) tt) (rejected none) start before had calm fine)
+  rejected_by Keys s t text start before is none h calm fine had = subst (Made start (before ++ text ∷ []) t) (ap (λ o. o.now.command) h.options ∙ is) (takes_answered s t false [] text (rejected_moves s t h (ap compares is)) (subst IsByText (sym is) tt) (rejected none) start before had calm fine)
 
   pub rejected_taken : (s t : Session W E) (text : List ℕ) → IsNoTextOf s.options.now.grammar text → Rejected s t → Takes contents s (text ∷ []) t
   rejected_taken s t text none h start before had calm fine =
@@ -391,6 +384,7 @@ module _ {W E : Type 0} (contents : W → Option (List ℕ)) where
   flushed_made Format s t start texts h fine had = flushed_answered s t start texts h fine had
   flushed_made Get s t start texts h fine had = flushed_answered s t start texts h fine had
   flushed_made Keys s t start texts h fine had = flushed_answered s t start texts h fine had
+  flushed_made Diff s t start texts h fine had = flushed_answered s t start texts h fine had
   flushed_made Sort s t start texts h fine had = made_sort s.options.now.check s t start texts refl h.options (flushed_by_check s.options.now.check s t start texts h fine had)
   flushed_made Equal s t start texts h fine had = (
     subst (λ o. AreEqualSoFar o.now texts t.last (is_yes t.status)) (sym h.options)
@@ -455,6 +449,7 @@ module _ {W E : Type 0} (contents : W → Option (List ℕ)) where
   made_same Format s t start texts h had = answered_same s t start texts h had
   made_same Get s t start texts h had = answered_same s t start texts h had
   made_same Keys s t start texts h had = answered_same s t start texts h had
+  made_same Diff s t start texts h had = answered_same s t start texts h had
 
   pub same_taken : (s t : Session W E) → IsSame s t → Takes contents s [] t
   same_taken s t h start before had calm fine =
@@ -479,6 +474,7 @@ module _ {W E : Type 0} (contents : W → Option (List ℕ)) where
   over_made Format check t start texts more over is had = absurd (never t over had.1)
   over_made Get check t start texts more over is had = absurd (never t over had.1)
   over_made Keys check t start texts more over is had = absurd (never t over had.1)
+  over_made Diff check t start texts more over is had = absurd (never t over had.1)
 
   -- what is over has taken what follows
   pub over_taken : (s t : Session W E) (texts more : List (List ℕ)) → t.over ≡ true → Takes contents s texts t → Takes contents s (texts ++ more) t

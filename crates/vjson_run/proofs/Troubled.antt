@@ -1,5 +1,5 @@
 -- A session that is in trouble, and for what; and what memory is taken for.
-use Rattle.std.proofs.Common.{◌≡◌, ◌⊎◌, inl, inr, ℕ, Bool, true, false, List, [], ◌∷◌, ◌++◌, Option, None, Some, IfSome, OnOk, Result, Ok, Err, refl, sym, subst, cond, ◌∙◌, append-nil}
+use Rattle.std.proofs.Common.{◌≡◌, ◌⊎◌, inl, inr, ℕ, Bool, true, false, List, [], ◌∷◌, ◌++◌, Option, None, Some, IfSome, OnOk, Result, Ok, Err, refl, sym, ap, subst, cond, ◌∙◌, append-nil}
 use Rattle.std.proofs.lemmas.List.Elements.{filter-append}
 use Rattle.std.specs.List.{Any, filter}
 use Rattle.jsonb_spec.specs.Tree.{Tree}
@@ -9,14 +9,14 @@ use Rattle.vjson_text.specs.Memory.{LacksSpace}
 use Rattle.text_scan.specs.declared.parser.Grammar.{Grammar}
 use Rattle.vjson_run.proofs.Lists.{any_before, any_behind, any_last}
 use Rattle.vjson_run.proofs.Taken.{Flushed, Rejected, rejected_taken, same_taken, flushed_taken, nothing_taken, over_taken, takes_then, trouble_taken}
-use Rattle.vjson_run.specs.Answers.{IsOne}
+use Rattle.vjson_run.specs.Answers.{IsOne, compares}
 use Rattle.vjson_run.specs.Chosen.{Chooses, IsLeftOut}
 use Rattle.vjson_run.specs.Keys.{IsKeyOf}
 use Rattle.vjson_run.specs.Runs.{IsSame, Takes, TakesChosen, denied}
 use Rattle.vjson_run.specs.Trouble.{Advances, MayRunOutBy, MayTakeMemory, MayTrouble, Troubles}
 use Rattle.vjson_run.specs.declared.answers.Buffers.{Buffers}
 use Rattle.vjson_run.specs.declared.options.Command.{Command}
-use Rattle.vjson_run.specs.declared.options.Command.TheVariants.{Check, Format, Get, Sort, Equal, Keys}
+use Rattle.vjson_run.specs.declared.options.Command.TheVariants.{Check, Format, Get, Sort, Equal, Diff, Keys}
 use Rattle.vjson_run.specs.declared.options.Options.{Options}
 use Rattle.vjson_run.specs.declared.session.Session.{Session}
 use Rattle.vjson_run.specs.declared.session.Status.{Status}
@@ -39,6 +39,7 @@ by_command Format own g text is other may = subst (λ c. MayRunOutBy c g text) (
 by_command Get own g text is other may = subst (λ c. MayRunOutBy c g text) (sym is) may
 by_command Sort own g text is other may = subst (λ c. MayRunOutBy c g text) (sym is) may
 by_command Equal own g text is other may = subst (λ c. MayRunOutBy c g text) (sym is) may
+by_command Diff own g text is other may = subst (λ c. MayRunOutBy c g text) (sym is) may
 by_command Keys own g text is other may = subst (λ c. MayRunOutBy c g text) (sym is) may
 
 -- ---- trouble
@@ -144,12 +145,13 @@ module _ {W E : Type 0} where
     advances_out_of_memory s t u text h is options may = record { takes = λ chosen _. trouble_taken contents s u (filter chosen (text ∷ [])) is; troubles = out_of_memory s t u text h options may }
 
     rejected_by : (command : Command) (s t : Session W E) (text : List ℕ) → s.options.now.command ≡ command → IsNoTextOf s.options.now.grammar text → Rejected contents s t → Troubles s (text ∷ []) t
-    rejected_by Equal s t text is none h = record { options = h.options; only = λ e. inr (any_last (MayTrouble s.options.now) [] text (inr (is, none))) }
-    rejected_by Check s t text is none h = troubles_of_more s t [] (text ∷ []) (once_denied s t h.options (h.status (λ e. let f : Check ≡ Equal = sym is ∙ e in cc)))
-    rejected_by Format s t text is none h = troubles_of_more s t [] (text ∷ []) (once_denied s t h.options (h.status (λ e. let f : Format ≡ Equal = sym is ∙ e in cc)))
-    rejected_by Get s t text is none h = troubles_of_more s t [] (text ∷ []) (once_denied s t h.options (h.status (λ e. let f : Get ≡ Equal = sym is ∙ e in cc)))
-    rejected_by Sort s t text is none h = troubles_of_more s t [] (text ∷ []) (once_denied s t h.options (h.status (λ e. let f : Sort ≡ Equal = sym is ∙ e in cc)))
-    rejected_by Keys s t text is none h = troubles_of_more s t [] (text ∷ []) (once_denied s t h.options (h.status (λ e. let f : Keys ≡ Equal = sym is ∙ e in cc)))
+    rejected_by Equal s t text is none h = record { options = h.options; only = λ e. inr (any_last (MayTrouble s.options.now) [] text (inr (ap compares is, none))) }
+    rejected_by Diff s t text is none h = record { options = h.options; only = λ e. inr (any_last (MayTrouble s.options.now) [] text (inr (ap compares is, none))) }
+    rejected_by Check s t text is none h = troubles_of_more s t [] (text ∷ []) (once_denied s t h.options (h.status (ap compares is)))
+    rejected_by Format s t text is none h = troubles_of_more s t [] (text ∷ []) (once_denied s t h.options (h.status (ap compares is)))
+    rejected_by Get s t text is none h = troubles_of_more s t [] (text ∷ []) (once_denied s t h.options (h.status (ap compares is)))
+    rejected_by Sort s t text is none h = troubles_of_more s t [] (text ∷ []) (once_denied s t h.options (h.status (ap compares is)))
+    rejected_by Keys s t text is none h = troubles_of_more s t [] (text ∷ []) (once_denied s t h.options (h.status (ap compares is)))
 
     -- a text is rejected
     pub advances_rejected : (s t : Session W E) (text : List ℕ) → IsNoTextOf s.options.now.grammar text → Rejected contents s t → Advances contents s (text ∷ []) t

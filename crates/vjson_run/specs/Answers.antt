@@ -3,17 +3,18 @@ use Rattle.std.specs.Prelude.{◌≡◌, ℕ, nat_lt, Bool, true, false, if◌th
 use Rattle.std.specs.List.{AllZip, Any, flat_map}
 use Rattle.std.specs.declared.alloc.Global.{Global}
 use Rattle.jsonb_spec.specs.Tree.{Tree}
-use Rattle.vjson_text.specs.Texts.{AppendsTextOf, IsTextOf, IsNoTextOf}
+use Rattle.vjson_text.specs.Texts.{AppendsDifferences, AppendsTextOf, IsTextOf, IsNoTextOf}
+use Rattle.jsonb_spec.specs.Program.Input.{without_mark}
 use Rattle.jsonb_spec.specs.Program.Raw.{IsRaw}
 use Rattle.text_scan.specs.declared.parser.Grammar.{Grammar}
 use Rattle.vjson_text.specs.declared.reader.Layout.{Layout}
 use Rattle.vjson_text.specs.declared.reader.Layout.TheVariants.{Compact, Indent}
-use Rattle.vjson_run.specs.Colours.{IsShownAs}
+use Rattle.jsonb_spec.specs.Program.Colours.{IsShownAs}
 use Rattle.vjson_run.specs.Keys.{IsKeyOf, IsPartOf, LacksPart}
 use Rattle.jsonb_spec.specs.Program.Keys.{keys_of}
 use Rattle.jsonb_spec.specs.Program.KeyLine.{key_line}
 use Rattle.vjson_run.specs.declared.options.Command.{Command}
-use Rattle.vjson_run.specs.declared.options.Command.TheVariants.{Check, Format, Get, Sort, Keys}
+use Rattle.vjson_run.specs.declared.options.Command.TheVariants.{Check, Diff, Equal, Format, Get, Sort, Keys}
 use Rattle.vjson_run.specs.declared.options.Options.{Options}
 use Rattle.vjson_run.specs.declared.options.Part.{Part}
 use Rattle.jsonb_spec.specs.Program.Printed.{printed, first_keys, cell_byte, separator, separated, row_of}
@@ -22,6 +23,12 @@ use Rattle.jsonb_spec.specs.Program.Printed.{printed, first_keys, cell_byte, sep
 abbrev pub asked : Command → Bool → Bool
 asked Sort check = check
 asked command check = false
+
+-- whether texts are compared
+abbrev pub compares : Command → Bool
+compares Equal = true
+compares Diff = true
+compares command = false
 
 -- the text is one of the grammar
 abbrev pub IsOne : Grammar → List ℕ → Type 0
@@ -132,4 +139,6 @@ pub data Answers (options : Options) (text : List ℕ) : Bool → List ℕ → T
   found : (bytes : List ℕ) → options.command ≡ Get → IsFound options text bytes → Answers options text true (printed bytes)
   lacking : options.command ≡ Get → LacksSome options text → options.default ≡ None → Answers options text false []
   keyed : (key line : List ℕ) → options.command ≡ Keys → IsKeyed options text key line → Answers options text true (key_line key line)
+  told : (good : Bool) (bytes : List ℕ) → options.command ≡ Diff
+      → AppendsDifferences options.grammar (without_mark options.base.items) text [] bytes good → Answers options text good bytes
   rejected : IsNoTextOf options.grammar text → Answers options text false []

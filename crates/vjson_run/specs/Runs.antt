@@ -3,11 +3,11 @@ use Rattle.std.specs.Prelude.{◌≡◌, ◌≢◌, ℕ, Bool, true, false, not,
 use Rattle.std.specs.Io.KnownBytes.{Appends}
 use Rattle.std.specs.List.{All, AllZip, Any, filter, flat_map, list_all}
 use Rattle.std.specs.declared.alloc.Global.{Global}
-use Rattle.vjson_text.specs.Texts.{AppendsKeyOf, IsNoTextOf}
+use Rattle.vjson_text.specs.Texts.{AppendsDifferences, AppendsKeyOf, IsNoTextOf}
 use Rattle.vjson_run.specs.Answers.{Answers, IsFound, IsKeyed, LacksSome}
 use Rattle.jsonb_spec.specs.Program.Printed.{Prints}
 use Rattle.vjson_run.specs.Chosen.{Chooses}
-use Rattle.jsonb_spec.specs.Program.Input.{is_blank_line, without_end}
+use Rattle.jsonb_spec.specs.Program.Input.{is_blank_line, without_end, without_mark}
 use Rattle.vjson_run.specs.InOrder.{AreInOrder, AreInOrderSoFar, is_wrong}
 use Rattle.vjson_run.specs.Keys.{IsKeyOf}
 use Rattle.vjson_run.specs.Lines.{IsArranged, counts_of, line_text}
@@ -168,6 +168,17 @@ pub record Gets {W E : Type 0} (s : Session W E) (text : List ℕ) (t : Session 
       (Prints (IsFound s.options.now text) s.out.bytes.items t.out.bytes.items × (t.status ≡ s.status))
       (LacksSome s.options.now text × (s.options.now.default ≡ None) × (t.out.bytes.items ≡ s.out.bytes.items)
       × (t.status ≡ denied s.status))
+
+-- The lines on where the text differs from the one that it is compared with are printed; where it does, the status is no.
+pub record Tells {W E : Type 0} (s : Session W E) (text : List ℕ) (t : Session W E) : Type 0 where
+  pub options : t.options ≡ s.options
+  pub writer : t.out.writer ≡ s.out.writer
+  pub error : t.out.error ≡ s.out.error
+  pub over : t.over ≡ s.over
+  pub good : Bool
+  pub told : AppendsDifferences s.options.now.grammar (without_mark s.options.now.base.items) text s.out.bytes.items
+      t.out.bytes.items good
+  pub status : t.status ≡ (if good then s.status else denied s.status)
 
 module _ {W E : Type 0} (contents : W → Option (List ℕ)) where
   -- What the session's command has made of texts, since the output was at start: each is answered; or their lines are

@@ -4,10 +4,10 @@ use Rattle.std.specs.List.{Any}
 use Rattle.jsonb_spec.specs.Parsing.Memory.{MayAllocate}
 use Rattle.text_scan.specs.declared.parser.Grammar.{Grammar}
 use Rattle.vjson_text.specs.Texts.{IsNoTextOf}
-use Rattle.vjson_run.specs.Answers.{IsOne}
+use Rattle.vjson_run.specs.Answers.{IsOne, compares}
 use Rattle.vjson_run.specs.Runs.{TakesChosen, sorts}
 use Rattle.vjson_run.specs.declared.options.Command.{Command}
-use Rattle.vjson_run.specs.declared.options.Command.TheVariants.{Check, Equal}
+use Rattle.vjson_run.specs.declared.options.Command.TheVariants.{Check}
 use Rattle.vjson_run.specs.declared.options.Options.{Options}
 use Rattle.vjson_run.specs.declared.report.Output.{Output}
 use Rattle.vjson_run.specs.declared.session.Session.{Session}
@@ -25,7 +25,7 @@ MayRunOutBy command grammar text = MayTakeMemory grammar text
 -- A run may end in trouble at a text: memory may run out there, or it is to be compared and is none of the grammar.
 abbrev pub MayTrouble : Options → List ℕ → Type 0
 MayTrouble options text = MayRunOutBy options.command options.grammar text
-    ⊎ ((options.command ≡ Equal) × IsNoTextOf options.grammar text)
+    ⊎ ((compares options.command ≡ true) × IsNoTextOf options.grammar text)
 
 -- The session t has the options of s, and is in trouble only where s was, or where a run may be at one of the texts.
 pub record Troubles {W E : Type 0} (s : Session W E) (texts : List (List ℕ)) (t : Session W E) : Type 0 where

@@ -18,7 +18,7 @@ ghost use Rattle.vjson_run.specs.Answers.{
   PrintsKeyed,
   layout_of,
 };
-ghost use Rattle.jsonb_spec.specs.Program.Printed.{Prints, cell_byte, cell_letter, first_keys, printed, row_of, separator};
+ghost use Rattle.jsonb_spec.specs.Program.Printed.{Prints, first_keys, printed, row_of, separator};
 ghost use Rattle.vjson_run.specs.Chosen.{Chooses, Holds, IsLeftOut, allows, leaves_out};
 ghost use Rattle.vjson_run.specs.declared.options.Options.{Options};
 ghost use Rattle.vjson_run.specs.Keys.{AppendsPiece, AppendsTurned, HasPartKey, IsKeyOf, LacksPart};
@@ -130,40 +130,6 @@ fn find_part(
     vjson_text::append_part(alloc, grammar, path, text, &mut buffers.part)
 }
 
-// The letter by which a cell has what ends cells and lines, and a backslash.
-fn cell_letter(byte: u8) -> Option<u8>
-    ensures { result ≡ cell_letter byte }
-{
-    match byte {
-        b'\t' => Some(b't'),
-        b'\n' => Some(b'n'),
-        b'\r' => Some(b'r'),
-        b'\\' => Some(b'\\'),
-        _ => None,
-    }
-}
-
-// Appends a byte of a cell.
-fn append_cell_byte(byte: u8, row: &mut Vec<u8>) -> Result<(), AllocError>
-    ensures ok { OnOk result (row.new.items ≡ row.old.items ++ cell_byte byte) }
-{
-    let Some(letter) = cell_letter(byte) else {
-        row.push(byte)?;
-        return Ok(());
-    };
-    row.extend_from_slice(&[b'\\', letter])
-}
-
-// Appends bytes as a cell.
-fn append_cell_bytes(bytes: &[u8], row: &mut Vec<u8>) -> Result<(), AllocError>
-    ensures ok { OnOk result (row.new.items ≡ row.old.items ++ flat_map cell_byte bytes.now) }
-{
-    'bytes: for byte in bytes {
-        append_cell_byte(*byte, row)?;
-    }
-    Ok(())
-}
-
 // Appends what `get` prints of the serialized form of a part.
 fn append_shown(
     alloc: Global,
@@ -183,7 +149,7 @@ fn append_shown(
     }
     let mut raw = Vec::new(alloc);
     vjson_text::append_raw(alloc, part, &mut raw)?;
-    append_cell_bytes(&raw, row)?;
+    vjson_text::append_cell(&raw, row)?;
     Ok(())
 }
 

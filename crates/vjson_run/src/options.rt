@@ -42,6 +42,8 @@ standard input is read.
       --down POINTER     the same, descending
       --check            sort: only say whether the lines are in order
       --canonical        sort, keys: print the values' canonical text
+      --diff             equal: print each part that differs: its JSON Pointer, and
+                         what A and B have there, with tabs between
   -q, --quiet            check, equal: the status alone
       --line-buffered    format, get, keys: write each line at once, as from tail -f
       --progress, --no-progress
@@ -63,6 +65,8 @@ pub enum Command {
     Get,
     Sort,
     Equal,
+    /// `equal --diff`.
+    Diff,
     Keys,
 }
 
@@ -123,6 +127,8 @@ pub struct Options {
     pub by: Vec<Part>,
     /// What texts have to be like, each of them.
     pub conditions: Vec<Condition>,
+    /// The bytes of the file that `equal --diff` compares others with.
+    pub base: Vec<u8>,
     /// The last word of several that was taken for a pointer.
     pub last_pointer: Option<String>,
     pub files: Vec<String>,
@@ -151,6 +157,7 @@ pub enum UsageError {
     /// A word that is no JSON, the column, and why.
     NoText(String, usize, Message),
     RawArray,
+    QuietDiff,
     PointerMissing,
     TwoFiles,
     NoMemory,
@@ -198,6 +205,7 @@ impl fmt::Display for UsageError {
                 "not a JSON text: {word} (column {column}: {message}; a string is written '\"x\"')"
             ),
             UsageError::RawArray => f.write_str("--array prints JSON, and --raw doesn't"),
+            UsageError::QuietDiff => f.write_str("--diff prints, and --quiet doesn't"),
             UsageError::PointerMissing => f.write_str("get needs a JSON Pointer, as /a/0"),
             UsageError::TwoFiles => f.write_str("equal needs two files"),
             UsageError::NoMemory => f.write_str("out of memory"),
@@ -214,7 +222,8 @@ fn instead_of_command(word: &str) -> &'static str {
     match word {
         "." | "cat" | "pretty" => " (format lays a text out, as jq . does)",
         "lint" | "validate" => " (check prints what is wrong)",
-        "cmp" | "diff" => " (equal says whether two values are the same)",
+        "cmp" | "diff" =>
+            " (equal says whether two values are the same, equal --diff where they differ)",
         "pick" => " (get prints parts)",
         "filter" | "grep" | "select" => " (format -l --where POINTER = JSON prints some texts)",
         "uniq" =>
@@ -267,13 +276,17 @@ fn width_of(alloc: Global, word: &str) -> Result<usize, UsageError> {
 // Whether the command takes the option.
 fn takes(command: Command, option: &str) -> bool {
     match option {
-        "--lines" => command != Command::Equal,
+        "--lines" => !matches!(command, Command::Equal | Command::Diff),
         "--compact" | "--indent" => command == Command::Format,
         "--raw" | "--array" | "--default" => command == Command::Get,
-        "--where" | "--has" | "--lacks" => !matches!(command, Command::Check | Command::Equal),
+        "--where" | "--has" | "--lacks" => !matches!(
+            command,
+            Command::Check | Command::Equal | Command::Diff
+        ),
         "--unique" | "--reverse" | "--check" => command == Command::Sort,
         "--by" | "--down" | "--canonical" => matches!(command, Command::Sort | Command::Keys),
-        "--quiet" => matches!(command, Command::Check | Command::Equal),
+        "--quiet" => matches!(command, Command::Check | Command::Equal | Command::Diff),
+        "--diff" => matches!(command, Command::Equal | Command::Diff),
         "--line-buffered" => matches!(command, Command::Format | Command::Get | Command::Keys),
         _ => true,
     }
@@ -326,6 +339,7 @@ fn new_options(alloc: Global, command: Command) -> Options {
         paths: Vec::new(alloc),
         by: Vec::new(alloc),
         conditions: Vec::new(alloc),
+        base: Vec::new(alloc),
         last_pointer: None,
         files: Vec::new(alloc),
     }
@@ -360,6 +374,7 @@ impl Options {
             "--check" => self.check = true,
             "--canonical" => self.canonical = true,
             "--quiet" => self.quiet = true,
+            "--diff" => self.command = Command::Diff,
             "--line-buffered" => self.block = 1,
             "--progress" => self.progress = Progress::Always,
             "--no-progress" => self.progress = Progress::Never,
@@ -565,7 +580,10 @@ impl Options {
                 drop(key_of(alloc, default.as_str())?);
             }
         }
-        if self.command == Command::Equal && self.files.len() != 2 {
+        if self.command == Command::Diff && self.quiet {
+            return Err(UsageError::QuietDiff);
+        }
+        if matches!(self.command, Command::Equal | Command::Diff) && self.files.len() != 2 {
             return Err(UsageError::TwoFiles);
         }
         Ok(Asked::Run(self))

@@ -3,7 +3,7 @@
 ghost use Rattle.std.specs.Prelude.{◌≡◌, ◌≢◌, ◌⊎◌, ◌≤◌, ◌∷◌, ◌==◌, [], List, ℕ, Option, OnOk, IfErr, IfSome, Err, None, Some, if◌then◌else◌, true, false};
 ghost use Rattle.jsonb_spec.specs.Parsing.Memory.{MayAllocate};
 ghost use Rattle.vjson_text.specs.Texts.{IsNoTextOf, Rejects};
-ghost use Rattle.vjson_run.specs.Answers.{IsLaidOut, IsOne, PrintsKeyed, checks_order};
+ghost use Rattle.vjson_run.specs.Answers.{IsLaidOut, IsOne, PrintsKeyed, checks_order, compares};
 ghost use Rattle.jsonb_spec.specs.Program.Printed.{Prints};
 ghost use Rattle.vjson_run.specs.InOrder.{is_wrong};
 ghost use Rattle.jsonb_spec.specs.Program.Input.{text_lines, texts_of, without_mark};
@@ -21,6 +21,7 @@ ghost use Rattle.vjson_run.specs.Runs.{
   IsSame,
   Takes,
   TakesChosen,
+  Tells,
   WritesSorted,
   denied,
   line_texts,
@@ -261,11 +262,11 @@ impl<'o, W: Write, E: Write> Session<'o, W, E> {
 
     // The status once a text is rejected: no, or of two that are compared trouble.
     fn status_rejected(&self) -> Status
-        ensures others { self.now.options.now.command ≢ Command.Equal → result ≡ denied self.now.status }
-        ensures equal { self.now.options.now.command ≡ Command.Equal → result ≡ Status.Trouble }
+        ensures others { compares self.now.options.now.command ≡ false → result ≡ denied self.now.status }
+        ensures compared { compares self.now.options.now.command ≡ true → result ≡ Status.Trouble }
     {
         match (self.options.command, self.status) {
-            (Command::Equal, _) => Status::Trouble,
+            (Command::Equal | Command::Diff, _) => Status::Trouble,
             (_, Status::Yes) => Status::No,
             (_, status) => status,
         }
@@ -315,6 +316,7 @@ impl<'o, W: Write, E: Write> Session<'o, W, E> {
             Command::Keys => self.answer_keys(text),
             Command::Sort => self.take_sort(text),
             Command::Equal => self.take_equal(text),
+            Command::Diff => self.answer_diff(text),
         }
     }
 
@@ -393,6 +395,22 @@ impl<'o, W: Write, E: Write> Session<'o, W, E> {
             Some(last) => last.as_slice() != key,
             None => false,
         }
+    }
+
+    fn answer_diff(&mut self, text: &[u8]) -> Result<(), Fault>
+        ensures ok { OnOk result (Tells self.old text.now self.new) }
+        ensures rejected { Rejects self.old.options.now.grammar text.now result }
+        ensures same { IfErr result (λ f. f ≢ Fault.NoMemory → IsSame self.old self.new) }
+        ensures calm { Troubles self.old [] self.new }
+        ensures memory { result ≡ Err Fault.NoMemory → MayTakeMemory self.old.options.now.grammar text.now }
+    {
+        let grammar = self.options.grammar;
+        let base = without_mark(&self.options.base);
+        let out = &mut self.out.bytes;
+        if !vjson_text::append_differences(self.alloc, grammar, base, text, out)? {
+            self.deny();
+        }
+        Ok(())
     }
 
     fn take_sort(&mut self, text: &[u8]) -> Result<(), Fault>

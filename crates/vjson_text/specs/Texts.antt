@@ -1,9 +1,12 @@
 -- Which texts the program takes, and what is appended of them.
-use Rattle.std.specs.Prelude.{◌≡◌, ◌≢◌, ℕ, Bool, MatchBool, List, ◌++◌, None, Result, IfErr}
+use Rattle.std.specs.Prelude.{◌≡◌, ◌≢◌, ℕ, Bool, MatchBool, List, [], ◌++◌, None, Some, Result, IfErr}
+use Rattle.std.specs.Ordering.{is_eq}
 use Rattle.jsonb_spec.specs.Parsing.Appends.{AppendsPart}
 use Rattle.jsonb_spec.specs.Grammar.{IsDocument}
 use Rattle.jsonb_spec.specs.Indented.{indented_text}
+use Rattle.jsonb_spec.specs.Order.{tree_cmp}
 use Rattle.jsonb_spec.specs.PartAt.{part_at}
+use Rattle.jsonb_spec.specs.Program.Differences.{differences}
 use Rattle.jsonb_spec.specs.SortKey.{key_of}
 use Rattle.jsonb_spec.specs.Text.{AppendsText}
 use Rattle.jsonb_spec.specs.Tree.{Tree}
@@ -50,3 +53,12 @@ pub record AppendsPartOf (grammar : Grammar) (keys : List (List ℕ)) (text old 
     pub tree : Tree
     pub is_text : IsTextOf grammar text tree
     pub part : MatchBool is_there (AppendsPart tree keys old new) ((part_at keys tree ≡ None) × (new ≡ old))
+
+-- Both texts are of the grammar, and what is appended are the lines on where their values differ, if they do.
+pub record AppendsDifferences (grammar : Grammar) (one other old new : List ℕ) (equal : Bool) : Type 0 where
+  pub t : Tree
+  pub u : Tree
+  pub is_one : IsTextOf grammar one t
+  pub is_other : IsTextOf grammar other u
+  pub appended : new ≡ old ++ differences [] t (Some u)
+  pub are_equal : equal ≡ is_eq (tree_cmp t u)

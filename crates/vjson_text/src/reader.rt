@@ -1,6 +1,6 @@
 //! The calls on one text, in one of four grammars.
 
-ghost use Rattle.std.specs.Prelude.{◌≡◌, ◌⊎◌, map, string_bytes, vec_capacity, vec_len, Err, IfOk, IfErr, OnOk, OnErr};
+ghost use Rattle.std.specs.Prelude.{◌≡◌, ◌≢◌, ◌⊎◌, map, string_bytes, vec_capacity, vec_len, Err, IfOk, IfErr, OnOk, OnErr};
 ghost use Rattle.jsonb_spec.specs.Grammar.{IsNoDocument};
 ghost use Rattle.jsonb_spec.specs.Indented.{indented_text};
 ghost use Rattle.jsonb_spec.specs.Mode.{extended};
@@ -9,9 +9,10 @@ ghost use Rattle.jsonb_spec.specs.Tree.{Tree};
 ghost use Rattle.jsonb_spec.specs.Parsing.Memory.{MayAllocate};
 ghost use Rattle.vjson_text.specs.Memory.{LacksSpace, LacksSpaceForPart, laid_out};
 ghost use Rattle.jsonb_spec.specs.Program.Raw.{LacksSpaceForRaw, AppendsRaw};
-ghost use Rattle.vjson_text.specs.Texts.{AppendsKeyOf, AppendsPartOf, AppendsTextOf, IsTextOf, Rejects};
+ghost use Rattle.vjson_text.specs.Texts.{AppendsDifferences, AppendsKeyOf, AppendsPartOf, AppendsTextOf, IsTextOf, Rejects};
 ghost use Rattle.vjson_text.specs.declared.reader.Layout.TheVariants.{Indent};
 
+use crate::difference::append_lines;
 use crate::fault::{Fault, fault_of};
 use jsonb::{Grammar, Value};
 use std::alloc::Global;
@@ -162,4 +163,35 @@ pub fn append_raw(alloc: Global, text: &[u8], out: &mut Vec<u8>) -> Result<(), F
         _ => out.extend_from_slice(text)?,
     }
     Ok(())
+}
+
+/// Appends the lines on where the values of two texts differ, a line for each part that differs or that only one of
+/// them has: its pointer (RFC 6901), and behind a tab each what the first and the second text have there, of which one
+/// may be absent. Returns whether the values are equal, in which case nothing is appended.
+///
+/// # Errors
+///
+/// `At` where the second text isn't one of the grammar, and `NoMemory`, also where the first one isn't. Then `out` may
+/// hold a part of the lines.
+pub fn append_differences(
+    alloc: Global,
+    grammar: Grammar,
+    one: &[u8],
+    other: &[u8],
+    out: &mut Vec<u8>,
+) -> Result<bool, Fault>
+    ensures ok { IfOk result (λ equal. AppendsDifferences grammar one.now other.now out.old.items out.new.items equal) }
+    ensures err { IfErr result (λ f. f ≢ Fault.NoMemory → out.new.items ≡ out.old.items) }
+    ensures rejected { Rejects grammar other.now result }
+    ensures memory { result ≡ Err Fault.NoMemory → MayAllocate other.now ⊎ ((t : Tree) × IsTextOf grammar other.now t) }
+{
+    let other = match jsonb::parse_value_in(alloc, other, grammar) {
+        Ok(value) => value,
+        Err(error) => return Err(fault_of(other, error)),
+    };
+    let Ok(one) = jsonb::parse_value_in(alloc, one, grammar) else {
+        return Err(Fault::NoMemory);
+    };
+    append_lines(alloc, &one, &other, out)?;
+    Ok(one == other)
 }

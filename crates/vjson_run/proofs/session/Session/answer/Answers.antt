@@ -1,8 +1,8 @@
 use Rattle.std.proofs.lemmas.Result.{on_ok_weaker}
 use Rattle.vjson_run.proofs.Lists.{on_ok_both}
-use Rattle.vjson_run.proofs.Taken.{checked_taken, compared_taken, gets_taken, keyed_taken, laid_taken, sorted_taken}
+use Rattle.vjson_run.proofs.Taken.{checked_taken, compared_taken, gets_taken, keyed_taken, laid_taken, sorted_taken, told_taken}
 use Rattle.vjson_run.proofs.Troubled.{by_command}
-use Rattle.vjson_run.specs.declared.options.Command.TheVariants.{Get, Sort, Equal}
+use Rattle.vjson_run.specs.declared.options.Command.TheVariants.{Get, Sort, Equal, Diff}
 use Rattle.vjson_run.proofs.session.Session.answer.Goals as goal
 
 pub returns-in-Check-clause-ok : goal.returns-in-Check-clause-ok
@@ -31,3 +31,9 @@ returns-in-Sort-clause-memory g c = λ lack. by_command Sort c.args.self.now.opt
 
 pub returns-in-Equal-clause-memory : goal.returns-in-Equal-clause-memory
 returns-in-Equal-clause-memory g c = λ lack. by_command Equal c.args.self.now.options.now.command c.args.self.now.options.now.grammar c.args.text.now c.in-Equal.is (λ e. cc) (c.take_equal.ensures.memory lack)
+
+pub returns-in-Diff-clause-ok : goal.returns-in-Diff-clause-ok
+returns-in-Diff-clause-ok g c = on_ok_weaker c.answer_diff.result (λ tells. told_taken g.W.Write.contents c.args.self.now c.answer_diff.new.self c.args.text.now c.in-Diff.is tells) c.answer_diff.ensures.ok
+
+pub returns-in-Diff-clause-memory : goal.returns-in-Diff-clause-memory
+returns-in-Diff-clause-memory g c = λ lack. by_command Diff c.args.self.now.options.now.command c.args.self.now.options.now.grammar c.args.text.now c.in-Diff.is (λ e. cc) (c.answer_diff.ensures.memory lack)
