@@ -14,9 +14,9 @@ use Rattle.key_edit.specs.declared.error.EditError.{EditError}
 use Rattle.key_edit.specs.declared.slot.Slot.{Slot}
 use Rattle.key_edit.specs.declared.spot.Spot.{Spot}
 use Rattle.jsonb_core.proofs.Trees.Runs.{heads}
-use Rattle.key_edit.proofs.Lifting.{Lifts, lifted}
+use Rattle.key_edit.proofs.Lifting.{Lifts}
 use Rattle.key_edit.proofs.Located.{tree_fits}
-use Rattle.key_edit.proofs.Spotted.{fits_in, key_before}
+use Rattle.key_edit.proofs.Spotted.{fits_in, key_before, lifted_spot}
 
 -- ---- objects
 
@@ -34,18 +34,7 @@ set_member k u (more_members l t ms) =
 -- a spot among the members is one in the object
 pub object_spot : (name key rest : List ℕ) (ms : Members) (spot : Spot) → key ≡ 0xD1 ∷ rest → SpotIn (key_before []) (fits_in 511) (λ change. option_map members (changed_member change name ms)) true name rest 511 spot
     → SpotIn key_of (tree_fits max_depth) (λ change. changed_at_member change name (object ms)) true name key 511 spot
-object_spot name key rest ms spot begins s = record {
-  there = s.there;
-  name = s.name;
-  front = 0xD1 ∷ s.front;
-  behind = s.behind;
-  inside = begins ∙ ap (λ l. 0xD1 ∷ l) s.inside;
-  occurs = s.occurs;
-  named = s.named;
-  readable = s.readable;
-  fits = s.fits;
-  answers = λ change. lifted (key_before []) (fits_in 511) key_of (tree_fits max_depth) true s.name (0xD1 ∷ []) s.front s.behind 511 (change s.there) _ _ (bare (changed_member change name ms)) (s.answers change);
-}
+object_spot name key rest ms spot begins = lifted_spot (key_before []) (fits_in 511) key_of (tree_fits max_depth) (λ change. option_map members (changed_member change name ms)) (λ change. changed_at_member change name (object ms)) true name (0xD1 ∷ []) key rest 511 spot begins (λ change. bare (changed_member change name ms))
   where
     bare : (x : Option Members) → Lifts (key_before []) (fits_in 511) key_of (tree_fits max_depth) (0xD1 ∷ []) (option_map members x) (option_map object x)
     bare None = tt

@@ -1,4 +1,5 @@
 pub mod Lifting
+pub mod Items
 pub mod Spotted
 pub mod Located
 pub mod Depths

@@ -2,7 +2,7 @@
 use Rattle.std.proofs.Common.{◌≡◌, ℕ, suc, ◌+◌, Bool, true, false, List, [], ◌∷◌, ◌++◌, Bor, Option, Some, None, option_map, IfSome, MatchOption, MatchResult, Result, Ok, Err, refl, sym, ap, subst, ◌∙◌, arith, append_assoc, append-nil}
 use Rattle.jsonb_spec.specs.SortKey.Readable.{IsAnyNumber, IsReadable}
 use Rattle.jsonb_spec.specs.SortKey.Found.{IsLeftOf}
-use Rattle.jsonb_spec.specs.SortKey.Open.{Open, items, members, is_object, open_key, name_key, opening_byte, IsOpen}
+use Rattle.jsonb_spec.specs.SortKey.Open.{Open, items, members, is_object, name_key, opening_byte}
 use Rattle.jsonb_spec.specs.SortKey.Parts.{opened_tree}
 use Rattle.key_walk.specs.declared.find.NoKey.{NoKey}
 use Rattle.jsonb_spec.specs.Grammar.{max_depth}
@@ -10,13 +10,13 @@ use Rattle.jsonb_spec.specs.SortKey.{key_of}
 use Rattle.jsonb_spec.specs.Text.Range.{IsWithin}
 use Rattle.jsonb_spec.specs.Tree.{Tree, array, object, Trees, Members}
 use Rattle.jsonb_spec.specs.Edit.{Outcome, stays, changed_at, changed_items, changed_member, changed_part, part_with, within}
-use Rattle.key_edit.specs.Insert.{changed_within, ChangesSo, IsPartWithin, SlotBefore}
+use Rattle.key_edit.specs.Insert.{changed_within, ChangesSo, IsPartWithin, SlotBefore, SpotBefore}
 use Rattle.jsonb_spec.specs.Edit.Spots.{Answers}
-use Rattle.key_edit.specs.Spots.{OpenWithin, SlotIn, SpotIn, Occurs, changed_open}
+use Rattle.key_edit.specs.Spots.{OpenWithin, SlotIn, Occurs, changed_open}
 use Rattle.key_edit.specs.declared.slot.Slot.{Slot}
 use Rattle.key_edit.specs.declared.spot.Spot.{Spot}
-use Rattle.key_edit.proofs.Lifting.{Lifts, lifted, lifts_through}
-use Rattle.key_edit.proofs.Spotted.{key_before, fits_in}
+use Rattle.key_edit.proofs.Lifting.{Lifts, lifted}
+use Rattle.key_edit.proofs.Spotted.{LeftSpot, key_before, fits_in, lifted_spot}
 
 pub false_true : false ≡ true → ⊥
 false_true e = cc
@@ -68,9 +68,9 @@ within_lifts of_object name front behind depth_left None (Some y) h = absurd h
 within_lifts of_object name front behind depth_left (Some x) None h = absurd h
 within_lifts of_object name front behind depth_left (Some x) (Some y) h = (h.0 ∙ sym (append_assoc front (name_key of_object name) (key_of x ++ behind)), h.1)
 
-pub answers_none : (of_object : Bool) (name front behind : List ℕ) (depth_left : ℕ) (y : Option Tree) → Answers key_of (tree_fits max_depth) of_object name front behind depth_left stays y → y ≡ None
-answers_none of_object name front behind depth_left None h = refl
-answers_none of_object name front behind depth_left (Some y) h = absurd h
+answers_none : {A : Type 0} (key : A → List ℕ) (Fits : A → Type 0) (of_object : Bool) (name front behind : List ℕ) (depth_left : ℕ) (x : Option A) → Answers key Fits of_object name front behind depth_left stays x → x ≡ None
+answers_none key Fits of_object name front behind depth_left None h = refl
+answers_none key Fits of_object name front behind depth_left (Some a) h = absurd h
 
 -- ---- the slot in the value that is open
 
@@ -95,31 +95,14 @@ pub none_opened : (t : Tree) (of_object : Bool) (parts more : List ℕ) (depth i
 none_opened t of_object parts more depth inner l one change name none =
     nothing_lifts (key_before more) (fits_in inner) (tree_before more) (tree_fits depth) (opening_byte of_object ∷ []) (changed_open change name l.all) (changed_part change name t) (opened_lifts t of_object parts more depth inner l one change name) none
 
-abbrev pub SpotAt : (o : Open) → List ℕ → List ℕ → Bool → List ℕ → ℕ → Spot → Type 0
-SpotAt o behind name of_object parts depth_left spot = SpotIn (key_before behind) (fits_in depth_left) (λ change. changed_open change name o) of_object name parts depth_left spot
+pub opened_spot : (t : Tree) (name bytes parts more : List ℕ) (of_object : Bool) (depth inner : ℕ) (spot : Spot) (l : IsLeftOf t of_object parts more) → bytes ≡ opening_byte of_object ∷ parts → inner + 1 ≡ depth
+    → LeftSpot more inner (λ change. changed_open change name l.all) of_object name parts spot → SpotBefore more (λ change. changed_part change name t) of_object name bytes depth inner spot
+opened_spot t name bytes parts more of_object depth inner spot l begins one =
+    lifted_spot (key_before more) (fits_in inner) (tree_before more) (tree_fits depth) (λ change. changed_open change name l.all) (λ change. changed_part change name t) of_object name (opening_byte of_object ∷ []) bytes parts inner spot begins (λ change. opened_lifts t of_object parts more depth inner l one change name)
 
--- the slot in the value, before which so many arrays and objects may be in one another
-abbrev pub PartSlot : Tree → List ℕ → ℕ → Bool → List ℕ → List ℕ → ℕ → Spot → List ℕ → Type 0
-PartSlot t more depth of_object name bytes depth_left spot behind =
-    (s : SpotIn (tree_before more) (tree_fits depth) (λ change. changed_part change name t) of_object name bytes depth_left spot) × (s.behind ≡ behind)
-
-pub opened_slot : (t : Tree) (name bytes parts behind more : List ℕ) (of_object : Bool) (depth inner : ℕ) (spot : Spot) (l : IsLeftOf t of_object parts more) → bytes ≡ opening_byte of_object ∷ parts → inner + 1 ≡ depth
-    → (s : SpotAt l.all more name of_object parts inner spot) → behind ≡ s.behind → PartSlot t more depth of_object name bytes inner spot behind
-opened_slot t name bytes parts behind more of_object depth inner spot l begins one s b = (
-  record {
-    there = s.there;
-    name = s.name;
-    front = opening_byte of_object ∷ s.front;
-    behind = s.behind;
-    inside = begins ∙ ap (λ k. opening_byte of_object ∷ k) s.inside;
-    occurs = s.occurs;
-    named = s.named;
-    readable = s.readable;
-    fits = s.fits;
-    answers = λ change. lifted (key_before more) (fits_in inner) (tree_before more) (tree_fits depth) of_object s.name (opening_byte of_object ∷ []) s.front s.behind inner (change s.there) _ _ (opened_lifts t of_object parts more depth inner l one change name) (s.answers change);
-  },
-  sym b,
-)
+-- what is reported of the spot in a value
+abbrev pub ReportsSpot : Tree → List ℕ → List ℕ → List ℕ → ℕ → Option (Spot × Bool × ℕ) → Type 0
+ReportsSpot t more name bytes depth_left answer = MatchOption answer ((change : Option Tree → Outcome) → changed_part change name t ≡ None) (λ r. SpotBefore more (λ change. changed_part change name t) r.1 name bytes depth_left r.2 r.0)
 
 -- ---- within the value that the names before the last one lead to
 
@@ -146,72 +129,46 @@ WalksWithin key names left part depth_left = (t : Tree) → IsReadable t → key
 pub within_begun : (key : List ℕ) (names : List (List ℕ)) → WalksWithin key names names key max_depth
 within_begun key names = λ t r e. record { inner = t; readable = r; fits = r.within; front = []; behind = []; inside = refl; occurs = e ∙ sym (append-nil (key_of t)); lifts = λ change. all_lifts (changed_within change names t) }
 
--- the array or the object that the names so far lead to
-pub record StepWithin (t : Tree) (names others : List (List ℕ)) (name key parts : List ℕ) (of_object : Bool) (depth_left : ℕ) : Type 0 where
-  pub all : Open
-  pub is : is_object all ≡ of_object
-  pub readable : IsOpen all 511
-  pub fits : OpenWithin all depth_left
-  pub front : List ℕ
-  pub behind : List ℕ
-  pub inside : key ≡ front ++ parts
-  pub occurs : parts ≡ open_key all ++ behind
-  pub lifts : (change : Tree → Option Tree) → Lifts (key_before behind) (fits_in depth_left) key_of (tree_fits max_depth) front (changed_open (within (changed_within change others)) name all) (changed_within change names t)
+module _ (t : Tree) (names left others : List (List ℕ)) (name key part : List ℕ) (depth_left : ℕ) (w : WithinLeft t names left key part depth_left) (first : left ≡ name ∷ others) where
+  next_lifts : (change : Tree → Option Tree) → WholeLifts w.behind depth_left w.front (changed_part (within (changed_within change others)) name w.inner) (changed_within change names t)
+  next_lifts change = subst (λ x. WholeLifts w.behind depth_left w.front x (changed_within change names t)) (ap (λ l. changed_within change l w.inner) first) (w.lifts change)
 
-pub step_within : (t : Tree) (names left others : List (List ℕ)) (name key part parts : List ℕ) (of_object : Bool) (depth_left inner : ℕ) (w : WithinLeft t names left key part depth_left) → left ≡ name ∷ others → inner + 1 ≡ depth_left → part ≡ opening_byte of_object ∷ parts → IsLeftOf w.inner of_object parts w.behind → StepWithin t names others name key parts of_object inner
-step_within t names left others name key part parts of_object depth_left inner w first one begins l = record {
-  all = l.all;
-  is = l.is;
-  readable = l.fits;
-  fits = open_fits l.all inner (subst (λ d. IsWithin IsAnyNumber (opened_tree l.all) d) deeper (subst (λ u. IsWithin IsAnyNumber u depth_left) (sym l.whole) w.fits));
-  front = w.front ++ opening_byte of_object ∷ [];
-  behind = w.behind;
-  inside = w.inside ∙ ap (λ key. w.front ++ key) begins ∙ sym (append_assoc w.front (opening_byte of_object ∷ []) parts);
-  occurs = l.occurs;
-  lifts = λ change.
-      let near = opened_lifts w.inner of_object parts w.behind depth_left inner l one (within (changed_within change others)) name in
-      let same : changed_within change (name ∷ others) w.inner ≡ changed_within change left w.inner = ap (λ l. changed_within change l w.inner) (sym first) in
-      let far = subst (λ x. WholeLifts w.behind depth_left w.front x (changed_within change names t)) (sym same) (w.lifts change) in
-      lifts_through (key_before w.behind) (fits_in inner) (tree_before w.behind) (tree_fits depth_left) key_of (tree_fits max_depth) (opening_byte of_object ∷ []) w.front _ _ _ near far;
-}
-  where
-    deeper : depth_left ≡ suc inner
-    deeper = omega (arith, one)
+  -- the name leads nowhere
+  pub within_missed : ((change : Option Tree → Outcome) → changed_part change name w.inner ≡ None) → (change : Tree → Option Tree) → changed_within change names t ≡ None
+  within_missed none change =
+      nothing_lifts (tree_before w.behind) (tree_fits depth_left) key_of (tree_fits max_depth) w.front (changed_part (within (changed_within change others)) name w.inner) (changed_within change names t) (next_lifts change) (none (within (changed_within change others)))
 
--- the name leads nowhere
-pub within_missed : (t : Tree) (names others : List (List ℕ)) (name key parts : List ℕ) (of_object : Bool) (depth_left : ℕ) (l : StepWithin t names others name key parts of_object depth_left) → ((change : Option Tree → Outcome) → changed_open change name l.all ≡ None) → (change : Tree → Option Tree) → changed_within change names t ≡ None
-within_missed t names others name key parts of_object depth_left l none change =
-    nothing_lifts (key_before l.behind) (fits_in depth_left) key_of (tree_fits max_depth) l.front (changed_open (within (changed_within change others)) name l.all) (changed_within change names t) (l.lifts change) (none (within (changed_within change others)))
+  module _ (of_object : Bool) (inner : ℕ) (spot : Spot) (s : SpotBefore w.behind (λ change. changed_part change name w.inner) of_object name part depth_left inner spot) where
+    -- it leads to no part
+    pub within_lost : spot.found ≡ false → (change : Tree → Option Tree) → changed_within change names t ≡ None
+    within_lost lost change =
+        nothing_lifts (tree_before w.behind) (tree_fits depth_left) key_of (tree_fits max_depth) w.front (changed_part (within (changed_within change others)) name w.inner) (changed_within change names t) (next_lifts change) (go s.there s.occurs (s.answers (within (changed_within change others))))
+      where
+        go : (there : Option Tree) → Occurs of_object s.name spot s.behind there → Answers (tree_before w.behind) (tree_fits depth_left) of_object s.name s.front s.behind inner (within (changed_within change others) there) (changed_part (within (changed_within change others)) name w.inner) → changed_part (within (changed_within change others)) name w.inner ≡ None
+        go None st h = answers_none (tree_before w.behind) (tree_fits depth_left) of_object s.name s.front s.behind inner (changed_part (within (changed_within change others)) name w.inner) h
+        go (Some u) st h = absurd (false_true (sym lost ∙ st.0))
 
--- it leads to no part
-pub within_lost : (t : Tree) (names others : List (List ℕ)) (name key parts : List ℕ) (of_object : Bool) (depth_left : ℕ) (spot : Spot) (l : StepWithin t names others name key parts of_object depth_left) → SpotAt l.all l.behind name of_object parts depth_left spot → spot.found ≡ false → (change : Tree → Option Tree) → changed_within change names t ≡ None
-within_lost t names others name key parts of_object depth_left spot l s lost change = go s.there s.occurs (s.answers (within (changed_within change others)))
-  where
-    go : (there : Option Tree) → Occurs of_object s.name spot s.behind there → Answers (key_before l.behind) (fits_in depth_left) of_object s.name s.front s.behind depth_left (within (changed_within change others) there) (changed_open (within (changed_within change others)) name l.all) → changed_within change names t ≡ None
-    go None st h = answers_none of_object s.name (l.front ++ s.front) s.behind depth_left (changed_within change names t) (lifted (key_before l.behind) (fits_in depth_left) key_of (tree_fits max_depth) of_object s.name l.front s.front s.behind depth_left stays _ _ (l.lifts change) h)
-    go (Some u) st h = absurd (false_true (sym lost ∙ st.0))
-
--- it leads to a part
-pub within_taken : (t : Tree) (names others : List (List ℕ)) (name key parts : List ℕ) (of_object : Bool) (depth_left : ℕ) (spot : Spot) (l : StepWithin t names others name key parts of_object depth_left) → SpotAt l.all l.behind name of_object parts depth_left spot → spot.found ≡ true → WithinLeft t names others key spot.value.now depth_left
-within_taken t names others name key parts of_object depth_left spot l s found = go s.there s.occurs s.readable s.fits s.answers
-  where
-    go : (there : Option Tree) → Occurs of_object s.name spot s.behind there → IfSome there IsReadable → IfSome there (λ u. IsWithin IsAnyNumber u depth_left)
-        → ((change : Option Tree → Outcome) → Answers (key_before l.behind) (fits_in depth_left) of_object s.name s.front s.behind depth_left (change there) (changed_open change name l.all)) → WithinLeft t names others key spot.value.now depth_left
-    go None st r f h = absurd (false_true (sym st.0 ∙ found))
-    go (Some u) st r f h = record {
-      inner = u;
-      readable = r;
-      fits = f;
-      front = (l.front ++ s.front) ++ name_key of_object s.name;
-      behind = s.behind;
-      inside = l.inside ∙ ap (λ key. l.front ++ key) (s.inside ∙ ap (λ key. s.front ++ key) st.1) ∙ moved l.front s.front (name_key of_object s.name) spot.value.now;
-      occurs = st.2;
-      lifts = λ change. within_lifts of_object s.name (l.front ++ s.front) s.behind depth_left (changed_within change others u) (changed_within change names t)
-          (lifted (key_before l.behind) (fits_in depth_left) key_of (tree_fits max_depth) of_object s.name l.front s.front s.behind depth_left (part_with (changed_within change others u)) _ _ (l.lifts change) (h (within (changed_within change others))));
-    }
+    -- it leads to a part
+    pub within_taken : spot.found ≡ true → WithinLeft t names others key spot.value.now inner
+    within_taken found = go s.there s.occurs s.readable s.fits s.answers
       where
         moved : (a b c d : List ℕ) → a ++ (b ++ (c ++ d)) ≡ ((a ++ b) ++ c) ++ d
         moved a b c d = simp append_assoc
+
+        go : (there : Option Tree) → Occurs of_object s.name spot s.behind there → IfSome there IsReadable → IfSome there (λ u. IsWithin IsAnyNumber u inner)
+            → ((change : Option Tree → Outcome) → Answers (tree_before w.behind) (tree_fits depth_left) of_object s.name s.front s.behind inner (change there) (changed_part change name w.inner)) → WithinLeft t names others key spot.value.now inner
+        go None st r f h = absurd (false_true (sym st.0 ∙ found))
+        go (Some u) st r f h = record {
+          inner = u;
+          readable = r;
+          fits = f;
+          front = (w.front ++ s.front) ++ name_key of_object s.name;
+          behind = s.behind;
+          inside = w.inside ∙ ap (λ key. w.front ++ key) (s.inside ∙ ap (λ key. s.front ++ key) st.1) ∙ moved w.front s.front (name_key of_object s.name) spot.value.now;
+          occurs = st.2;
+          lifts = λ change. within_lifts of_object s.name (w.front ++ s.front) s.behind inner (changed_within change others u) (changed_within change names t)
+              (lifted (tree_before w.behind) (tree_fits depth_left) key_of (tree_fits max_depth) of_object s.name w.front s.front s.behind inner (part_with (changed_within change others u)) (changed_part (within (changed_within change others)) name w.inner) (changed_within change names t) (next_lifts change) (h (within (changed_within change others))));
+        }
 
 -- ---- what is found
 
@@ -243,21 +200,7 @@ module _ (t : Tree) (names : List (List ℕ)) (key : List ℕ) (last : (Option T
     -- the slot in the whole value; or nothing changes in what the names lead to
     pub inner_found : (r : Result (Option Slot) NoKey) → FindsBefore c.behind (λ change. last change c.part) value depth_left r → Finds whole key r
     inner_found (Ok None) f = λ change. nothing_lifts (tree_before c.behind) (tree_fits depth_left) key_of (tree_fits max_depth) c.front (last change c.part) (whole change) (part_lifts change) (f change)
-    inner_found (Ok (Some slot)) (s, b) = (
-      record {
-        there = s.there;
-        name = s.name;
-        front = c.front ++ s.front;
-        behind = s.behind;
-        inside = c.inside ∙ ap (λ k. c.front ++ k) s.inside ∙ sym (append_assoc c.front s.front slot.spot.entry.now);
-        occurs = s.occurs;
-        named = s.named;
-        readable = s.readable;
-        fits = s.fits;
-        answers = λ change. lifted (tree_before c.behind) (tree_fits depth_left) key_of (tree_fits max_depth) slot.object s.name c.front s.front s.behind slot.depth_left (change s.there) _ _ (part_lifts change) (s.answers change);
-      },
-      b,
-    )
+    inner_found (Ok (Some slot)) (s, b) = (lifted_spot (tree_before c.behind) (tree_fits depth_left) key_of (tree_fits max_depth) (λ change. last change c.part) whole slot.object slot.name.now c.front key value slot.depth_left slot.spot c.inside part_lifts s, b)
     inner_found (Err e) f = f
 
 -- the names of a path, whose last one is this

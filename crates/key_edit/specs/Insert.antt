@@ -1,19 +1,14 @@
 -- What changes within a part, and where a part is inserted, in the bytes of a key.
-use Rattle.std.specs.Prelude.{◌≡◌, ◌↔◌, ⊤, ℕ, zero, suc, List, [], ◌∷◌, ◌++◌, Option, Some, None}
+use Rattle.std.specs.Prelude.{◌≡◌, ◌↔◌, ⊤, ℕ, Bool, List, [], ◌∷◌, ◌++◌, Option, Some, None}
 use Rattle.jsonb_spec.specs.SortKey.Readable.{IsAnyNumber, IsReadable}
 use Rattle.jsonb_spec.specs.Grammar.{max_depth}
 use Rattle.jsonb_spec.specs.SortKey.{key_of}
 use Rattle.jsonb_spec.specs.Text.Range.{IsWithin}
-use Rattle.jsonb_spec.specs.Tree.{Tree, Trees, no_trees, more_trees}
+use Rattle.jsonb_spec.specs.Tree.{Tree}
 use Rattle.jsonb_spec.specs.Edit.{Outcome, changed_part, within}
 use Rattle.key_edit.specs.Spots.{SpotIn}
 use Rattle.key_edit.specs.declared.slot.Slot.{Slot}
-
--- the items from the one of that index on
-abbrev pub items_from : ℕ → Trees → Trees
-items_from zero ts = ts
-items_from (suc index) no_trees = no_trees
-items_from (suc index) (more_trees t ts) = items_from index ts
+use Rattle.key_edit.specs.declared.spot.Spot.{Spot}
 
 -- the value, changed within the part that the path leads to; itself where the path has no steps
 abbrev pub changed_within : (Tree → Option Tree) → List (List ℕ) → Tree → Option Tree
@@ -47,8 +42,13 @@ pub record IsPartWithin (t : Tree) (names : List (List ℕ)) (key bytes : List �
   pub lifts : (change : Tree → Option Tree)
       → ChangesSo front behind depth_left (change part) (changed_within change names t)
 
--- The slot in the value whose key the bytes begin with, behind which more bytes are, and what is behind the slot.
+-- The spot in the value whose key the bytes begin with, behind which more bytes are.
+abbrev pub SpotBefore : List ℕ → ((Option Tree → Outcome) → Option Tree) → Bool → List ℕ → List ℕ → ℕ → ℕ → Spot → Type 0
+SpotBefore more changed object name bytes depth_left inner spot =
+    SpotIn (λ u. key_of u ++ more) (λ u. IsWithin IsAnyNumber u depth_left) changed object name bytes inner spot
+
+-- The slot in that value, and what is behind the slot.
 abbrev pub SlotBefore : List ℕ → ((Option Tree → Outcome) → Option Tree) → List ℕ → ℕ → Slot → Type 0
 SlotBefore more changed bytes depth_left slot =
-    (s : SpotIn (λ u. key_of u ++ more) (λ u. IsWithin IsAnyNumber u depth_left) changed slot.object slot.name.now bytes
-    slot.depth_left slot.spot) × (s.behind ≡ slot.behind.now)
+    (s : SpotBefore more changed slot.object slot.name.now bytes depth_left slot.depth_left slot.spot)
+    × (s.behind ≡ slot.behind.now)

@@ -1,6 +1,7 @@
 -- Where in the bytes a part is, or would be.
-use Rattle.std.specs.Prelude.{◌≡◌, ℕ, Bool, true, false, List, ◌++◌, Option, Some, None, option_map, IfSome, MatchResult, Result, Ok, ⊤}
+use Rattle.std.specs.Prelude.{◌≡◌, ℕ, zero, suc, ◌-◌, nat_lt, Bool, true, false, List, ◌++◌, Option, Some, None, option_map, if◌then◌else◌, IfSome, MatchResult, Result, Ok, ⊤}
 use Rattle.std.specs.Borrow.{Bor}
+use Rattle.jsonb_spec.specs.Accessors.{trees_len}
 use Rattle.jsonb_spec.specs.SortKey.Readable.{IsAnyNumber, IsReadable}
 use Rattle.key_walk.specs.AtKeys.{AtItems}
 use Rattle.jsonb_spec.specs.SortKey.Open.{Open, items, members, name_key, open_key}
@@ -64,11 +65,27 @@ abbrev pub OpenSpotIn : ((Option Tree → Outcome) → Option Open) → Bool →
 OpenSpotIn changed object asked bytes more depth_left spot =
     SpotIn (λ o. open_key o ++ more) (λ o. OpenWithin o depth_left) changed object asked bytes depth_left spot
 
--- The spot of the item that is changed so, at which the bytes may begin with any items.
-abbrev pub FindsItemSpot : ((Option Tree → Outcome) → Trees → Option Trees) → List ℕ → Result Spot NoKey → Type 0
-FindsItemSpot changed bytes result =
-    AtItems bytes (λ ts more. (depth_left : ℕ) → AreWithin IsAnyNumber ts depth_left → (name : List ℕ) → MatchResult result
-    (OpenSpotIn (λ change. option_map items (changed change ts)) false name bytes more depth_left) (λ e. ⊥))
+-- the items from the one of that index on
+abbrev pub items_from : ℕ → Trees → Trees
+items_from zero ts = ts
+items_from (suc index) no_trees = no_trees
+items_from (suc index) (more_trees t ts) = items_from index ts
+
+-- the index among so many items that the step of a path encodes; None where there are fewer from the end
+abbrev pub index_in : ℕ → Bool × ℕ → Option ℕ
+index_in count (false, index) = Some index
+index_in count (true, back) = if nat_lt count back then None else Some (count - back)
+
+-- What is reported of the items: those from the one of that index on, where there is an index.
+abbrev pub LeavesItems : Trees → List ℕ → Option ℕ → Option (Bor (List ℕ)) → Type 0
+LeavesItems ts more None None = ⊤
+LeavesItems ts more (Some index) (Some rest) = rest.now ≡ items_key (items_from index ts) ++ more
+LeavesItems ts more index answer = ⊥
+
+-- Whichever items the bytes begin with, those are reported from the one on that the step of a path encodes.
+abbrev pub FindsItems : List ℕ → Bool × ℕ → Result (Option (Bor (List ℕ))) NoKey → Type 0
+FindsItems bytes step result =
+    AtItems bytes (λ ts more. MatchResult result (LeavesItems ts more (index_in (trees_len ts) step)) (λ e. ⊥))
 
 -- The slot in the key at which changes are made, and what is behind it.
 abbrev pub SlotIn : ((Option Tree → Outcome) → Option Tree) → List ℕ → Slot → Type 0

@@ -1,6 +1,6 @@
 //! The slot at which a part is inserted: between the items of an array, or among the members of an object.
 
-ghost use Rattle.std.specs.Prelude.{◌≡◌, ◌≤◌, ◌+◌, ◌++◌, List, ℕ, length, map, string_bytes, Bool, Option, None, Some, IfOk, IfSome, IsTrue, MatchBool, MatchResult, MatchOption};
+ghost use Rattle.std.specs.Prelude.{◌≡◌, ◌<◌, ◌≤◌, ◌+◌, ◌++◌, List, ℕ, length, map, string_bytes, Bool, Option, None, Some, IfOk, IfSome, IsTrue, MatchBool, MatchResult, MatchOption};
 ghost use Rattle.jsonb_spec.specs.SortKey.Readable.{IsAnyNumber};
 ghost use Rattle.key_walk.specs.AtKeys.{AtItems};
 ghost use Rattle.jsonb_spec.specs.SortKey.AtKeys.{AtKey, OfKey};
@@ -10,14 +10,14 @@ ghost use Rattle.jsonb_spec.specs.SortKey.{items_key, key_of};
 ghost use Rattle.jsonb_spec.specs.Text.Range.{AreWithin, IsWithin};
 ghost use Rattle.jsonb_spec.specs.Tree.{Tree, Trees, array};
 ghost use Rattle.jsonb_spec.specs.Edit.{Outcome, step_named};
-ghost use Rattle.jsonb_spec.specs.Edit.Insert.{changed_slot, changed_slot_at, one_more, slot_index};
-ghost use Rattle.key_edit.specs.Insert.{items_from, SlotBefore};
-ghost use Rattle.key_edit.specs.Spots.{ReportsBehind, SlotIn};
+ghost use Rattle.jsonb_spec.specs.Edit.Insert.{changed_slot, changed_slot_at, slot_index};
+ghost use Rattle.key_edit.specs.Insert.{SlotBefore};
+ghost use Rattle.key_edit.specs.Spots.{items_from, ReportsBehind, SlotIn};
 
 use crate::slot::{Slot, part_from};
-use crate::spot::{behind_key, behind_part, first_value, member_spot, no_part};
+use crate::spot::{behind_part, items_at, member_spot, no_part, pass_items};
 use crate::step::step_of;
-use key_walk::find::{NoKey, count_parts, open_key};
+use key_walk::find::{NoKey, open_key};
 
 /// The slot at which a part is inserted that the path leads to. In an array it is before the item of the last name's
 /// index, or behind it where `after` is true; at the end where there are fewer items; and before all of them where there
@@ -75,7 +75,7 @@ fn insertion_in<'k, 'n>(
     let Some((from_end, number)) = step_of(name) else {
         return Ok(None);
     };
-    let behind = behind_slot(bytes, parts, from_end, number, after)?;
+    let behind = behind_slot(parts, from_end, number, after)?;
     Ok(Some(Slot {
         spot: no_part(behind),
         behind,
@@ -85,51 +85,14 @@ fn insertion_in<'k, 'n>(
     }))
 }
 
-// The items behind the slot, of the array whose key the bytes begin with.
-fn behind_slot<'k>(
-    bytes: &'k [u8],
-    items: &'k [u8],
-    from_end: bool,
-    number: usize,
-    after: bool,
-) -> Result<&'k [u8], NoKey>
-    ensures behind { AtItems items.now (λ ts more. IsWithin IsAnyNumber (array ts) 512
-        → bytes.now ≡ key_of (array ts) ++ more → ReportsBehind
+// The items behind the slot.
+fn behind_slot(items: &[u8], from_end: bool, number: usize, after: bool) -> Result<&[u8], NoKey>
+    requires { IsTrue from_end → 0 < number }
+    ensures behind { AtItems items.now (λ ts more. ReportsBehind
         (items_key (items_from (slot_index after (trees_len ts) (from_end, number)) ts) ++ more) result) }
 {
-    if !from_end {
-        return behind_items(items, number, after);
-    }
-    let Some(count) = count_parts(bytes)? else {
-        return Err(NoKey);
+    let Some(rest) = items_at(items, from_end, number)? else {
+        return Ok(items);
     };
-    match count.checked_sub(number) {
-        Some(index) => behind_items(items, index, after),
-        None => Ok(items),
-    }
-}
-
-// The items behind so many, and behind one more where that is asked for.
-fn behind_items(items: &[u8], count: usize, more: bool) -> Result<&[u8], NoKey>
-    ensures behind { AtItems items.now (λ ts behind.
-        ReportsBehind (items_key (items_from (one_more more count) ts) ++ behind) result) }
-{
-    let rest = pass_items(items, count)?;
-    if more { pass_items(rest, 1) } else { Ok(rest) }
-}
-
-// The items behind so many; the end where there are fewer.
-fn pass_items(items: &[u8], count: usize) -> Result<&[u8], NoKey>
-    ensures behind { AtItems items.now (λ ts more. ReportsBehind (items_key (items_from count ts) ++ more) result) }
-{
-    let mut rest = items;
-    let mut left = count;
-    'items: while left > 0 {
-        let Some(value) = first_value(false, rest)? else {
-            return Ok(rest);
-        };
-        rest = behind_key(value)?;
-        left -= 1;
-    }
-    Ok(rest)
+    if after { pass_items(rest, 1) } else { Ok(rest) }
 }

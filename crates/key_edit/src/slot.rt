@@ -6,7 +6,7 @@ ghost use Rattle.jsonb_spec.specs.SortKey.AtKeys.{AtKey, OfKey};
 ghost use Rattle.jsonb_spec.specs.Text.Range.{IsWithin};
 ghost use Rattle.jsonb_spec.specs.Tree.{Tree};
 ghost use Rattle.jsonb_spec.specs.Edit.{Outcome, changed_at, changed_at_member, changed_part};
-ghost use Rattle.key_edit.specs.Insert.{changed_within, IsPartWithin, SlotBefore};
+ghost use Rattle.key_edit.specs.Insert.{changed_within, IsPartWithin, SlotBefore, SpotBefore};
 ghost use Rattle.key_edit.specs.Spots.{SlotIn};
 
 use crate::spot::{Spot, behind_part, member_spot, part_spot};
@@ -56,13 +56,7 @@ pub(crate) fn part_from<'k>(
     let mut left = names;
     let mut depth_left = MAX_DEPTH;
     'names: while let Some((name, others)) = left.split_first() {
-        let Some((object, parts)) = open_key(part)? else {
-            return Ok(None);
-        };
-        let Some(inner) = depth_left.checked_sub(1) else {
-            return Err(NoKey);
-        };
-        let Some(spot) = part_spot(object, parts, name.as_str())? else {
+        let Some((spot, _, inner)) = spot_in(part, name.as_str(), depth_left)? else {
             return Ok(None);
         };
         if !spot.found {
@@ -75,8 +69,7 @@ pub(crate) fn part_from<'k>(
     Ok(Some((part, depth_left)))
 }
 
-// The slot in the value whose key the bytes begin with; `None` where it is neither an array nor an object, or the name
-// encodes no index of an array.
+// The slot in the value whose key the bytes begin with; `None` as of `spot_in`.
 fn slot_in<'k, 'n>(
     bytes: &'k [u8],
     name: &'n str,
@@ -87,13 +80,7 @@ fn slot_in<'k, 'n>(
         (SlotBefore more (λ change. changed_part change name.now t) bytes.now depth_left)) (λ e. ⊥)) }
     ensures space { IfOk result (λ answer. IfSome answer (λ slot. slot.depth_left + 1 ≡ depth_left)) }
 {
-    let Some((object, parts)) = open_key(bytes)? else {
-        return Ok(None);
-    };
-    let Some(inner) = depth_left.checked_sub(1) else {
-        return Err(NoKey);
-    };
-    let Some(spot) = part_spot(object, parts, name)? else {
+    let Some((spot, object, inner)) = spot_in(bytes, name, depth_left)? else {
         return Ok(None);
     };
     let behind = behind_part(&spot)?;
@@ -104,6 +91,32 @@ fn slot_in<'k, 'n>(
         name,
         depth_left: inner,
     }))
+}
+
+// The spot in the value whose key the bytes begin with, whether that is an object, and how many arrays and objects a
+// part may have in one another there; `None` where it is neither an array nor an object, or the name encodes no index of
+// an array.
+fn spot_in<'k>(
+    bytes: &'k [u8],
+    name: &str,
+    depth_left: usize,
+) -> Result<Option<(Spot<'k>, bool, usize)>, NoKey>
+    ensures spot { AtKey bytes.now (λ t more. IsWithin IsAnyNumber t depth_left → MatchResult result
+        (λ answer. MatchOption answer ((change : Option Tree → Outcome) → changed_part change name.now t ≡ None)
+        (λ r. SpotBefore more (λ change. changed_part change name.now t) r.1 name.now bytes.now depth_left r.2 r.0))
+        (λ e. ⊥)) }
+    ensures space { IfOk result (λ answer. IfSome answer (λ r. r.2 + 1 ≡ depth_left)) }
+{
+    let Some((object, parts)) = open_key(bytes)? else {
+        return Ok(None);
+    };
+    let Some(inner) = depth_left.checked_sub(1) else {
+        return Err(NoKey);
+    };
+    let Some(spot) = part_spot(object, parts, name)? else {
+        return Ok(None);
+    };
+    Ok(Some((spot, object, inner)))
 }
 
 /// Where the member of that name is in an object, or would be; `None` for another value.

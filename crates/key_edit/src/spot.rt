@@ -3,12 +3,13 @@
 ghost use Rattle.std.specs.Prelude.{◌≡◌, ◌<◌, ◌≤◌, ◌++◌, Bool, IsTrue, List, ℕ, length, option_map, true, false, None, Option, IfOk, IfSome, MatchResult, MatchOption};
 ghost use Rattle.jsonb_spec.specs.SortKey.Readable.{IsAnyNumber, IsReadable};
 ghost use Rattle.jsonb_spec.specs.SortKey.AtKeys.{AtKey, AtParts};
-ghost use Rattle.key_walk.specs.AtKeys.{AtMembers};
+ghost use Rattle.key_walk.specs.AtKeys.{AtItems, AtMembers};
 ghost use Rattle.jsonb_spec.specs.SortKey.Open.{Open, members};
-ghost use Rattle.jsonb_spec.specs.Text.Range.{HaveWithin};
+ghost use Rattle.jsonb_spec.specs.SortKey.{items_key};
+ghost use Rattle.jsonb_spec.specs.Text.Range.{AreWithin, HaveWithin};
 ghost use Rattle.jsonb_spec.specs.Tree.{Tree};
-ghost use Rattle.jsonb_spec.specs.Edit.{Outcome, changed_at_step, changed_item, changed_item_back, changed_member};
-ghost use Rattle.key_edit.specs.Spots.{changed_open, FindsItemSpot, OpenSpotIn, OpenWithin, Occurs, OccursFirst, ReportsBehind};
+ghost use Rattle.jsonb_spec.specs.Edit.{Outcome, changed_at_step, changed_member};
+ghost use Rattle.key_edit.specs.Spots.{changed_open, items_from, FindsItems, OpenSpotIn, OpenWithin, Occurs, OccursFirst, ReportsBehind};
 
 use crate::step::step_of;
 use key_walk::find::{NoKey, compare_name};
@@ -99,33 +100,28 @@ pub(crate) fn member_spot<'k>(members: &'k [u8], name: &[u8]) -> Result<Spot<'k>
     }
 }
 
-// Where the item of that index is, or the end.
-fn item_spot(items: &[u8], index: usize) -> Result<Spot<'_>, NoKey>
-    ensures spot { FindsItemSpot (λ change. changed_item change index) items.now result }
+// The items behind so many; the end where there are fewer.
+pub(crate) fn pass_items(items: &[u8], count: usize) -> Result<&[u8], NoKey>
+    ensures behind { AtItems items.now (λ ts more. ReportsBehind (items_key (items_from count ts) ++ more) result) }
 {
     let mut rest = items;
-    let mut before = index;
-    'items: loop {
+    let mut left = count;
+    'items: while left > 0 {
         let Some(value) = first_value(false, rest)? else {
-            return Ok(no_part(rest));
-        };
-        let Some(less) = before.checked_sub(1) else {
-            return Ok(Spot {
-                found: true,
-                entry: rest,
-                value,
-            });
+            return Ok(rest);
         };
         rest = behind_key(value)?;
-        before = less;
+        left -= 1;
     }
+    Ok(rest)
 }
 
-// Where the item is that is so many from the end, where 1 is the last, or the front. All items are walked once:
-// what is left after each `back` of them is held, and what was held before; the item is fewer than `back` behind that.
-fn item_spot_back(items: &[u8], back: usize) -> Result<Spot<'_>, NoKey>
+// The items from the one on that is so many from the end, where 1 is the last; `None` where there are fewer. All are
+// walked once: what is left after each `back` of them is held, and what was held before; the item is fewer than `back`
+// behind that.
+fn items_back(items: &[u8], back: usize) -> Result<Option<&[u8]>, NoKey>
     requires { 0 < back }
-    ensures spot { FindsItemSpot (λ change. changed_item_back change back) items.now result }
+    ensures found { FindsItems items.now (true, back) result }
 {
     let mut rest = items;
     let mut later = items;
@@ -133,10 +129,11 @@ fn item_spot_back(items: &[u8], back: usize) -> Result<Spot<'_>, NoKey>
     let mut since: usize = 0;
     'items: loop {
         let Some(value) = first_value(false, rest)? else {
-            return match earlier {
-                Some(start) => item_spot(start, since),
-                None => Ok(no_part(items)),
+            let Some(start) = earlier else {
+                return Ok(None);
             };
+            let found = pass_items(start, since)?;
+            return Ok(Some(found));
         };
         rest = behind_key(value)?;
         since += 1;
@@ -148,16 +145,36 @@ fn item_spot_back(items: &[u8], back: usize) -> Result<Spot<'_>, NoKey>
     }
 }
 
-// Where the item of that index is, which counts from the end or not.
-fn item_spot_by(items: &[u8], from_end: bool, number: usize) -> Result<Spot<'_>, NoKey>
+/// The items from the one of that index on, which counts from the end or not; `None` where there are fewer from the end.
+pub(crate) fn items_at(items: &[u8], from_end: bool, number: usize) -> Result<Option<&[u8]>, NoKey>
     requires { IsTrue from_end → 0 < number }
-    ensures spot { FindsItemSpot (λ change ts. changed_at_step change ts (from_end, number)) items.now result }
+    ensures found { FindsItems items.now (from_end, number) result }
 {
     if from_end {
-        item_spot_back(items, number)
-    } else {
-        item_spot(items, number)
+        return items_back(items, number);
     }
+    let rest = pass_items(items, number)?;
+    Ok(Some(rest))
+}
+
+// Where the item of that index is, which counts from the end or not, or would be.
+fn item_spot(items: &[u8], from_end: bool, number: usize) -> Result<Spot<'_>, NoKey>
+    requires { IsTrue from_end → 0 < number }
+    ensures spot { AtItems items.now (λ ts more. (depth_left : ℕ) → AreWithin IsAnyNumber ts depth_left → (name : List ℕ)
+        → MatchResult result (OpenSpotIn (λ change. option_map Open.items (changed_at_step change ts (from_end, number)))
+        false name items.now more depth_left) (λ e. ⊥)) }
+{
+    let Some(rest) = items_at(items, from_end, number)? else {
+        return Ok(no_part(items));
+    };
+    let Some(value) = first_value(false, rest)? else {
+        return Ok(no_part(rest));
+    };
+    Ok(Spot {
+        found: true,
+        entry: rest,
+        value,
+    })
 }
 
 /// Where the member of that name is, or the item of that index; `None` where the name encodes no index.
@@ -177,6 +194,6 @@ pub(crate) fn part_spot<'k>(
     let Some((from_end, number)) = step_of(name) else {
         return Ok(None);
     };
-    let spot = item_spot_by(parts, from_end, number)?;
+    let spot = item_spot(parts, from_end, number)?;
     Ok(Some(spot))
 }

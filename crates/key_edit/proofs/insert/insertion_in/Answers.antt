@@ -1,7 +1,6 @@
-use Rattle.std.proofs.Common.{◌≡◌, ◌∷◌, ◌++◌, IfSome, Ok, suc, subst, sym, ◌∙◌, arith, option_map, true, false}
+use Rattle.std.proofs.Common.{◌≡◌, ◌∷◌, IfSome, Ok, suc, subst, sym, ◌∙◌, arith, option_map, true, false}
 use Rattle.key_walk.specs.Found.{Opens}
 use Rattle.jsonb_spec.specs.SortKey.Open.{members, opening_byte}
-use Rattle.jsonb_spec.specs.SortKey.{key_of}
 use Rattle.jsonb_spec.specs.Tree.{array, object}
 use Rattle.jsonb_spec.specs.Edit.{changed_member}
 use Rattle.key_edit.specs.Spots.{SpotIn}
@@ -37,8 +36,7 @@ returns-clause-slot c = λ t r more e w.
     let left = subst (λ answer. Opens t more (Ok answer)) c.in-Some.is (c.in_ok-object.ensures.opens t r more e) in
     let begins = subst (λ answer. IfSome answer (λ parts. c.args.bytes.now ≡ opening_byte parts.0 ∷ parts.1.now)) c.in-Some.is c.in_ok-object.ensures.some in
     let m = opened_items t c.in-Some.object c.args.bytes.now c.in-Some.parts.now more c.args.depth_left inner left c.if-object.false begins w (omega (arith, c.in-Some-checked_sub.ensures)) in
-    let all : c.args.bytes.now ≡ key_of (array m.ts) ++ more = subst (λ u. c.args.bytes.now ≡ key_of u ++ more) (sym m.whole) e in
-    let behind = c.in_ok-behind-2.ensures.behind m.ts m.proper m.within more m.occurs m.within all in
+    let behind = c.in_ok-behind-2.ensures.behind m.ts m.proper m.within more m.occurs in
     let slot = array_slot c.args.after c.args.name.now c.args.bytes.now c.in-Some.parts.now c.in_ok-behind-2.behind.now more m.ts (c.in-Some-step_of.from_end, c.in-Some-step_of.number) inner c.no_part.result m.fits m.begins m.occurs
     (sym c.step_of.ensures.named ∙ c.in-Some-step_of.is) behind c.no_part.ensures.0 c.no_part.ensures.1 in
     let deep : suc inner ≡ c.args.depth_left = omega (arith, c.in-Some-checked_sub.ensures) in

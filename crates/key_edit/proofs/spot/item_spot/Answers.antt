@@ -1,51 +1,41 @@
-use Rattle.std.proofs.Common.{◌++◌, Ok, refl, subst, arith}
+use Rattle.std.proofs.Common.{Bool, ℕ, Ok, Some, None, refl, subst}
+use Rattle.jsonb_spec.specs.Accessors.{trees_len}
 use Rattle.jsonb_spec.specs.SortKey.Open.{items}
-use Rattle.jsonb_spec.specs.SortKey.{items_key}
-use Rattle.key_edit.specs.Spots.{OccursFirst}
-use Rattle.key_edit.proofs.Spotted.{item_met, item_next, item_passed, items_begun, items_over, no_first}
+use Rattle.key_edit.specs.Spots.{index_in, items_from, LeavesItems, OccursFirst}
+use Rattle.key_edit.proofs.Items.{from_open, left_at, none_at}
+use Rattle.key_edit.proofs.Spotted.{item_first, item_over, no_first, step_there}
 use Rattle.key_edit.proofs.spot.item_spot.Goals as goal
-
-pub items-init : goal.items-init
-items-init c = record { walks = items_begun c.args.items.now c.args.index }
-
-pub returns-in_err-value : goal.returns-in_err-value
-returns-in_err-value c = record {
-  spot = λ ts p w more e depth_left f name.
-      let l = c.items.invariant.walks ts p w more e depth_left f in
-      absurd (no_first (items l.left) more c.in_err-value.field-0.0 (c.in_err-value.ensures.first (items l.left) refl (l.proper, l.within) more l.occurs));
-}
 
 pub returns-in_default : goal.returns-in_default
 returns-in_default c = record {
   spot = λ ts p w more e depth_left f name.
-      let l = c.items.invariant.walks ts p w more e depth_left f in
-      let n = subst (λ answer. OccursFirst (items l.left) more (Ok answer)) c.in_default.is (c.in_ok-value.ensures.first (items l.left) refl (l.proper, l.within) more l.occurs) in
-      items_over ts c.args.index c.items.before name c.args.items.now c.items.rest.now more depth_left c.no_part.result l n c.no_part.ensures;
+      let step : Bool × ℕ = (c.args.from_end, c.args.number) in
+      let none = none_at ts more _ (subst (LeavesItems ts more (index_in (trees_len ts) step)) c.in_default.is (c.in_ok-rest.ensures.found ts p w more e)) in
+      step_there ts step None name c.args.items.now more depth_left c.no_part.result none p w f e c.no_part.ensures;
 }
 
-pub returns-in_default-checked_sub : goal.returns-in_default-checked_sub
-returns-in_default-checked_sub c = record {
+pub returns-in_err-value : goal.returns-in_err-value
+returns-in_err-value c = record {
   spot = λ ts p w more e depth_left f name.
-      let l = c.items.invariant.walks ts p w more e depth_left f in
-      let n = subst (λ answer. OccursFirst (items l.left) more (Ok answer)) c.in-Some.is (c.in_ok-value.ensures.first (items l.left) refl (l.proper, l.within) more l.occurs) in
-      let i = item_next ts c.args.index c.items.before c.args.items.now c.items.rest.now more depth_left c.in-Some.value l n in
-      item_met ts c.args.index c.items.before name c.args.items.now c.items.rest.now more depth_left c.in-Some.value.now _ i (omega (arith, c.in_default-checked_sub.ensures)) refl refl refl;
+      let step : Bool × ℕ = (c.args.from_end, c.args.number) in
+      let (n, is, at) = left_at ts more _ c.in-Some.rest (subst (LeavesItems ts more (index_in (trees_len ts) step)) c.in-Some.is (c.in_ok-rest.ensures.found ts p w more e)) in
+      absurd (no_first (items (items_from n ts)) more c.in_err-value.field-0.0 (c.in_err-value.ensures.first (items (items_from n ts)) refl (from_open n ts p w) more at));
 }
 
-pub returns-in_err-rest : goal.returns-in_err-rest
-returns-in_err-rest c = record {
+pub returns-in_default-2 : goal.returns-in_default-2
+returns-in_default-2 c = record {
   spot = λ ts p w more e depth_left f name.
-      let l = c.items.invariant.walks ts p w more e depth_left f in
-      let n = subst (λ answer. OccursFirst (items l.left) more (Ok answer)) c.in-Some.is (c.in_ok-value.ensures.first (items l.left) refl (l.proper, l.within) more l.occurs) in
-      let i = item_next ts c.args.index c.items.before c.args.items.now c.items.rest.now more depth_left c.in-Some.value l n in
-      absurd (c.in_err-rest.ensures.behind i.tree i.readable (items_key i.others ++ more) i.value_is);
+      let step : Bool × ℕ = (c.args.from_end, c.args.number) in
+      let (n, is, at) = left_at ts more _ c.in-Some.rest (subst (LeavesItems ts more (index_in (trees_len ts) step)) c.in-Some.is (c.in_ok-rest.ensures.found ts p w more e)) in
+      let first = subst (λ answer. OccursFirst (items (items_from n ts)) more (Ok answer)) c.in_default-2.is (c.in_ok-value.ensures.first (items (items_from n ts)) refl (from_open n ts p w) more at) in
+      step_there ts step (Some n) name c.args.items.now more depth_left c.no_part-in_default-2.result is p w f e (item_over (items_from n ts) c.in-Some.rest.now more c.no_part-in_default-2.result first at c.no_part-in_default-2.ensures);
 }
 
-pub items-preserved : goal.items-preserved
-items-preserved c = record {
-  walks = λ ts p w more e depth_left f.
-      let l = c.items.invariant.walks ts p w more e depth_left f in
-      let n = subst (λ answer. OccursFirst (items l.left) more (Ok answer)) c.in-Some.is (c.in_ok-value.ensures.first (items l.left) refl (l.proper, l.within) more l.occurs) in
-      let i = item_next ts c.args.index c.items.before c.args.items.now c.items.rest.now more depth_left c.in-Some.value l n in
-      item_passed ts c.args.index c.items.before c.in-Some-checked_sub.less c.args.items.now c.items.rest.now more depth_left c.in-Some.value.now c.in_ok-rest.rest.now i (omega (arith, c.in-Some-checked_sub.ensures)) (c.in_ok-rest.ensures.behind i.tree i.readable (items_key i.others ++ more) i.value_is);
+pub returns : goal.returns
+returns c = record {
+  spot = λ ts p w more e depth_left f name.
+      let step : Bool × ℕ = (c.args.from_end, c.args.number) in
+      let (n, is, at) = left_at ts more _ c.in-Some.rest (subst (LeavesItems ts more (index_in (trees_len ts) step)) c.in-Some.is (c.in_ok-rest.ensures.found ts p w more e)) in
+      let first = subst (λ answer. OccursFirst (items (items_from n ts)) more (Ok answer)) c.in-Some-2.is (c.in_ok-value.ensures.first (items (items_from n ts)) refl (from_open n ts p w) more at) in
+      step_there ts step (Some n) name c.args.items.now more depth_left _ is p w f e (item_first (items_from n ts) c.in-Some.rest.now more c.in-Some-2.value _ first at refl refl refl);
 }

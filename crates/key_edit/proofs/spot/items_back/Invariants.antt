@@ -1,6 +1,6 @@
 use Rattle.std.proofs.Common.{◌<◌, length}
-use Rattle.key_edit.proofs.Spotted.{WalksBack}
-use Rattle.key_edit.proofs.spot.item_spot_back.Given as goal
+use Rattle.key_edit.proofs.Items.{WalksBack}
+use Rattle.key_edit.proofs.spot.items_back.Given as goal
 
 abbrev pub invariant-items : goal.invariant-items
 invariant-items l = record { walks : WalksBack l.items l.back l.since l.rest l.later l.earlier; below : l.since < l.back }
