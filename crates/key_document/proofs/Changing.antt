@@ -187,11 +187,6 @@ pub cuts : (start : ℕ) (r : Result Bool DocumentError) (old mid new : Vec ℕ 
 cuts start (Ok reported) old mid new c is more depth_left = record { err = tt; capacity = omega (arith, c.capacity, depth_left) }
 cuts start (Err error) old mid new c is more depth_left = record { err = c.err old.items (omega (arith, is, old.ok.0)) more; capacity = omega (arith, c.capacity, depth_left) }
 
--- what is reported of a slot
-abbrev pub ReportedSlot : Tree → List (List ℕ) → List ℕ → Option Slot → Type 0
-ReportedSlot t names key reported = MatchOption reported ((change : Option Tree → Outcome) → changed_at change names t ≡ None)
-    (SlotIn (λ change. changed_at change names t) key)
-
 -- there is no answer
 pub nothing_appended : (answer : Option Tree) (old : Vec ℕ Global) → answer ≡ None → Answers answer (Ok false) old old
 nothing_appended answer old e = subst (λ o. Answers o (Ok false) old old) (sym e) (refl, refl)

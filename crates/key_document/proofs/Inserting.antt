@@ -1,5 +1,5 @@
 -- A part that is inserted, or that can't be: what is reported.
-use Rattle.std.proofs.Common.{◌≡◌, ℕ, Bool, true, false, List, Option, Some, None, MatchOption, Ok, Err, refl, sym, subst, ◌∙◌}
+use Rattle.std.proofs.Common.{◌≡◌, ℕ, Bool, true, false, List, Option, Some, None, Ok, Err, refl, sym, subst, ◌∙◌}
 use Rattle.std.specs.Prelude.{Vec}
 use Rattle.std.specs.declared.alloc.Global.{Global}
 use Rattle.jsonb_spec.specs.SortKey.Readable.{IsAnyNumber}
@@ -18,11 +18,6 @@ use Rattle.jsonb_spec.specs.Edit.Spots.{Answers as SpotAnswers}
 use Rattle.key_edit.specs.Spots.{Occurs, SlotIn}
 use Rattle.key_edit.specs.declared.slot.Slot.{Slot}
 use Rattle.key_edit.proofs.Inserting.{removed_member}
-
--- what is reported of a slot
-abbrev pub ReportedGap : Tree → Bool → List (List ℕ) → List ℕ → Option Slot → Type 0
-ReportedGap t after names key reported = MatchOption reported ((change : Option Tree → Outcome) → changed_slot_at change after names t ≡ None)
-    (SlotIn (λ change. changed_slot_at change after names t) key)
 
 -- the path leads nowhere
 pub nowhere : (names : List (List ℕ)) (u t : Tree) (after : Bool) (old : Vec ℕ Global) → ((change : Option Tree → Outcome) → changed_slot_at change after names t ≡ None)

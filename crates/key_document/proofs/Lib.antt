@@ -10,7 +10,6 @@ pub mod Remaining
 pub mod Joining
 pub mod Ending
 pub mod Changing
-pub mod Building
 pub mod Short
 pub mod Reaching
 pub mod Slots

@@ -1,5 +1,5 @@
 -- Zeros passed from left to right.
-use Rattle.std.proofs.Common.{◌≡◌, ℕ, zero, suc, ◌+◌, ◌-◌, ◌^◌, ◌<◌, ◌≤◌, List, ◌∷◌, ◌++◌, sym, ap, ◌∙◌, replicate, take, Bor, Option, Result, Ok, Err, length, drop, refl, arith}
+use Rattle.std.proofs.Common.{◌≡◌, ℕ, ◌+◌, ◌-◌, ◌^◌, ◌<◌, ◌≤◌, List, ◌∷◌, ◌++◌, sym, ap, ◌∙◌, replicate, take, Bor, Option, Result, Ok, Err, length, drop, refl, arith}
 use Rattle.std.specs.Prelude.{IsErrAnd, Vec, vec_len, vec_capacity}
 use Rattle.std.specs.declared.alloc.Global.{Global}
 use Rattle.key_document.specs.Changes.{CopiesOn}

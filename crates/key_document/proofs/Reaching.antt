@@ -9,12 +9,11 @@ use Rattle.std.specs.declared.cmp.Ordering.{Ordering}
 use Rattle.std.specs.declared.cmp.Ordering.TheVariants.{Less, Equal, Greater}
 use Rattle.std.proofs.Math.Bool.{and-false}
 use Rattle.std.proofs.lemmas.Bool.{cases_eq, cond-false, ne_eqb}
-use Rattle.jsonb_path.proofs.PartIndex.{names_index}
 use Rattle.jsonb_path.proofs.PartsReadBack.{part_proper}
 use Rattle.jsonb_spec.specs.Accessors.{find_member, item_at}
 use Rattle.jsonb_spec.specs.Keys.{KeysAscend}
 use Rattle.jsonb_spec.specs.Order.{bytes_cmp}
-use Rattle.jsonb_spec.specs.PartAt.{IsChild, child_at, index_named, leads_well, part_at}
+use Rattle.jsonb_spec.specs.PartAt.{child_at, index_named, leads_well, part_at}
 use Rattle.jsonb_spec.specs.Proper.{IsProper}
 use Rattle.jsonb_spec.specs.Tree.{Tree, array, object, Trees, no_trees, more_trees, Members, no_members, more_members}
 use Rattle.key_walk.proofs.Occurrence.{below_all, equal_names}

@@ -14,6 +14,7 @@ use Rattle.jsonb_spec.specs.Tree.{Tree, null, boolean, string, number, array, ob
 use Rattle.jsonb_spec.specs.Edit.{Outcome, stays, goes, becomes, member_before, changed_member, item_before, changed_item, changed_item_back, step_named, changed_at_member, changed_at_step, changed_part, part_with, within, changed_at}
 use Rattle.jsonb_spec.specs.Edit.Insert.{changed_between, changed_slot, changed_slot_at, slot_index}
 use Rattle.jsonb_spec.specs.Edit.Splices.{Cut, IsSplice, AreSplices, Spliced, entry_key, entry_counts}
+use Rattle.key_edit.specs.Spots.{changed_end}
 use Rattle.key_text.proofs.Counts.{one_each, items_each, members_each}
 use Rattle.jsonb_spec.specs.Document.Counts.{counts_at, counts_at_items, counts_at_members}
 
@@ -324,3 +325,7 @@ slot_at_splice after (name ∷ next ∷ names) t p = elim (part_splice name t p)
   | inl none ↦ inl (λ change. none (within (changed_slot_at change after (next ∷ names))))
   | inr s ↦ inner_splice name t (λ change. changed_slot_at change after (next ∷ names)) s (λ u q. slot_at_splice after (next ∷ names) u q) s.there refl
 ]
+
+pub end_splice : (t : Tree) → IsProper t → Spliced key_of counts_at t (λ change. changed_end change t)
+end_splice (array ts) p = inr (moved_splices items_key counts_at_items key_of counts_at (210 ∷ []) (0 ∷ []) array refl (λ us. refl) (λ us. refl) ts (λ change. changed_between change (trees_len ts) ts) (between_splice (trees_len ts) ts p))
+end_splice t p = inl (λ change. refl)

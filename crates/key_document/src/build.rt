@@ -7,8 +7,7 @@ ghost use Rattle.jsonb_spec.specs.Edit.{with_item, with_member};
 use crate::document::split_document;
 use crate::edit::put_document;
 use crate::error::DocumentError;
-use crate::splice::{Lengths, splice_tail};
-use key_edit::slot::member_slot;
+use key_edit::slot::{end_slot, member_slot};
 
 /// Appends the document of the object with this member, of whose value the document is passed, and returns true. A
 /// member of that name is replaced. For a value that is no object nothing is appended, and it returns false.
@@ -47,17 +46,8 @@ pub fn append_with_item(
     ensures preserves { PreservesOnError result out.old out.new }
 {
     let (key, zeros) = split_document(document);
-    let (item_key, item_zeros) = split_document(item);
-    let start = out.len();
-    if !key_edit::append_with_item(out, key, item_key)? {
+    let Some(slot) = end_slot(key)? else {
         return Ok(false);
-    }
-    // The item is before the last byte, which ends the array.
-    let lengths = Lengths {
-        front: key.len().saturating_sub(1),
-        name: 0,
-        part: item_key.len(),
-        behind: 1,
     };
-    splice_tail(out, start, key.len(), zeros, item_zeros, &lengths)
+    put_document(out, key, zeros, &slot, item)
 }

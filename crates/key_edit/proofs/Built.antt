@@ -1,17 +1,15 @@
 -- Objects and arrays with a part more.
-use Rattle.std.proofs.Common.{◌≡◌, ℕ, Bool, true, false, List, [], ◌∷◌, ◌++◌, Option, Some, None, option_map, MatchOption, Result, Ok, Ordering, Less, Equal, Greater, Vec, Global, refl, sym, ap, subst, ◌∙◌, append-nil, arith}
+use Rattle.std.proofs.Common.{◌≡◌, ℕ, true, List, [], ◌∷◌, Option, Some, None, option_map, Ordering, Less, Equal, Greater, refl, sym, ap, ◌∙◌, append-nil, arith}
 use Rattle.std.specs.Ordering.{match_ordering}
-use Rattle.key_value.proofs.Texts.{none_some}
-use Rattle.jsonb_spec.specs.SortKey.Open.{members, IsScalar}
 use Rattle.jsonb_spec.specs.Grammar.{max_depth}
+use Rattle.jsonb_spec.specs.SortKey.Open.{members, IsScalar}
 use Rattle.jsonb_spec.specs.Order.{bytes_cmp}
 use Rattle.jsonb_spec.specs.SortKey.{key_of, items_key, members_key}
 use Rattle.jsonb_spec.specs.Tree.{Tree, null, boolean, string, number, array, object, binary, date, timestamp, timestamp_tz, interval, Trees, no_trees, more_trees, Members, no_members, more_members, put}
 use Rattle.jsonb_spec.specs.Edit.{Outcome, becomes, changed_at_member, changed_member, joined_items, set_to, with_item, with_member}
-use Rattle.key_edit.specs.Edit.{AppendsKey, Edits}
-use Rattle.key_edit.specs.Spots.{SlotIn, SpotIn}
-use Rattle.key_edit.specs.declared.error.EditError.{EditError}
-use Rattle.key_edit.specs.declared.slot.Slot.{Slot}
+use Rattle.jsonb_spec.specs.Edit.Insert.{changed_between}
+use Rattle.jsonb_spec.specs.Accessors.{trees_len}
+use Rattle.key_edit.specs.Spots.{SpotIn, changed_end}
 use Rattle.key_edit.specs.declared.spot.Spot.{Spot}
 use Rattle.jsonb_core.proofs.Trees.Runs.{heads}
 use Rattle.key_edit.proofs.Lifting.{Lifts}
@@ -39,9 +37,6 @@ object_spot name key rest ms spot begins = lifted_spot (key_before []) (fits_in 
     bare : (x : Option Members) → Lifts (key_before []) (fits_in 511) key_of (tree_fits max_depth) (0xD1 ∷ []) (option_map members x) (option_map object x)
     bare None = tt
     bare (Some ns) = (ap (λ l. 0xD1 ∷ l) (sym (append-nil (members_key ns))), (λ h. h, λ h. h))
-
-abbrev pub ReportedKey : (old new : Vec ℕ Global) → Result (Unit {0}) EditError → Option Tree → Type 0
-ReportedKey old new reported x = MatchOption x ⊥ (λ v. AppendsKey v reported old new)
 
 -- the object with the member is the one changed at its name
 pub member_set : (name : List ℕ) (u t : Tree) → changed_at_member (set_to u true) name t ≡ with_member name u t
@@ -71,27 +66,26 @@ array_slot name key rest t e begins change = refl
 abbrev pub MemberSpot : Tree → List ℕ → List ℕ → Spot → List ℕ → Type 0
 MemberSpot t name key spot behind = (s : SpotIn key_of (tree_fits max_depth) (λ change. changed_at_member change name t) true name key 511 spot) × (s.behind ≡ behind)
 
--- the member's slot is found, or there is none
-abbrev pub FindsMember : Tree → List ℕ → List ℕ → Option Slot → Type 0
-FindsMember t name key reported = MatchOption reported ((change : Option Tree → Outcome) → changed_at_member change name t ≡ None)
-    (SlotIn (λ change. changed_at_member change name t) key)
-
 pub set_always : (u : Tree) (there : Option Tree) → set_to u true there ≡ becomes u
 set_always u None = refl
 set_always u (Some t) = refl
 
 -- ---- arrays
 
-pub no_array : (t : Tree) (u : Tree) (key : List ℕ) → key ≡ key_of t → ((ts : Trees) → (more : List ℕ) → key ≡ key_of (array ts) ++ more → None ≡ Some (items_key ts ++ more)) → with_item u t ≡ None
-no_array (array ts) u key e none = absurd (none_some _ (none ts [] (e ∙ sym (append-nil (key_of (array ts))))))
-no_array t u key e none = refl
+end_items : (u : Tree) (ts : Trees) → changed_between (set_to u true) (trees_len ts) ts ≡ Some (joined_items ts (more_trees u no_trees))
+end_items u no_trees = refl
+end_items u (more_trees t ts) = ap (option_map (more_trees t)) (end_items u ts)
 
-pub nothing_reported : (old : Vec ℕ Global) (reported : Result Bool EditError) (x : Option Tree) → reported ≡ Ok false → x ≡ None → Edits x reported old old
-nothing_reported old reported None is e = (is, refl)
-nothing_reported old reported (Some t) is e = absurd (some_none t e)
-  where
-    some_none : (t : Tree) → Some t ≡ None → ⊥
-    some_none t e = cc
+-- the array with the item is the one changed behind its last item
+pub item_set : (u t : Tree) → changed_end (set_to u true) t ≡ with_item u t
+item_set u (array ts) = ap (option_map array) (end_items u ts)
+item_set u t = refl
 
-pub item_reported : (t u : Tree) (ts : Trees) (old new : Vec ℕ Global) (reported : Result (Unit {0}) EditError) → t ≡ array ts → AppendsKey (array (joined_items ts (more_trees u no_trees))) reported old new → ReportedKey old new reported (with_item u t)
-item_reported t u ts old new reported is a = subst (λ v. ReportedKey old new reported (with_item u v)) (sym is) a
+-- no item is in another value
+pub scalar_end : (t : Tree) → IsScalar t → (change : Option Tree → Outcome) → changed_end change t ≡ None
+scalar_end (array ts) s change = absurd s
+scalar_end t s change = refl
+
+pub object_end : (key rest : List ℕ) (t : Tree) → key ≡ key_of t → key ≡ 0xD1 ∷ rest → (change : Option Tree → Outcome) → changed_end change t ≡ None
+object_end key rest (array ts) e begins change = absurd (let h : 0xD2 ≡ 0xD1 = heads 0xD2 0xD1 (items_key ts) rest (sym e ∙ begins) in omega (arith, h))
+object_end key rest t e begins change = refl

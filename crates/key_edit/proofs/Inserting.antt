@@ -1,22 +1,27 @@
 -- A part inserted: the slot between items.
-use Rattle.std.proofs.Common.{◌≡◌, ℕ, zero, suc, ◌+◌, ◌-◌, nat_lt, Bool, true, false, List, [], ◌∷◌, ◌++◌, Option, Some, None, option_map, if◌then◌else◌, refl, sym, ap, subst, ◌∙◌, arith, append_assoc}
+use Rattle.std.proofs.Common.{◌≡◌, ℕ, zero, suc, ◌+◌, ◌-◌, nat_lt, Bool, true, false, List, [], ◌∷◌, ◌++◌, Option, Some, None, option_map, if◌then◌else◌, Result, length, drop, refl, sym, ap, subst, ◌∙◌, arith, append_assoc, append-nil, length-append}
+use Rattle.std.proofs.Math.Seq.{drop-append_seam}
+use Rattle.jsonb_spec.specs.Grammar.{max_depth}
 use Rattle.std.specs.Option.{option_and_then}
-use Rattle.jsonb_spec.specs.SortKey.Readable.{IsAnyNumber}
-use Rattle.jsonb_spec.specs.SortKey.Found.{IsLeftOf}
-use Rattle.jsonb_spec.specs.SortKey.Open.{Open, items, members, is_object, open_key, opening_byte, IsOpen}
+use Rattle.jsonb_spec.specs.SortKey.Readable.{IsAnyNumber, IsReadable}
+use Rattle.jsonb_spec.specs.SortKey.Open.{Open, items, members, is_object, open_key, IsOpen}
 use Rattle.jsonb_spec.specs.SortKey.Parts.{opened_tree}
 use Rattle.jsonb_spec.specs.Accessors.{trees_len}
-use Rattle.jsonb_spec.specs.Proper.{AreProper, HaveProperParts}
-use Rattle.jsonb_spec.specs.SortKey.{key_of, items_key, members_key}
-use Rattle.jsonb_spec.specs.Text.Range.{AreWithin, HaveWithin, IsWithin}
-use Rattle.jsonb_spec.specs.Tree.{Tree, null, boolean, string, number, array, object, binary, date, timestamp, timestamp_tz, interval, Trees, no_trees, more_trees, Members}
-use Rattle.jsonb_spec.specs.Edit.{Outcome, changed_at_member, changed_member, changed_part, item_before, remove, step_named, within}
+use Rattle.jsonb_spec.specs.Proper.{AreProper}
+use Rattle.jsonb_spec.specs.SortKey.{key_of, items_key}
+use Rattle.jsonb_spec.specs.Text.Range.{AreWithin, IsWithin}
+use Rattle.jsonb_spec.specs.Tree.{Tree, null, boolean, string, number, array, object, binary, date, timestamp, timestamp_tz, interval, Trees, no_trees, more_trees}
+use Rattle.jsonb_spec.specs.Edit.{Outcome, changed_at_member, changed_part, item_before, remove, step_named, within}
 use Rattle.jsonb_spec.specs.Edit.Insert.{changed_between, changed_slot, changed_slot_at, one_more, slot_index, without_member}
 use Rattle.key_edit.specs.Insert.{changed_within}
-use Rattle.key_edit.specs.Spots.{SpotIn, index_in, items_from}
+use Rattle.key_edit.specs.Spots.{SpotIn, changed_end, index_in, items_from}
+use Rattle.key_value.proofs.Texts.{none_some}
+use Rattle.key_walk.proofs.Finds.{parent_of}
+use Rattle.key_walk.specs.declared.find.NoKey.{NoKey}
+use Rattle.key_edit.specs.declared.slot.Slot.{Slot}
 use Rattle.key_edit.specs.declared.spot.Spot.{Spot}
-use Rattle.key_edit.proofs.Lifting.{Lifts}
-use Rattle.key_edit.proofs.Located.{false_true, items_open, members_open, open_fits, tree_before, tree_fits}
+use Rattle.key_edit.proofs.Items.{from_end}
+use Rattle.key_edit.proofs.Located.{FindsBefore, all_lifts, false_true, items_open, open_fits, tree_before, tree_fits}
 use Rattle.key_edit.proofs.Spotted.{LeftSpot, first_item, fits_in, key_before, lifted_spot, more_items_lift, nothing_there}
 
 -- ---- the index of the slot
@@ -57,25 +62,40 @@ abbrev pub SlotOf : List ℕ → ℕ → Bool → Tree → Bool → List ℕ →
 SlotOf more depth after t of_object name bytes depth_left spot behind =
     (s : SpotIn (tree_before more) (tree_fits depth) (λ change. changed_slot change after name t) of_object name bytes depth_left spot) × (s.behind ≡ behind)
 
-pub array_slot : (after : Bool) (name bytes parts behind more : List ℕ) (ts : Trees) (step : Bool × ℕ) (depth_left : ℕ) (spot : Spot) → AreWithin IsAnyNumber ts depth_left → bytes ≡ 0xD2 ∷ parts → parts ≡ items_key ts ++ more → step_named name ≡ Some step
-    → behind ≡ items_key (items_from (slot_index after (trees_len ts) step) ts) ++ more → spot.found ≡ false → spot.entry.now ≡ behind
-    → (s : SpotIn (tree_before more) (tree_fits (suc depth_left)) (λ change. changed_slot change after name (array ts)) false name bytes depth_left spot) × (s.behind ≡ behind)
-array_slot after name bytes parts behind more ts step depth_left spot w begins e named b found entry =
-    let index = slot_index after (trees_len ts) step in
+pub array_there : (index : ℕ) (name bytes parts behind more : List ℕ) (ts : Trees) (depth_left : ℕ) (spot : Spot) → AreWithin IsAnyNumber ts depth_left → bytes ≡ 0xD2 ∷ parts → parts ≡ items_key ts ++ more
+    → behind ≡ items_key (items_from index ts) ++ more → spot.found ≡ false → spot.entry.now ≡ behind
+    → (s : SpotIn (tree_before more) (tree_fits (suc depth_left)) (λ change. option_map array (changed_between change index ts)) false name bytes depth_left spot) × (s.behind ≡ behind)
+array_there index name bytes parts behind more ts depth_left spot w begins e b found entry =
     let s = between index ts name parts behind more depth_left spot w e b found entry in (
-      lifted_spot (key_before more) (fits_in depth_left) (tree_before more) (tree_fits (suc depth_left)) (λ change. option_map items (changed_between change index ts)) (λ change. changed_slot change after name (array ts)) false name (0xD2 ∷ []) bytes parts depth_left spot begins
-          (λ change. subst (λ o. Lifts (key_before more) (fits_in depth_left) (tree_before more) (tree_fits (suc depth_left)) (0xD2 ∷ []) (option_map items (changed_between change index ts)) (option_map array (option_and_then (λ step. changed_between change (slot_index after (trees_len ts) step) ts) o))) (sym named) (items_open more depth_left (changed_between change index ts)))
-          s.0,
+      lifted_spot (key_before more) (fits_in depth_left) (tree_before more) (tree_fits (suc depth_left)) (λ change. option_map items (changed_between change index ts)) (λ change. option_map array (changed_between change index ts)) false name (0xD2 ∷ []) bytes parts depth_left spot begins
+          (λ change. items_open more depth_left (changed_between change index ts)) s.0,
       s.1,
     )
 
-pub object_slot : (after : Bool) (name bytes parts behind more : List ℕ) (ms : Members) (depth_left : ℕ) (spot : Spot) → bytes ≡ 0xD1 ∷ parts → (s : LeftSpot more depth_left (λ change. option_map members (changed_member change name ms)) true name parts spot) → behind ≡ s.behind
-    → (s : SpotIn (tree_before more) (tree_fits (suc depth_left)) (λ change. changed_slot change after name (object ms)) true name bytes depth_left spot) × (s.behind ≡ behind)
-object_slot after name bytes parts behind more ms depth_left spot begins s b = (
-  lifted_spot (key_before more) (fits_in depth_left) (tree_before more) (tree_fits (suc depth_left)) (λ change. option_map members (changed_member change name ms)) (λ change. changed_slot change after name (object ms)) true name (0xD1 ∷ []) bytes parts depth_left spot begins
-      (λ change. members_open more depth_left (changed_member change name ms)) s,
-  sym b,
-)
+pub array_slot : (after : Bool) (name bytes parts behind more : List ℕ) (ts : Trees) (step : Bool × ℕ) (depth_left : ℕ) (spot : Spot) → AreWithin IsAnyNumber ts depth_left → bytes ≡ 0xD2 ∷ parts → parts ≡ items_key ts ++ more → step_named name ≡ Some step
+    → behind ≡ items_key (items_from (slot_index after (trees_len ts) step) ts) ++ more → spot.found ≡ false → spot.entry.now ≡ behind → SlotOf more (suc depth_left) after (array ts) false name bytes depth_left spot behind
+array_slot after name bytes parts behind more ts step depth_left spot w begins e named b found entry =
+    subst (λ o. (s : SpotIn (tree_before more) (tree_fits (suc depth_left)) (λ change. option_map array (option_and_then (λ step. changed_between change (slot_index after (trees_len ts) step) ts) o)) false name bytes depth_left spot) × (s.behind ≡ behind)) (sym named)
+    (array_there (slot_index after (trees_len ts) step) name bytes parts behind more ts depth_left spot w begins e b found entry)
+
+-- behind the last item
+pub end_is : (keys front bytes behind : List ℕ) (last : ℕ) → bytes ≡ keys ++ 0 ∷ [] → bytes ≡ front ++ last ∷ [] → behind ≡ drop (length front) bytes → behind ≡ 0 ∷ []
+end_is keys front bytes behind last e f b =
+    let same : length front ≡ length keys = omega (arith, ap length e, ap length f, length-append keys (0 ∷ []), length-append front (last ∷ [])) in
+    b ∙ ap (λ n. drop n bytes) same ∙ ap (drop (length keys)) e ∙ drop-append_seam keys (0 ∷ [])
+
+pub end_there : (t : Tree) (ts : Trees) (key parts behind : List ℕ) (spot : Spot) → t ≡ array ts → AreWithin IsAnyNumber ts 511 → key ≡ 0xD2 ∷ parts → parts ≡ items_key ts → behind ≡ 0 ∷ [] → spot.found ≡ false → spot.entry.now ≡ behind
+    → (s : SpotIn key_of (tree_fits max_depth) (λ change. changed_end change t) false [] key 511 spot) × (s.behind ≡ behind)
+end_there t ts key parts behind spot is w begins e b found entry =
+    let s = array_there (trees_len ts) [] key parts behind [] ts 511 spot w begins (e ∙ sym (append-nil (items_key ts))) (b ∙ ap (λ us. items_key us ++ []) (sym (from_end (trees_len ts) ts (omega arith)))) found entry in
+    subst (λ u. (s : SpotIn key_of (tree_fits max_depth) (λ change. changed_end change u) false [] key 511 spot) × (s.behind ≡ behind)) (sym is)
+    (lifted_spot (tree_before []) (tree_fits max_depth) key_of (tree_fits max_depth) (λ change. changed_end change (array ts)) (λ change. changed_end change (array ts)) false [] [] key key 511 spot refl (λ change. all_lifts (changed_end change (array ts))) s.0, s.1)
+
+-- in any other value it is the slot of the part
+pub other_slot : (after : Bool) (name bytes more : List ℕ) (t : Tree) (depth_left : ℕ) (r : Result (Option Slot) NoKey) → ((ts : Trees) (more : List ℕ) → bytes ≡ key_of (array ts) ++ more → None ≡ Some (items_key ts ++ more)) → bytes ≡ key_of t ++ more
+    → FindsBefore more (λ change. changed_part change name t) bytes depth_left r → FindsBefore more (λ change. changed_slot change after name t) bytes depth_left r
+other_slot after name bytes more (array ts) depth_left r none e f = absurd (none_some _ (none ts more e))
+other_slot after name bytes more t depth_left r none e f = f
 
 -- ---- within the value that the names before the last one lead to
 
@@ -85,46 +105,22 @@ last_within change after [] last t = refl
 last_within change after (name ∷ []) last t = refl
 last_within change after (name ∷ next ∷ names) last t = λ i. changed_part (within (λ u. last_within change after (next ∷ names) last u i)) name t
 
--- the object is open
-pub record MembersOf (t : Tree) (bytes parts more : List ℕ) (depth_left : ℕ) : Type 0 where
-  pub ms : Members
-  pub whole : object ms ≡ t
-  pub proper : HaveProperParts ms
-  pub within : HaveWithin IsAnyNumber ms 511
-  pub fits : HaveWithin IsAnyNumber ms depth_left
-  pub occurs : parts ≡ members_key ms ++ more
-  pub begins : bytes ≡ 0xD1 ∷ parts
-
-pub opened_members : (t : Tree) (of_object : Bool) (bytes parts more : List ℕ) (depth inner : ℕ) → IsLeftOf t of_object parts more → of_object ≡ true → bytes ≡ opening_byte of_object ∷ parts → IsWithin IsAnyNumber t depth → inner + 1 ≡ depth → MembersOf t bytes parts more inner
-opened_members t of_object bytes parts more depth inner l o begins w one = go l.all l.whole l.is l.fits l.occurs
-  where
-    go : (all : Open) → opened_tree all ≡ t → is_object all ≡ of_object → IsOpen all 511 → parts ≡ open_key all ++ more → MembersOf t bytes parts more inner
-    go (items ts) whole is fits occurs = absurd (false_true (is ∙ o))
-    go (members ms) whole is fits occurs = record {
-      ms = ms;
-      whole = whole;
-      proper = fits.0;
-      within = fits.1;
-      fits = open_fits (members ms) inner (subst (λ d. IsWithin IsAnyNumber (object ms) d) {x = depth} {y = suc inner} (omega (arith, one)) (subst (λ u. IsWithin IsAnyNumber u depth) (sym whole) w));
-      occurs = occurs;
-      begins = begins ∙ ap (λ b. opening_byte b ∷ parts) o;
-    }
-
 -- the array is open
-pub record ItemsOf (t : Tree) (bytes parts more : List ℕ) (depth_left : ℕ) : Type 0 where
+pub record ItemsOf (t : Tree) (parts more : List ℕ) (depth_left : ℕ) : Type 0 where
   pub ts : Trees
   pub whole : array ts ≡ t
   pub proper : AreProper ts
   pub within : AreWithin IsAnyNumber ts 511
   pub fits : AreWithin IsAnyNumber ts depth_left
   pub occurs : parts ≡ items_key ts ++ more
-  pub begins : bytes ≡ 0xD2 ∷ parts
 
-pub opened_items : (t : Tree) (of_object : Bool) (bytes parts more : List ℕ) (depth inner : ℕ) → IsLeftOf t of_object parts more → of_object ≡ false → bytes ≡ opening_byte of_object ∷ parts → IsWithin IsAnyNumber t depth → inner + 1 ≡ depth → ItemsOf t bytes parts more inner
-opened_items t of_object bytes parts more depth inner l o begins w one = go l.all l.whole l.is l.fits l.occurs
+pub opened_items : (t : Tree) (bytes parts more : List ℕ) (depth inner : ℕ) → IsReadable t → bytes ≡ key_of t ++ more → bytes ≡ 0xD2 ∷ parts → IsWithin IsAnyNumber t depth → inner + 1 ≡ depth → ItemsOf t parts more inner
+opened_items t bytes parts more depth inner r e begins w one =
+    let x = parent_of t r 0xD2 parts bytes more begins e false refl in
+    go x.open_there x.whole x.is x.fits x.occurs
   where
-    go : (all : Open) → opened_tree all ≡ t → is_object all ≡ of_object → IsOpen all 511 → parts ≡ open_key all ++ more → ItemsOf t bytes parts more inner
-    go (members ms) whole is fits occurs = absurd (false_true (sym o ∙ sym is))
+    go : (all : Open) → opened_tree all ≡ t → is_object all ≡ false → IsOpen all 511 → parts ≡ open_key all ++ more → ItemsOf t parts more inner
+    go (members ms) whole is fits occurs = absurd (false_true (sym is))
     go (items ts) whole is fits occurs = record {
       ts = ts;
       whole = whole;
@@ -132,7 +128,6 @@ opened_items t of_object bytes parts more depth inner l o begins w one = go l.al
       within = fits.1;
       fits = open_fits (items ts) inner (subst (λ d. IsWithin IsAnyNumber (array ts) d) {x = depth} {y = suc inner} (omega (arith, one)) (subst (λ u. IsWithin IsAnyNumber u depth) (sym whole) w));
       occurs = occurs;
-      begins = begins ∙ ap (λ b. opening_byte b ∷ parts) o;
     }
 
 -- ---- members removed

@@ -18,14 +18,6 @@ pub lifts_same : {A : Type 0} (key : A → List ℕ) (Fits : A → Type 0) (x : 
 lifts_same key Fits None = tt
 lifts_same key Fits (Some a) = (refl, (λ f. f, λ f. f))
 
-pub lifts_through : {A B C : Type 0} (a : A → List ℕ) (Fa : A → Type 0) (b : B → List ℕ) (Fb : B → Type 0) (c : C → List ℕ) (Fc : C → Type 0) (near far : List ℕ) (x : Option A) (y : Option B) (z : Option C) → Lifts a Fa b Fb near x y → Lifts b Fb c Fc far y z → Lifts a Fa c Fc (far ++ near) x z
-lifts_through a Fa b Fb c Fc near far None None None l m = tt
-lifts_through a Fa b Fb c Fc near far None None (Some z) l m = absurd m
-lifts_through a Fa b Fb c Fc near far None (Some y) z l m = absurd l
-lifts_through a Fa b Fb c Fc near far (Some x) None z l m = absurd l
-lifts_through a Fa b Fb c Fc near far (Some x) (Some y) None l m = absurd m
-lifts_through a Fa b Fb c Fc near far (Some x) (Some y) (Some z) l m = (m.0 ∙ ap (λ key. far ++ key) l.0 ∙ sym (append_assoc far near (a x)), both_ways m.1 l.1)
-
 -- what is answered of the first, is answered of the second
 pub lifted : {A B : Type 0} (a : A → List ℕ) (Fa : A → Type 0) (b : B → List ℕ) (Fb : B → Type 0) (object : Bool) (name before front behind : List ℕ) (depth_left : ℕ) (outcome : Outcome) (x : Option A) (y : Option B) → Lifts a Fa b Fb before x y
     → Answers a Fa object name front behind depth_left outcome x → Answers b Fb object name (before ++ front) behind depth_left outcome y

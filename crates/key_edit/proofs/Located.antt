@@ -12,7 +12,7 @@ use Rattle.jsonb_spec.specs.Tree.{Tree, array, object, Trees, Members}
 use Rattle.jsonb_spec.specs.Edit.{Outcome, stays, changed_at, changed_items, changed_member, changed_part, part_with, within}
 use Rattle.key_edit.specs.Insert.{changed_within, ChangesSo, IsPartWithin, SlotBefore, SpotBefore}
 use Rattle.jsonb_spec.specs.Edit.Spots.{Answers}
-use Rattle.key_edit.specs.Spots.{OpenWithin, SlotIn, Occurs, changed_open}
+use Rattle.key_edit.specs.Spots.{FindsSlot, OpenWithin, Occurs, changed_open}
 use Rattle.key_edit.specs.declared.slot.Slot.{Slot}
 use Rattle.key_edit.specs.declared.spot.Spot.{Spot}
 use Rattle.key_edit.proofs.Lifting.{Lifts, lifted}
@@ -173,7 +173,7 @@ module _ (t : Tree) (names left others : List (List ℕ)) (name key part : List 
 -- ---- what is found
 
 abbrev pub Finds : ((Option Tree → Outcome) → Option Tree) → List ℕ → Result (Option Slot) NoKey → Type 0
-Finds changed key r = MatchResult r (λ answer. MatchOption answer ((change : Option Tree → Outcome) → changed change ≡ None) (SlotIn changed key)) (λ e. ⊥)
+Finds changed key r = MatchResult r (FindsSlot changed key) (λ e. ⊥)
 
 abbrev pub FindsBefore : List ℕ → ((Option Tree → Outcome) → Option Tree) → List ℕ → ℕ → Result (Option Slot) NoKey → Type 0
 FindsBefore more changed bytes depth_left r = MatchResult r (λ answer. MatchOption answer ((change : Option Tree → Outcome) → changed change ≡ None) (SlotBefore more changed bytes depth_left)) (λ e. ⊥)

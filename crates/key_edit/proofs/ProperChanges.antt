@@ -13,6 +13,7 @@ use Rattle.jsonb_spec.specs.Proper.{IsProper, AreProper, HaveProperParts}
 use Rattle.jsonb_spec.specs.Tree.{Tree, array, object, Trees, no_trees, more_trees, Members, no_members, more_members, put}
 use Rattle.jsonb_spec.specs.Edit.{Outcome, stays, goes, becomes, as_items, changed_at, changed_at_step, changed_item, changed_member, changed_part, item_before, joined_items, member_before, merge, merged_members, part_with, remove, set_to, step_named, with_item, with_member, with_part, within, without_part}
 use Rattle.jsonb_spec.specs.Edit.Insert.{add, changed_between, changed_slot, changed_slot_at, slot_index, with_inserted}
+use Rattle.key_edit.proofs.Built.{set_member}
 
 -- what a change makes of a well-formed part is well-formed
 abbrev IsGood : Outcome → Type 0
@@ -183,19 +184,8 @@ removed_proper names n t u h e = of_some (without_part names t) u (path_good rem
 
 -- ---- merged
 
-some_member : (o : Ordering) (a b c : Members) → match_ordering o (Some a) (Some b) (Some c) ≡ Some (match_ordering o a b c)
-some_member Less a b c = refl
-some_member Equal a b c = refl
-some_member Greater a b c = refl
-
-put_changed : (k : List ℕ) (t : Tree) (ms : Members) → changed_member (λ there. becomes t) k ms ≡ Some (put k t ms)
-put_changed k t no_members = refl
-put_changed k t (more_members l u ms) =
-    ap (λ x. match_ordering (bytes_cmp k l) (Some (more_members k t (more_members l u ms))) (Some (more_members l t ms)) (option_map (more_members l u) x)) (put_changed k t ms)
-    ∙ some_member (bytes_cmp k l) (more_members k t (more_members l u ms)) (more_members l t ms) (more_members l u (put k t ms))
-
 put_good : (k : List ℕ) (t : Tree) (ms : Members) → IsUtf8 k → IsProper t → AreGood ms → AreGood (put k t ms)
-put_good k t ms n p h = subst (λ x. IfSome x AreGood) (put_changed k t ms) (members_good k (λ there. becomes t) ms n (λ there g. p) h)
+put_good k t ms n p h = subst (λ x. IfSome x AreGood) (set_member k t ms) (members_good k (set_to t true) ms n (set_good t true p) h)
 
 merged_good : (ms ns : Members) → AreGood ms → HaveProperParts ns → AreGood (merged_members ms ns)
 merged_good ms no_members h i = h

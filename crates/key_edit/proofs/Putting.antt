@@ -10,10 +10,8 @@ use Rattle.jsonb_spec.specs.Text.Appending.{AppendsAllOrNothing}
 use Rattle.jsonb_spec.specs.Text.Range.{IsWithin}
 use Rattle.jsonb_spec.specs.Tree.{Tree}
 use Rattle.jsonb_spec.specs.Edit.{Outcome, becomes, set_to}
-use Rattle.key_edit.specs.Edit.{AppendsKey, Edits}
 use Rattle.jsonb_spec.specs.Edit.Spots.{Answers}
 use Rattle.key_edit.specs.Spots.{SpotIn, Occurs}
-use Rattle.key_edit.specs.declared.error.EditError.{EditError}
 use Rattle.key_edit.specs.declared.spot.Spot.{Spot}
 use Rattle.key_edit.proofs.Located.{tree_fits}
 
@@ -58,11 +56,3 @@ pub set_made : (u : Tree) (create : Bool) (there : Option Tree) → create ≡ t
 set_made u true None e = refl
 set_made u false None e = absurd (false_true e)
 set_made u create (Some t) e = refl
-
-pub put_reported : (old new : Vec ℕ Global) (x : Option Tree) → MatchOption x ⊥ (λ v. AppendsKey {X = Unit {0}} v (Ok tt) old new) → Edits x (Ok true) old new
-put_reported old new None a = absurd a
-put_reported old new (Some v) a = (record { ok = a.ok; fits = a.fits; errors = tt }, refl)
-
-pub fault_reported : (old new : Vec ℕ Global) (e : EditError) (x : Option Tree) → MatchOption x ⊥ (λ v. AppendsKey {X = Unit {0}} v (Err e) old new) → Edits x (Err e) old new
-fault_reported old new e None a = absurd a
-fault_reported old new e (Some v) a = (record { ok = tt; fits = tt; errors = a.errors }, tt)

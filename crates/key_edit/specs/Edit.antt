@@ -1,10 +1,9 @@
 -- What is appended of a key that is changed, and of two that are merged.
-use Rattle.std.specs.Prelude.{◌≡◌, ℕ, ◌+◌, ◌<◌, Bool, true, false, List, ◌++◌, length, Option, Some, None, Result, Ok, OnOk, IfOk, IfErr, MatchBool, MatchResult, Vec, vec_len, codes}
+use Rattle.std.specs.Prelude.{◌≡◌, ℕ, ◌+◌, ◌<◌, Bool, List, ◌++◌, length, Result, OnOk, IfErr, MatchBool, MatchResult, Vec, vec_len, codes}
 use Rattle.std.specs.Vec.{vec_capacity}
 use Rattle.std.specs.Borrow.{Bor}
 use Rattle.std.specs.declared.alloc.Global.{Global}
 use Rattle.jsonb_spec.specs.SortKey.Readable.{IsAnyNumber, IsReadable}
-use Rattle.jsonb_spec.specs.SortKey.AtKeys.{OfKey}
 use Rattle.jsonb_spec.specs.SortKey.Checked.{HaveReadable}
 use Rattle.key_walk.specs.declared.find.NoKey.{NoKey as FindsNoKey}
 use Rattle.jsonb_spec.specs.Grammar.{max_depth}
@@ -29,16 +28,6 @@ pub record AppendsKey {X : Type 0} (t : Tree) (result : Result X EditError) (old
   pub ok : OnOk result (new.items ≡ old.items ++ key_of t)
   pub fits : OnOk result (IsWithin IsAnyNumber t max_depth)
   pub errors : IfErr result (IsLacking t old)
-
--- Where something changes, the key of the answer is appended, and that is reported. Else nothing is appended.
-abbrev pub Edits : Option Tree → Result Bool EditError → Vec ℕ Global → Vec ℕ Global → Type 0
-Edits (Some t) result old new = AppendsKey t result old new × IfOk result (λ changed. changed ≡ true)
-Edits None result old new = (result ≡ Ok false) × (new.items ≡ old.items)
-
--- Whichever values the two keys are of, the key of the first with the second in it is appended, as this says.
-abbrev pub EditsKeys : (Tree → Tree → Option Tree) → List ℕ → List ℕ → Result Bool EditError → Vec ℕ Global
-    → Vec ℕ Global → Type 0
-EditsKeys edited key part result old new = OfKey key (λ t. OfKey part (λ u. Edits (edited u t) result old new))
 
 -- Whichever values the two keys are of, the key of both in one is appended, as this says.
 abbrev pub AppendsBoth : {X : Type 0} → (Tree → Tree → Tree) → List ℕ → List ℕ → Result X EditError → Vec ℕ Global

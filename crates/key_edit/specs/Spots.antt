@@ -1,5 +1,5 @@
 -- Where in the bytes a part is, or would be.
-use Rattle.std.specs.Prelude.{◌≡◌, ℕ, zero, suc, ◌-◌, nat_lt, Bool, true, false, List, ◌++◌, Option, Some, None, option_map, if◌then◌else◌, IfSome, MatchResult, Result, Ok, ⊤}
+use Rattle.std.specs.Prelude.{◌≡◌, ℕ, zero, suc, ◌-◌, nat_lt, Bool, true, false, List, ◌++◌, Option, Some, None, option_map, if◌then◌else◌, IfSome, MatchOption, MatchResult, Result, Ok, ⊤}
 use Rattle.std.specs.Borrow.{Bor}
 use Rattle.jsonb_spec.specs.Accessors.{trees_len}
 use Rattle.jsonb_spec.specs.SortKey.Readable.{IsAnyNumber, IsReadable}
@@ -9,10 +9,11 @@ use Rattle.key_walk.specs.declared.find.NoKey.{NoKey}
 use Rattle.jsonb_spec.specs.Grammar.{max_depth}
 use Rattle.jsonb_spec.specs.SortKey.{key_of, items_key, members_key}
 use Rattle.jsonb_spec.specs.Text.Range.{IsWithin, AreWithin, HaveWithin}
-use Rattle.jsonb_spec.specs.Tree.{Tree, Trees, no_trees, more_trees, no_members, more_members}
+use Rattle.jsonb_spec.specs.Tree.{Tree, array, Trees, no_trees, more_trees, no_members, more_members}
 use Rattle.jsonb_spec.specs.Edit.{Outcome, changed_member, changed_items}
 use Rattle.key_edit.specs.declared.slot.Slot.{Slot}
 use Rattle.key_edit.specs.declared.spot.Spot.{Spot}
+use Rattle.jsonb_spec.specs.Edit.Insert.{changed_between}
 use Rattle.jsonb_spec.specs.Edit.Spots.{Answers}
 
 -- what is left has no more arrays and objects in one another than the number
@@ -76,6 +77,11 @@ abbrev pub index_in : ℕ → Bool × ℕ → Option ℕ
 index_in count (false, index) = Some index
 index_in count (true, back) = if nat_lt count back then None else Some (count - back)
 
+-- the array, changed behind its last item; None for another value
+abbrev pub changed_end : (Option Tree → Outcome) → Tree → Option Tree
+changed_end change (array ts) = option_map array (changed_between change (trees_len ts) ts)
+changed_end change t = None
+
 -- What is reported of the items: those from the one of that index on, where there is an index.
 abbrev pub LeavesItems : Trees → List ℕ → Option ℕ → Option (Bor (List ℕ)) → Type 0
 LeavesItems ts more None None = ⊤
@@ -92,3 +98,8 @@ abbrev pub SlotIn : ((Option Tree → Outcome) → Option Tree) → List ℕ →
 SlotIn changed key slot =
     (s : SpotIn key_of (λ t. IsWithin IsAnyNumber t max_depth) changed slot.object slot.name.now key slot.depth_left
     slot.spot) × (s.behind ≡ slot.behind.now)
+
+-- What is reported is the slot at which changes are made; or there is none, and nothing changes whatever is asked for.
+abbrev pub FindsSlot : ((Option Tree → Outcome) → Option Tree) → List ℕ → Option Slot → Type 0
+FindsSlot changed key answer =
+    MatchOption answer ((change : Option Tree → Outcome) → changed change ≡ None) (SlotIn changed key)

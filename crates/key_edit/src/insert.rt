@@ -12,12 +12,13 @@ ghost use Rattle.jsonb_spec.specs.Tree.{Tree, Trees, array};
 ghost use Rattle.jsonb_spec.specs.Edit.{Outcome, step_named};
 ghost use Rattle.jsonb_spec.specs.Edit.Insert.{changed_slot, changed_slot_at, slot_index};
 ghost use Rattle.key_edit.specs.Insert.{SlotBefore};
-ghost use Rattle.key_edit.specs.Spots.{items_from, ReportsBehind, SlotIn};
+ghost use Rattle.key_edit.specs.Spots.{items_from, FindsSlot, ReportsBehind};
 
-use crate::slot::{Slot, part_from};
-use crate::spot::{behind_part, items_at, member_spot, no_part, pass_items};
+use crate::slot::{Slot, part_from, slot_in};
+use crate::spot::{items_at, no_part, pass_items};
 use crate::step::step_of;
-use key_walk::find::{NoKey, open_key};
+use key_walk::find::NoKey;
+use key_walk::walk::items_of;
 
 /// The slot at which a part is inserted that the path leads to. In an array it is before the item of the last name's
 /// index, or behind it where `after` is true; at the end where there are fewer items; and before all of them where there
@@ -28,9 +29,8 @@ pub fn find_insertion<'k, 'n>(
     names: &'n [String],
     after: bool,
 ) -> Result<Option<Slot<'k, 'n>>, NoKey>
-    ensures slot { OfKey key.now (λ t. MatchResult result (λ answer. MatchOption answer
-        ((change : Option Tree → Outcome) → changed_slot_at change after (map string_bytes names.now) t ≡ None)
-        (SlotIn (λ change. changed_slot_at change after (map string_bytes names.now) t) key.now)) (λ e. ⊥)) }
+    ensures slot { OfKey key.now (λ t. MatchResult result
+        (FindsSlot (λ change. changed_slot_at change after (map string_bytes names.now) t) key.now) (λ e. ⊥)) }
     ensures space { IfOk result (λ answer. IfSome answer (λ slot. slot.depth_left ≤ 511)) }
 {
     let Some((name, before)) = names.split_last() else {
@@ -55,27 +55,16 @@ fn insertion_in<'k, 'n>(
         (SlotBefore more (λ change. changed_slot change after name.now t) bytes.now depth_left)) (λ e. ⊥)) }
     ensures space { IfOk result (λ answer. IfSome answer (λ slot. slot.depth_left + 1 ≡ depth_left)) }
 {
-    let Some((object, parts)) = open_key(bytes)? else {
-        return Ok(None);
+    let Some(items) = items_of(bytes) else {
+        return slot_in(bytes, name, depth_left);
     };
     let Some(inner) = depth_left.checked_sub(1) else {
         return Err(NoKey);
     };
-    if object {
-        let spot = member_spot(parts, name.as_bytes())?;
-        let behind = behind_part(&spot)?;
-        return Ok(Some(Slot {
-            spot,
-            behind,
-            object: true,
-            name,
-            depth_left: inner,
-        }));
-    }
     let Some((from_end, number)) = step_of(name) else {
         return Ok(None);
     };
-    let behind = behind_slot(parts, from_end, number, after)?;
+    let behind = behind_slot(items, from_end, number, after)?;
     Ok(Some(Slot {
         spot: no_part(behind),
         behind,

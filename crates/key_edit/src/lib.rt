@@ -1,7 +1,6 @@
 //! Values that are held as their sort keys, changed by splicing: the slots of parts, parts put there, values merged.
 #![tactic(auto)]
 
-pub mod build;
 pub mod edit;
 pub mod error;
 mod fit;
@@ -13,6 +12,5 @@ pub mod splice;
 pub mod spot;
 mod step;
 
-pub use build::{EMPTY_ARRAY, EMPTY_OBJECT, append_with_item};
 pub use error::EditError;
 pub use merge::append_merged;

@@ -7,9 +7,9 @@ ghost use Rattle.jsonb_spec.specs.Text.Range.{IsWithin};
 ghost use Rattle.jsonb_spec.specs.Tree.{Tree};
 ghost use Rattle.jsonb_spec.specs.Edit.{Outcome, changed_at, changed_at_member, changed_part};
 ghost use Rattle.key_edit.specs.Insert.{changed_within, IsPartWithin, SlotBefore, SpotBefore};
-ghost use Rattle.key_edit.specs.Spots.{SlotIn};
+ghost use Rattle.key_edit.specs.Spots.{changed_end, FindsSlot};
 
-use crate::spot::{Spot, behind_part, member_spot, part_spot};
+use crate::spot::{Spot, behind_part, member_spot, no_part, part_spot};
 use key_walk::find::{NoKey, open_key};
 use key_walk::skip::MAX_DEPTH;
 
@@ -27,9 +27,8 @@ pub struct Slot<'k, 'n> {
 /// The slot that the path leads to; `None` where there is none, since an earlier name leads nowhere, the last one is
 /// no index of an array, or there is no name. Of an earlier part only the beginning is looked for.
 pub fn find_slot<'k, 'n>(key: &'k [u8], names: &'n [String]) -> Result<Option<Slot<'k, 'n>>, NoKey>
-    ensures slot { OfKey key.now (λ t. MatchResult result (λ answer. MatchOption answer
-        ((change : Option Tree → Outcome) → changed_at change (map string_bytes names.now) t ≡ None)
-        (SlotIn (λ change. changed_at change (map string_bytes names.now) t) key.now)) (λ e. ⊥)) }
+    ensures slot { OfKey key.now (λ t. MatchResult result
+        (FindsSlot (λ change. changed_at change (map string_bytes names.now) t) key.now) (λ e. ⊥)) }
     ensures space { IfOk result (λ answer. IfSome answer (λ slot. slot.depth_left ≤ 511)) }
 {
     let Some((name, before)) = names.split_last() else {
@@ -70,7 +69,7 @@ pub(crate) fn part_from<'k>(
 }
 
 // The slot in the value whose key the bytes begin with; `None` as of `spot_in`.
-fn slot_in<'k, 'n>(
+pub(crate) fn slot_in<'k, 'n>(
     bytes: &'k [u8],
     name: &'n str,
     depth_left: usize,
@@ -121,9 +120,8 @@ fn spot_in<'k>(
 
 /// Where the member of that name is in an object, or would be; `None` for another value.
 pub fn member_slot<'k, 'n>(key: &'k [u8], name: &'n str) -> Result<Option<Slot<'k, 'n>>, NoKey>
-    ensures slot { OfKey key.now (λ t. MatchResult result (λ answer. MatchOption answer
-        ((change : Option Tree → Outcome) → changed_at_member change name.now t ≡ None)
-        (SlotIn (λ change. changed_at_member change name.now t) key.now)) (λ e. ⊥)) }
+    ensures slot { OfKey key.now (λ t. MatchResult result
+        (FindsSlot (λ change. changed_at_member change name.now t) key.now) (λ e. ⊥)) }
     ensures space { IfOk result (λ answer. IfSome answer (λ slot. slot.depth_left ≤ 511)) }
 {
     let Some((object, members)) = open_key(key)? else {
@@ -139,6 +137,31 @@ pub fn member_slot<'k, 'n>(key: &'k [u8], name: &'n str) -> Result<Option<Slot<'
         behind,
         object: true,
         name,
+        depth_left: MAX_DEPTH - 1,
+    }))
+}
+
+/// The slot behind the last item of an array; `None` for another value.
+pub fn end_slot<'k, 'n>(key: &'k [u8]) -> Result<Option<Slot<'k, 'n>>, NoKey>
+    ensures slot { OfKey key.now (λ t. MatchResult result
+        (FindsSlot (λ change. changed_end change t) key.now) (λ e. ⊥)) }
+    ensures space { IfOk result (λ answer. IfSome answer (λ slot. slot.depth_left ≤ 511)) }
+{
+    let Some((object, items)) = open_key(key)? else {
+        return Ok(None);
+    };
+    if object {
+        return Ok(None);
+    }
+    let Some((_, front)) = items.split_last() else {
+        return Err(NoKey);
+    };
+    let (_, behind) = items.split_at(front.len());
+    Ok(Some(Slot {
+        spot: no_part(behind),
+        behind,
+        object: false,
+        name: "",
         depth_left: MAX_DEPTH - 1,
     }))
 }

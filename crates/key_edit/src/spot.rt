@@ -74,6 +74,7 @@ pub(crate) fn first_value(object: bool, left: &[u8]) -> Result<Option<&[u8]>, No
 }
 
 // Where the member of that name is among the members, or would be.
+#[inline(never)]
 pub(crate) fn member_spot<'k>(members: &'k [u8], name: &[u8]) -> Result<Spot<'k>, NoKey>
     ensures spot { AtMembers members.now (λ ms more. (depth_left : ℕ) → HaveWithin IsAnyNumber ms depth_left → MatchResult result
         (OpenSpotIn (λ change. option_map Open.members (changed_member change name.now ms)) true name.now members.now
@@ -101,6 +102,7 @@ pub(crate) fn member_spot<'k>(members: &'k [u8], name: &[u8]) -> Result<Spot<'k>
 }
 
 // The items behind so many; the end where there are fewer.
+#[inline(never)]
 pub(crate) fn pass_items(items: &[u8], count: usize) -> Result<&[u8], NoKey>
     ensures behind { AtItems items.now (λ ts more. ReportsBehind (items_key (items_from count ts) ++ more) result) }
 {
@@ -119,6 +121,7 @@ pub(crate) fn pass_items(items: &[u8], count: usize) -> Result<&[u8], NoKey>
 // The items from the one on that is so many from the end, where 1 is the last; `None` where there are fewer. All are
 // walked once: what is left after each `back` of them is held, and what was held before; the item is fewer than `back`
 // behind that.
+#[inline(never)]
 fn items_back(items: &[u8], back: usize) -> Result<Option<&[u8]>, NoKey>
     requires { 0 < back }
     ensures found { FindsItems items.now (true, back) result }
@@ -146,6 +149,7 @@ fn items_back(items: &[u8], back: usize) -> Result<Option<&[u8]>, NoKey>
 }
 
 /// The items from the one of that index on, which counts from the end or not; `None` where there are fewer from the end.
+#[inline(always)]
 pub(crate) fn items_at(items: &[u8], from_end: bool, number: usize) -> Result<Option<&[u8]>, NoKey>
     requires { IsTrue from_end → 0 < number }
     ensures found { FindsItems items.now (from_end, number) result }

@@ -2,7 +2,7 @@ use Rattle.std.proofs.Common.{◌≡◌, ◌+◌, ◌-◌, ◌<◌, ◌^◌, ◌
 use Rattle.std.proofs.lemmas.List.{length-reverse}
 use Rattle.std.specs.Prelude.{reverse, vec_len, vec_capacity}
 use Rattle.jsonb_spec.specs.Document.Zeros.{in_sevens}
-use Rattle.jsonb_spec.specs.Document.{behind_key, end_of}
+use Rattle.jsonb_spec.specs.Document.{end_of}
 use Rattle.key_document.proofs.Ending.{end_some, ended_whole, ends_with, none_behind, not_ended, turned_end}
 use Rattle.key_document.proofs.document.end_zeros.Goals as goal
 

@@ -1,8 +1,9 @@
 use Rattle.std.proofs.Common.{◌≡◌, ◌<◌, ◌^◌, ◌++◌, [], map, string_bytes, length, refl, sym, ap, subst, ◌∙◌, arith, length-append}
 use Rattle.jsonb_spec.specs.Edit.{changed_at, without_part}
+use Rattle.key_edit.specs.Spots.{FindsSlot}
 use Rattle.key_edit.proofs.Putting.{appended}
 use Rattle.jsonb_spec.specs.SortKey.{key_of}
-use Rattle.key_document.proofs.Changing.{ReportedSlot, are_spliced, as_tail, cuts, finished, remove_changes, removed}
+use Rattle.key_document.proofs.Changing.{are_spliced, as_tail, cuts, finished, remove_changes, removed}
 use Rattle.key_document.proofs.Splicing.{at_splice}
 use Rattle.key_document.proofs.edit.append_without_part.Goals as goal
 
@@ -12,7 +13,7 @@ returns-clause-answers c = λ t r e.
     let key = c.split_document.result.0.now in
     let is_key : key ≡ key_of t = c.split_document.ensures.key t r e in
     let slot = c.in-Some.slot in
-    let s = subst (ReportedSlot t names key) c.in-Some.is (c.in_ok-slot.ensures.slot t r is_key) in
+    let s = subst (FindsSlot (λ change. changed_at change names t) key) c.in-Some.is (c.in_ok-slot.ensures.slot t r is_key) in
     let gone = removed names t key slot s c.if-not-slot.false in
     let x = remove_changes t gone.tree (λ change. changed_at change names t) key slot (at_splice names t r.proper) s gone.is in
     let front : c.front-before.result.now ≡ s.0.front = c.front-before.ensures s.0.front s.0.inside in

@@ -1,7 +1,6 @@
-use Rattle.std.proofs.Common.{◌≡◌, ◌+◌, ◌<◌, ◌^◌, ◌++◌, length, refl, subst, ap, ◌∙◌, arith, length-append}
-use Rattle.std.specs.Prelude.{vec_len, vec_capacity}
+use Rattle.std.proofs.Common.{◌≡◌, ◌++◌, refl, arith}
 use Rattle.jsonb_spec.specs.Document.Zeros.{zeros_of}
-use Rattle.jsonb_spec.specs.Document.{behind_key, end_of}
+use Rattle.jsonb_spec.specs.Document.{behind_key}
 use Rattle.key_document.specs.Splices.{spliced_counts}
 use Rattle.key_document.specs.declared.error.DocumentError.TheVariants.{OutOfMemory}
 use Rattle.key_document.proofs.Joining.{lacks_zeros}
