@@ -43,7 +43,8 @@ pub record IsPartWithin (t : Tree) (names : List (List ℕ)) (key bytes : List �
       → ChangesSo front behind depth_left (change part) (changed_within change names t)
 
 -- The spot in the value whose key the bytes begin with, behind which more bytes are.
-abbrev pub SpotBefore : List ℕ → ((Option Tree → Outcome) → Option Tree) → Bool → List ℕ → List ℕ → ℕ → ℕ → Spot → Type 0
+abbrev pub SpotBefore : List ℕ → ((Option Tree → Outcome) → Option Tree) → Bool → List ℕ → List ℕ → ℕ → ℕ → Spot
+    → Type 0
 SpotBefore more changed object name bytes depth_left inner spot =
     SpotIn (λ u. key_of u ++ more) (λ u. IsWithin IsAnyNumber u depth_left) changed object name bytes inner spot
 

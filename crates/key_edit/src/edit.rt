@@ -22,6 +22,7 @@ use std::alloc::AllocError;
 /// # Errors
 ///
 /// As of `append_merged`.
+#[inline(always)]
 pub fn put_part(out: &mut Vec<u8>, key: &[u8], slot: &Slot, part: &[u8]) -> Result<(), EditError>
     requires { slot.now.depth_left ≤ 511 }
     ensures put { (changed : (Option Tree → Outcome) → Option Tree) → (s : SlotIn changed key.now slot.now)
@@ -40,6 +41,7 @@ pub fn put_part(out: &mut Vec<u8>, key: &[u8], slot: &Slot, part: &[u8]) -> Resu
 }
 
 // Appends what is before the slot, the part with its name, and what is behind the slot.
+#[inline(always)]
 fn write_part(out: &mut Vec<u8>, key: &[u8], slot: &Slot, part: &[u8]) -> Result<(), AllocError>
     ensures written { (there : Option Tree) → (name front : List ℕ) → key.now ≡ front ++ slot.now.spot.entry.now
         → Occurs slot.now.object name slot.now.spot slot.now.behind.now there

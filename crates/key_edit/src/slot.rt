@@ -93,8 +93,9 @@ pub(crate) fn slot_in<'k, 'n>(
 }
 
 // The spot in the value whose key the bytes begin with, whether that is an object, and how many arrays and objects a
-// part may have in one another there; `None` where it is neither an array nor an object, or the name encodes no index of
-// an array.
+// part may have in one another there; `None` where it is neither an array nor an object, or the name encodes no index
+// of an array.
+#[inline(always)]
 fn spot_in<'k>(
     bytes: &'k [u8],
     name: &str,
@@ -142,6 +143,7 @@ pub fn member_slot<'k, 'n>(key: &'k [u8], name: &'n str) -> Result<Option<Slot<'
 }
 
 /// The slot behind the last item of an array; `None` for another value.
+#[inline(always)]
 pub fn end_slot<'k, 'n>(key: &'k [u8]) -> Result<Option<Slot<'k, 'n>>, NoKey>
     ensures slot { OfKey key.now (λ t. MatchResult result
         (FindsSlot (λ change. changed_end change t) key.now) (λ e. ⊥)) }

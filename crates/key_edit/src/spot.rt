@@ -148,7 +148,7 @@ fn items_back(items: &[u8], back: usize) -> Result<Option<&[u8]>, NoKey>
     }
 }
 
-/// The items from the one of that index on, which counts from the end or not; `None` where there are fewer from the end.
+/// The items from the one of that index on, which counts from the end or not; `None` where it is before the first.
 #[inline(always)]
 pub(crate) fn items_at(items: &[u8], from_end: bool, number: usize) -> Result<Option<&[u8]>, NoKey>
     requires { IsTrue from_end → 0 < number }
@@ -164,9 +164,10 @@ pub(crate) fn items_at(items: &[u8], from_end: bool, number: usize) -> Result<Op
 // Where the item of that index is, which counts from the end or not, or would be.
 fn item_spot(items: &[u8], from_end: bool, number: usize) -> Result<Spot<'_>, NoKey>
     requires { IsTrue from_end → 0 < number }
-    ensures spot { AtItems items.now (λ ts more. (depth_left : ℕ) → AreWithin IsAnyNumber ts depth_left → (name : List ℕ)
-        → MatchResult result (OpenSpotIn (λ change. option_map Open.items (changed_at_step change ts (from_end, number)))
-        false name items.now more depth_left) (λ e. ⊥)) }
+    ensures spot { AtItems items.now (λ ts more. (depth_left : ℕ) → AreWithin IsAnyNumber ts depth_left
+        → (name : List ℕ) → MatchResult result (OpenSpotIn (λ change.
+        option_map Open.items (changed_at_step change ts (from_end, number))) false name items.now more depth_left)
+        (λ e. ⊥)) }
 {
     let Some(rest) = items_at(items, from_end, number)? else {
         return Ok(no_part(items));
