@@ -5,7 +5,7 @@ use Rattle.std.proofs.lemmas.Int.{ints}
 use Rattle.std.proofs.lemmas.Map.Text.{is_eq-slice_cmp}
 use Rattle.std.specs.Cmp.Lexicographic.{slice_cmp, nat_list_cmp_total}
 use Rattle.std.specs.Option.{option_and_then}
-use Rattle.std.specs.Ordering.{is_eq, nat_cmp}
+use Rattle.std.specs.Ordering.{is_eq, is_gt, nat_cmp}
 use Rattle.std.specs.Str.{bytes_eq}
 use Rattle.jsonb_spec.specs.SortKey.Readable.{IsAnyNumber, IsReadable}
 use Rattle.key_value.proofs.Texts.{none_some, some_same}
@@ -13,7 +13,9 @@ use Rattle.jsonb_spec.specs.PartAt.{child_at, part_at}
 use Rattle.key_walk.specs.declared.find.NoKey.{NoKey}
 use Rattle.key_walk.specs.declared.walk.Kind.TheVariants as kind
 use Rattle.jsonb_spec.specs.SortKey.Found.{item_back, item_from, IsLeftOf, PartOccurs}
+use Rattle.key_walk.specs.AtKeys.{AtMembers}
 use Rattle.key_walk.specs.Found.{open_len, Finds, IsNext}
+use Rattle.key_walk.specs.Passing.{PassesTo, first_named, members_from}
 use Rattle.jsonb_spec.specs.SortKey.Open.{Open, items, members, is_object, open_key, IsOpen, end_key, name_key}
 use Rattle.key_walk.specs.Parts.{kind_of_tree}
 use Rattle.jsonb_spec.specs.SortKey.Parts.{opened_tree}
@@ -172,19 +174,18 @@ below_all k l (more_members m u ms) h below =
 
 -- ---- members
 
--- the members that are left, among which the one of that name is the one of all
+-- the members that are left, of which those up to the name are passed too
 pub record MembersHere (ms : Members) (name bytes rest more : List ℕ) : Type 0 where
   pub left : Members
-  pub ascend : KeysAscend left
   pub proper : HaveProperParts left
   pub within : HaveWithin IsAnyNumber left 511
-  pub same : find_member (bytes_eq name) ms ≡ find_member (bytes_eq name) left
+  pub same : members_from name ms ≡ members_from name left
   pub before : List ℕ
   pub inside : bytes ≡ before ++ rest
   pub occurs : rest ≡ members_key left ++ more
 
 abbrev pub WalksMembers : List ℕ → List ℕ → List ℕ → Type 0
-WalksMembers bytes name rest = (ms : Members) → KeysAscend ms → HaveProperParts ms → HaveWithin IsAnyNumber ms 511 → (more : List ℕ) → bytes ≡ members_key ms ++ more → MembersHere ms name bytes rest more
+WalksMembers bytes name rest = AtMembers bytes (λ ms more. MembersHere ms name bytes rest more)
 
 -- the first of them
 pub record MemberHere (ms : Members) (name bytes rest more : List ℕ) : Type 0 where
@@ -192,35 +193,24 @@ pub record MemberHere (ms : Members) (name bytes rest more : List ℕ) : Type 0 
   pub value : Tree
   pub readable : IsReadable value
   pub others : Members
-  pub below : IsBelowKeys key others
-  pub ascend : KeysAscend others
   pub proper : HaveProperParts others
   pub within : HaveWithin IsAnyNumber others 511
-  pub same : find_member (bytes_eq name) ms ≡ (if bytes_eq name key then Some value else find_member (bytes_eq name) others)
+  pub same : members_from name ms ≡ members_from name (more_members key value others)
   pub before : List ℕ
   pub inside : bytes ≡ before ++ rest
   pub occurs : rest ≡ text_key key ++ (key_of value ++ (members_key others ++ more))
 
-pub no_member_here : (ms : Members) (name bytes rest more tail : List ℕ) → MembersHere ms name bytes rest more → rest ≡ end_key true ++ tail → find_member (bytes_eq name) ms ≡ None
-no_member_here ms name bytes rest more tail m over = go m.left m.proper m.within m.same m.occurs
-  where
-    go : (left : Members) → HaveProperParts left → HaveWithin IsAnyNumber left 511 → find_member (bytes_eq name) ms ≡ find_member (bytes_eq name) left → rest ≡ members_key left ++ more → find_member (bytes_eq name) ms ≡ None
-    go no_members p w same occurs = same
-    go (more_members k t others) p w same occurs = absurd (no_end true k t 511 (record { proper = p.1; within = w.0 }) rest tail (members_key others ++ more) over (occurs ∙ regroup (text_key k) (key_of t) (members_key others) more))
-
 -- the end is first, or a member is
-pub over_or_member : (ms : Members) (name bytes rest more : List ℕ) → MembersHere ms name bytes rest more → ((rest ≡ end_key true ++ more) × (find_member (bytes_eq name) ms ≡ None)) ⊎ MemberHere ms name bytes rest more
-over_or_member ms name bytes rest more m = go m.left m.ascend m.proper m.within m.same m.occurs
+pub over_or_member : (ms : Members) (name bytes rest more : List ℕ) → MembersHere ms name bytes rest more → ((rest ≡ end_key true ++ more) × (members_from name ms ≡ no_members)) ⊎ MemberHere ms name bytes rest more
+over_or_member ms name bytes rest more m = go m.left m.proper m.within m.same m.occurs
   where
-    go : (left : Members) → KeysAscend left → HaveProperParts left → HaveWithin IsAnyNumber left 511 → find_member (bytes_eq name) ms ≡ find_member (bytes_eq name) left → rest ≡ members_key left ++ more → ((rest ≡ end_key true ++ more) × (find_member (bytes_eq name) ms ≡ None)) ⊎ MemberHere ms name bytes rest more
-    go no_members a p w same occurs = inl (occurs, same)
-    go (more_members k t others) a p w same occurs = inr record {
+    go : (left : Members) → HaveProperParts left → HaveWithin IsAnyNumber left 511 → members_from name ms ≡ members_from name left → rest ≡ members_key left ++ more → ((rest ≡ end_key true ++ more) × (members_from name ms ≡ no_members)) ⊎ MemberHere ms name bytes rest more
+    go no_members p w same occurs = inl (occurs, same)
+    go (more_members k t others) p w same occurs = inr record {
       key = k;
       value = t;
       readable = readable_inside t (record { proper = p.1; within = w.0 });
       others = others;
-      below = a.0;
-      ascend = a.1;
       proper = p.2;
       within = w.1;
       same = same;
@@ -235,37 +225,58 @@ member_here ms name bytes rest more m not_over = elim (over_or_member ms name by
   | inr n ↦ n
 ]
 
--- the name is below the first, and so below all
-pub member_past : (ms : Members) (name bytes rest more : List ℕ) (n : MemberHere ms name bytes rest more) → bytes_cmp name n.key ≡ Less → find_member (bytes_eq name) ms ≡ None
-member_past ms name bytes rest more n less =
-    n.same ∙ ap (λ b. if b then Some n.value else find_member (bytes_eq name) n.others) (equal_names name n.key ∙ ap is_eq less) ∙ below_all name n.key n.others less n.below
-
--- the name is below the first one that is left, if there is any
-pub none_past : (ms : Members) (name bytes rest more : List ℕ) (o : Ordering) → MembersHere ms name bytes rest more → ((text others : List ℕ) → rest ≡ text_key text ++ others → o ≡ bytes_cmp name text) → o ≡ Less → find_member (bytes_eq name) ms ≡ None
-none_past ms name bytes rest more o m compares less = elim (over_or_member ms name bytes rest more m) [
-  | inl p ↦ p.1
-  | inr n ↦ member_past ms name bytes rest more n (sym (compares n.key _ n.occurs) ∙ less)
-]
-
-pub member_is : (ms : Members) (name bytes rest more : List ℕ) (n : MemberHere ms name bytes rest more) → bytes_cmp name n.key ≡ Equal → find_member (bytes_eq name) ms ≡ Some n.value
-member_is ms name bytes rest more n same = n.same ∙ ap (λ b. if b then Some n.value else find_member (bytes_eq name) n.others) (equal_names name n.key ∙ ap is_eq same)
-
-pub member_occurs : (ms : Members) (name bytes rest more value : List ℕ) (n : MemberHere ms name bytes rest more) → value ≡ key_of n.value ++ (members_key n.others ++ more) → PartOccurs bytes value n.value
-member_occurs ms name bytes rest more value n is = record {
-  readable = n.readable;
-  before = n.before ++ text_key n.key;
-  inside = n.inside ∙ ap (λ l. n.before ++ l) (n.occurs ∙ ap (λ l. text_key n.key ++ l) (sym is)) ∙ sym (append_assoc n.before (text_key n.key) value);
-  behind = members_key n.others ++ more;
-  occurs = is;
+-- none has the name
+stops_at : (ms left : Members) (name bytes more : List ℕ) (rest : Bor (List ℕ)) → members_from name ms ≡ left → first_named name left ≡ None → rest.now ≡ members_key left ++ more → PassesTo bytes name ms more (record { rest = rest; same = None })
+stops_at ms left name bytes more rest same none is = record {
+  rest_is = is ∙ ap (λ l. members_key l ++ more) (sym same);
+  same = found_none bytes (first_named name (members_from name ms)) (ap (first_named name) same ∙ none);
 }
 
-pub member_passed : (ms : Members) (name bytes rest more value others : List ℕ) (n : MemberHere ms name bytes rest more) → bytes_cmp name n.key ≡ Greater → value ≡ key_of n.value ++ (members_key n.others ++ more) → others ≡ members_key n.others ++ more → MembersHere ms name bytes others more
-member_passed ms name bytes rest more value others n above is occurs = record {
+-- no member is left
+pub stops_over : (ms : Members) (name bytes more tail : List ℕ) (rest : Bor (List ℕ)) → MembersHere ms name bytes rest.now more → rest.now ≡ end_key true ++ tail → PassesTo bytes name ms more (record { rest = rest; same = None })
+stops_over ms name bytes more tail rest m over = elim (over_or_member ms name bytes rest.now more m) [
+  | inl p ↦ stops_at ms no_members name bytes more rest p.1 refl p.0
+  | inr n ↦ absurd (no_end true n.key n.value 512 n.readable rest.now tail (members_key n.others ++ more) over n.occurs)
+]
+
+-- the first one that is left, where the name isn't above it
+here : (o : Ordering) (ms : Members) (name bytes rest more : List ℕ) (n : MemberHere ms name bytes rest more) → bytes_cmp name n.key ≡ o → is_gt o ≡ false → members_from name ms ≡ more_members n.key n.value n.others
+here o ms name bytes rest more n is below = n.same ∙ ap (λ b. if b then members_from name n.others else more_members n.key n.value n.others) (ap is_gt is ∙ below)
+
+-- the name is below the first one that is left, if there is any
+pub stops_below : (ms : Members) (name bytes more : List ℕ) (rest : Bor (List ℕ)) (o : Ordering) → MembersHere ms name bytes rest.now more → ((text others : List ℕ) → rest.now ≡ text_key text ++ others → o ≡ bytes_cmp name text) → o ≡ Less → PassesTo bytes name ms more (record { rest = rest; same = None })
+stops_below ms name bytes more rest o m compares less = elim (over_or_member ms name bytes rest.now more m) [
+  | inl p ↦ stops_at ms no_members name bytes more rest p.1 refl p.0
+  | inr n ↦
+      let is : bytes_cmp name n.key ≡ Less = sym (compares n.key _ n.occurs) ∙ less in
+      stops_at ms (more_members n.key n.value n.others) name bytes more rest (here Less ms name bytes rest.now more n is refl)
+      (ap (λ b. if b then Some n.value else None) (equal_names name n.key ∙ ap is_eq is))
+      (n.occurs ∙ sym (regroup (text_key n.key) (key_of n.value) (members_key n.others) more))
+]
+
+-- the first one that is left has it
+pub stops_here : (ms : Members) (name bytes more : List ℕ) (rest value : Bor (List ℕ)) (n : MemberHere ms name bytes rest.now more) → bytes_cmp name n.key ≡ Equal → value.now ≡ key_of n.value ++ (members_key n.others ++ more) → PassesTo bytes name ms more (record { rest = rest; same = Some value })
+stops_here ms name bytes more rest value n is there =
+    let left = more_members n.key n.value n.others in
+    let same = here Equal ms name bytes rest.now more n is refl in
+    record {
+      rest_is = n.occurs ∙ sym (regroup (text_key n.key) (key_of n.value) (members_key n.others) more) ∙ ap (λ l. members_key l ++ more) (sym same);
+      same = found_some bytes value.now value (first_named name (members_from name ms)) n.value
+          (ap (first_named name) same ∙ ap (λ b. if b then Some n.value else None) (equal_names name n.key ∙ ap is_eq is)) refl (record {
+            readable = n.readable;
+            before = n.before ++ text_key n.key;
+            inside = n.inside ∙ ap (λ l. n.before ++ l) (n.occurs ∙ ap (λ l. text_key n.key ++ l) (sym there)) ∙ sym (append_assoc n.before (text_key n.key) value.now);
+            behind = members_key n.others ++ more;
+            occurs = there;
+          });
+    }
+
+pub member_passed : (ms : Members) (name bytes rest more others : List ℕ) (n : MemberHere ms name bytes rest more) → bytes_cmp name n.key ≡ Greater → others ≡ members_key n.others ++ more → MembersHere ms name bytes others more
+member_passed ms name bytes rest more others n above occurs = record {
   left = n.others;
-  ascend = n.ascend;
   proper = n.proper;
   within = n.within;
-  same = n.same ∙ ap (λ b. if b then Some n.value else find_member (bytes_eq name) n.others) (equal_names name n.key ∙ ap is_eq above);
+  same = n.same ∙ ap (λ b. if b then members_from name n.others else more_members n.key n.value n.others) (ap is_gt above);
   before = n.before ++ (text_key n.key ++ key_of n.value);
   inside = n.inside ∙ ap (λ l. n.before ++ l) (n.occurs ∙ ap (λ l. text_key n.key ++ (key_of n.value ++ l)) (sym occurs)) ∙ moved n.before (text_key n.key) (key_of n.value) others;
   occurs = occurs;
@@ -273,6 +284,26 @@ member_passed ms name bytes rest more value others n above is occurs = record {
   where
     moved : (a b c d : List ℕ) → a ++ (b ++ (c ++ d)) ≡ (a ++ (b ++ c)) ++ d
     moved a b c d = simp append_assoc
+
+-- where names ascend, the member of that name is found so
+found_in : (k : List ℕ) (t : Tree) (ms : Members) (name : List ℕ) → IsBelowKeys k ms → first_named name (members_from name ms) ≡ find_member (bytes_eq name) ms → (o : Ordering) → bytes_cmp name k ≡ o
+    → first_named name (members_from name (more_members k t ms)) ≡ find_member (bytes_eq name) (more_members k t ms)
+found_in k t ms name below others o is = go o is
+  where
+    first : (o : Ordering) → bytes_cmp name k ≡ o → first_named name (members_from name (more_members k t ms)) ≡ first_named name (if is_gt o then members_from name ms else more_members k t ms)
+    first o is = ap (λ p. first_named name (if is_gt p then members_from name ms else more_members k t ms)) is
+
+    named : (o : Ordering) (found : Option Tree) → bytes_cmp name k ≡ o → (if bytes_eq name k then Some t else found) ≡ (if is_eq o then Some t else found)
+    named o found is = ap (λ b. if b then Some t else found) (equal_names name k ∙ ap is_eq is)
+
+    go : (o : Ordering) → bytes_cmp name k ≡ o → first_named name (members_from name (more_members k t ms)) ≡ find_member (bytes_eq name) (more_members k t ms)
+    go Less is = first Less is ∙ named Less None is ∙ sym (named Less (find_member (bytes_eq name) ms) is ∙ below_all name k ms is below)
+    go Equal is = first Equal is ∙ named Equal None is ∙ sym (named Equal (find_member (bytes_eq name) ms) is)
+    go Greater is = first Greater is ∙ others ∙ sym (named Greater (find_member (bytes_eq name) ms) is)
+
+pub found_by_name : (ms : Members) (name : List ℕ) → KeysAscend ms → first_named name (members_from name ms) ≡ find_member (bytes_eq name) ms
+found_by_name no_members name a = refl
+found_by_name (more_members k t ms) name a = found_in k t ms name a.0 (found_by_name ms name a.1) (bytes_cmp name k) refl
 
 -- ---- items
 

@@ -8,7 +8,8 @@ ghost use Rattle.jsonb_spec.specs.Path.{IsPath, IsPlainPath};
 ghost use Rattle.jsonb_spec.specs.PartAt.{child_at, part_at};
 ghost use Rattle.jsonb_spec.specs.SortKey.Found.{count_of, item_back, item_from, IsRange, PartOccurs};
 ghost use Rattle.key_walk.specs.Found.{open_len, Finds, IsNext, Opens};
-ghost use Rattle.key_walk.specs.AtKeys.{AtItems, FindsPart, FindsWithin};
+ghost use Rattle.key_walk.specs.AtKeys.{AtItems, AtMembers, FindsPart, FindsWithin};
+ghost use Rattle.key_walk.specs.Passing.{PassesTo};
 ghost use Rattle.jsonb_spec.specs.SortKey.AtKeys.{AtKey, AtParts, ReportsOrder};
 ghost use Rattle.jsonb_spec.specs.SortKey.Open.{opening_byte};
 ghost use Rattle.jsonb_spec.specs.Accessors.{find_member, get_by_name, item_at};
@@ -20,6 +21,7 @@ ghost use Rattle.jsonb_spec.specs.Text.Range.{HaveWithin};
 ghost use Rattle.jsonb_spec.specs.Tree.{Tree, Members};
 
 use crate::names::{NO_FRONT, after_front, after_member_name, compare_wanted, front_of};
+use crate::pass::Passed;
 use crate::skip::{after_key, after_name, is_over, opening};
 use crate::walk::{kind_of, members_of};
 use jsonb_path::{index_of, plain_key};
@@ -230,8 +232,7 @@ fn find_name<'k>(members: &'k [u8], name: &[u8]) -> Result<Option<&'k [u8]>, NoK
     member_from::<true>(members, name)
 }
 
-// The bytes from the value of the member of that name on, which is compared so if it may be long. No name behind one
-// that is above it is looked at.
+// The bytes from the value of the member of that name on, which is compared so if it may be long.
 #[inline(always)]
 fn member_from<'k, const LONG: bool>(
     members: &'k [u8],
@@ -242,23 +243,45 @@ fn member_from<'k, const LONG: bool>(
         → Finds members.now (find_member (bytes_eq name.now) ms) result }
     ensures within { FindsWithin members.now result }
 {
+    let passed = members_from::<LONG>(members, name)?;
+    Ok(passed.same)
+}
+
+/// The members from the first one on whose name isn't below this one, which is compared so if it may be long.
+///
+/// # Errors
+///
+/// `NoKey` where a name, a value or the end is missing.
+#[inline(always)]
+pub fn members_from<'k, const LONG: bool>(
+    members: &'k [u8],
+    name: &[u8],
+) -> Result<Passed<'k>, NoKey>
+    ensures passed { AtMembers members.now (λ ms more.
+        MatchResult result (PassesTo members.now name.now ms more) (λ e. ⊥)) }
+    ensures within { IfOk result (λ r. (length r.rest.now ≤ length members.now)
+        × IfSome r.same (λ value. length value.now ≤ length members.now)) }
+{
     let front = front_of(name);
     let mut next = NO_FRONT;
     let mut rest = members;
     'members: loop {
         match compare_wanted::<LONG>(front, &mut next, name, rest) {
-            Ordering::Less => return Ok(None),
+            Ordering::Less => return Ok(Passed { rest, same: None }),
             Ordering::Equal => {
                 let Some(value) = after_front(front, rest) else {
                     return Err(NoKey);
                 };
-                return Ok(Some(value));
+                return Ok(Passed {
+                    rest,
+                    same: Some(value),
+                });
             }
             Ordering::Greater => {}
         }
         let Some(value) = after_member_name(rest) else {
             if is_over(true, rest) {
-                return Ok(None);
+                return Ok(Passed { rest, same: None });
             }
             return Err(NoKey);
         };

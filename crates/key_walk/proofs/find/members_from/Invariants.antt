@@ -1,7 +1,7 @@
 use Rattle.std.proofs.Common.{◌≤◌, length}
 use Rattle.key_walk.proofs.Occurrence.{WalksMembers}
 use Rattle.key_walk.specs.Fronts.{IsNext}
-use Rattle.key_walk.proofs.find.member_from.Given as goal
+use Rattle.key_walk.proofs.find.members_from.Given as goal
 
 abbrev pub invariant-members : goal.invariant-members
 invariant-members g l = record { walks : WalksMembers l.members l.name l.rest; within : length l.rest ≤ length l.members; next : IsNext l.name l.next }
