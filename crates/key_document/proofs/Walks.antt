@@ -1,18 +1,22 @@
 -- Where a walk over a document is, and what it meets there.
-use Rattle.std.proofs.Common.{◌≡◌, ◌≢◌, ℕ, zero, suc, ◌+◌, ◌-◌, ◌<◌, ◌≤◌, ◌⊎◌, inl, inr, Bool, true, false, List, [], ◌∷◌, ◌++◌, Option, Some, None, Ok, Err, length, drop, get_or, set, replicate, refl, sym, ap, ap₂, subst, ◌∙◌, arith, append_assoc, append-nil, length-append}
+use Rattle.std.proofs.Common.{◌≡◌, ◌≢◌, ℕ, zero, suc, ◌+◌, ◌-◌, ◌<◌, ◌≤◌, ◌⊎◌, inl, inr, Bool, true, false, List, [], ◌∷◌, ◌++◌, if◌then◌else◌, true≢false, is_some, Bor, Option, Some, None, Ok, Err, length, drop, get_or, set, replicate, refl, sym, ap, ap₂, subst, ◌∙◌, arith, append_assoc, append-nil, length-append}
 use Rattle.std.proofs.lemmas.List.{drop-drop, drop_at, get_or-set_other, get_or-set_same, length-replicate}
 use Rattle.jsonb_spec.specs.SortKey.{items_key, key_of, members_key, text_key}
-use Rattle.jsonb_spec.specs.Tree.{Tree, null, boolean, string, number, array, object, binary, date, timestamp, timestamp_tz, interval, no_trees, more_trees, no_members, more_members}
+use Rattle.jsonb_spec.specs.Order.{bytes_cmp}
+use Rattle.std.specs.Ordering.{is_gt}
+use Rattle.key_walk.specs.Found.{Finds}
+use Rattle.key_walk.specs.Passing.{members_from}
+use Rattle.jsonb_spec.specs.Tree.{Tree, Members, null, boolean, string, number, array, object, binary, date, timestamp, timestamp_tz, interval, no_trees, more_trees, no_members, more_members}
 use Rattle.jsonb_core.proofs.SortKeys.Kinds.{is_small, number_begins}
 use Rattle.key_document.specs.Cursor.{IsLeftBehind}
 use Rattle.jsonb_spec.specs.Document.Walk.{AreMarked, IsPlace, events_left, events_open, kind_mark, scalar_size, value_zeros}
-use Rattle.key_document.specs.Walk.{IsWalkAt, IsNameMet, IsValueMet, MeetsFirst, MeetsNext}
+use Rattle.key_document.specs.Walk.{IsWalkAt, IsNameMet, IsValueMet, MeetsFirst, MeetsNext, MovesToMember}
 use Rattle.key_document.specs.declared.error.DocumentError.{DocumentError}
 use Rattle.key_document.specs.declared.walk.Met.{Met}
 use Rattle.key_document.specs.declared.walk.Walk.{Walk}
 use Rattle.key_document.proofs.OpenCounts.{opened_bytes, over_bytes, part_bytes}
 use Rattle.key_text.proofs.Counts.{one_each, opens_each}
-use Rattle.jsonb_spec.specs.Document.Counts.{counts_at, counts_open, opens_counts}
+use Rattle.jsonb_spec.specs.Document.Counts.{counts_at, counts_at_members, counts_open, opens_counts}
 use Rattle.jsonb_spec.specs.SortKey.Readable.{IsAnyNumber, IsReadable, IsReadableAt}
 use Rattle.key_value.proofs.Texts.{none_some}
 use Rattle.jsonb_path.proofs.PartsReadBack.{deeper}
@@ -307,6 +311,88 @@ skipped t o under walk new top bytes after w at is behind offset_is depth_is lef
       zeros = subst (IsLeftBehind t) (sym left_is) w.zeros;
       passed = omega (arith, w.passed, ap (λ l. l.passed) left_is, offset_is);
     }
+
+-- ---- a member by its name
+
+-- the keys and the counts of those that are passed
+pub record MembersPassed (name : List ℕ) (ms : Members) : Type 0 where
+  pub bytes : List ℕ
+  pub counts : List ℕ
+  pub key_is : members_key ms ≡ bytes ++ members_key (members_from name ms)
+  pub counts_are : counts_at_members ms ≡ counts ++ counts_at_members (members_from name ms)
+
+passed_one : (name k : List ℕ) (t : Tree) (ms : Members) (b : Bool) → is_gt (bytes_cmp name k) ≡ b → MembersPassed name ms → MembersPassed name (more_members k t ms)
+passed_one name k t ms false is p = record {
+  bytes = [];
+  counts = [];
+  key_is = ap (λ b. members_key (if b then members_from name ms else more_members k t ms)) (sym is);
+  counts_are = ap (λ b. counts_at_members (if b then members_from name ms else more_members k t ms)) (sym is);
+}
+passed_one name k t ms true is p =
+    let from : members_from name ms ≡ members_from name (more_members k t ms) = ap (λ b. if b then members_from name ms else more_members k t ms) (sym is) in
+    let zeros : List ℕ = replicate (length (text_key k)) 0 in
+    record {
+      bytes = text_key k ++ (key_of t ++ p.bytes);
+      counts = zeros ++ (counts_at t ++ p.counts);
+      key_is = ap (λ r. text_key k ++ (key_of t ++ r)) p.key_is ∙ sym (regroup (text_key k) (key_of t) p.bytes (members_key (members_from name ms))) ∙ ap (λ m. (text_key k ++ (key_of t ++ p.bytes)) ++ members_key m) from;
+      counts_are = ap (λ r. zeros ++ (counts_at t ++ r)) p.counts_are ∙ sym (regroup zeros (counts_at t) p.counts (counts_at_members (members_from name ms))) ∙ ap (λ m. (zeros ++ (counts_at t ++ p.counts)) ++ counts_at_members m) from;
+    }
+
+members_passed : (name : List ℕ) (ms : Members) → MembersPassed name ms
+members_passed name no_members = record { bytes = []; counts = []; key_is = refl; counts_are = refl }
+members_passed name (more_members k t ms) = passed_one name k t ms (is_gt (bytes_cmp name k)) refl (members_passed name ms)
+
+kept_open : (name k : List ℕ) (t : Tree) (ms : Members) (levels : ℕ) (b : Bool) → is_gt (bytes_cmp name k) ≡ b → IsOpen (members (more_members k t ms)) levels → IsOpen (members (members_from name ms)) levels → IsOpen (members (members_from name (more_members k t ms))) levels
+kept_open name k t ms levels false is h others = subst (λ b. IsOpen (members (if b then members_from name ms else more_members k t ms)) levels) (sym is) h
+kept_open name k t ms levels true is h others = subst (λ b. IsOpen (members (if b then members_from name ms else more_members k t ms)) levels) (sym is) others
+
+still_open : (name : List ℕ) (ms : Members) (levels : ℕ) → IsOpen (members ms) levels → IsOpen (members (members_from name ms)) levels
+still_open name no_members levels h = h
+still_open name (more_members k t ms) levels h = kept_open name k t ms levels (is_gt (bytes_cmp name k)) refl h (still_open name ms levels (h.0.2, h.1.1))
+
+pub moved_to : (t : Tree) (ms : Members) (under : List Open) (walk new : Walk) (name bytes after more : List ℕ) → (w : IsWalkAt t (members ms ∷ under) walk) → bytes ≡ members_key ms ++ more → after ≡ members_key (members_from name ms) ++ more
+    → new.offset ≡ walk.offset + (length bytes - length after) → new.depth ≡ walk.depth → new.left ≡ walk.left → new.objects ≡ walk.objects → IsWalkAt t (members (members_from name ms) ∷ under) new
+moved_to t ms under walk new name bytes after more w is behind offset_is depth_is left_is objects_are =
+    let left = members_from name ms in
+    let p = members_passed name ms in
+    let size = length p.bytes in
+    let key_long : length (members_key ms) ≡ size + length (members_key left) = omega (arith, ap length p.key_is, length-append p.bytes (members_key left)) in
+    let counts_long : length (counts_at_members ms) ≡ length p.counts + length (counts_at_members left) = omega (arith, ap length p.counts_are, length-append p.counts (counts_at_members left)) in
+    let long : size ≡ length bytes - length after = omega (arith, ap length is, ap length behind, length-append (members_key ms) more, length-append (members_key left) more, key_long) in
+    let fits = still_open name ms w.levels w.are_open.0 in
+    let each : length p.counts ≡ size = omega (arith, opens_each (members ms ∷ under) w.levels w.are_open, opens_each (members left ∷ under) w.levels (fits, w.are_open.1), length-append (counts_at_members ms) (opens_counts under), length-append (members_key ms) (opens_key under), length-append (counts_at_members left) (opens_counts under), length-append (members_key left) (opens_key under), key_long, counts_long) in
+    let place = moved t (members ms ∷ under) (members left ∷ under) walk.offset size p.bytes p.counts w.place
+    (ap (λ k. k ++ opens_key under) p.key_is ∙ append_assoc p.bytes (members_key left) (opens_key under))
+    (ap (λ c. c ++ opens_counts under) p.counts_are ∙ append_assoc p.counts (counts_at_members left) (opens_counts under)) refl each in
+    record {
+      levels = w.levels;
+      deep = omega (arith, w.deep, depth_is);
+      are_open = (fits, w.are_open.1);
+      marked = subst (λ d. AreMarked (members left ∷ under) new.objects d) (sym depth_is) (subst (λ marks. AreMarked (members left ∷ under) marks walk.depth) (sym objects_are) (others_marked (members ms) (members left) under walk.objects walk.depth refl w.marked));
+      place = subst (IsPlace t (members left ∷ under)) (sym (offset_is ∙ ap (λ n. walk.offset + n) (sym long))) place;
+      zeros = subst (IsLeftBehind t) (sym left_is) w.zeros;
+      passed = omega (arith, w.passed, ap (λ l. l.passed) left_is, offset_is);
+    }
+
+-- where nothing is open, or an array, the walk stays
+pub stays_over : (t : Tree) (name : List ℕ) (opens : List Open) (walk : Walk) → walk.depth ≡ 0 → IsWalkAt t opens walk → MovesToMember t name opens (Ok false) walk walk
+stays_over t name [] walk none w = (refl, refl)
+stays_over t name (o ∷ under) walk none w = absurd (none_open o under walk.objects walk.depth none w.marked)
+
+pub stays_in_array : (t : Tree) (name : List ℕ) (o : Open) (under : List Open) (walk : Walk) → is_object o ≡ false → MovesToMember t name (o ∷ under) (Ok false) walk walk
+stays_in_array t name (items ts) under walk kind = (refl, refl)
+stays_in_array t name (members ms) under walk kind = absurd (true≢false kind)
+
+pub over_members : (o : Open) (P : Open → Type 0) → is_object o ≡ true → ((ms : Members) → P (members ms)) → P o
+over_members (items ts) P kind law = absurd (true≢false (sym kind))
+over_members (members ms) P kind law = law ms
+
+-- whether a member was found
+pub found_there : (bytes : List ℕ) (part : Option Tree) (found : Option (Bor (List ℕ))) → Finds bytes part (Ok found) → is_some found ≡ is_some part
+found_there bytes None None x = refl
+found_there bytes (Some t) (Some rest) x = refl
+found_there bytes None (Some rest) x = absurd x
+found_there bytes (Some t) None x = absurd x
 
 -- ---- a part
 

@@ -1,5 +1,5 @@
 -- A walk over a document: where it is, and what it meets.
-use Rattle.std.specs.Prelude.{◌≡◌, ◌≤◌, ℕ, ◌+◌, Bool, true, false, List, [], ◌∷◌, length, Option, Some, None, Result, Ok, Err, ⊤}
+use Rattle.std.specs.Prelude.{◌≡◌, ◌≤◌, ℕ, ◌+◌, Bool, true, false, is_some, List, [], ◌∷◌, length, Option, Some, None, Result, Ok, Err, ⊤}
 use Rattle.jsonb_spec.specs.SortKey.{key_of, text_key}
 use Rattle.jsonb_spec.specs.Tree.{Tree}
 use Rattle.key_document.specs.Cursor.{IsLeftBehind}
@@ -8,8 +8,9 @@ use Rattle.key_document.specs.declared.walk.Met.{Met}
 use Rattle.key_document.specs.declared.walk.Walk.{Walk}
 use Rattle.jsonb_spec.specs.SortKey.Events.{Event, begins, ends}
 use Rattle.jsonb_spec.specs.SortKey.Found.{IsRange}
-use Rattle.jsonb_spec.specs.SortKey.Open.{Open}
+use Rattle.jsonb_spec.specs.SortKey.Open.{Open, items, members}
 use Rattle.key_walk.specs.Parts.{kind_of_tree}
+use Rattle.key_walk.specs.Passing.{first_named, members_from}
 use Rattle.jsonb_spec.specs.SortKey.Steps.{AreOpen}
 use Rattle.jsonb_spec.specs.Document.Walk.{events_left, AreMarked, IsPlace, scalar_size, value_zeros}
 
@@ -67,6 +68,14 @@ abbrev pub SkipsFirst : Tree → List Open → Result Bool DocumentError → Wal
 SkipsFirst t [] result walk = result ≡ Ok false
 SkipsFirst t (o ∷ under) (Ok skipped) walk = (skipped ≡ true) × IsWalkAt t under walk
 SkipsFirst t (o ∷ under) (Err e) walk = ⊥
+
+-- The walk is before the first member whose name isn't below this one, and it is reported whether that has the name. It
+-- stays in an array, and where nothing is open.
+abbrev pub MovesToMember : Tree → List ℕ → List Open → Result Bool DocumentError → Walk → Walk → Type 0
+MovesToMember t name (members ms ∷ under) (Ok found) old new =
+    (found ≡ is_some (first_named name (members_from name ms))) × IsWalkAt t (members (members_from name ms) ∷ under) new
+MovesToMember t name (members ms ∷ under) (Err e) old new = ⊥
+MovesToMember t name opens result old new = (result ≡ Ok false) × (new ≡ old)
 
 -- Of any bytes: the ranges that are reported end before this offset.
 pub record EndsWithin (size : ℕ) (met : Met) : Type 0 where

@@ -36,4 +36,4 @@ pub use nulls::append_without_nulls;
 pub use order::compare_documents;
 pub use part::{append_part, append_range};
 pub use text::append_text_of_document;
-pub use walk::{Met, Walk, begin_walk, next_event, skip_open};
+pub use walk::{Met, Walk, begin_walk, move_to_member, next_event, skip_open};

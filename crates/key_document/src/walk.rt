@@ -7,7 +7,7 @@ ghost use Rattle.jsonb_spec.specs.Tree.{Tree};
 ghost use Rattle.key_document.specs.Cursor.{IsLeftBehind};
 ghost use Rattle.jsonb_spec.specs.Document.{OfDocument};
 ghost use Rattle.jsonb_spec.specs.Document.Walk.{events_left, kind_mark, value_zeros};
-ghost use Rattle.key_document.specs.Walk.{EndsWithin, IsWalkAt, MeetsFirst, MeetsNext, SkipsFirst};
+ghost use Rattle.key_document.specs.Walk.{EndsWithin, IsWalkAt, MeetsFirst, MeetsNext, MovesToMember, SkipsFirst};
 ghost use Rattle.jsonb_spec.specs.Document.Counts.{counts_at};
 ghost use Rattle.jsonb_spec.specs.SortKey.Events.{events_of};
 ghost use Rattle.key_walk.specs.NextPart.{BeginsWithOpening, BeginsWithScalar};
@@ -18,6 +18,7 @@ ghost use Rattle.jsonb_spec.specs.SortKey.Parts.{opened_tree};
 use crate::cursor::{ZerosLeft, zeros_from, zeros_of_number};
 use crate::document::split_document;
 use crate::error::DocumentError;
+use key_walk::find::members_from;
 use key_walk::part::{Opened, Part, ScalarPart, read_part};
 use key_walk::skip::{MAX_DEPTH, after_parts};
 use key_walk::{Kind, NoKey, kind_of};
@@ -294,4 +295,33 @@ pub fn skip_open(document: &[u8], walk: &mut Walk) -> Result<bool, DocumentError
     walk.depth = top;
     walk.offset += bytes.len() - after.len();
     Ok(true)
+}
+
+/// Moves the walk before the first member whose name isn't below this one, of those that are left of the innermost that
+/// is open, or before the end, and returns whether that member has the name; false where the innermost is an array, or
+/// none is open, and the walk stays then.
+///
+/// # Errors
+///
+/// `NoDocument` only where the bytes are no document, or the walk isn't one over it. The walk stays as it is then.
+pub fn move_to_member(document: &[u8], walk: &mut Walk, name: &[u8]) -> Result<bool, DocumentError>
+    ensures moved { OfDocument document.now (λ t. (opens : List Open) → IsWalkAt t opens walk.old
+        → MovesToMember t name.now opens result walk.old walk.new) }
+    ensures still { IfErr result (λ _. walk.new ≡ walk.old) }
+{
+    let Some(top) = walk.depth.checked_sub(1) else {
+        return Ok(false);
+    };
+    if top >= MAX_DEPTH || walk.offset > document.len() {
+        return Err(DocumentError::NoDocument);
+    }
+    if !is_object_at(&walk.objects, top) {
+        return Ok(false);
+    }
+    let (_, bytes) = document.split_at(walk.offset);
+    let Ok(passed) = members_from::<true>(bytes, name) else {
+        return Err(DocumentError::NoDocument);
+    };
+    walk.offset += bytes.len() - passed.rest.len();
+    Ok(passed.same.is_some())
 }
