@@ -33,6 +33,7 @@ pub struct ZerosLeft {
 /// # Errors
 ///
 /// `NoDocument` only where the bytes are no document, or its key has fewer bytes.
+#[inline(always)]
 pub fn zeros_from(document: &[u8], offset: usize) -> Result<ZerosLeft, DocumentError>
     ensures left { OfDocument document.now (λ t. offset ≤ length (key_of t)
         → MatchResult result (IsLeftAt t offset) (λ e. ⊥)) }

@@ -319,7 +319,7 @@ pub fn move_to_member(document: &[u8], walk: &mut Walk, name: &[u8]) -> Result<b
         return Ok(false);
     }
     let (_, bytes) = document.split_at(walk.offset);
-    let Ok(passed) = members_from::<true>(bytes, name) else {
+    let Ok(passed) = members_from::<false>(bytes, name) else {
         return Err(DocumentError::NoDocument);
     };
     walk.offset += bytes.len() - passed.rest.len();
