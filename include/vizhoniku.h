@@ -471,7 +471,7 @@ struct vizhoniku_event {
 };
 
 /* Begins a walk over a document, and reports the first event: that the value itself begins. With VIZHONIKU_NO_DOCUMENT
- * the event is all 0, and the walk has no event left. It takes no memory, nor do the next two. */
+ * the event is all 0, and the walk has no event left. It takes no memory, nor do the next three. */
 uint32_t vizhoniku_walk_begin(const unsigned char *document, size_t document_size, struct vizhoniku_walk *walk,
                               struct vizhoniku_event *event);
 
@@ -484,6 +484,14 @@ uint32_t vizhoniku_walk_next(const unsigned char *document, size_t document_size
 /* Moves the walk behind the innermost array or object that is open. VIZHONIKU_NO_PART: none is. With each status but
  * VIZHONIKU_ACCEPTED the walk stays where it is. */
 uint32_t vizhoniku_walk_skip(const unsigned char *document, size_t document_size, struct vizhoniku_walk *walk);
+
+/* Moves the walk before the next member of this name, of the innermost that is open, so that vizhoniku_walk_next reports
+ * that member next. VIZHONIKU_NO_PART: none of those that are left has the name, and the walk is before the first one
+ * whose name is greater, or before the end of the object; or an array is innermost, or nothing is open, and the walk
+ * stays where it is. Members are in the order of their names: one call after the other, for names that ascend, passes
+ * each member once. With VIZHONIKU_NO_DOCUMENT the walk stays where it is. */
+uint32_t vizhoniku_walk_member(const unsigned char *document, size_t document_size, struct vizhoniku_walk *walk,
+                               const unsigned char *name, size_t name_size);
 
 /* A document changed, by the calls below: no text is parsed and no value is made, and what stays is copied as it is. They
  * change sort keys too: where none of the documents that are passed has zeros, the sort key of the changed value is

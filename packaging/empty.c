@@ -78,6 +78,8 @@ uint32_t proved_walk_begin(const unsigned char *document, size_t document_size, 
 uint32_t proved_walk_next(const unsigned char *document, size_t document_size, struct vizhoniku_walk *walk,
                           struct vizhoniku_event *event);
 uint32_t proved_walk_skip(const unsigned char *document, size_t document_size, struct vizhoniku_walk *walk);
+uint32_t proved_walk_member(const unsigned char *document, size_t document_size, struct vizhoniku_walk *walk,
+                            const unsigned char *name, size_t name_size);
 uint32_t proved_document_set(const unsigned char *document, size_t document_size, const unsigned char *path,
                              size_t path_size, const unsigned char *part, size_t part_size, uint32_t create,
                              unsigned char *buffer, size_t buffer_size, size_t *size);
@@ -322,6 +324,12 @@ uint32_t vizhoniku_walk_next(const unsigned char *document, size_t document_size
 
 uint32_t vizhoniku_walk_skip(const unsigned char *document, size_t document_size, struct vizhoniku_walk *walk) {
   return proved_walk_skip(bytes_at(document, document_size), document_size, walk);
+}
+
+uint32_t vizhoniku_walk_member(const unsigned char *document, size_t document_size, struct vizhoniku_walk *walk,
+                               const unsigned char *name, size_t name_size) {
+  return proved_walk_member(bytes_at(document, document_size), document_size, walk, bytes_at(name, name_size),
+                            name_size);
 }
 
 uint32_t vizhoniku_document_set(const unsigned char *document, size_t document_size, const unsigned char *path,

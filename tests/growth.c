@@ -3,9 +3,10 @@
  * leaves out all members by their names, or of an array the items of its second item that its first one names; or over
  * the text: growth check as JSON, growth text, growth sort_key and growth document as extended JSON, which may reject
  * it, growth lines, and growth error_path for a text that extended JSON rejects; growth document_next over all parts
- * of the text's document, growth walk_next over all its events, growth document_text for the text of it, and growth
- * text_with_zeros with one zero for each number before a comma. The status is the one that the call returns, and 0
- * where the parts have ended. tests/growth counts the instructions of it. */
+ * of the text's document, growth walk_next over all its events, growth walk_member to each of its names, one after the
+ * other, growth document_text for the text of it, and growth text_with_zeros with one zero for each number before a
+ * comma. The status is the one that the call returns, and 0 where the parts have ended. tests/growth counts the
+ * instructions of it. */
 #include <stdio.h>
 #include <stdlib.h>
 #include <string.h>
@@ -66,6 +67,18 @@ int main(int count, char **words) {
     uint32_t status = vizhoniku_walk_begin(key, key_size, &walk, &event);
     while (status == VIZHONIKU_ACCEPTED) status = vizhoniku_walk_next(key, key_size, &walk, &event);
     return status == VIZHONIKU_NO_PART ? 0 : 2;
+  }
+  if (!strcmp(words[1], "walk_member")) {
+    struct vizhoniku_walk walk, ahead;
+    struct vizhoniku_event event;
+    if (vizhoniku_document(VIZHONIKU_EXTENDED, text, text_size, key, ROOM, &key_size, &error)) return 2;
+    if (vizhoniku_walk_begin(key, key_size, &walk, &event)) return 2;
+    for (ahead = walk; !vizhoniku_walk_next(key, key_size, &ahead, &event);) {
+      if (!event.name_size) continue;
+      if (vizhoniku_key_name(key + event.name_offset, event.name_size, buffer, ROOM, &size)) return 2;
+      vizhoniku_walk_member(key, key_size, &walk, buffer, size);
+    }
+    return 0;
   }
   if (!strncmp(words[1], "document_", 9) && count < 3) {
     if (vizhoniku_document(VIZHONIKU_EXTENDED, text, text_size, key, ROOM, &key_size, &error)) return 2;

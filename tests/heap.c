@@ -427,6 +427,7 @@ enum key_function {
   KEY_CONTAINS,
   DOCUMENT_CHECK,
   WALK,
+  WALK_MEMBER,
   TABLE_MEMBER,
   TABLE_CHECK,
   KEY_ESCAPED_PART,
@@ -457,7 +458,8 @@ enum key_function {
 static const char *const key_functions[] = {
     "vizhoniku_key_check", "vizhoniku_key_count", "vizhoniku_key_next", "vizhoniku_key_member", "vizhoniku_key_item",
     "vizhoniku_key_part", "vizhoniku_key_string", "vizhoniku_key_contains", "vizhoniku_document_check",
-    "vizhoniku_walk_next", "vizhoniku_table_member", "vizhoniku_table_check", "vizhoniku_key_part with an escape", "vizhoniku_key_text",
+    "vizhoniku_walk_next", "vizhoniku_walk_member", "vizhoniku_table_member", "vizhoniku_table_check",
+    "vizhoniku_key_part with an escape", "vizhoniku_key_text",
     "vizhoniku_document_text", "vizhoniku_document_part",
     "vizhoniku_document_range", "vizhoniku_document_next", "vizhoniku_document_set", "vizhoniku_document_remove",
     "vizhoniku_document_put", "vizhoniku_document_push", "vizhoniku_document_insert", "vizhoniku_document_merge",
@@ -512,6 +514,10 @@ static uint32_t call_over_key(enum key_function function, const struct text *key
       status = vizhoniku_walk_begin(key->bytes, key->size, &walk, &event);
       while (status == VIZHONIKU_ACCEPTED) status = vizhoniku_walk_next(key->bytes, key->size, &walk, &event);
       return status;
+    case WALK_MEMBER:
+      status = vizhoniku_walk_begin(key->bytes, key->size, &walk, &event);
+      if (status != VIZHONIKU_ACCEPTED) return status;
+      return vizhoniku_walk_member(key->bytes, key->size, &walk, NAME, 4);
     case TABLE_MEMBER:
       part_size = vizhoniku_table_size(key->bytes, key->size);
       return vizhoniku_table_member(key->bytes, key->size, key->bytes + key->size - part_size, part_size, NAME, 4,

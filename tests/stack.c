@@ -195,7 +195,7 @@ static struct text make(const struct shape *shape) {
 enum function {
   CHECK, TEXT, LINES, SORT_KEY, TEXT_AND_KEY, DOCUMENT, PART, COMPARE, MESSAGE, REASON, KEY_CHECK, KEY_TEXT, KEY_PART,
   KEY_COUNT, KEY_CONTAINS, DOCUMENT_CHECK, DOCUMENT_TEXT, DOCUMENT_PART,
-  DOCUMENT_NEXT, DOCUMENT_SET, DOCUMENT_REMOVE, DOCUMENT_INSERT, DOCUMENT_MERGE, DOCUMENT_STRIP, WALK, TABLE,
+  DOCUMENT_NEXT, DOCUMENT_SET, DOCUMENT_REMOVE, DOCUMENT_INSERT, DOCUMENT_MERGE, DOCUMENT_STRIP, WALK, WALK_MEMBER, TABLE,
   TABLE_CHECK, TEXT_WITH_ZEROS, ERROR_PATH, FUNCTIONS
 };
 
@@ -207,7 +207,8 @@ static const char *const functions[] = {
     "vizhoniku_key_count", "vizhoniku_key_contains",
     "vizhoniku_document_check", "vizhoniku_document_text", "vizhoniku_document_part",
     "vizhoniku_document_next", "vizhoniku_document_set", "vizhoniku_document_remove", "vizhoniku_document_insert",
-    "vizhoniku_document_merge", "vizhoniku_document_strip_nulls", "vizhoniku_walk_next", "vizhoniku_table",
+    "vizhoniku_document_merge", "vizhoniku_document_strip_nulls", "vizhoniku_walk_next", "vizhoniku_walk_member",
+    "vizhoniku_table",
     "vizhoniku_table_check", "vizhoniku_text_with_zeros", "vizhoniku_error_path",
 };
 
@@ -219,7 +220,8 @@ static const size_t told[FUNCTIONS][2] = {
     [ERROR_PATH] = {4, 0},    [REASON] = {3, 0},       [LINES] = {20, 110},        [TEXT_WITH_ZEROS] = {2, 0},
     [DOCUMENT] = {20, 110},   [DOCUMENT_CHECK] = {5, 0}, [DOCUMENT_TEXT] = {3, 0}, [DOCUMENT_PART] = {2, 0},
     [DOCUMENT_NEXT] = {2, 0}, [DOCUMENT_SET] = {2, 0}, [DOCUMENT_INSERT] = {2, 0}, [DOCUMENT_REMOVE] = {2, 0},
-    [DOCUMENT_MERGE] = {3, 0}, [DOCUMENT_STRIP] = {2, 0}, [WALK] = {2, 0},         [TABLE] = {2, 0},        [TABLE_CHECK] = {2, 0},
+    [DOCUMENT_MERGE] = {3, 0}, [DOCUMENT_STRIP] = {2, 0}, [WALK] = {2, 0},         [WALK_MEMBER] = {2, 0},
+    [TABLE] = {2, 0},         [TABLE_CHECK] = {2, 0},
 };
 
 struct call {
@@ -320,6 +322,12 @@ static void *run(void *given) {
       while (call->status == VIZHONIKU_ACCEPTED)
         call->status = vizhoniku_walk_next(call->key, call->key_size, &call->walk, &call->event);
       if (call->status == VIZHONIKU_NO_PART) call->status = VIZHONIKU_ACCEPTED; /* all events were reported */
+      break;
+    case WALK_MEMBER:
+      call->status = vizhoniku_walk_begin(call->key, call->key_size, &call->walk, &call->event);
+      if (call->status != VIZHONIKU_ACCEPTED) break;
+      call->status = vizhoniku_walk_member(call->key, call->key_size, &call->walk, (const unsigned char *)"\xFF", 1);
+      if (call->status == VIZHONIKU_NO_PART) call->status = VIZHONIKU_ACCEPTED; /* all members were passed */
       break;
     case TABLE:
       call->status = vizhoniku_table(call->key, call->key_size, call->buffer, call->room, &size);

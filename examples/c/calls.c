@@ -552,10 +552,11 @@ static void walk_documents(void) {
   print_key("null next", status, out, size);
 }
 
-/* All events of {"a":[1.50,null],"b":{}}; the array passed; and of bytes that are no document. */
+/* All events of {"a":[1.50,null],"b":{}}; the array passed; members by their names; and of bytes that are no document. */
 static void walk_events(void) {
   static const unsigned char document[] = {0xD1, 'a', 0, 1, 0xD2, 0xA1, 0x1E, 0xD3, 0, 'b', 0, 1, 0xD1, 0,
                                            0, 0, 0, 5, 1, 2, 0xFF};
+  static const unsigned char names[][1] = {{'A'}, {'b'}, {'a'}, {'c'}};
   struct vizhoniku_walk walk;
   struct vizhoniku_event event;
   uint32_t status = vizhoniku_walk_begin(document, sizeof document, &walk, &event);
@@ -570,14 +571,23 @@ static void walk_events(void) {
   status = vizhoniku_walk_skip(document, sizeof document, &walk);
   printf("; again: %u, walk %zu %zu", (unsigned)status, walk.offset, walk.depth);
   printf("; nothing open: %u\n", (unsigned)vizhoniku_walk_skip(document, sizeof document, &walk));
+  vizhoniku_walk_begin(document, sizeof document, &walk, &event);
+  for (size_t i = 0; i < sizeof names / sizeof *names; i++) {
+    status = vizhoniku_walk_member(document, sizeof document, &walk, names[i], 1);
+    printf("member %c: %u, walk %zu %zu; ", *names[i], (unsigned)status, walk.offset, walk.depth);
+  }
+  vizhoniku_walk_next(document, sizeof document, &walk, &event);
+  vizhoniku_walk_skip(document, sizeof document, &walk);
+  status = vizhoniku_walk_member(document, sizeof document, &walk, names[0], 1);
+  printf("nothing open: %u, walk %zu %zu\n", (unsigned)status, walk.offset, walk.depth);
   status = vizhoniku_walk_begin(document + 2, 3, &walk, &event);
   printf("no document: %u kind %u depth %zu", (unsigned)status, (unsigned)event.kind, walk.depth);
   status = vizhoniku_walk_begin(document, 5, &walk, &event);
   printf(", cut off: %u", (unsigned)status);
   while (status == VIZHONIKU_ACCEPTED) status = vizhoniku_walk_next(document, 5, &walk, &event);
   printf(" %u, null: %u", (unsigned)status, (unsigned)vizhoniku_walk_begin(NULL, 0, &walk, &event));
-  printf(" %u %u\n", (unsigned)vizhoniku_walk_next(NULL, 0, &walk, &event),
-         (unsigned)vizhoniku_walk_skip(NULL, 0, &walk));
+  printf(" %u %u", (unsigned)vizhoniku_walk_next(NULL, 0, &walk, &event), (unsigned)vizhoniku_walk_skip(NULL, 0, &walk));
+  printf(" %u\n", (unsigned)vizhoniku_walk_member(NULL, 0, &walk, NULL, 0));
 }
 
 /* The table of {"a":null,"b":null,"c":null,"d":"xx.."}, and members found by it. */

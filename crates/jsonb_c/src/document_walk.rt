@@ -5,7 +5,7 @@
 //! be `NO_DOCUMENT` or any event within them.
 ghost use Rattle.std.specs.Prelude.{◌≡◌, ◌≢◌, ◌⊎◌, ◌<◌, ◌≤◌, ◌+◌, List, None, length};
 ghost use Rattle.jsonb_spec.specs.Interface.Document.{IsTreeDocument};
-ghost use Rattle.jsonb_c.specs.DocumentWalk.{event_of, EventWithin, MeetsEvent, SkipsOpen};
+ghost use Rattle.jsonb_c.specs.DocumentWalk.{event_of, EventWithin, MeetsEvent, MovesTo, SkipsOpen};
 ghost use Rattle.jsonb_spec.specs.Tree.{Tree};
 ghost use Rattle.jsonb_spec.specs.Document.Walk.{events_left};
 ghost use Rattle.key_document.specs.Walk.{IsWalkAt};
@@ -14,7 +14,7 @@ ghost use Rattle.jsonb_spec.specs.SortKey.Open.{Open};
 
 use crate::key::{NO_KIND, kind_number};
 use crate::{ACCEPTED, NO_DOCUMENT, NO_PART};
-use key_document::{Met, Walk, begin_walk, next_event, skip_open};
+use key_document::{Met, Walk, begin_walk, move_to_member, next_event, skip_open};
 
 /// What a walk meets.
 #[repr(C)]
@@ -109,6 +109,22 @@ pub extern "C" fn vizhoniku_walk_skip(document: &[u8], walk: &mut Walk) -> u32
         Ok(false) => NO_PART,
         Err(_) => NO_DOCUMENT,
     }
+}
+
+/// Moves the walk before the next member of this name, of the innermost object that is open.
+#[unsafe(no_mangle)]
+pub extern "C" fn vizhoniku_walk_member(document: &[u8], walk: &mut Walk, name: &[u8]) -> u32
+    ensures status { (result ≡ ACCEPTED) ⊎ (result ≡ NO_PART) ⊎ (result ≡ NO_DOCUMENT) }
+
+    // The walk is before the first member whose name isn't below this one, and it is said whether that has the name.
+    ensures moved { (t : Tree) → IsTreeDocument document.now t → (opens : List Open) → IsWalkAt t opens walk.old
+        → MovesTo t name.now opens result walk.old walk.new }
+    ensures still { result ≡ NO_DOCUMENT → walk.new ≡ walk.old }
+{
+    let Ok(found) = move_to_member(document, walk, name) else {
+        return NO_DOCUMENT;
+    };
+    if found { ACCEPTED } else { NO_PART }
 }
 
 // The event of what is met.
