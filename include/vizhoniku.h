@@ -485,11 +485,11 @@ uint32_t vizhoniku_walk_next(const unsigned char *document, size_t document_size
  * VIZHONIKU_ACCEPTED the walk stays where it is. */
 uint32_t vizhoniku_walk_skip(const unsigned char *document, size_t document_size, struct vizhoniku_walk *walk);
 
-/* Moves the walk before the next member of this name, of the innermost that is open, so that vizhoniku_walk_next reports
- * that member next. VIZHONIKU_NO_PART: none of those that are left has the name, and the walk is before the first one
- * whose name is greater, or before the end of the object; or an array is innermost, or nothing is open, and the walk
- * stays where it is. Members are in the order of their names: one call after the other, for names that ascend, passes
- * each member once. With VIZHONIKU_NO_DOCUMENT the walk stays where it is. */
+/* Moves the walk before the next member of this name, of the innermost that is open, so that vizhoniku_walk_next
+ * reports that member next. VIZHONIKU_NO_PART: none of those that are left has the name, and the walk is before the
+ * first one whose name is greater, or before the end of the object; or an array is innermost, or nothing is open, and
+ * the walk stays where it is. Members are in the order of their names: one call after the other, for names that ascend,
+ * passes each member once. With VIZHONIKU_NO_DOCUMENT the walk stays where it is. */
 uint32_t vizhoniku_walk_member(const unsigned char *document, size_t document_size, struct vizhoniku_walk *walk,
                                const unsigned char *name, size_t name_size);
 

@@ -552,7 +552,7 @@ static void walk_documents(void) {
   print_key("null next", status, out, size);
 }
 
-/* All events of {"a":[1.50,null],"b":{}}; the array passed; members by their names; and of bytes that are no document. */
+/* All events of {"a":[1.50,null],"b":{}}; the array passed; members by their names; and of bytes that aren't one. */
 static void walk_events(void) {
   static const unsigned char document[] = {0xD1, 'a', 0, 1, 0xD2, 0xA1, 0x1E, 0xD3, 0, 'b', 0, 1, 0xD1, 0,
                                            0, 0, 0, 5, 1, 2, 0xFF};
@@ -586,8 +586,8 @@ static void walk_events(void) {
   printf(", cut off: %u", (unsigned)status);
   while (status == VIZHONIKU_ACCEPTED) status = vizhoniku_walk_next(document, 5, &walk, &event);
   printf(" %u, null: %u", (unsigned)status, (unsigned)vizhoniku_walk_begin(NULL, 0, &walk, &event));
-  printf(" %u %u", (unsigned)vizhoniku_walk_next(NULL, 0, &walk, &event), (unsigned)vizhoniku_walk_skip(NULL, 0, &walk));
-  printf(" %u\n", (unsigned)vizhoniku_walk_member(NULL, 0, &walk, NULL, 0));
+  printf(" %u %u %u\n", (unsigned)vizhoniku_walk_next(NULL, 0, &walk, &event),
+         (unsigned)vizhoniku_walk_skip(NULL, 0, &walk), (unsigned)vizhoniku_walk_member(NULL, 0, &walk, NULL, 0));
 }
 
 /* The table of {"a":null,"b":null,"c":null,"d":"xx.."}, and members found by it. */

@@ -39,8 +39,8 @@ abbrev pub SkipsOpen : Tree → List Open → ℕ → Walk → Type 0
 SkipsOpen t [] status walk = status ≡ 5
 SkipsOpen t (o ∷ under) status walk = (status ≡ 0) × IsWalkAt t under walk
 
--- The status says whether the first of these members whose name isn't below this one has the name, and the walk is before
--- that one. In an array, and where nothing is open, it says that there is none, and the walk stays.
+-- The status says whether the first of these members whose name isn't below this one has the name, and the walk is
+-- before that one. In an array, and where nothing is open, it says that there is none, and the walk stays.
 abbrev pub MovesTo : Tree → List ℕ → List Open → ℕ → Walk → Walk → Type 0
 MovesTo t name (members ms ∷ under) status old new =
     (status ≡ (if is_some (first_named name (members_from name ms)) then 0 else 5))

@@ -73,7 +73,8 @@ SkipsFirst t (o ∷ under) (Err e) walk = ⊥
 -- stays in an array, and where nothing is open.
 abbrev pub MovesToMember : Tree → List ℕ → List Open → Result Bool DocumentError → Walk → Walk → Type 0
 MovesToMember t name (members ms ∷ under) (Ok found) old new =
-    (found ≡ is_some (first_named name (members_from name ms))) × IsWalkAt t (members (members_from name ms) ∷ under) new
+    (found ≡ is_some (first_named name (members_from name ms)))
+    × IsWalkAt t (members (members_from name ms) ∷ under) new
 MovesToMember t name (members ms ∷ under) (Err e) old new = ⊥
 MovesToMember t name opens result old new = (result ≡ Ok false) × (new ≡ old)
 
