@@ -242,20 +242,6 @@ know_steps(KnownPath *known, JsonPathItem item)
 	return true;
 }
 
-void
-vjson_note_first_bytes(VjsonWanted *wanted)
-{
-	memset(wanted->first_bytes, 0, sizeof wanted->first_bytes);
-	wanted->last_first = -1;
-	for (int i = 0; i < wanted->count; i++)
-	{
-		unsigned char first = wanted->names[i].size > 0 ? wanted->names[i].at[0] : END;
-
-		wanted->first_bytes[first / 64] |= UINT64CONST(1) << first % 64;
-		wanted->last_first = first;
-	}
-}
-
 /* Keep which members the jsonpath looks at. */
 static void
 know_path(VjsonKept *kept, struct varlena *path, bool answers_parts)
@@ -267,7 +253,6 @@ know_path(VjsonKept *kept, struct varlena *path, bool answers_parts)
 	jspInit(&item, whole);
 	known->wanted.count = 0;
 	known->wants_all = !add_names(&known->wanted, item);
-	vjson_note_first_bytes(&known->wanted);
 	if (!know_steps(known, item) || known->steps == 0)
 		known->wants_all |= answers_parts;
 	known->wanted.steps = answers_parts ? known->steps : NO_STEPS;

@@ -3,24 +3,23 @@
  * key_jsonb.c
  *	  The jsonb of a document.
  *
- * Its key is read once, from its first byte to its last, as docs/SORT_KEYS.md
- * describes it.  Names and strings stay where they are in it until the server
- * writes the jsonb.  What isn't made so goes by the text that the server reads:
- * strings with a zero byte or of another encoding, of which it says what is
- * wrong, and what is too large for a jsonb.
+ * The library walks through the document.  Names and strings stay where they are
+ * in its key until the jsonb is written.  What isn't made so goes by the text that
+ * the server reads: strings with a zero byte or of another encoding, of which it
+ * says what is wrong, and what is too large for a jsonb.
+ *
+ * The server has JsonbValueToJsonb to write a jsonb, which takes space in a buffer
+ * for each part, and a third of the time of a jsonpath over a short document, and
+ * its functions that make a numeric take space twice for each number.  What is
+ * written here has the same bytes.
  *
  *-------------------------------------------------------------------------
  */
 #include "postgres.h"
 
-#ifdef __SSE2__
-#include <emmintrin.h>
-#endif
-
 #include "fmgr.h"
 #include "mb/pg_wchar.h"
 #include "miscadmin.h"
-#include "port/pg_bitutils.h"
 #include "utils/builtins.h"
 #include "utils/jsonb.h"
 #include "utils/memutils.h"
@@ -28,25 +27,36 @@
 
 #include "key_walk.h"
 #include "vjson.h"
-#include "zeros.h"
 
-/* Pairs of digits that a number has at most, and digits of which each number is an int64. */
-#define MOST_PAIRS		20
-#define INT64_DIGITS	18
+/* What a jsonb takes at most of a part, beside texts and numbers: its entry, that of its name, a header, zeros before. */
+#define MOST_OF_PART	(2 * sizeof(JEntry) + sizeof(uint32) + ALIGNOF_INT)
 
-/* What a jsonb takes at most of a part, beside the bytes of a text or a number: its entry, a header, and zeros before. */
-#define MOST_OF_PART	(sizeof(JEntry) + sizeof(uint32) + ALIGNOF_INT)
+/*
+ * What the server stores of a number with few digits, as its numeric.c has it:
+ * whether it is negative, its scale and its weight, and then the digits to the base
+ * of 10,000, from the one with that weight on.  Zeros at both ends are left out.
+ */
+#define NUMERIC_SHORT	0x8000
+#define NEGATIVE		0x2000
+#define SCALE_SHIFT		7
+#define MOST_SCALE		63
+#define WEIGHT_MASK		127
+#define BASE			10000
+#define BASE_DIGITS		4
+
+/* The most digits to that base that an int64 takes, and the most bytes of such a number. */
+#define MOST_DIGITS		6
+#define MOST_OF_DECIMAL	(VARHDRSZ + (1 + MOST_DIGITS) * sizeof(uint16))
 
 /* Steps that aren't those of a jsonpath. */
 #define OTHER_STEPS		(-1)
 
-/* Names and values for which there is space at first, and at most: those of as many members as may be allocated. */
+/* Parts for which there is space at first, and at most. */
 #define FIRST_ROOM		64
-#define MOST_PARTS		(2 * (MaxAllocSize / sizeof(JsonbPair)))
+#define MOST_PARTS		(MaxAllocSize / sizeof(Part))
 
-/* Memory for parts that are put together is taken by blocks, of which the first is on the stack. */
-#define FIRST_BLOCK		4096
-#define BLOCK			32768
+/* Parts between two looks for an interrupt, at most. */
+#define SOME_PARTS		4096
 
 /* Members up to which they are sorted by insertion. */
 #define FEW_MEMBERS		24
@@ -57,118 +67,85 @@
 PG_FUNCTION_INFO_V1(vjson_to_jsonb);
 
 /*
- * A key that is read.  The parts are those of arrays and objects whose end
- * isn't reached, of a member its name and its value: where one ends, its parts
- * leave their locations for an array of their own.
+ * A value, by the kind of its entry in a jsonb, with the name of a member.  Of an
+ * array or an object there is the header that is written of it, and behind it come
+ * its parts, each with all that is in it.
  */
 typedef struct
 {
-	const unsigned char *key;
-	const unsigned char *at;
-	const unsigned char *end;	/* of the key */
-	ZerosReader zeros;
-	JsonbValue *parts;
-	size_t		count;
-	size_t		capacity;
-	size_t		size;			/* what the jsonb takes at most of the parts that were read */
-	char	   *block;			/* what is left of the last one */
-	size_t		block_size;
-	bool		ascii_alone;	/* whether other strings go by the text */
-	const VjsonWanted *wanted;	/* members; NULL where all are */
-	const Document *by_table;	/* the document, where its members are found by its table; or else NULL */
-	int			next_wanted;	/* name that is looked for in the table */
-	bool		is_cut;			/* whether it ends before the key does */
-} Reader;
+	const char *name;
+	union
+	{
+		const char *at;			/* of a text or a number */
+		int64		digits;		/* of a decimal */
+	};
+	uint32		name_size;
+	JEntry		kind;
+	uint32		size;			/* of a text or a number; or the scale; or the header */
+	uint32		end;			/* the location behind it and all that is in it */
+} Part;
+
+/* The kind of a number that isn't made yet, which no entry has. */
+#define DECIMAL			JENTRY_TYPEMASK
 
 /* An array or an object whose end isn't reached. */
 typedef struct
 {
-	size_t		first;			/* of its parts; it is itself the part before */
+	uint32		location;		/* of its part */
+	uint32		count;			/* of its parts */
 	bool		is_object;
 	bool		chooses;		/* whether members that aren't wanted are passed */
+	int			next_name;		/* of those that are wanted, the first that wasn't looked for */
 	int			steps;			/* that led here; OTHER_STEPS where others did */
 } Level;
 
-static const int64 powers_of_ten[INT64_DIGITS + 1] = {
-	INT64CONST(1), INT64CONST(10), INT64CONST(100), INT64CONST(1000), INT64CONST(10000), INT64CONST(100000),
-	INT64CONST(1000000), INT64CONST(10000000), INT64CONST(100000000), INT64CONST(1000000000),
-	INT64CONST(10000000000), INT64CONST(100000000000), INT64CONST(1000000000000), INT64CONST(10000000000000),
-	INT64CONST(100000000000000), INT64CONST(1000000000000000), INT64CONST(10000000000000000),
-	INT64CONST(100000000000000000), INT64CONST(1000000000000000000)
-};
+/* A document that is walked through. */
+typedef struct
+{
+	const Document *whole;
+	struct vizhoniku_walk *walk;
+	struct vizhoniku_event *event;
+	Part	   *parts;			/* in the order of the walk */
+	uint32		count;
+	uint32		capacity;
+	uint32		limit;			/* up to which parts are taken with no look at capacity and interrupts */
+	size_t		numbers;		/* bytes that they take */
+	const VjsonWanted *wanted;	/* members; NULL where all are */
+	bool		by_table;		/* whether those of the outermost object are found by its table */
+	int			steps;			/* that lead to the member that was gone to */
+	bool		is_cut;			/* whether the walk ends before the document does */
+} Reader;
+
+/* A jsonb that is written. */
+typedef struct
+{
+	const Part *parts;
+	uint64		zeros;			/* whether a text has a zero byte: not 0 then */
+} Writer;
+
+/* The entries of an array or an object: each has the kind of a part and the size of what is written of it. */
+typedef struct
+{
+	JEntry	   *next;
+	uint32		count;
+	uint32		end;			/* of what is written of the parts so far */
+} Entries;
+
+static char *write_container(Writer *writer, char *at, const Part *part);
 
 
 /*
  * Scalars
  */
 
-/* Whether the key of a number begins so. */
-static inline bool
-is_number(unsigned char first)
-{
-	return first >= FIRST_NEGATIVE && first <= LAST_POSITIVE && first != LAST_NEGATIVE + 1;
-}
-
-static inline unsigned char
-next_byte(Reader *reader)
-{
-	if (unlikely(reader->at == reader->end))
-		vjson_raise_corrupted();
-	return *reader->at++;
-}
-
-/* The first zero byte, or NULL.  Most names and strings are short, and of their first bytes 16 are looked at together. */
-static inline const unsigned char *
-find_zero(const unsigned char *at, const unsigned char *end)
-{
-#ifdef __SSE2__
-	for (int i = 0; i < 4 && end - at >= (ptrdiff_t) sizeof(__m128i); i++)
-	{
-		__m128i		bytes = _mm_loadu_si128((const __m128i *) at);
-		int			zeros = _mm_movemask_epi8(_mm_cmpeq_epi8(bytes, _mm_setzero_si128()));
-
-		if (zeros != 0)
-			return at + pg_rightmost_one_pos32((uint32) zeros);
-		at += sizeof(__m128i);
-	}
-#endif
-	return memchr(at, 0, end - at);
-}
-
-/* Take the text of a string or of a name.  False if it is one that goes by the text of the whole. */
-static inline bool
-read_text(Reader *reader, JsonbValue *value)
-{
-	const unsigned char *start = reader->at;
-	const unsigned char *zero = find_zero(start, reader->end);
-
-	if (unlikely(zero == NULL || zero + 1 == reader->end))
-		vjson_raise_corrupted();
-	if (unlikely(zero[1] != END_OF_TEXT))
-	{
-		if (zero[1] != ZERO_BYTE)
-			vjson_raise_corrupted();
-		return false;
-	}
-	if (unlikely(zero - start > JENTRY_OFFLENMASK))
-		return false;
-	value->type = jbvString;
-	value->val.string.len = (int) (zero - start);
-	value->val.string.val = unconstify(char *, (const char *) start);
-	reader->size += MOST_OF_PART + (zero - start);
-	reader->at = zero + 2;
-	return !reader->ascii_alone || is_ascii(start, zero - start);
-}
-
-/* The number whose key goes from the start to where the reader is, with so many zeros at its end, of its text. */
+/* A number with so many zeros at its end, of its text. */
 static Numeric
-numeric_of_text(const Reader *reader, const unsigned char *start, int zeros)
+numeric_of_text(Range key, uint32 zeros)
 {
-	Range		key = {start, reader->at - start};
 	Document	number = document_of_key(key);
 	size_t		size;
 	char	   *text = vjson_text(&number, &size);
-	char	   *words = zeros == 0 ? text : psprintf("%s%s%0*d", text, strchr(text, '.') != NULL ? "" : ".", zeros, 0);
+	char	   *words = zeros == 0 ? text : psprintf("%s%s%0*d", text, strchr(text, '.') != NULL ? "" : ".", (int) zeros, 0);
 	Datum		numeric = DirectFunctionCall3(numeric_in, CStringGetDatum(words), ObjectIdGetDatum(InvalidOid),
 											  Int32GetDatum(-1));
 
@@ -178,116 +155,319 @@ numeric_of_text(const Reader *reader, const unsigned char *start, int zeros)
 	return DatumGetNumeric(numeric);
 }
 
-/*
- * Take a number whose first byte was taken.  One of few digits is made of an
- * int64 and the digits behind the point.
- */
-static Numeric
-read_number(Reader *reader)
+/* Take a number with so many zeros at its end, which are digits too. */
+static inline void
+take_number(Reader *reader, Range key, uint32 zeros, Part *part)
 {
-	const unsigned char *start = reader->at - 1;
-	unsigned char flipped = *start < ZERO_KEY ? 0xFF : 0;
-	unsigned char byte = *start ^ flipped;
-	int			exponent = byte - NO_EXPONENT;
-	int64		digits = 0;
-	int			count = 0;		/* of digits */
-	int			scale;
-	unsigned char zeros;
+	int64		digits;
+	uint32		scale;
+	uint32		left = zeros;
 
-	zeros = take_zeros(&reader->zeros, start - reader->key);
-	if (byte == ZERO_KEY)
-		return int64_div_fast_to_numeric(0, zeros);
-	if (byte == MORE_EXPONENT)
-		exponent = (next_byte(reader) ^ flipped) - 0xFF;
-	do
+	if (likely(is_found(vizhoniku_key_decimal(key.at, key.size, &digits, &scale))))
 	{
-		byte = next_byte(reader) ^ flipped;
-		count += 2;
-		if (unlikely(byte >= 200 || count > 2 * MOST_PAIRS))
+		for (; left > 0 && digits < PG_INT64_MAX / 10 && digits > PG_INT64_MIN / 10; left--)
+			digits *= 10;
+		if (likely(left == 0 && scale + zeros <= MOST_SCALE))
+		{
+			part->kind = DECIMAL;
+			part->digits = digits;
+			part->size = scale + zeros;
+			reader->numbers += MOST_OF_DECIMAL;
+			return;
+		}
+	}
+	part->kind = JENTRY_ISNUMERIC;
+	part->at = (const char *) numeric_of_text(key, zeros);
+	part->size = VARSIZE_ANY(part->at);
+	reader->numbers += part->size;
+}
+
+/* Take the kind of the value that the walk met, and of a scalar what it is. */
+static inline void
+take_value(Reader *reader, const struct vizhoniku_event *event, Part *part)
+{
+	Range		key = {reader->whole->key.at + event->offset, event->size};
+	uint32		boolean;
+
+	if (event->kind == VIZHONIKU_STRING)
+	{
+		if (unlikely(key.size < STRING_EXTRA))
 			vjson_raise_corrupted();
-		if (count <= INT64_DIGITS)
-			digits = digits * 100 + (byte >> 1);
-	} while (byte & 1);
-	if (count > INT64_DIGITS)
-		return numeric_of_text(reader, start, zeros);
-	if (digits % 10 == 0)
-	{
-		digits /= 10;
-		count--;
+		part->kind = JENTRY_ISSTRING;
+		part->at = (const char *) key.at + 1;
+		part->size = (uint32) (key.size - STRING_EXTRA);
 	}
-	/* The zeros that an integer ends in, and those that end a decimal, are digits too. */
-	scale = count - exponent;
-	if (scale < 0)
+	else if (event->kind == VIZHONIKU_NUMBER)
+		take_number(reader, key, event->zeros, part);
+	else if (event->kind == VIZHONIKU_BOOLEAN)
 	{
-		if (exponent > INT64_DIGITS)
-			return numeric_of_text(reader, start, zeros);
-		digits *= powers_of_ten[-scale];
-		count = exponent;
-		scale = 0;
+		is_found(vizhoniku_key_boolean(key.at, key.size, &boolean));
+		part->kind = boolean ? JENTRY_ISBOOL_TRUE : JENTRY_ISBOOL_FALSE;
 	}
-	if (count + zeros > INT64_DIGITS)
-		return numeric_of_text(reader, start, zeros);
-	digits *= powers_of_ten[zeros];
-	scale += zeros;
-	if (flipped)
-		digits = -digits;
-	return scale == 0 ? int64_to_numeric(digits) : int64_div_fast_to_numeric(digits, scale);
+	else
+		part->kind = event->kind == VIZHONIKU_NULL ? JENTRY_ISNULL : JENTRY_ISCONTAINER;
 }
 
 
 /*
- * Arrays and objects
+ * What isn't taken
  */
 
-/* Make space for a name and a value more.  False if there are too many. */
-static inline bool
-reserve(Reader *reader)
+/* How many steps lead to the member of that name, which is wanted. */
+static inline int
+steps_to(const VjsonWanted *wanted, const Level *level, Range name)
 {
-	JsonbValue *more;
+	const Range *step;
 
-	if (likely(reader->count + 2 <= reader->capacity))
+	if (level->steps < 0)
+		return OTHER_STEPS;
+	step = &wanted->step[level->steps];
+	return step->at == NULL || same_bytes(*step, name) ? level->steps + 1 : OTHER_STEPS;
+}
+
+/* Go to the member of that name of the outermost object, by the table of its members. False if there is none. */
+static bool
+go_by_table(Reader *reader, Range name)
+{
+	Range		value;
+
+	if (!find_member(reader->whole, name, &value))
+		return false;
+	reader->walk->offset = value.at - reader->whole->key.at - (name.size + NAME_EXTRA);
+	return true;
+}
+
+/* Go to the next member that is wanted, and keep how many steps lead to it.  False if there is none. */
+static bool
+go_to_wanted(Reader *reader, Level *level)
+{
+	const VjsonWanted *wanted = reader->wanted;
+	const Document *whole = reader->whole;
+	bool		by_table = reader->by_table && reader->walk->depth == 1;
+
+	CHECK_FOR_INTERRUPTS();
+	while (level->next_name < wanted->count)
+	{
+		Range		name = wanted->names[level->next_name++];
+
+		if (by_table ? go_by_table(reader, name) :
+			is_found(vizhoniku_walk_member(whole->key.at, whole->size, reader->walk, name.at, name.size)))
+		{
+			reader->steps = steps_to(wanted, level, name);
+			return true;
+		}
+	}
+	return false;
+}
+
+
+/*
+ * Values
+ */
+
+/* Whether nothing more is wanted of what is open. */
+static inline bool
+is_all_taken(const Reader *reader, const Level *levels, const Level *level)
+{
+	for (; level > levels; level--)
+	{
+		if (!level->chooses || level->next_name < reader->wanted->count)
+			return false;
+	}
+	return true;
+}
+
+/* The next event.  Members that aren't wanted are passed.  The walk is cut where nothing more is wanted. */
+static inline uint32
+next_event(Reader *reader, const Level *levels, Level *level)
+{
+	const Document *whole = reader->whole;
+
+	if (unlikely(level->chooses) && !go_to_wanted(reader, level))
+	{
+		reader->is_cut = is_all_taken(reader, levels, level);
+		reader->event->kind = VIZHONIKU_NO_KIND;
+		return reader->is_cut ? VIZHONIKU_NO_PART : vizhoniku_walk_skip(whole->key.at, whole->size, reader->walk);
+	}
+	return vizhoniku_walk_next(whole->key.at, whole->size, reader->walk, reader->event);
+}
+
+/* Make space for some parts more.  False if there are too many. */
+static bool
+grow(Reader *reader)
+{
+	Part	   *more;
+
+	CHECK_FOR_INTERRUPTS();
+	reader->limit = Min(reader->count + SOME_PARTS, reader->capacity);
+	if (reader->limit > reader->count)
 		return true;
 	if (reader->capacity == MOST_PARTS)
 		return false;
-	more = palloc(Min(2 * reader->capacity, MOST_PARTS) * sizeof(JsonbValue));
-	memcpy(more, reader->parts, reader->count * sizeof(JsonbValue));
+	more = palloc(Min(2 * reader->capacity, MOST_PARTS) * sizeof(Part));
+	memcpy(more, reader->parts, reader->count * sizeof(Part));
 	if (reader->capacity > FIRST_ROOM)
 		pfree(reader->parts);
 	reader->capacity = Min(2 * reader->capacity, MOST_PARTS);
 	reader->parts = more;
+	reader->limit = Min(reader->count + SOME_PARTS, reader->capacity);
 	return true;
 }
 
-/* Memory for an array or an object, which is kept to the end. */
-static void *
-take_memory(Reader *reader, size_t size)
+/* Begin the array or the object of that part. */
+static inline void
+open_level(const Reader *reader, Level *level, uint32 location, bool is_object, int steps)
 {
-	char	   *result;
+	const VjsonWanted *wanted = reader->wanted;
 
-	if (size > reader->block_size)
-	{
-		if (size > BLOCK / 4)
-			return palloc(size);
-		reader->block = palloc(BLOCK);
-		reader->block_size = BLOCK;
-	}
-	result = reader->block;
-	reader->block += size;
-	reader->block_size -= size;
-	return result;
+	level->location = location;
+	level->count = 0;
+	level->is_object = is_object;
+	level->steps = steps;
+	level->next_name = 0;
+	level->chooses = wanted != NULL && is_object && steps != wanted->steps;
 }
 
-/* The names of an object have the order of their bytes in a key. */
 static inline void
-check_order(const JsonbValue *before, const JsonbValue *name)
+close_level(Reader *reader, const Level *level)
 {
-	Range		one = {(const unsigned char *) before->val.string.val, before->val.string.len};
-	Range		other = {(const unsigned char *) name->val.string.val, name->val.string.len};
+	Part	   *part = reader->parts + level->location;
 
-	if (likely(one.size > 0 && other.size > 0 && one.at[0] < other.at[0]))
-		return;
-	if (unlikely(compare_ranges(&one, &other) >= 0))
+	part->size = (level->is_object ? JB_FOBJECT : JB_FARRAY) | level->count;
+	part->end = reader->count;
+}
+
+/* Take all that the walk meets, but members that aren't wanted.  False if it goes by the text. */
+static bool
+read_value(Reader *reader)
+{
+	const Document *whole = reader->whole;
+	Level		levels[MOST_LEVELS + 1];	/* the first is round the whole */
+	Level	   *level = levels; /* the innermost */
+	const struct vizhoniku_event *event = reader->event;
+	uint32		status = vizhoniku_walk_begin(whole->key.at, whole->size, reader->walk, reader->event);
+
+	open_level(reader, level, 0, false, reader->wanted != NULL && reader->wanted->steps != NO_STEPS ? 0 : OTHER_STEPS);
+	for (; is_found(status); status = next_event(reader, levels, level))
+	{
+		Range		name;
+		int			steps = level->chooses ? reader->steps : level->steps;
+		Part	   *part;
+
+		if (event->kind == VIZHONIKU_NO_KIND)
+		{
+			CHECK_FOR_INTERRUPTS();
+			close_level(reader, level--);
+			continue;
+		}
+		name.at = whole->key.at + event->name_offset;
+		name.size = event->name_size - NAME_EXTRA;
+		if (!level->is_object)
+			name.size = 0;
+		else if (unlikely(event->name_size < NAME_EXTRA))
+			vjson_raise_corrupted();
+		if (unlikely(reader->count == reader->limit) && !grow(reader))
+			return false;
+		part = reader->parts + reader->count++;
+		level->count++;
+		part->name = (const char *) name.at;
+		part->name_size = (uint32) name.size;
+		part->end = reader->count;
+		take_value(reader, event, part);
+		if (part->kind == JENTRY_ISCONTAINER)
+			open_level(reader, ++level, reader->count - 1, event->kind == VIZHONIKU_OBJECT, steps);
+	}
+	if (reader->is_cut)
+	{
+		while (level > levels)
+			close_level(reader, level--);
+	}
+	else if (reader->walk->offset != whole->key.size)
 		vjson_raise_corrupted();
+	return true;
+}
+
+
+/*
+ * Writing
+ */
+
+/* Add an entry. Of so many one has where its part ends, instead of the size. */
+static inline void
+add_entry(Entries *entries, JEntry entry)
+{
+	entries->end += JBE_OFFLENFLD(entry);
+	if (entries->count++ % JB_OFFSET_STRIDE == 0)
+		entry = (entry & JENTRY_TYPEMASK) | entries->end | JENTRY_HAS_OFF;
+	*entries->next++ = entry;
+}
+
+/* Numbers, arrays and objects begin where an integer may, with zeros before them. */
+static inline char *
+align(char *at)
+{
+	memset(at, 0, ALIGNOF_INT);
+	return (char *) INTALIGN(at);
+}
+
+/* A word with a bit in it where one of the bytes is a zero. */
+static inline uint64
+zeros_in(uint64 word)
+{
+	return (word - UINT64CONST(0x0101010101010101)) & ~word & UINT64CONST(0x8080808080808080);
+}
+
+/* Of 4 to 16 bytes copy the first and the last ones, which overlap.  The answer is not 0 if one is a zero. */
+static inline uint64
+copy_short(char *to, const char *from, size_t size)
+{
+	if (size >= sizeof(uint64))
+	{
+		uint64		first;
+		uint64		last;
+
+		memcpy(&first, from, sizeof first);
+		memcpy(&last, from + size - sizeof last, sizeof last);
+		memcpy(to, &first, sizeof first);
+		memcpy(to + size - sizeof last, &last, sizeof last);
+		return zeros_in(first) | zeros_in(last);
+	}
+	else
+	{
+		uint32		first;
+		uint32		last;
+
+		memcpy(&first, from, sizeof first);
+		memcpy(&last, from + size - sizeof last, sizeof last);
+		memcpy(to, &first, sizeof first);
+		memcpy(to + size - sizeof last, &last, sizeof last);
+		return zeros_in((uint64) first << 32 | last);
+	}
+}
+
+/* Write a text, and look for a zero byte in it.  Most are short. */
+static pg_attribute_always_inline char *
+write_text(Writer *writer, char *to, const char *text, size_t size)
+{
+	if (likely(size >= sizeof(uint32) && size <= 2 * sizeof(uint64)))
+		writer->zeros |= copy_short(to, text, size);
+	else if (size < sizeof(uint32))
+	{
+		bool		has_zero = false;
+
+		for (size_t i = 0; i < size; i++)
+		{
+			to[i] = text[i];
+			has_zero |= text[i] == 0;
+		}
+		writer->zeros |= has_zero;
+	}
+	else
+	{
+		memcpy(to, text, size);
+		writer->zeros |= memchr(text, 0, size) != NULL;
+	}
+	return to + size;
 }
 
 static int
@@ -300,444 +480,224 @@ compare_slots(const void *left, const void *right)
 }
 
 /*
- * The locations of the members in the order of a jsonb: by the length of their
- * names, and of one length as they are.  Each location has the length before it,
- * in its higher half.
+ * The members in the order of a jsonb: by the length of their names, and of one
+ * length as they come.  A slot has a part's location, and that length in its higher
+ * half.
  */
 static void
-sort_members(const JsonbValue *parts, uint32 count, uint64 *slots)
+sort_members(const Part *parts, const Part *first, uint32 count, uint64 *slots)
 {
-	bool		is_few = count <= FEW_MEMBERS;
+	bool		are_few = count <= FEW_MEMBERS;
+	uint32		location = (uint32) (first - parts);
 
-	for (uint32 i = 0; i < count; i++)
+	for (uint32 i = 0; i < count; i++, location = parts[location].end)
 	{
-		uint64		slot = ((uint64) parts[2 * i].val.string.len << 32) | i;
+		uint64		slot = ((uint64) parts[location].name_size << 32) | location;
 		uint32		to = i;
 
-		for (; is_few && to > 0 && slots[to - 1] > slot; to--)
+		for (; are_few && to > 0 && slots[to - 1] > slot; to--)
 			slots[to] = slots[to - 1];
 		slots[to] = slot;
 	}
-	if (!is_few)
+	if (!are_few)
 		qsort(slots, count, sizeof(uint64), compare_slots);
 }
 
-/* Put the object together of its names and values. */
-static void
-make_object(Reader *reader, const JsonbValue *parts, uint32 count, JsonbValue *value)
+/* Begin an array or an object with so many entries. The answer is where what is written of its parts begins. */
+static inline char *
+begin_entries(Entries *entries, char *at, uint32 header, size_t count)
 {
+	at = align(at);
+	memcpy(at, &header, sizeof header);
+	entries->next = (JEntry *) (at + sizeof header);
+	entries->count = entries->end = 0;
+	return at + sizeof header + count * sizeof(JEntry);
+}
+
+/* Write the number digits / 10^scale as the server does. */
+static inline char *
+write_decimal(char *to, int64 digits, uint32 scale)
+{
+	static const uint32 powers[BASE_DIGITS] = {1, 10, 100, 1000};
+	uint64		left = digits < 0 ? -(uint64) digits : (uint64) digits;
+	uint16		words[1 + MOST_DIGITS];
+	uint16	   *first = words + lengthof(words);
+	uint16	   *end = first;
+	uint32		part = scale % BASE_DIGITS;	/* digits in the last one to that base */
+	int			weight = -1 - (int) (scale / BASE_DIGITS);
+
+	if (part > 0)
+	{
+		*--first = (uint16) (left % powers[part] * powers[BASE_DIGITS - part]);
+		left /= powers[part];
+		weight--;
+	}
+	for (; left > 0; left /= BASE)
+		*--first = (uint16) (left % BASE);
+	weight += end - first;
+	while (end > first && end[-1] == 0)
+		end--;
+	if (first == end)
+		weight = 0;
+	*--first = NUMERIC_SHORT | (digits < 0 ? NEGATIVE : 0) | (uint16) (scale << SCALE_SHIFT) | (weight & WEIGHT_MASK);
+	SET_VARSIZE(to, VARHDRSZ + (end - first) * sizeof(uint16));
+	to += VARHDRSZ;
+	for (; first < end; first++, to += sizeof(uint16))
+		memcpy(to, first, sizeof(uint16));
+	return to;
+}
+
+/* Write a value, and add its entry. */
+static pg_attribute_always_inline char *
+write_value(Writer *writer, Entries *entries, char *at, const Part *part)
+{
+	const char *start = at;
+
+	if (part->kind == JENTRY_ISSTRING)
+		at = write_text(writer, at, part->at, part->size);
+	else if (part->kind == DECIMAL)
+	{
+		at = write_decimal(align(at), part->digits, part->size);
+		add_entry(entries, JENTRY_ISNUMERIC | (uint32) (at - start));
+		return at;
+	}
+	else if (part->kind == JENTRY_ISNUMERIC)
+	{
+		at = align(at);
+		memcpy(at, part->at, part->size);
+		at += part->size;
+	}
+	else if (part->kind == JENTRY_ISCONTAINER)
+		at = write_container(writer, at, part);
+	add_entry(entries, part->kind | (uint32) (at - start));
+	return at;
+}
+
+static pg_noinline char *
+write_items(Writer *writer, char *at, const Part *first, uint32 header)
+{
+	uint32		count = header & JB_CMASK;
+	const Part *part = first;
+	Entries		entries;
+
+	at = begin_entries(&entries, at, header, count);
+	for (uint32 i = 0; i < count; i++, part = writer->parts + part->end)
+		at = write_value(writer, &entries, at, part);
+	return at;
+}
+
+/* Write an object: all names before all values. */
+static pg_noinline char *
+write_members(Writer *writer, char *at, const Part *first, uint32 header)
+{
+	uint32		count = header & JB_CMASK;
+	const Part *parts = writer->parts;
 	uint64		few[FEW_MEMBERS];
 	uint64	   *slots = count <= FEW_MEMBERS ? few : palloc(count * sizeof(uint64));
-	JsonbPair  *pairs = take_memory(reader, count * sizeof(JsonbPair));
+	Entries		entries;
 
-	sort_members(parts, count, slots);
+	at = begin_entries(&entries, at, header, 2 * (size_t) count);
+	sort_members(parts, first, count, slots);
 	for (uint32 i = 0; i < count; i++)
 	{
-		const JsonbValue *member = parts + 2 * (uint32) slots[i];
+		const Part *part = parts + (uint32) slots[i];
 
-		pairs[i].key = member[0];
-		pairs[i].value = member[1];
-		pairs[i].order = i;
+		at = write_text(writer, at, part->name, part->name_size);
+		add_entry(&entries, JENTRY_ISSTRING | part->name_size);
 	}
+	for (uint32 i = 0; i < count; i++)
+		at = write_value(writer, &entries, at, parts + (uint32) slots[i]);
 	if (slots != few)
 		pfree(slots);
-	value->type = jbvObject;
-	value->val.object.nPairs = (int) count;
-	value->val.object.pairs = pairs;
-}
-
-static void
-make_array(Reader *reader, const JsonbValue *parts, uint32 count, JsonbValue *value)
-{
-	JsonbValue *items = take_memory(reader, count * sizeof(JsonbValue));
-
-	memcpy(items, parts, count * sizeof(JsonbValue));
-	value->type = jbvArray;
-	value->val.array.nElems = (int) count;
-	value->val.array.elems = items;
-	value->val.array.rawScalar = false;
-}
-
-/* Whether the array or the object ends here. If so, the bytes of its end are passed. */
-static inline bool
-takes_end(Reader *reader, bool is_object)
-{
-	if (likely(reader->at == reader->end || reader->at[0] != END))
-		return false;
-	if (is_object)
-	{
-		if (reader->end - reader->at < 2 || reader->at[1] != END)
-			return false;		/* a name without bytes */
-		reader->at++;
-	}
-	reader->at++;
-	return true;
-}
-
-
-/*
- * What isn't taken
- */
-
-/* Behind the next zero byte that isn't one of a text, and the byte that follows it. */
-static inline const unsigned char *
-behind_text(const unsigned char *at, const unsigned char *end)
-{
-	const unsigned char *zero;
-
-	do
-	{
-		zero = find_zero(at, end);
-		if (unlikely(zero == NULL || zero + 1 == end))
-			vjson_raise_corrupted();
-		at = zero + 2;
-	} while (unlikely(zero[1] == ZERO_BYTE));
 	return at;
 }
 
-/*
- * Behind the number that begins here.  Its last byte is even, or odd where it is
- * negative, and of its bytes eight are looked at together.
- */
-static inline const unsigned char *
-behind_number(const unsigned char *at, const unsigned char *end)
+static char *
+write_container(Writer *writer, char *at, const Part *part)
 {
-	bool		is_negative = *at < ZERO_KEY;
-	unsigned char flipped = is_negative ? 0xFF : 0;
-	uint64		bytes;
-
-	if (*at == ZERO_KEY)
-		return at + 1;
-	at += (*at ^ flipped) == MORE_EXPONENT ? 2 : 1;
-#ifndef WORDS_BIGENDIAN
-	if (likely(end - at >= (ptrdiff_t) sizeof bytes))
-	{
-		memcpy(&bytes, at, sizeof bytes);
-		bytes = (is_negative ? bytes : ~bytes) & UINT64CONST(0x0101010101010101);
-		if (likely(bytes != 0))
-			return at + pg_rightmost_one_pos64(bytes) / BITS_PER_BYTE + 1;
-	}
-#endif
-	for (; at < end; at++)
-	{
-		if (((*at ^ flipped) & 1) == 0)
-			return at + 1;
-	}
-	vjson_raise_corrupted();
+	if (part->size & JB_FOBJECT)
+		return write_members(writer, at, part + 1, part->size);
+	return write_items(writer, at, part + 1, part->size);
 }
 
-/*
- * Behind the array or the object that begins here.  No number has a zero byte,
- * so that in an object the next one ends the name behind a number, or the
- * object.
- */
-static const unsigned char *
-behind_container(const unsigned char *at, const unsigned char *end)
-{
-	bool		is_object[MOST_LEVELS];
-	bool		in_object = *at++ == OBJECT_KEY;
-	int			levels = 0;		/* round the innermost one */
-
-	for (;;)
-	{
-		bool		is_closed;
-		unsigned char first;
-
-		CHECK_FOR_INTERRUPTS();
-		if (in_object)
-		{
-			at = behind_text(at, end);
-			is_closed = at[-1] == END;
-		}
-		else
-		{
-			is_closed = at < end && *at == END;
-			at += is_closed;
-		}
-		if (is_closed)
-		{
-			if (levels == 0)
-				break;
-			in_object = is_object[--levels];
-			continue;
-		}
-		if (unlikely(at >= end))
-			vjson_raise_corrupted();
-		first = *at;
-		if (first == STRING_KEY)
-			at = behind_text(at + 1, end);
-		else if (first == OBJECT_KEY || first == ARRAY_KEY)
-		{
-			if (levels == MOST_LEVELS - 1)
-				vjson_raise_corrupted();
-			is_object[levels++] = in_object;
-			in_object = first == OBJECT_KEY;
-			at++;
-		}
-		else
-			at = !in_object && is_number(first) ? behind_number(at, end) : at + 1;
-	}
-	return at;
-}
-
-/* Pass the value that begins here, with all that is in it. */
-static inline void
-pass_value(Reader *reader)
-{
-	const unsigned char *at = reader->at;
-	unsigned char first;
-
-	if (unlikely(at == reader->end))
-		vjson_raise_corrupted();
-	first = *at;
-	if (first == STRING_KEY)
-		reader->at = behind_text(at + 1, reader->end);
-	else if (first == OBJECT_KEY || first == ARRAY_KEY)
-		reader->at = behind_container(at, reader->end);
-	else if (is_number(first))
-		reader->at = behind_number(at, reader->end);
-	else
-		reader->at++;
-}
-
-/* Whether the name that begins here comes after all that are wanted. */
-static inline bool
-is_past_names(const Reader *reader)
-{
-	const VjsonWanted *wanted = reader->wanted;
-	size_t		size = reader->end - reader->at;
-	const Range *last = wanted->names + wanted->count - 1;
-	int			order;
-
-	if (likely(*reader->at != wanted->last_first))
-		return *reader->at > wanted->last_first;
-	order = memcmp(reader->at, last->at, Min(last->size, size));
-	return order > 0 || (order == 0 && last->size < size && reader->at[last->size] != END);
-}
-
-static inline bool
-is_wanted(const VjsonWanted *wanted, Range name)
-{
-	if (likely((wanted->first_bytes[*name.at / 64] >> *name.at % 64 & 1) == 0))
-		return false;
-	for (int i = 0; i < wanted->count; i++)
-	{
-		if (same_bytes(wanted->names[i], name))
-			return true;
-	}
-	return false;
-}
-
-/* How many steps lead to the member of that name, which is wanted. */
-static inline int
-steps_to(const Reader *reader, const Level *level, Range name)
-{
-	const Range *step;
-
-	if (level->steps < 0)
-		return OTHER_STEPS;
-	step = &reader->wanted->step[level->steps];
-	return step->at == NULL || same_bytes(*step, name) ? level->steps + 1 : OTHER_STEPS;
-}
-
-/* Go to the next member that is wanted of the object round all others, by the table of its members. */
-static int
-go_to_member(Reader *reader, const Level *level)
-{
-	while (reader->next_wanted < reader->wanted->count)
-	{
-		Range		name = reader->wanted->names[reader->next_wanted++];
-		Range		value;
-
-		if (!find_member(reader->by_table, name, &value))
-			continue;
-		if (unlikely((size_t) (value.at - reader->key) < name.size + STRING_EXTRA))
-			vjson_raise_corrupted();
-		reader->at = value.at - (name.size + STRING_EXTRA - 1);
-		return steps_to(reader, level, name);
-	}
-	reader->is_cut = true;
-	return OTHER_STEPS;
-}
-
-/*
- * Pass the members that begin here and aren't wanted.  Then a member begins that
- * is wanted, and the answer is how many steps lead to it; or the object ends.
- * The one round all others is left where no name that is wanted can follow.
- */
-static int
-pass_members(Reader *reader, const Level *level, bool is_outermost)
-{
-	if (is_outermost && reader->by_table != NULL)
-		return go_to_member(reader, level);
-	for (;;)
-	{
-		Range		name = {reader->at, 0};
-
-		CHECK_FOR_INTERRUPTS();
-		if (unlikely(reader->end - name.at < 2))
-			vjson_raise_corrupted();
-		if (name.at[0] == END && name.at[1] == END)
-			return OTHER_STEPS;
-		if (is_outermost && is_past_names(reader))
-		{
-			reader->is_cut = true;
-			return OTHER_STEPS;
-		}
-		reader->at = behind_text(name.at, reader->end);
-		name.size = reader->at - 2 - name.at;
-		if (is_wanted(reader->wanted, name))
-		{
-			reader->at = name.at;
-			return steps_to(reader, level, name);
-		}
-		pass_value(reader);
-	}
-}
-
-
-/*
- * Values
- */
-
-/* Take the value that begins here, if it is a scalar. *opened says whether it isn't. False if it goes by the text. */
-static inline bool
-read_scalar(Reader *reader, JsonbValue *value, bool *opened)
-{
-	unsigned char first = next_byte(reader);
-
-	switch (first)
-	{
-		case STRING_KEY:
-			return read_text(reader, value);
-		case OBJECT_KEY:
-		case ARRAY_KEY:
-			*opened = true;
-			return true;
-		case FALSE_KEY:
-		case TRUE_KEY:
-			value->type = jbvBool;
-			value->val.boolean = first == TRUE_KEY;
-			return true;
-		case NULL_KEY:
-			value->type = jbvNull;
-			return true;
-		default:
-			if (unlikely(!is_number(first)))
-				vjson_raise_corrupted();
-			value->type = jbvNumeric;
-			value->val.numeric = read_number(reader);
-			reader->size += VARSIZE_ANY(value->val.numeric);
-			return true;
-	}
-}
-
-/* Put the array or the object together that ends here. */
-static void
-close_level(Reader *reader, const Level *level)
-{
-	const JsonbValue *parts = reader->parts + level->first;
-	JsonbValue *value = reader->parts + level->first - 1;
-	uint32		count = (uint32) (reader->count - level->first);
-
-	reader->count = level->first;
-	if (level->is_object)
-		make_object(reader, parts, count / 2, value);
-	else
-		make_array(reader, parts, count, value);
-}
-
-/* Take the item or the member that begins here, as read_scalar takes a value. */
-static inline bool
-read_part(Reader *reader, const Level *level, bool *opened)
-{
-	if (!reserve(reader))
-		return false;
-	reader->size += MOST_OF_PART;
-	if (level != NULL && level->is_object)
-	{
-		JsonbValue *name = reader->parts + reader->count;
-
-		if (!read_text(reader, name))
-			return false;
-		if (reader->count > level->first)
-			check_order(name - 2, name);
-		reader->count++;
-	}
-	reader->count++;
-	return read_scalar(reader, reader->parts + reader->count - 1, opened);
-}
-
-/* Read the value that begins here, with all that is in it. It is the first part then. False if it goes by the text. */
+/* Whether names and strings are the same in each encoding of a server. */
 static bool
-read_value(Reader *reader)
+have_ascii_texts(const Reader *reader)
 {
-	const VjsonWanted *wanted = reader->wanted;
-	Level		levels[MOST_LEVELS + 1];
-	Level	   *level = NULL;	/* the innermost that is open */
-
-	do
+	for (uint32 i = 0; i < reader->count; i++)
 	{
-		bool		opened = false;
-		int			steps = level != NULL ? level->steps : wanted != NULL && wanted->steps != NO_STEPS ? 0 : OTHER_STEPS;
+		const Part *part = reader->parts + i;
 
-		CHECK_FOR_INTERRUPTS();
-		if (level != NULL && level->chooses)
-			steps = pass_members(reader, level, level == levels);
-		if (level != NULL && (reader->is_cut || takes_end(reader, level->is_object)))
-		{
-			close_level(reader, level);
-			level = level == levels ? NULL : level - 1;
-			continue;
-		}
-		if (!read_part(reader, level, &opened))
+		if (!is_ascii((const unsigned char *) part->name, part->name_size) ||
+			(part->kind == JENTRY_ISSTRING && !is_ascii((const unsigned char *) part->at, part->size)))
 			return false;
-		if (opened)
-		{
-			level = level == NULL ? levels : level + 1;
-			if (level == levels + MOST_LEVELS)
-				vjson_raise_corrupted();
-			level->first = reader->count;
-			level->is_object = reader->at[-1] == OBJECT_KEY;
-			level->steps = steps;
-			level->chooses = wanted != NULL && level->is_object && steps != wanted->steps;
-		}
-	} while (level != NULL);
+	}
 	return true;
+}
+
+/* The jsonb of the parts, for which there is space. NULL if a text has a zero byte. */
+static Jsonb *
+write_jsonb(const Part *parts, size_t capacity)
+{
+	Jsonb	   *result = palloc(VARHDRSZ + capacity);
+	Writer		writer = {parts, 0};
+	char	   *end;
+
+	/* The deepest nesting takes less of the machine stack than the server keeps behind max_stack_depth. */
+	check_stack_depth();
+	if (parts->kind == JENTRY_ISCONTAINER)
+		end = write_container(&writer, VARDATA(result), parts);
+	else
+		end = write_items(&writer, VARDATA(result), parts, JB_FARRAY | JB_FSCALAR | 1);
+	Assert(end <= (char *) result + VARHDRSZ + capacity);
+	SET_VARSIZE(result, end - (char *) result);
+	return writer.zeros != 0 ? NULL : result;
+}
+
+/* The jsonb of an object without members, as each is of which no member is wanted. */
+static inline Datum
+empty_object(void)
+{
+	static struct
+	{
+		int32		size;
+		uint32		header;
+	}			object = {.header = JB_FOBJECT};
+
+	SET_VARSIZE(&object, sizeof object);
+	return PointerGetDatum(&object);
 }
 
 Datum
 vjson_jsonb(Datum document, const VjsonWanted *wanted)
 {
 	Document	whole = document_of_datum(document);
-	Range		key = whole.key;
-	JsonbValue	first_parts[FIRST_ROOM];
-	int64		first_block[FIRST_BLOCK / sizeof(int64)];
-	Reader		reader = {.key = key.at, .at = key.at, .end = key.at + key.size, .wanted = wanted};
-	JsonbValue	value;
+	struct vizhoniku_walk walk;
+	struct vizhoniku_event event;
+	Part		first_parts[FIRST_ROOM];
+	Reader		reader = {.whole = &whole, .walk = &walk, .event = &event, .wanted = wanted};
+	size_t		size;
+	bool		is_read;
+	Jsonb	   *jsonb = NULL;
 
 	reader.parts = first_parts;
-	reader.capacity = FIRST_ROOM;
-	reader.block = (char *) first_block;
-	reader.block_size = sizeof first_block;
-	reader.ascii_alone = GetDatabaseEncoding() != PG_UTF8;
-	if (whole.table.size > 0 && wanted != NULL && wanted->count <= FEW_NAMES)
-		reader.by_table = &whole;
-	begin_zeros(&reader.zeros, &whole);
-	if (!read_value(&reader))
-		return DirectFunctionCall1(jsonb_in, CStringGetDatum(vjson_server_text(&whole)));
-	if (!reader.is_cut)
+	reader.capacity = reader.limit = FIRST_ROOM;
+	reader.by_table = whole.table.size > 0 && wanted != NULL && wanted->count <= FEW_NAMES && wanted->steps != 0;
+	is_read = read_value(&reader);
+	if (is_read && reader.is_cut && reader.count == 1)
+		return empty_object();
+	if (is_read && (GetDatabaseEncoding() == PG_UTF8 || have_ascii_texts(&reader)))
 	{
-		pass_zeros(&reader.zeros, key.size);
-		if (reader.at != reader.end || reader.zeros.offset != SIZE_MAX)
-			vjson_raise_corrupted();
+		/* Texts take as many bytes as in the key. */
+		size = whole.key.size + reader.numbers + reader.count * MOST_OF_PART;
+		if (size <= JENTRY_OFFLENMASK)
+			jsonb = write_jsonb(reader.parts, size);
 	}
-	value = reader.parts[0];
+	if (jsonb == NULL)
+		return DirectFunctionCall1(jsonb_in, CStringGetDatum(vjson_server_text(&whole)));
 	if (reader.parts != first_parts)
 		pfree(reader.parts);
-	if (reader.size > JENTRY_OFFLENMASK)
-		return JsonbPGetDatum(JsonbValueToJsonb(&value));
-	return JsonbPGetDatum(vjson_write_jsonb(&value, reader.size));
+	return JsonbPGetDatum(jsonb);
 }
 
 Datum

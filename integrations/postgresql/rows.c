@@ -136,7 +136,6 @@ want_columns(VjsonWanted *wanted, TupleDesc columns)
 		if (!vjson_want_name(wanted, name))
 			return false;
 	}
-	vjson_note_first_bytes(wanted);
 	wanted->steps = 1;
 	wanted->step[0].at = NULL;
 	wanted->step[0].size = 0;

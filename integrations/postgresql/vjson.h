@@ -168,8 +168,6 @@ typedef struct
 {
 	int			count;
 	Range		names[MOST_NAMES];	/* in the order of their bytes; those of the steps are among them */
-	uint64		first_bytes[4];	/* of the names, a bit for each; END of one without bytes */
-	int			last_first;		/* of the last name; -1 where there is no name */
 	int			steps;			/* NO_STEPS where no part is wanted as a whole */
 	Range		step[MOST_NAMES];
 } VjsonWanted;
@@ -177,17 +175,11 @@ typedef struct
 /* Add the name at its location, if it isn't there yet. False if there are too many. */
 extern bool vjson_want_name(VjsonWanted *wanted, Range name);
 
-/* Note how the names begin, when all are there. */
-extern void vjson_note_first_bytes(VjsonWanted *wanted);
-
 /*
  * A document as a jsonb.  Where it is reported which members are wanted others may
  * be left out, and then it isn't reported what is wrong in them.
  */
 extern Datum vjson_jsonb(Datum document, const VjsonWanted *wanted);
-
-/* The bytes that JsonbValueToJsonb gives of a value whose members are in order, for which there is space. */
-extern Jsonb *vjson_write_jsonb(const JsonbValue *value, size_t capacity);
 
 /* A jsonb as a document. */
 extern Datum vjson_of_jsonb(Datum jsonb);

@@ -1,8 +1,8 @@
 /*-------------------------------------------------------------------------
  *
  * zeros.h
- *	  The zeros behind the key of a document, number by number, as the casts from
- *	  and to jsonb read and write them.  docs/SORT_KEYS.md describes them.
+ *	  The zeros behind the key of a document, number by number, as the cast from
+ *	  jsonb writes them.  docs/SORT_KEYS.md describes them.
  *
  * What else is made of documents is made by the library.
  *
@@ -19,89 +19,6 @@
 
 /* The last byte of a document that has zeros. */
 #define ZEROS_END		0xFF
-
-/* Zeros that are read. */
-typedef struct
-{
-	const unsigned char *at;
-	const unsigned char *end;
-	size_t		offset;			/* in the key, of the next number that has some; SIZE_MAX where there is none */
-	unsigned char zeros;		/* which that one has */
-} ZerosReader;
-
-/* Go on to the next number that has zeros, of which it is counted from this offset where it begins. */
-static inline void
-next_zeros(ZerosReader *reader, size_t from)
-{
-	size_t		between = 0;
-	unsigned	shift = 0;
-	unsigned char byte;
-
-	if (likely(reader->at == reader->end))
-	{
-		reader->offset = SIZE_MAX;
-		return;
-	}
-	do
-	{
-		if (reader->end - reader->at < 2 || shift >= 8 * sizeof(size_t))
-			vjson_raise_corrupted();
-		byte = *reader->at++;
-		between |= (size_t) (byte & (MORE - 1)) << shift;
-		shift += 7;
-	} while (byte & MORE);
-	reader->offset = from + between;
-	reader->zeros = *reader->at++;
-}
-
-/* Begin to read: the bytes of all entries are counted before the end, from the last byte to the first. */
-static inline void
-begin_zeros(ZerosReader *reader, const Document *document)
-{
-	const unsigned char *last = document->key.at + document->size - 1;
-	size_t		size = 0;
-	unsigned	shift = 0;
-	unsigned char byte;
-
-	reader->at = reader->end = document->key.at + document->key.size;
-	if (unlikely(document->size > document->key.size))
-	{
-		do
-		{
-			if (last == reader->at || shift >= 8 * sizeof(size_t))
-				vjson_raise_corrupted();
-			byte = *--last;
-			size |= (size_t) (byte & (MORE - 1)) << shift;
-			shift += 7;
-		} while (byte & MORE);
-		if ((size_t) (last - reader->at) != size)
-			vjson_raise_corrupted();
-		reader->end = last;
-	}
-	next_zeros(reader, 0);
-}
-
-/* Pass the zeros of numbers before this offset. */
-static inline void
-pass_zeros(ZerosReader *reader, size_t offset)
-{
-	while (unlikely(reader->offset < offset))
-		next_zeros(reader, reader->offset + 1);
-}
-
-/* The zeros of the number at this offset, behind which those of the next ones come. */
-static inline unsigned char
-take_zeros(ZerosReader *reader, size_t offset)
-{
-	unsigned char zeros;
-
-	pass_zeros(reader, offset);
-	if (likely(reader->offset != offset))
-		return 0;
-	zeros = reader->zeros;
-	next_zeros(reader, offset + 1);
-	return zeros;
-}
 
 /* Zeros that are written. It begins with zero bytes. */
 typedef struct
